@@ -1,0 +1,3 @@
+pub mod AddUp
+pub mod Examples
+pub mod MapLaws

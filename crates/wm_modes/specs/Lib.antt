@@ -1,0 +1,5 @@
+pub mod Laws
+pub mod Map
+pub mod Near
+pub mod Sides
+pub mod Words
