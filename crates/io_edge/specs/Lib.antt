@@ -1,0 +1,4 @@
+pub mod Errors
+pub mod Faults
+pub mod InMemory
+pub mod Streams
