@@ -1,0 +1,6 @@
+pub mod Stepping
+pub mod SpellLaws
+pub mod DecimalLaws
+pub mod Turns
+pub mod ManyLaws
+pub mod PlaceLaws

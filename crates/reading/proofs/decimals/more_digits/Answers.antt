@@ -1,0 +1,35 @@
+use Rattle.std.proofs.Common.{◌+◌, ◌<◌, arith}
+use Rattle.reading.specs.Decimals.{more_digits}
+use Rattle.reading.proofs.Stepping.{one_more, wider, has_room, digits_go_on, digits_stop, digits_are_done}
+use Rattle.reading.proofs.decimals.more_digits.Goals as goal
+
+pub overflow_mul-value : goal.overflow_mul-value
+overflow_mul-value c =
+    let room = has_room c.loop.value (c.loop.counter + 1) c.loop.invariant.few (omega arith) in
+    omega arith
+
+pub overflow_add-value : goal.overflow_add-value
+overflow_add-value c =
+    let room = has_room c.loop.value (c.loop.counter + 1) c.loop.invariant.few (omega arith) in
+    let digit : c.from.result < 10 = omega (arith, c.in-Ok.ensures.digit) in
+    omega arith
+
+pub loop-preserved : goal.loop-preserved
+loop-preserved c =
+    let digit : c.from.result < 10 = omega (arith, c.in-Ok.ensures.digit) in
+    record {
+      same = rw c.from.ensures (digits_go_on c.args.most c.loop.counter c.loop.value c.in-Ok.byte c.loop.rest.now c.in-Ok.after.now (more_digits c.args.most c.args.first c.args.bytes.now)
+          c.loop-test.true c.in-Ok.ensures.read c.loop.invariant.same);
+      few = one_more c.loop.value c.from.result (c.loop.counter + 1) c.loop.invariant.few digit;
+    }
+
+pub returns-in-Err-clause-read : goal.returns-in-Err-clause-read
+returns-in-Err-clause-read c =
+    digits_stop c.args.most c.loop.counter c.loop.value c.loop.rest.now c.in-Err.field-0.now (more_digits c.args.most c.args.first c.args.bytes.now) c.in-Err.ensures.read c.loop.invariant.same
+
+pub returns-in-Err-clause-below : goal.returns-in-Err-clause-below
+returns-in-Err-clause-below c = wider c.loop.value (c.loop.counter + 1) (c.args.most + 1) c.loop.invariant.few (omega arith)
+
+pub returns-clause-read : goal.returns-clause-read
+returns-clause-read c =
+    digits_are_done c.args.most c.loop.counter c.loop.value c.loop.rest.now (more_digits c.args.most c.args.first c.args.bytes.now) c.loop-test.false c.loop.invariant.same

@@ -1,0 +1,7 @@
+use Rattle.std.proofs.Common.{◌≡◌, ◌+◌, ◌^◌, ◌<◌, ◌-◌}
+use Rattle.reading.specs.Decimals.{more_digits}
+use Rattle.reading.proofs.decimals.more_digits.Given as goal
+
+-- the digits so far, and how many they are
+abbrev pub invariant-loop : goal.invariant-loop
+invariant-loop l = record { same : more_digits (l.most - l.counter) l.value l.rest ≡ more_digits l.most l.first l.bytes; few : l.value < 10 ^ (l.counter + 1) }

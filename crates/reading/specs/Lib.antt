@@ -1,0 +1,5 @@
+pub mod Readers
+pub mod Grammars
+pub mod Decimals
+pub mod Spelling
+pub mod Places
