@@ -1,0 +1,5 @@
+pub mod Agreement
+pub mod Bounds
+pub mod Examples
+pub mod Plain
+pub mod Walk
