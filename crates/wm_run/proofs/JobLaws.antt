@@ -1,0 +1,173 @@
+-- What stands after each step, from what the steps below it give.
+use Rattle.std.proofs.Common.{◌≡◌, refl, sym, ap, ◌∙◌, subst, arith, inl, inr, ℕ, ◌<◌, ◌≤◌, List, ◌++◌, append-nil, length, length-append, Option, Some, None}
+use Rattle.std.specs.Prelude.{codes}
+use Rattle.std.specs.Fmt.{digits}
+use Rattle.std.specs.Io.KnownBytes.{Appends, Consumes, IsAtEnd}
+use Rattle.std.proofs.KnownBytes.{Keeps-refl}
+use Rattle.io_edge.specs.Streams.{AppendsFront}
+use Rattle.io_edge.proofs.Growth.{front_of_kept}
+use Rattle.wm_units.specs.declared.view.View.{View}
+use Rattle.wm_modes.specs.declared.mode.WritingMode.{WritingMode}
+use Rattle.html_read.specs.Boxes.{Boxes, in_order}
+use Rattle.html_read.specs.Grammar.{IsEarly}
+use Rattle.html_read.specs.declared.early.EarlyBox.{EarlyBox}
+use Rattle.early_flow.specs.Page.{page_of}
+use Rattle.listing.specs.Listing.{listing}
+use Rattle.wm_run.specs.Command.{IsCommand, IsNoCommand}
+use Rattle.wm_run.specs.Job.{usage_line, refusal, longest_input, IsDueOfDocument, IsDueOfInput, IsDue, Stands, IsBroken, Gives}
+use Rattle.wm_run.specs.declared.status.Status.{Status}
+use Rattle.wm_run.specs.declared.status.Status.TheVariants.{Done, Usage, Refused, Memory, ReadFault, WriteFault}
+
+-- where nothing was written, a front of anything was
+pub nothing_written : (D : Status → List ℕ → Type 0) (sink : Option (List ℕ)) → Stands D sink sink Memory
+nothing_written D sink status due d = front_of_kept sink sink due (Keeps-refl sink)
+
+-- a status that is no broken one is that of the answer
+pub whole_answer : (status : Status) (due : List ℕ) (old new : Option (List ℕ)) (result : Status) → Gives status due old new result → (IsBroken result → ⊥) → (result ≡ status) × Appends old new due
+whole_answer status due old new result (inl g) b = g
+whole_answer status due old new result (inr g) b = absurd (b g.0)
+
+pub broken_answer : (status : Status) (due : List ℕ) (old new : Option (List ℕ)) (result : Status) → Gives status due old new result → (result ≡ status → ⊥) → AppendsFront old new due
+broken_answer status due old new result (inl g) n = absurd (n g.0)
+broken_answer status due old new result (inr g) n = g.1
+
+-- an answer stands where it alone is due
+pub record IsOnly (D : Status → List ℕ → Type 0) (status : Status) (due : List ℕ) : Type 0 where
+  pub is : D status due
+  pub only : (s : Status) (d : List ℕ) → D s d → d ≡ due
+
+pub stands_refused : (D : Status → List ℕ → Type 0) (due : List ℕ) (old new : Option (List ℕ)) (result : Status) → IsOnly D Refused due → Gives Refused due old new result → Stands D old new result
+stands_refused D due old new Refused o g = (due, o.is, (whole_answer Refused due old new Refused g (λ b. b)).1)
+stands_refused D due old new WriteFault o g = λ s d q. subst (λ (l : List ℕ). AppendsFront old new l) (sym (o.only s d q)) (broken_answer Refused due old new WriteFault g (λ e. absurd (cc)))
+stands_refused D due old new Memory o g = λ s d q. subst (λ (l : List ℕ). AppendsFront old new l) (sym (o.only s d q)) (broken_answer Refused due old new Memory g (λ e. absurd (cc)))
+stands_refused D due old new Done o g = absurd (let e = (whole_answer Refused due old new Done g (λ b. b)).0 in cc)
+stands_refused D due old new Usage o g = absurd (let e = (whole_answer Refused due old new Usage g (λ b. b)).0 in cc)
+stands_refused D due old new ReadFault o g = absurd (let e = (whole_answer Refused due old new ReadFault g (λ b. b)).0 in cc)
+
+pub stands_usage : (D : Status → List ℕ → Type 0) (due : List ℕ) (old new : Option (List ℕ)) (result : Status) → IsOnly D Usage due → Gives Usage due old new result → Stands D old new result
+stands_usage D due old new Usage o g = (due, o.is, (whole_answer Usage due old new Usage g (λ b. b)).1)
+stands_usage D due old new WriteFault o g = λ s d q. subst (λ (l : List ℕ). AppendsFront old new l) (sym (o.only s d q)) (broken_answer Usage due old new WriteFault g (λ e. absurd (cc)))
+stands_usage D due old new Memory o g = λ s d q. subst (λ (l : List ℕ). AppendsFront old new l) (sym (o.only s d q)) (broken_answer Usage due old new Memory g (λ e. absurd (cc)))
+stands_usage D due old new Done o g = absurd (let e = (whole_answer Usage due old new Done g (λ b. b)).0 in cc)
+stands_usage D due old new Refused o g = absurd (let e = (whole_answer Usage due old new Refused g (λ b. b)).0 in cc)
+stands_usage D due old new ReadFault o g = absurd (let e = (whole_answer Usage due old new ReadFault g (λ b. b)).0 in cc)
+
+-- what stands by one relation stands by another that says the same
+pub stands_same : (D E : Status → List ℕ → Type 0) (old new : Option (List ℕ)) (result : Status)
+    → ((s : Status) (d : List ℕ) → D s d → E s d) → ((s : Status) (d : List ℕ) → E s d → D s d) → Stands D old new result → Stands E old new result
+stands_same D E old new Done there back s = (s.0, there Done s.0 s.1, s.2)
+stands_same D E old new Usage there back s = (s.0, there Usage s.0 s.1, s.2)
+stands_same D E old new Refused there back s = (s.0, there Refused s.0 s.1, s.2)
+stands_same D E old new ReadFault there back s = s
+stands_same D E old new WriteFault there back s = λ status due e. s status due (back status due e)
+stands_same D E old new Memory there back s = λ status due e. s status due (back status due e)
+
+-- ---- a document
+
+-- where writing broke off, a front of what is due was written
+pub front_of_due : (view : View) (input : List ℕ) (mode : WritingMode) (list : List EarlyBox) (boxes : Boxes) (old new : Option (List ℕ)) (result : Status)
+    → IsEarly input mode boxes → list ≡ in_order boxes 1 2
+    → ((m : WritingMode) (bs : Boxes) → IsEarly input m bs → (m ≡ mode) × (in_order bs 1 2 ≡ list))
+    → ((bs : Boxes) → in_order bs 1 2 ≡ list → Gives Done (listing (page_of view mode bs)) old new result)
+    → (result ≡ Done → ⊥)
+    → (status : Status) (due : List ℕ) → IsDueOfDocument view input status due → AppendsFront old new due
+front_of_due view input mode list boxes old new result early is only gives broken Done due d =
+    let one = only d.0 d.1 d.2 in
+    let same : due ≡ listing (page_of view mode d.1) = d.3 ∙ ap (λ (m : WritingMode). listing (page_of view m d.1)) one.0 in
+    subst (λ (l : List ℕ). AppendsFront old new l) (sym same) (broken_answer Done (listing (page_of view mode d.1)) old new result (gives d.1 one.1) broken)
+front_of_due view input mode list boxes old new result early is only gives broken Refused due d = absurd (d.0 mode boxes early)
+front_of_due view input mode list boxes old new result early is only gives broken Usage due d = absurd d
+front_of_due view input mode list boxes old new result early is only gives broken Memory due d = absurd d
+front_of_due view input mode list boxes old new result early is only gives broken ReadFault due d = absurd d
+front_of_due view input mode list boxes old new result early is only gives broken WriteFault due d = absurd d
+
+-- a document that is read gives its listing, whichever way it is read
+pub stands_document : (view : View) (input : List ℕ) (mode : WritingMode) (list : List EarlyBox) (boxes : Boxes) (old new : Option (List ℕ)) (result : Status)
+    → IsEarly input mode boxes → list ≡ in_order boxes 1 2
+    → ((m : WritingMode) (bs : Boxes) → IsEarly input m bs → (m ≡ mode) × (in_order bs 1 2 ≡ list))
+    → ((bs : Boxes) → in_order bs 1 2 ≡ list → Gives Done (listing (page_of view mode bs)) old new result)
+    → Stands (IsDueOfDocument view input) old new result
+stands_document view input mode list boxes old new Done early is only gives =
+    (listing (page_of view mode boxes), (mode, boxes, early, refl), (whole_answer Done (listing (page_of view mode boxes)) old new Done (gives boxes (sym is)) (λ b. b)).1)
+stands_document view input mode list boxes old new WriteFault early is only gives = front_of_due view input mode list boxes old new WriteFault early is only gives (λ e. absurd (cc))
+stands_document view input mode list boxes old new Memory early is only gives = front_of_due view input mode list boxes old new Memory early is only gives (λ e. absurd (cc))
+stands_document view input mode list boxes old new Usage early is only gives = absurd (let e = (whole_answer Done _ old new Usage (gives boxes (sym is)) (λ b. b)).0 in cc)
+stands_document view input mode list boxes old new Refused early is only gives = absurd (let e = (whole_answer Done _ old new Refused (gives boxes (sym is)) (λ b. b)).0 in cc)
+stands_document view input mode list boxes old new ReadFault early is only gives = absurd (let e = (whole_answer Done _ old new ReadFault (gives boxes (sym is)) (λ b. b)).0 in cc)
+
+-- bytes that are no document are refused, and nothing else is due for them
+pub only_not_yet : (view : View) (input : List ℕ) → ((m : WritingMode) (bs : Boxes) → IsEarly input m bs → ⊥) → IsOnly (IsDueOfDocument view input) Refused (refusal (codes "NotYet") 0)
+only_not_yet view input never = record { is = (never, refl); only = only } where
+  only : (s : Status) (d : List ℕ) → IsDueOfDocument view input s d → d ≡ refusal (codes "NotYet") 0
+  only Done d q = absurd (never q.0 q.1 q.2)
+  only Refused d q = q.1
+  only Usage d q = absurd q
+  only Memory d q = absurd q
+  only ReadFault d q = absurd q
+  only WriteFault d q = absurd q
+
+-- ---- an input
+
+-- an input that is too long is refused, and nothing else is due for it
+pub only_too_long : (view : View) (input : List ℕ) → longest_input < length input → IsOnly (IsDueOfInput view input) Refused (refusal (codes "TooLong") longest_input)
+only_too_long view input long = record { is = inl (long, refl, refl); only = only } where
+  only : (s : Status) (d : List ℕ) → IsDueOfInput view input s d → d ≡ refusal (codes "TooLong") longest_input
+  only s d (inl q) = q.2
+  only s d (inr q) = absurd (let short = q.0 in omega arith)
+
+-- for an input that isn't too long what is due is what is due for the document
+pub stands_input : (view : View) (input : List ℕ) (old new : Option (List ℕ)) (result : Status) → length input ≤ longest_input
+    → Stands (IsDueOfDocument view input) old new result → Stands (IsDueOfInput view input) old new result
+stands_input view input old new result short s = stands_same (IsDueOfDocument view input) (IsDueOfInput view input) old new result (λ st d q. inr (short, q)) back s where
+  back : (st : Status) (d : List ℕ) → IsDueOfInput view input st d → IsDueOfDocument view input st d
+  back st d (inl q) = absurd (let long = q.0 in omega arith)
+  back st d (inr q) = q.1
+
+-- what was taken of a source that tells its bytes begins them; taken to the end, they are all of them
+pub taken_front : (input taken : List ℕ) (new : Option (List ℕ)) → Consumes (Some input) new taken → length taken ≤ length input
+taken_front input taken None c = absurd c
+taken_front input taken (Some rest) c = let long = ap (λ (l : List ℕ). length l) c ∙ length-append taken rest in omega (arith, long)
+
+pub taken_all : (input taken : List ℕ) (new : Option (List ℕ)) → Consumes (Some input) new taken → IsAtEnd new → input ≡ taken
+taken_all input taken None c e = absurd c
+taken_all input taken (Some rest) c e = c ∙ ap (λ (l : List ℕ). taken ++ l) e ∙ append-nil taken
+
+-- ---- the words
+
+-- words that are no command give the usage line, and nothing else is due for them
+pub only_usage : (words : List (List ℕ)) (input : List ℕ) → IsNoCommand words → IsOnly (IsDue words input) Usage usage_line
+only_usage words input never = record { is = inl (never, refl, refl); only = only } where
+  only : (s : Status) (d : List ℕ) → IsDue words input s d → d ≡ usage_line
+  only s d (inl q) = q.2
+  only s d (inr q) = absurd (never q.0 q.1)
+
+-- for a command what is due is what is due for the input
+pub stands_command : (words : List (List ℕ)) (view : View) (input : List ℕ) (old new : Option (List ℕ)) (result : Status)
+    → IsCommand words view → ((other : View) → IsCommand words other → other ≡ view)
+    → Stands (IsDueOfInput view input) old new result → Stands (IsDue words input) old new result
+stands_command words view input old new result is only s = stands_same (IsDueOfInput view input) (IsDue words input) old new result (λ st d q. inr (view, is, q)) back s where
+  back : (st : Status) (d : List ℕ) → IsDue words input st d → IsDueOfInput view input st d
+  back st d (inl q) = absurd (q.0 view is)
+  back st d (inr q) = subst (λ (v : View). IsDueOfInput v input st d) (only q.0 q.1) q.2
+
+-- ---- the lines of the code
+
+pub not_yet_line : codes "refused NotYet 0\n" ≡ refusal (codes "NotYet") 0
+unfolding refusal digits
+not_yet_line = refl
+
+pub too_long_line : codes "refused TooLong 1048576\n" ≡ refusal (codes "TooLong") longest_input
+unfolding refusal digits
+too_long_line = refl
+
+pub gives_same : (status : Status) (line due : List ℕ) (old new : Option (List ℕ)) (result : Status) → line ≡ due → Gives status line old new result → Gives status due old new result
+gives_same status line due old new result e g = subst (λ (l : List ℕ). Gives status l old new result) e g
+
+pub usage_is : codes "usage: wm_layout layout|edit|modes|gen [--view-inline N] [--view-block N] [--count N]\n" ≡ usage_line
+unfolding usage_line
+usage_is = refl
+
+-- a run that ends with Usage wrote the whole usage line
+pub usage_given : (old new : Option (List ℕ)) (result : Status) → result ≡ Usage → Gives Usage usage_line old new result → Appends old new usage_line
+usage_given old new result e (inl g) = g.1
+usage_given old new result e (inr g) = absurd (subst IsBroken e g.0)

@@ -1,0 +1,89 @@
+-- The job: which bytes are due for words and an input, with which status, and what stands after a run.
+use Rattle.std.specs.Prelude.{◌≡◌, ◌⊎◌, ℕ, ◌<◌, ◌≤◌, List, ◌++◌, length, codes, decimal, Option, Result, Ok, Err}
+use Rattle.std.specs.Io.KnownBytes.{Appends, Keeps, IsAtEnd}
+use Rattle.io_edge.specs.Streams.{AppendsFront}
+use Rattle.io_edge.specs.declared.error.WriteError.{WriteError}
+use Rattle.io_edge.specs.declared.error.WriteError.TheVariants as write_errors
+use Rattle.wm_units.specs.declared.view.View.{View}
+use Rattle.wm_modes.specs.declared.mode.WritingMode.{WritingMode}
+use Rattle.html_read.specs.Boxes.{Boxes}
+use Rattle.html_read.specs.Grammar.{IsEarly}
+use Rattle.early_flow.specs.Page.{page_of}
+use Rattle.listing.specs.Listing.{listing}
+use Rattle.wm_run.specs.Command.{IsCommand, IsNoCommand}
+use Rattle.wm_run.specs.declared.status.Status.{Status}
+use Rattle.wm_run.specs.declared.status.Status.TheVariants.{Done, Usage, Refused, Memory, ReadFault, WriteFault}
+
+-- the line that tells of the command
+unfoldable pub usage_line : List ℕ
+usage_line = codes "usage: wm_layout layout|edit|modes|gen [--view-inline N] [--view-block N] [--count N]\n"
+
+-- the line of a refusal, with its place in bytes
+unfoldable pub refusal : (kind : List ℕ) → (place : ℕ) → List ℕ
+refusal kind place = codes "refused " ++ kind ++ codes " " ++ decimal place ++ codes "\n"
+
+-- the greatest length of an input, in bytes
+abbrev pub longest_input : ℕ
+longest_input = 1048576
+
+-- for an input that isn't too long: the listing of its page where it is an early document, else a refusal
+abbrev pub IsDueOfDocument : View → List ℕ → Status → List ℕ → Type 0
+IsDueOfDocument view input Done due = (mode : WritingMode) × (boxes : Boxes) × IsEarly input mode boxes × (due ≡ listing (page_of view mode boxes))
+IsDueOfDocument view input Refused due = ((mode : WritingMode) (boxes : Boxes) → IsEarly input mode boxes → ⊥) × (due ≡ refusal (codes "NotYet") 0)
+IsDueOfDocument view input Usage due = ⊥
+IsDueOfDocument view input Memory due = ⊥
+IsDueOfDocument view input ReadFault due = ⊥
+IsDueOfDocument view input WriteFault due = ⊥
+
+-- for an input: that it is too long is refused first
+abbrev pub IsDueOfInput : View → List ℕ → Status → List ℕ → Type 0
+IsDueOfInput view input status due = ((longest_input < length input) × (status ≡ Refused) × (due ≡ refusal (codes "TooLong") longest_input))
+    ⊎ ((length input ≤ longest_input) × IsDueOfDocument view input status due)
+
+-- for words and an input: words that are no command give the usage line
+abbrev pub IsDue : (words : List (List ℕ)) → (input : List ℕ) → Status → List ℕ → Type 0
+IsDue words input status due = (IsNoCommand words × (status ≡ Usage) × (due ≡ usage_line))
+    ⊎ ((view : View) × IsCommand words view × IsDueOfInput view input status due)
+
+-- What a run has written when it ends with a status, where this says which bytes are due with which status: all of
+-- them, or nothing after a read fault, or else a front of whatever is due.
+abbrev pub Stands : (Status → List ℕ → Type 0) → (old new : Option (List ℕ)) → Status → Type 0
+Stands IsDueWith old new Done = (due : List ℕ) × IsDueWith Done due × Appends old new due
+Stands IsDueWith old new Usage = (due : List ℕ) × IsDueWith Usage due × Appends old new due
+Stands IsDueWith old new Refused = (due : List ℕ) × IsDueWith Refused due × Appends old new due
+Stands IsDueWith old new ReadFault = Keeps old new
+Stands IsDueWith old new WriteFault = (status : Status) (due : List ℕ) → IsDueWith status due → AppendsFront old new due
+Stands IsDueWith old new Memory = (status : Status) (due : List ℕ) → IsDueWith status due → AppendsFront old new due
+
+-- the source has none left once its bytes were read to the end
+abbrev pub LeavesNone : Option (List ℕ) → Status → Type 0
+LeavesNone left Done = IsAtEnd left
+LeavesNone left status = Unit {0}
+
+-- a run ends so once its bytes are written
+abbrev pub ended : Result (Unit {0}) WriteError → Status → Status
+ended (Ok done) status = status
+ended (Err write_errors.WriteFault) status = WriteFault
+ended (Err write_errors.Memory) status = Memory
+
+-- a status that the words alone or the outside bring about
+abbrev pub IsUsageOrBroken : Status → Type 0
+IsUsageOrBroken Usage = Unit {0}
+IsUsageOrBroken WriteFault = Unit {0}
+IsUsageOrBroken Memory = Unit {0}
+IsUsageOrBroken Done = ⊥
+IsUsageOrBroken Refused = ⊥
+IsUsageOrBroken ReadFault = ⊥
+
+-- writing broke off
+abbrev pub IsBroken : Status → Type 0
+IsBroken WriteFault = Unit {0}
+IsBroken Memory = Unit {0}
+IsBroken Done = ⊥
+IsBroken Usage = ⊥
+IsBroken Refused = ⊥
+IsBroken ReadFault = ⊥
+
+-- these bytes were written, and the status is this one; or writing broke off, and a front of them was written
+abbrev pub Gives : Status → List ℕ → (old new : Option (List ℕ)) → Status → Type 0
+Gives status due old new result = ((result ≡ status) × Appends old new due) ⊎ (IsBroken result × AppendsFront old new due)

@@ -1,0 +1,131 @@
+//! The top call, and the steps below it.
+
+ghost use Rattle.std.specs.Prelude.{◌≡◌, ◌≢◌, ◌≤◌, List, ℕ, Some, None, length, map, string_bytes};
+ghost use Rattle.std.specs.Io.KnownBytes.{Appends, Keeps, IsAtEnd};
+ghost use Rattle.io_edge.specs.Faults.{Rose};
+ghost use Rattle.early_flow.specs.Document.{AreEarlyBoxes};
+ghost use Rattle.early_flow.specs.Page.{IsView, page_of};
+ghost use Rattle.html_read.specs.Boxes.{Boxes, in_order};
+ghost use Rattle.listing.specs.Listing.{listing};
+ghost use Rattle.wm_run.specs.Command.{IsNoCommand, IsCommand};
+ghost use Rattle.wm_run.specs.Job.{usage_line, refusal, longest_input, IsDue, IsDueOfInput, IsDueOfDocument, Stands, LeavesNone, Gives, IsUsageOrBroken, ended};
+
+use crate::command::view_of;
+use crate::status::Status;
+use crate::words::Words;
+use early_flow::lay_out;
+use html_read::{Early, EarlyError, read_early};
+use io_edge::{ReadError, Sink, Source, WriteError, read_all, write_all_of};
+use listing::write_listing;
+use std::alloc::Global;
+use wm_units::View;
+
+/// The greatest length of an input, in bytes.
+const LONGEST_INPUT: usize = 1_048_576;
+
+const USAGE: &[u8] =
+    b"usage: wm_layout layout|edit|modes|gen [--view-inline N] [--view-block N] [--count N]\n";
+
+const TOO_LONG: &[u8] = b"refused TooLong 1048576\n";
+
+const NOT_YET: &[u8] = b"refused NotYet 0\n";
+
+/// Runs the job of the words over the bytes of the source, and writes to the sink what is due.
+///
+/// The words are `layout` alone, or `layout --view-inline N --view-block N` with N from 1 to 16,384 px; with
+/// other words the usage line is written. The input is an early document of at most 1,048,576 bytes: a
+/// longer one is refused as `TooLong`, and any other bytes are refused as `NotYet`.
+pub fn run<S: Source, K: Sink>(alloc: Global, words: &Words, source: &mut S, sink: &mut K) -> Status
+    // Whatever words and bytes come, the status and the bytes written are those of the job.
+    ensures job { (input : List ℕ) → S.left source.old ≡ Some input
+        → Stands (IsDue words.now input) (K.held sink.old) (K.held sink.new) result }
+
+    // The usage line comes exactly where the words are no command. Nothing is taken from the source then.
+    ensures usage { result ≡ Status.Usage → IsNoCommand words.now × Appends (K.held sink.old) (K.held sink.new) usage_line
+        × (S.left source.new ≡ S.left source.old) }
+    ensures no_command { IsNoCommand words.now → IsUsageOrBroken result }
+
+    // A fault comes only where that stream's count rose. After a read fault nothing is written.
+    ensures read_fault { result ≡ Status.ReadFault → ((view : View) × IsCommand words.now view)
+        × Rose (S.faults source.old) (S.faults source.new) × Keeps (K.held sink.old) (K.held sink.new) }
+    ensures write_fault { result ≡ Status.WriteFault → Rose (K.faults sink.old) (K.faults sink.new) }
+
+    // The source has none left once its bytes were read to the end.
+    ensures done { result ≡ Status.Done → IsAtEnd (S.left source.new) }
+    ensures refused { (input : List ℕ) → S.left source.old ≡ Some input → length input ≤ longest_input
+        → result ≡ Status.Refused → IsAtEnd (S.left source.new) }
+{
+    match view_of(words.as_slice()) {
+        Some(view) => layout(alloc, view, source, sink),
+        None => answer(sink, USAGE, Status::Usage),
+    }
+}
+
+// Reads the input, and lays it out.
+fn layout<S: Source, K: Sink>(alloc: Global, view: View, source: &mut S, sink: &mut K) -> Status
+    requires { IsView view }
+    ensures stands { (input : List ℕ) → S.left source.old ≡ Some input
+        → Stands (IsDueOfInput view input) (K.held sink.old) (K.held sink.new) result }
+    ensures no_usage { result ≢ Status.Usage }
+    ensures read_fault { result ≡ Status.ReadFault → Rose (S.faults source.old) (S.faults source.new)
+        × Keeps (K.held sink.old) (K.held sink.new) }
+    ensures write_fault { result ≡ Status.WriteFault → Rose (K.faults sink.old) (K.faults sink.new) }
+    ensures done { result ≡ Status.Done → IsAtEnd (S.left source.new) }
+    ensures refused { (input : List ℕ) → S.left source.old ≡ Some input → length input ≤ longest_input
+        → result ≡ Status.Refused → IsAtEnd (S.left source.new) }
+{
+    match read_all(alloc, source, LONGEST_INPUT) {
+        Ok(input) => document(alloc, view, input.as_slice(), sink),
+        Err(ReadError::ReadFault) => Status::ReadFault,
+        Err(ReadError::TooLong) => answer(sink, TOO_LONG, Status::Refused),
+        Err(ReadError::Memory) => Status::Memory,
+    }
+}
+
+// Reads an input that isn't too long as a document, and lists its page.
+fn document<K: Sink>(alloc: Global, view: View, input: &[u8], sink: &mut K) -> Status
+    requires { IsView view }
+    ensures stands { Stands (IsDueOfDocument view input.now) (K.held sink.old) (K.held sink.new) result }
+    ensures no_usage { result ≢ Status.Usage }
+    ensures no_read_fault { result ≢ Status.ReadFault }
+    ensures write_fault { result ≡ Status.WriteFault → Rose (K.faults sink.old) (K.faults sink.new) }
+{
+    match read_early(alloc, input) {
+        Ok(early) => page(alloc, view, &early, sink),
+        Err(EarlyError::NotYet) => answer(sink, NOT_YET, Status::Refused),
+        Err(EarlyError::Memory) => Status::Memory,
+    }
+}
+
+// Lays a document out, and lists its page.
+fn page<K: Sink>(alloc: Global, view: View, early: &Early, sink: &mut K) -> Status
+    requires view { IsView view }
+    requires boxes { AreEarlyBoxes early.now.boxes }
+    ensures gives { (divs : Boxes) → in_order divs 1 2 ≡ early.now.boxes
+        → Gives Status.Done (listing (page_of view early.now.mode divs)) (K.held sink.old) (K.held sink.new) result }
+    ensures write_fault { result ≡ Status.WriteFault → Rose (K.faults sink.old) (K.faults sink.new) }
+{
+    match lay_out(alloc, view, early) {
+        Ok(placed) => ended(write_listing(&placed, sink), Status::Done),
+        Err(_) => Status::Memory,
+    }
+}
+
+// One line, as the answer that ends a run with this status.
+fn answer<K: Sink>(sink: &mut K, line: &[u8], status: Status) -> Status
+    ensures gives { Gives status line.now (K.held sink.old) (K.held sink.new) result }
+    ensures write_fault { result ≡ Status.WriteFault → status ≢ Status.WriteFault → Rose (K.faults sink.old) (K.faults sink.new) }
+{
+    ended(write_all_of(sink, line), status)
+}
+
+// How a run ends once its bytes are written.
+fn ended(written: Result<(), WriteError>, status: Status) -> Status
+    ensures { result ≡ ended written status }
+{
+    match written {
+        Ok(()) => status,
+        Err(WriteError::WriteFault) => Status::WriteFault,
+        Err(WriteError::Memory) => Status::Memory,
+    }
+}
