@@ -9,7 +9,8 @@ use Rattle.reading.specs.Grammars.{Grammar, Fixed, Mapped, Either, Optional, Aft
 use Rattle.reading.specs.Spelling.{Anything, Spells}
 use Rattle.reading.proofs.SpellLaws.{ok, bind_ok, same_answer, give_spells, strip_spells, spells_as, spells_before, follow_spells, mapped_spells, after_spells, between_spells, choice_spells, optional_spells}
 use Rattle.reading.proofs.DecimalLaws.{decimal_spells}
-use Rattle.html_read.specs.Grammar.{IsSize, IsInlineFirst, IsBlockFirst, IsSizes, IsStartTag, mode_word, IsModeWord, IsBodyStyle, IsHead, IsEnd}
+use Rattle.wm_modes.specs.Words.{mode_word}
+use Rattle.html_read.specs.Grammar.{IsSize, IsInlineFirst, IsBlockFirst, IsSizes, IsStartTag, IsModeWord, IsBodyStyle, IsHead, IsEnd}
 use Rattle.html_read.specs.Reading.{size, other_size, inline_first, block_first, declarations, attribute, start_tag, flow_end, flow, mode, body_style, head, nothing, line_end, tail}
 
 -- the bytes don't begin with this text

@@ -11,7 +11,8 @@
 use Rattle.std.specs.Prelude.{◌≡◌, ◌⊎◌, ℕ, ◌+◌, ◌*◌, ◌≤◌, List, [], ◌++◌, codes, ℤ, pos, Option, Some, None}
 use Rattle.wm_units.specs.Numbers.{fixed}
 use Rattle.wm_modes.specs.declared.mode.WritingMode.{WritingMode}
-use Rattle.wm_modes.specs.declared.mode.WritingMode.TheVariants.{HorizontalTb, VerticalRl, VerticalLr, SidewaysRl, SidewaysLr}
+use Rattle.wm_modes.specs.declared.mode.WritingMode.TheVariants.{HorizontalTb}
+use Rattle.wm_modes.specs.Words.{mode_word}
 use Rattle.reading.specs.Grammars.{Grammar, Given, Seq, Mapped, Either, Optional, After, Between}
 use Rattle.reading.specs.Decimals.{IsDecimal}
 use Rattle.html_read.specs.Boxes.{Boxes, none, box, count, depth}
@@ -55,13 +56,6 @@ IsDivs text (box inline block inner next) = (start_tag inside after : List ℕ) 
     × (text ≡ start_tag ++ inside ++ end_tag ++ after)
 
 -- the word of a mode (CSS Writing Modes 4, 3.2)
-unfoldable pub mode_word : WritingMode → List ℕ
-mode_word HorizontalTb = codes "horizontal-tb"
-mode_word VerticalRl = codes "vertical-rl"
-mode_word VerticalLr = codes "vertical-lr"
-mode_word SidewaysRl = codes "sideways-rl"
-mode_word SidewaysLr = codes "sideways-lr"
-
 abbrev pub IsModeWord : Grammar WritingMode
 IsModeWord text mode = text ≡ mode_word mode
 
