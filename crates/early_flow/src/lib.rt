@@ -8,3 +8,6 @@ mod placed;
 
 pub use page::lay_out;
 pub use placed::{Placed, Rects};
+
+#[cfg(test)]
+mod tests;
