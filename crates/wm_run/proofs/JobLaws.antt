@@ -160,12 +160,15 @@ pub too_long_line : codes "refused TooLong 1048576\n" ≡ refusal (codes "TooLon
 unfolding refusal digits
 too_long_line = refl
 
+-- the same answer by its definition
 pub gives_same : (status : Status) (line due : List ℕ) (old new : Option (List ℕ)) (result : Status) → line ≡ due → Gives status line old new result → Gives status due old new result
 gives_same status line due old new result e g = subst (λ (l : List ℕ). Gives status l old new result) e g
 
-pub usage_is : codes "usage: wm_layout layout|edit|modes|gen [--view-inline N] [--view-block N] [--count N]\n" ≡ usage_line
-unfolding usage_line
-usage_is = refl
+pub not_yet_given : (old new : Option (List ℕ)) (result : Status) → Gives Refused (codes "refused NotYet 0\n") old new result → Gives Refused (refusal (codes "NotYet") 0) old new result
+not_yet_given old new result g = gives_same Refused _ _ old new result not_yet_line g
+
+pub too_long_given : (old new : Option (List ℕ)) (result : Status) → Gives Refused (codes "refused TooLong 1048576\n") old new result → Gives Refused (refusal (codes "TooLong") longest_input) old new result
+too_long_given old new result g = gives_same Refused _ _ old new result too_long_line g
 
 -- a run that ends with Usage wrote the whole usage line
 pub usage_given : (old new : Option (List ℕ)) (result : Status) → result ≡ Usage → Gives Usage usage_line old new result → Appends old new usage_line

@@ -1,6 +1,6 @@
 -- The job: which bytes are due for words and an input, with which status, and what stands after a run.
 use Rattle.std.specs.Prelude.{◌≡◌, ◌⊎◌, ℕ, ◌<◌, ◌≤◌, List, ◌++◌, length, codes, decimal, Option, Result, Ok, Err}
-use Rattle.std.specs.Io.KnownBytes.{Appends, Keeps, IsAtEnd}
+use Rattle.std.specs.Io.KnownBytes.{Appends, Keeps}
 use Rattle.io_edge.specs.Streams.{AppendsFront}
 use Rattle.io_edge.specs.declared.error.WriteError.{WriteError}
 use Rattle.io_edge.specs.declared.error.WriteError.TheVariants as write_errors
@@ -54,11 +54,6 @@ Stands IsDueWith old new Refused = (due : List ℕ) × IsDueWith Refused due × 
 Stands IsDueWith old new ReadFault = Keeps old new
 Stands IsDueWith old new WriteFault = (status : Status) (due : List ℕ) → IsDueWith status due → AppendsFront old new due
 Stands IsDueWith old new Memory = (status : Status) (due : List ℕ) → IsDueWith status due → AppendsFront old new due
-
--- the source has none left once its bytes were read to the end
-abbrev pub LeavesNone : Option (List ℕ) → Status → Type 0
-LeavesNone left Done = IsAtEnd left
-LeavesNone left status = Unit {0}
 
 -- a run ends so once its bytes are written
 abbrev pub ended : Result (Unit {0}) WriteError → Status → Status

@@ -10,3 +10,6 @@ mod words;
 pub use program::run;
 pub use status::Status;
 pub use words::Words;
+
+#[cfg(test)]
+mod tests;

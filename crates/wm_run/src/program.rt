@@ -1,6 +1,6 @@
 //! The top call, and the steps below it.
 
-ghost use Rattle.std.specs.Prelude.{◌≡◌, ◌≢◌, ◌≤◌, List, ℕ, Some, None, length, map, string_bytes};
+ghost use Rattle.std.specs.Prelude.{◌≡◌, ◌≢◌, ◌≤◌, List, ℕ, Some, None, length, codes, map, string_bytes};
 ghost use Rattle.std.specs.Io.KnownBytes.{Appends, Keeps, IsAtEnd};
 ghost use Rattle.io_edge.specs.Faults.{Rose};
 ghost use Rattle.early_flow.specs.Document.{AreEarlyBoxes};
@@ -8,7 +8,7 @@ ghost use Rattle.early_flow.specs.Page.{IsView, page_of};
 ghost use Rattle.html_read.specs.Boxes.{Boxes, in_order};
 ghost use Rattle.listing.specs.Listing.{listing};
 ghost use Rattle.wm_run.specs.Command.{IsNoCommand, IsCommand};
-ghost use Rattle.wm_run.specs.Job.{usage_line, refusal, longest_input, IsDue, IsDueOfInput, IsDueOfDocument, Stands, LeavesNone, Gives, IsUsageOrBroken, ended};
+ghost use Rattle.wm_run.specs.Job.{usage_line, refusal, longest_input, IsDue, IsDueOfInput, IsDueOfDocument, Stands, Gives, IsUsageOrBroken, ended};
 
 use crate::command::view_of;
 use crate::status::Status;
@@ -57,7 +57,7 @@ pub fn run<S: Source, K: Sink>(alloc: Global, words: &Words, source: &mut S, sin
 {
     match view_of(words.as_slice()) {
         Some(view) => layout(alloc, view, source, sink),
-        None => answer(sink, USAGE, Status::Usage),
+        None => tell_usage(sink),
     }
 }
 
@@ -77,7 +77,7 @@ fn layout<S: Source, K: Sink>(alloc: Global, view: View, source: &mut S, sink: &
     match read_all(alloc, source, LONGEST_INPUT) {
         Ok(input) => document(alloc, view, input.as_slice(), sink),
         Err(ReadError::ReadFault) => Status::ReadFault,
-        Err(ReadError::TooLong) => answer(sink, TOO_LONG, Status::Refused),
+        Err(ReadError::TooLong) => refuse_too_long(sink),
         Err(ReadError::Memory) => Status::Memory,
     }
 }
@@ -92,7 +92,7 @@ fn document<K: Sink>(alloc: Global, view: View, input: &[u8], sink: &mut K) -> S
 {
     match read_early(alloc, input) {
         Ok(early) => page(alloc, view, &early, sink),
-        Err(EarlyError::NotYet) => answer(sink, NOT_YET, Status::Refused),
+        Err(EarlyError::NotYet) => refuse_not_yet(sink),
         Err(EarlyError::Memory) => Status::Memory,
     }
 }
@@ -109,6 +109,33 @@ fn page<K: Sink>(alloc: Global, view: View, early: &Early, sink: &mut K) -> Stat
         Ok(placed) => ended(write_listing(&placed, sink), Status::Done),
         Err(_) => Status::Memory,
     }
+}
+
+// The line that tells of the command.
+#[tactic(auto, unfolding(crate::specs::Job::usage_line))]
+fn tell_usage<K: Sink>(sink: &mut K) -> Status
+    ensures gives { Gives Status.Usage usage_line (K.held sink.old) (K.held sink.new) result }
+    ensures write_fault { result ≡ Status.WriteFault → Rose (K.faults sink.old) (K.faults sink.new) }
+{
+    answer(sink, USAGE, Status::Usage)
+}
+
+// The refusal of an input that is too long.
+#[tactic(auto, using(crate::proofs::JobLaws::too_long_given))]
+fn refuse_too_long<K: Sink>(sink: &mut K) -> Status
+    ensures gives { Gives Status.Refused (refusal (codes "TooLong") longest_input) (K.held sink.old) (K.held sink.new) result }
+    ensures write_fault { result ≡ Status.WriteFault → Rose (K.faults sink.old) (K.faults sink.new) }
+{
+    answer(sink, TOO_LONG, Status::Refused)
+}
+
+// The refusal of bytes that are no document.
+#[tactic(auto, using(crate::proofs::JobLaws::not_yet_given))]
+fn refuse_not_yet<K: Sink>(sink: &mut K) -> Status
+    ensures gives { Gives Status.Refused (refusal (codes "NotYet") 0) (K.held sink.old) (K.held sink.new) result }
+    ensures write_fault { result ≡ Status.WriteFault → Rose (K.faults sink.old) (K.faults sink.new) }
+{
+    answer(sink, NOT_YET, Status::Refused)
 }
 
 // One line, as the answer that ends a run with this status.

@@ -2,8 +2,7 @@ use Rattle.std.proofs.Common.{ap, Err}
 use Rattle.std.specs.Prelude.{codes}
 use Rattle.html_read.specs.declared.error.EarlyError.{EarlyError}
 use Rattle.wm_run.specs.Job.{refusal, IsDueOfDocument}
-use Rattle.wm_run.specs.declared.status.Status.TheVariants.{Refused}
-use Rattle.wm_run.proofs.JobLaws.{stands_document, stands_refused, only_not_yet, not_yet_line, gives_same, nothing_written}
+use Rattle.wm_run.proofs.JobLaws.{stands_document, stands_refused, only_not_yet, nothing_written}
 use Rattle.wm_run.proofs.program.document.Goals as goal
 
 pub returns-in-Ok-clause-stands : goal.returns-in-Ok-clause-stands
@@ -14,11 +13,9 @@ returns-in-Ok-clause-stands g c =
 
 pub returns-in-Err-NotYet-clause-stands : goal.returns-in-Err-NotYet-clause-stands
 returns-in-Err-NotYet-clause-stands g c =
-    let s0 = g.K.Sink.held c.args.sink.now in
-    let s1 = g.K.Sink.held c.answer.new.sink in
     let never = c.in-Err-NotYet.ensures.not_yet (ap (λ (e : EarlyError). Err e) c.in-Err-NotYet.field-0-is) in
-    stands_refused (IsDueOfDocument c.args.view c.args.input.now) (refusal (codes "NotYet") 0) s0 s1 c.answer.result (only_not_yet c.args.view c.args.input.now never)
-    (gives_same Refused (codes "refused NotYet 0\n") (refusal (codes "NotYet") 0) s0 s1 c.answer.result not_yet_line c.answer.ensures.gives)
+    stands_refused (IsDueOfDocument c.args.view c.args.input.now) (refusal (codes "NotYet") 0) (g.K.Sink.held c.args.sink.now) (g.K.Sink.held c.refuse_not_yet.new.sink) c.refuse_not_yet.result
+    (only_not_yet c.args.view c.args.input.now never) c.refuse_not_yet.ensures.gives
 
 pub returns-in-Err-Memory-clause-stands : goal.returns-in-Err-Memory-clause-stands
 returns-in-Err-Memory-clause-stands g c = nothing_written (IsDueOfDocument c.args.view c.args.input.now) (g.K.Sink.held c.args.sink.now)

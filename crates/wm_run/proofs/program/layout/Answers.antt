@@ -3,8 +3,7 @@ use Rattle.std.specs.Prelude.{codes, Option}
 use Rattle.std.specs.Io.KnownBytes.{Consumes}
 use Rattle.io_edge.specs.declared.error.ReadError.{ReadError}
 use Rattle.wm_run.specs.Job.{refusal, longest_input, IsDueOfInput, IsDueOfDocument, Stands}
-use Rattle.wm_run.specs.declared.status.Status.TheVariants.{Refused}
-use Rattle.wm_run.proofs.JobLaws.{stands_input, stands_refused, only_too_long, too_long_line, gives_same, nothing_written, taken_front, taken_all}
+use Rattle.wm_run.proofs.JobLaws.{stands_input, stands_refused, only_too_long, nothing_written, taken_front, taken_all}
 use Rattle.wm_run.proofs.program.layout.Goals as goal
 
 pub returns-in-Ok-clause-stands : goal.returns-in-Ok-clause-stands
@@ -27,9 +26,8 @@ returns-in-Err-TooLong-clause-stands g c = λ input told.
     let more : longest_input < length taken.0 = taken.3.0 (ap (λ (e : ReadError). Err e) c.in-Err-TooLong.field-0-is) in
     let front = taken_front input taken.0 (g.S.Source.left c.read_all.new.source) consumed in
     let long : longest_input < length input = omega (arith, more, front) in
-    stands_refused (IsDueOfInput c.args.view input) (refusal (codes "TooLong") longest_input) (g.K.Sink.held c.args.sink.now) (g.K.Sink.held c.answer.new.sink) c.answer.result
-    (only_too_long c.args.view input long)
-    (gives_same Refused (codes "refused TooLong 1048576\n") (refusal (codes "TooLong") longest_input) (g.K.Sink.held c.args.sink.now) (g.K.Sink.held c.answer.new.sink) c.answer.result too_long_line c.answer.ensures.gives)
+    stands_refused (IsDueOfInput c.args.view input) (refusal (codes "TooLong") longest_input) (g.K.Sink.held c.args.sink.now) (g.K.Sink.held c.refuse_too_long.new.sink) c.refuse_too_long.result
+    (only_too_long c.args.view input long) c.refuse_too_long.ensures.gives
 
 pub returns-in-Err-Memory-clause-stands : goal.returns-in-Err-Memory-clause-stands
 returns-in-Err-Memory-clause-stands g c = λ input told. nothing_written (IsDueOfInput c.args.view input) (g.K.Sink.held c.args.sink.now)

@@ -1,9 +1,8 @@
 use Rattle.std.proofs.Common.{◌≡◌, ◌∙◌, refl, sym, ap, Some, None}
 use Rattle.wm_run.specs.Reading.{view_of}
 use Rattle.wm_run.specs.Job.{usage_line, IsDue}
-use Rattle.wm_run.specs.declared.status.Status.TheVariants.{Usage}
 use Rattle.wm_run.proofs.CommandLaws.{command_takes, command_only, no_command}
-use Rattle.wm_run.proofs.JobLaws.{stands_command, stands_usage, only_usage, gives_same, usage_is, usage_given}
+use Rattle.wm_run.proofs.JobLaws.{stands_command, stands_usage, only_usage, usage_given}
 use Rattle.wm_run.proofs.program.run.Goals as goal
 
 pub returns-in-Some-clause-job : goal.returns-in-Some-clause-job
@@ -27,12 +26,10 @@ returns-in-Some-clause-read_fault g c = λ e.
 pub returns-in-None-clause-job : goal.returns-in-None-clause-job
 returns-in-None-clause-job g c = λ input told.
     let none : view_of c.args.words.now ≡ None = ap view_of (sym c.as_slice.ensures) ∙ sym c.in-None.ensures in
-    stands_usage (IsDue c.args.words.now input) usage_line (g.K.Sink.held c.args.sink.now) (g.K.Sink.held c.answer.new.sink) c.answer.result
-    (only_usage c.args.words.now input (no_command c.args.words.now none))
-    (gives_same Usage _ usage_line (g.K.Sink.held c.args.sink.now) (g.K.Sink.held c.answer.new.sink) c.answer.result usage_is c.answer.ensures.gives)
+    stands_usage (IsDue c.args.words.now input) usage_line (g.K.Sink.held c.args.sink.now) (g.K.Sink.held c.tell_usage.new.sink) c.tell_usage.result
+    (only_usage c.args.words.now input (no_command c.args.words.now none)) c.tell_usage.ensures.gives
 
 pub returns-in-None-clause-usage : goal.returns-in-None-clause-usage
 returns-in-None-clause-usage g c = λ e.
     let none : view_of c.args.words.now ≡ None = ap view_of (sym c.as_slice.ensures) ∙ sym c.in-None.ensures in
-    let given = gives_same Usage _ usage_line (g.K.Sink.held c.args.sink.now) (g.K.Sink.held c.answer.new.sink) c.answer.result usage_is c.answer.ensures.gives in
-    (no_command c.args.words.now none, usage_given (g.K.Sink.held c.args.sink.now) (g.K.Sink.held c.answer.new.sink) c.answer.result e given, refl)
+    (no_command c.args.words.now none, usage_given (g.K.Sink.held c.args.sink.now) (g.K.Sink.held c.tell_usage.new.sink) c.tell_usage.result e c.tell_usage.ensures.gives, refl)
