@@ -1,0 +1,4 @@
+pub mod Initial
+pub mod Laws
+pub mod Properties
+pub mod Reaches

@@ -1,0 +1,18 @@
+-- What the table of properties says of a property.
+use Rattle.std.specs.Prelude.{◌≡◌, ℕ, List, Some, map, slice_get}
+use Rattle.style_types.specs.declared.property.Property.{Property}
+use Rattle.style_types.specs.declared.value.Value.{Value}
+use Rattle.style_types.specs.declared.table.PropertyRow.{PropertyRow}
+use Rattle.style_types.specs.declared.table.TheConstants.{PROPERTIES}
+
+-- the rows without the names
+abbrev pub rows : List PropertyRow
+rows = map (λ named. named.1) PROPERTIES
+
+-- the row of a property
+abbrev pub IsRowOf : Property → PropertyRow → Type 0
+IsRowOf property row = (place : ℕ) × (slice_get rows place ≡ Some row) × (row.property ≡ property)
+
+-- the initial value of a property
+abbrev pub HasInitial : Property → Value → Type 0
+HasInitial property value = (row : PropertyRow) × IsRowOf property row × (row.initial ≡ value)

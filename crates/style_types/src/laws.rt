@@ -1,0 +1,19 @@
+//! Laws of the table of properties. These functions do nothing: their contracts are the laws.
+
+ghost use Rattle.style_types.specs.Laws.{AllListed, PairUp, TextInherited};
+
+/// Each property has a row.
+pub fn all_are_listed()
+    ensures { AllListed }
+{}
+
+/// The inherited properties are those that say how text is set.
+pub fn text_is_inherited()
+    ensures { TextInherited }
+{}
+
+/// In every mode and used direction, exactly one property of the page stands for each property of the flow,
+/// and each property of the page that is about a side or an axis stands for one.
+pub fn flow_and_page_pair_up()
+    ensures { PairUp }
+{}

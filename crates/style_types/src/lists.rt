@@ -1,0 +1,28 @@
+//! The lists of this crate. A contract sees the items of a list, and the bytes of a text.
+
+use crate::property::Property;
+use crate::value::{Declaration, Part, Rule, StyledNode, Value};
+
+/// A text.
+pub type Letters = String;
+
+/// Texts in order.
+pub type LetterList = Vec<Letters>;
+
+/// The compounds of a selector from left to right.
+pub type Parts = Vec<Part>;
+
+/// Declarations in order.
+pub type Declarations = Vec<Declaration>;
+
+/// Rules in order.
+pub type Rules = Vec<Rule>;
+
+/// The own declarations of each node, in document order.
+pub type Styles = Vec<Declarations>;
+
+/// The nodes below one, in document order.
+pub type StyledNodes = Vec<StyledNode>;
+
+/// The value that won for each property, with sides and axes of the page alone.
+pub type Winners = Vec<(Property, Value)>;

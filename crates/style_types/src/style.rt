@@ -1,0 +1,163 @@
+ghost use Rattle.std.specs.Prelude.{◌≡◌};
+
+use wm_modes::{Direction, WritingMode};
+
+/// What laying a box out depends on from outside: its containing block's inline size, known or unknown, and
+/// its definite block size or none, in units of 1/64 px.
+#[derive(Clone, Copy, Debug, PartialEq, Eq)]
+pub struct Constraint {
+    pub inline: Option<i64>,
+    pub block: Option<i64>,
+}
+
+/// `display` (CSS 2, 9.2.4). `Hidden` is `none`.
+#[derive(Clone, Copy, Debug, PartialEq, Eq)]
+pub enum Display {
+    Block,
+    Inline,
+    InlineBlock,
+    FlowRoot,
+    Hidden,
+}
+
+/// `text-orientation` (CSS Writing Modes 4, 5.1).
+#[derive(Clone, Copy, Debug, PartialEq, Eq)]
+pub enum TextOrientation {
+    Mixed,
+    Upright,
+    Sideways,
+}
+
+/// `text-combine-upright` (CSS Writing Modes 4, 9.1). `Never` is `none`.
+#[derive(Clone, Copy, Debug, PartialEq, Eq)]
+pub enum Combine {
+    Never,
+    All,
+    Digits(u8),
+}
+
+/// `unicode-bidi` (CSS Writing Modes 4, 2.2).
+#[derive(Clone, Copy, Debug, PartialEq, Eq)]
+pub enum UnicodeBidi {
+    Normal,
+    Embed,
+    Isolate,
+    BidiOverride,
+    IsolateOverride,
+    Plaintext,
+}
+
+/// `line-height` (CSS 2, 10.8.1): a number in hundredths of the font size, or a length in units.
+#[derive(Clone, Copy, Debug, PartialEq, Eq)]
+pub enum LineHeight {
+    Normal,
+    Number(i64),
+    Length(i64),
+}
+
+/// `text-align` (CSS 2, 16.2).
+#[derive(Clone, Copy, Debug, PartialEq, Eq)]
+pub enum Align {
+    Start,
+    End,
+    Left,
+    Right,
+    Center,
+}
+
+/// A size, margin or padding: a length in units of 1/64 px, or hundredths of a percent. A maximum of none is
+/// `Auto`.
+#[derive(Clone, Copy, Debug, PartialEq, Eq)]
+pub enum Size {
+    Auto,
+    Length(i64),
+    Percent(i64),
+}
+
+/// A size for each side of the page.
+#[derive(Clone, Copy, Debug, PartialEq, Eq)]
+pub struct SideSizes {
+    pub top: Size,
+    pub right: Size,
+    pub bottom: Size,
+    pub left: Size,
+}
+
+/// A width in units of 1/64 px for each side of the page.
+#[derive(Clone, Copy, Debug, PartialEq, Eq)]
+pub struct SideWidths {
+    pub top: i64,
+    pub right: i64,
+    pub bottom: i64,
+    pub left: i64,
+}
+
+/// A computed style. Lengths are in units of 1/64 px.
+#[derive(Clone, Copy, Debug, PartialEq, Eq)]
+pub struct Style {
+    pub display: Display,
+    pub mode: WritingMode,
+    pub direction: Direction,
+    pub orientation: TextOrientation,
+    pub combine: Combine,
+    pub bidi: UnicodeBidi,
+    pub font_size: i64,
+    pub face: u8,
+    pub line_height: LineHeight,
+    pub align: Align,
+    /// The length of `vertical-align`, 0 for `baseline`.
+    pub shift: i64,
+    pub width: Size,
+    pub height: Size,
+    pub min_width: Size,
+    pub min_height: Size,
+    pub max_width: Size,
+    pub max_height: Size,
+    pub margin: SideSizes,
+    pub padding: SideSizes,
+    pub border: SideWidths,
+}
+
+impl Style {
+    ghost use Rattle.style_types.specs.Initial.{IsInitial};
+
+    /// The style of the root's parent: each field has the initial value of its property in the table of
+    /// properties. Takes no memory.
+    pub fn initial() -> Style
+        ensures { IsInitial result }
+    {
+        let none = SideSizes {
+            top: Size::Length(0),
+            right: Size::Length(0),
+            bottom: Size::Length(0),
+            left: Size::Length(0),
+        };
+        Style {
+            display: Display::Inline,
+            mode: WritingMode::HorizontalTb,
+            direction: Direction::Ltr,
+            orientation: TextOrientation::Mixed,
+            combine: Combine::Never,
+            bidi: UnicodeBidi::Normal,
+            font_size: 1024,
+            face: 0,
+            line_height: LineHeight::Normal,
+            align: Align::Start,
+            shift: 0,
+            width: Size::Auto,
+            height: Size::Auto,
+            min_width: Size::Auto,
+            min_height: Size::Auto,
+            max_width: Size::Auto,
+            max_height: Size::Auto,
+            margin: none,
+            padding: none,
+            border: SideWidths {
+                top: 0,
+                right: 0,
+                bottom: 0,
+                left: 0,
+            },
+        }
+    }
+}

@@ -1,0 +1,5 @@
+pub mod Ascending
+pub mod Examples
+pub mod Outside
+pub mod PairLaws
+pub mod Standing
