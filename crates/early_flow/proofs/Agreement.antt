@@ -17,9 +17,10 @@ use Rattle.wm_modes.specs.Sides.{used_direction}
 use Rattle.wm_modes.proofs.AddUp.{add_up}
 use Rattle.wm_modes.proofs.MapLaws.{rect_is, flow_is}
 use Rattle.html_read.specs.Boxes as early
-use Rattle.early_flow.specs.Margins.{greatest, least, collapsed}
+use Rattle.margin_collapse.specs.Margins.{greatest, least, collapsed}
 use Rattle.early_flow.specs.Boxes.{BoxStyle}
-use Rattle.early_flow.specs.Stack.{Child, Stack, begin, place_in, after, handed, extent}
+use Rattle.block_flow.specs.Children.{Child}
+use Rattle.block_flow.specs.Stacking.{Progress, begin, place_in, after, handed, extent}
 use Rattle.early_flow.specs.Flow.{Fragments, nothing, fragment, flow, child_of, children, used_inline}
 use Rattle.early_flow.specs.Document.{div, divs, document, margin_all}
 use Rattle.early_flow.specs.Divs.{total, all_through, used_size, rects, root_block, all_rects}
@@ -71,7 +72,7 @@ pub sub_zeros : (n : ℤ) → n -ℤ pos 0 -ℤ pos 0 ≡ n
 sub_zeros n = omega (arith, ints)
 
 -- divs stand one after the other
-pub flow_divs : (boxes : early.Boxes) (i b available : ℤ) (s : Stack) → IsPlain s
+pub flow_divs : (boxes : early.Boxes) (i b available : ℤ) (s : Progress) → IsPlain s
     → absolute i b (flow (divs boxes) available s) ≡ rects boxes i (b +ℤ s.y) available
 flow_divs early.none i b available s p = refl
 flow_divs (early.box inline block inner next) i b available s p =

@@ -6,8 +6,9 @@ use Rattle.std.specs.Int.{int_max}
 use Rattle.std.proofs.lemmas.Int.{ints, clamps}
 use Rattle.wm_units.specs.Numbers.{cap_size}
 use Rattle.html_read.specs.Boxes as early
-use Rattle.early_flow.specs.Margins.{greatest, least, collapsed}
-use Rattle.early_flow.specs.Stack.{Child, Stack, begin, place_in, after, handed}
+use Rattle.margin_collapse.specs.Margins.{greatest, least, collapsed}
+use Rattle.block_flow.specs.Children.{Child}
+use Rattle.block_flow.specs.Stacking.{Progress, begin, place_in, after, handed}
 use Rattle.early_flow.specs.Flow.{child_of, children, is_zero, is_auto_or_zero}
 use Rattle.early_flow.specs.Document.{div, divs}
 use Rattle.early_flow.specs.Divs.{total, all_through, used_size}
@@ -44,7 +45,7 @@ pub record IsPlainChild (child : Child) : Type 0 where
   pub high : pos 0 ≤ℤ child.size
 
 -- a stack of such children
-pub record IsPlain (stack : Stack) : Type 0 where
+pub record IsPlain (stack : Progress) : Type 0 where
   pub pending : AreZero stack.pending
   pub start : AreZero stack.start_margins
   pub joined : stack.joined ≡ true → stack.y ≡ pos 0
@@ -53,14 +54,14 @@ pub record IsPlain (stack : Stack) : Type 0 where
 pub plain_begin : (joins : Bool) → IsPlain (begin joins)
 plain_begin joins = record { pending = tt; start = tt; joined = λ e. refl; high = omega (arith, ints) }
 
-pub place_plain : (s : Stack) (c : Child) → IsPlain s → IsPlainChild c → place_in s c ≡ s.y
+pub place_plain : (s : Progress) (c : Child) → IsPlain s → IsPlainChild c → place_in s c ≡ s.y
 place_plain s c ps pc = go s.joined refl where
   go : (b : Bool) → s.joined ≡ b → place_in s c ≡ s.y
   go true e = rw e (sym (ps.joined e))
   go false e = rw e (let z = collapsed_zero (s.pending ++ c.start_margins) (AreZero-append s.pending c.start_margins ps.pending pc.start) in omega (arith, ints))
 
 -- what a plain child adds to a plain stack: its size
-pub record Stacks (s : Stack) (c : Child) : Type 0 where
+pub record Stacks (s : Progress) (c : Child) : Type 0 where
   pub plain : IsPlain (after s c)
   pub y : (after s c).y ≡ s.y +ℤ c.size
 
@@ -68,7 +69,7 @@ pub joined_zero : (b : Bool) (xs ys : List ℤ) → AreZero xs → AreZero ys �
 joined_zero true xs ys x y = AreZero-append xs ys x y
 joined_zero false xs ys x y = x
 
-pub stacks : (s : Stack) (c : Child) → IsPlain s → IsPlainChild c → Stacks s c
+pub stacks : (s : Progress) (c : Child) → IsPlain s → IsPlainChild c → Stacks s c
 stacks s c ps pc = go c.through refl where
   go : (b : Bool) → c.through ≡ b → Stacks s c
   go true e =
@@ -76,7 +77,7 @@ stacks s c ps pc = go c.through refl where
       let both = AreZero-append c.start_margins c.end_margins pc.start pc.end_ in
       rw e (record {
         plain = record {
-          pending = AreZero-append (s.pending ++ c.start_margins) c.end_margins (AreZero-append s.pending c.start_margins ps.pending pc.start) pc.end_;
+          pending = AreZero-append s.pending (c.start_margins ++ c.end_margins) ps.pending both;
           start = joined_zero s.joined s.start_margins (c.start_margins ++ c.end_margins) ps.start both;
           joined = ps.joined;
           high = ps.high;
@@ -108,11 +109,11 @@ sizes [] = pos 0
 sizes (c ∷ cs) = c.size +ℤ sizes cs
 
 -- what plain children add to a plain stack: their sizes
-pub record StacksAll (s : Stack) (cs : List Child) : Type 0 where
+pub record StacksAll (s : Progress) (cs : List Child) : Type 0 where
   pub plain : IsPlain (fold after s cs)
   pub y : (fold after s cs).y ≡ s.y +ℤ sizes cs
 
-pub stacks_all : (cs : List Child) (s : Stack) → IsPlain s → ArePlain cs → StacksAll s cs
+pub stacks_all : (cs : List Child) (s : Progress) → IsPlain s → ArePlain cs → StacksAll s cs
 stacks_all [] s ps pcs = record { plain = ps; y = omega (arith, ints) }
 stacks_all (c ∷ cs) s ps pcs =
     let one = stacks s c ps pcs.0 in
@@ -146,7 +147,7 @@ pub cond_zero : (b : Bool) (xs : List ℤ) → AreZero xs → AreZero (cond b []
 cond_zero true xs z = tt
 cond_zero false xs z = z
 
-pub handed_zero : (b : Bool) (s : Stack) → IsPlain s → AreZero (handed b s)
+pub handed_zero : (b : Bool) (s : Progress) → IsPlain s → AreZero (handed b s)
 handed_zero true s p = p.pending
 handed_zero false s p = tt
 

@@ -5,7 +5,8 @@ use Rattle.std.specs.List.{list_all}
 use Rattle.wm_units.specs.Numbers.{cap_size}
 use Rattle.wm_modes.specs.declared.rects.FlowRect.{FlowRect}
 use Rattle.early_flow.specs.Boxes.{BoxStyle, FlowBoxes, none, box}
-use Rattle.early_flow.specs.Stack.{Child, Stack, begin, place_in, after, stacked, handed, extent}
+use Rattle.block_flow.specs.Children.{Child}
+use Rattle.block_flow.specs.Stacking.{Progress, begin, place_in, after, stacked, handed, extent}
 
 -- The used inline size: that which is declared, or what the margins leave of the available one.
 abbrev pub used_inline : BoxStyle → (available : ℤ) → ℤ
@@ -53,7 +54,7 @@ pub data Fragments : Type 0 where
   fragment : (rect : FlowRect) (inner next : Fragments) → Fragments
 
 -- the boxes laid out in a container of this inline size, after what stands there already
-abbrev pub flow : FlowBoxes → (available : ℤ) → Stack → Fragments
+abbrev pub flow : FlowBoxes → (available : ℤ) → Progress → Fragments
 flow none available stack = nothing
 flow (box style inner next) available stack =
     let child = child_of style (children inner) in

@@ -2,7 +2,5 @@ pub mod Boxes
 pub mod Divs
 pub mod Document
 pub mod Flow
-pub mod Margins
 pub mod Next
 pub mod Page
-pub mod Stack

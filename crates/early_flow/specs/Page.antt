@@ -15,7 +15,7 @@ use Rattle.early_flow.specs.declared.placed.Placed.{Placed}
 use Rattle.early_flow.specs.Boxes.{Margins}
 use Rattle.early_flow.specs.Document.{document, margin_all}
 use Rattle.early_flow.specs.Flow.{Fragments, nothing, fragment, flow}
-use Rattle.early_flow.specs.Stack.{begin}
+use Rattle.block_flow.specs.Stacking.{begin}
 
 -- the rectangles in tree order of fragments in containing blocks of one mode and direction, where `area` is the content area of the outermost
 abbrev pub placed : WritingMode → Direction → (area : Rect) → Fragments → List Rect

@@ -1,0 +1,5 @@
+pub mod Adjoining
+pub mod Children
+pub mod Reached
+pub mod Stacked
+pub mod Stacking

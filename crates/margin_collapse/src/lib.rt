@@ -1,0 +1,11 @@
+//! Collapsing margins: a list of adjoining margins, kept as its greatest positive and its least negative
+//! one, and the one margin to which it collapses (CSS 2, 8.3.1).
+#![tactic(auto)]
+
+mod laws;
+mod margins;
+#[cfg(test)]
+mod tests;
+
+pub use laws::{extremes_are_members, pairs_stand_for_lists};
+pub use margins::Margins;
