@@ -1,0 +1,4 @@
+pub mod Definite
+pub mod Equation
+pub mod Laws
+pub mod Limits
