@@ -2,29 +2,35 @@
 //! of properties (CSS 2; CSS Writing Modes 4; CSS Logical Properties 1). Plain data with public fields.
 #![tactic(auto)]
 
+mod constraint;
 mod keyword;
 mod laws;
 mod lists;
 mod property;
 mod reach;
 mod refusal;
+mod rule;
 mod shorthand;
 mod style;
 mod table;
 #[cfg(test)]
 mod tests;
+mod tree;
 mod value;
 
+pub use constraint::Constraint;
 pub use keyword::{KEYWORDS, Keyword, Keywords, WORDS};
 pub use laws::{all_are_listed, flow_and_page_pair_up, text_is_inherited};
 pub use lists::{Declarations, LetterList, Letters, Parts, Rules, StyledNodes, Styles, Winners};
 pub use property::Property;
 pub use reach::{Axis, AxisFamily, FlowAxis, Reach, SideFamily, on_page};
 pub use refusal::{REFUSALS, Refused};
+pub use rule::{Joint, Part, Rule, Selector, Styled};
 pub use shorthand::{Form, SHORTHANDS};
 pub use style::{
-    Align, Combine, Constraint, Display, LineHeight, SideSizes, SideWidths, Size, Style,
-    TextOrientation, UnicodeBidi,
+    Align, Combine, Display, LineHeight, SideSizes, SideWidths, Size, Style, TextOrientation,
+    UnicodeBidi,
 };
 pub use table::{More, PROPERTIES, PropertyRow, Range, Values};
-pub use value::{Declaration, Joint, Part, Rule, Selector, Styled, StyledKind, StyledNode, Value};
+pub use tree::{StyledKind, StyledNode};
+pub use value::{Declaration, Value};

@@ -1,7 +1,9 @@
 //! The lists of this crate. A contract sees the items of a list, and the bytes of a text.
 
 use crate::property::Property;
-use crate::value::{Declaration, Part, Rule, StyledNode, Value};
+use crate::rule::{Part, Rule};
+use crate::tree::StyledNode;
+use crate::value::{Declaration, Value};
 
 /// A text.
 pub type Letters = String;

@@ -2,14 +2,6 @@ ghost use Rattle.std.specs.Prelude.{◌≡◌};
 
 use wm_modes::{Direction, WritingMode};
 
-/// What laying a box out depends on from outside: its containing block's inline size, known or unknown, and
-/// its definite block size or none, in units of 1/64 px.
-#[derive(Clone, Copy, Debug, PartialEq, Eq)]
-pub struct Constraint {
-    pub inline: Option<i64>,
-    pub block: Option<i64>,
-}
-
 /// `display` (CSS 2, 9.2.4). `Hidden` is `none`.
 #[derive(Clone, Copy, Debug, PartialEq, Eq)]
 pub enum Display {

@@ -1,7 +1,5 @@
 use crate::keyword::Keyword;
-use crate::lists::{Declarations, LetterList, Letters, Parts, Rules, StyledNodes, Styles};
 use crate::property::Property;
-use crate::style::Style;
 
 /// The value of a declaration. Numbers are in hundredths: 150 for `1.5`.
 #[derive(Clone, Copy, Debug, PartialEq, Eq)]
@@ -35,59 +33,4 @@ pub struct Declaration {
     pub important: bool,
     /// The place of its name in the input in bytes, in a style attribute that of the attribute's name.
     pub place: usize,
-}
-
-/// How a compound selector is joined to the one on its left (Selectors 3, 8).
-#[derive(Clone, Copy, Debug, PartialEq, Eq)]
-pub enum Joint {
-    Descendant,
-    Child,
-}
-
-/// A compound selector. The joint of the first one is `Descendant`.
-#[derive(Debug, Drop)]
-pub struct Part {
-    pub joint: Joint,
-    /// The type, or none for `*` and where there is none.
-    pub tag: Option<Letters>,
-    pub classes: LetterList,
-    pub ids: LetterList,
-}
-
-/// A complex selector: compounds from left to right.
-#[derive(Debug, Drop)]
-pub struct Selector {
-    pub parts: Parts,
-}
-
-/// A rule: one selector and its declarations in order, shorthands expanded.
-#[derive(Debug, Drop)]
-pub struct Rule {
-    pub selector: Selector,
-    pub declarations: Declarations,
-}
-
-/// The author's rules of a document, and each node's own declarations.
-#[derive(Debug, Drop)]
-pub struct Styled {
-    pub rules: Rules,
-    pub styles: Styles,
-}
-
-/// What a node of a styled tree is.
-#[derive(Debug, Drop)]
-pub enum StyledKind {
-    Element,
-    /// A `br`.
-    Break,
-    Text { text: Letters },
-}
-
-/// A node with its computed style, and those below it in document order.
-#[derive(Debug, Drop)]
-pub struct StyledNode {
-    pub node: u32,
-    pub kind: StyledKind,
-    pub style: Style,
-    pub children: StyledNodes,
 }

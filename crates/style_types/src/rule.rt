@@ -1,0 +1,38 @@
+use crate::lists::{Declarations, LetterList, Letters, Parts, Rules, Styles};
+
+/// How a compound selector is joined to the one on its left (Selectors 3, 8).
+#[derive(Clone, Copy, Debug, PartialEq, Eq)]
+pub enum Joint {
+    Descendant,
+    Child,
+}
+
+/// A compound selector. The joint of the first one is `Descendant`.
+#[derive(Debug, Drop)]
+pub struct Part {
+    pub joint: Joint,
+    /// The type, or none for `*` and where there is none.
+    pub tag: Option<Letters>,
+    pub classes: LetterList,
+    pub ids: LetterList,
+}
+
+/// A complex selector: compounds from left to right.
+#[derive(Debug, Drop)]
+pub struct Selector {
+    pub parts: Parts,
+}
+
+/// A rule: one selector and its declarations in order, shorthands expanded.
+#[derive(Debug, Drop)]
+pub struct Rule {
+    pub selector: Selector,
+    pub declarations: Declarations,
+}
+
+/// The author's rules of a document, and each node's own declarations.
+#[derive(Debug, Drop)]
+pub struct Styled {
+    pub rules: Rules,
+    pub styles: Styles,
+}
