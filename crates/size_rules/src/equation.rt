@@ -17,7 +17,8 @@ pub struct Used {
 }
 
 /// Solves the inline equation: what the margins and the size come to beside the borders and paddings `edges`.
-/// `None` is auto, and for `max` that there is no maximum. The lengths, without their signs, sum to at most 2^60.
+/// `None` is auto, and for `max` that there is no maximum. What is available, `edges` and the margins sum, without
+/// their signs, to at most 2^60.
 pub fn inline_equation(
     available: i64,
     edges: i64,
@@ -27,7 +28,7 @@ pub fn inline_equation(
     start: Option<i64>,
     end: Option<i64>,
 ) -> Used
-    requires { unsigned_abs available + unsigned_abs edges + length_of size + unsigned_abs min + length_of max + length_of start + length_of end ≤ 2 ^ 60 }
+    requires { unsigned_abs available + unsigned_abs edges + length_of start + length_of end ≤ 2 ^ 60 }
     ensures { result ≡ equation.equation available edges size min max start end }
 {
     let size = used_size(asked(available - edges, size, start, end), min, max);
