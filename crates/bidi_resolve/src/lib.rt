@@ -1,0 +1,7 @@
+//! The weak and neutral rules of the Unicode Bidirectional Algorithm (UAX 9, 3.3.4 to 3.3.6): W1 to W7, N0 to N2,
+//! I1 and I2 on one isolating run sequence.
+#![tactic(auto)]
+
+mod pairing;
+mod sides;
+mod weak;

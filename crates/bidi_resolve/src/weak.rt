@@ -1,0 +1,222 @@
+ghost use Rattle.std.specs.Prelude.{◌≡◌, ◌≤◌, true, false, length, drop};
+ghost use Rattle.bidi_resolve.specs.Sides.{Sees};
+ghost use Rattle.wm_chars.specs.declared.classes.BidiClass.{BidiClass};
+ghost use Rattle.bidi_resolve.specs.Weak as weak;
+
+use crate::sides::Ahead;
+use wm_chars::BidiClass;
+use wm_chars::BidiClass::{AL, AN, CS, EN, ES, ET, FSI, L, LRI, NSM, ON, PDI, R, RLI};
+
+/// W1: a nonspacing mark takes the class of the character before it.
+#[tactic(auto, using(crate::proofs::Passes::pass_more, crate::proofs::WeakLaws::w1_starts))]
+pub(crate) fn w1(classes: &mut [BidiClass], sos: BidiClass)
+    ensures { classes.new ≡ weak.w1 sos classes.old }
+{
+    let mut handed = sos;
+    for class in classes.iter_mut() {
+        let old = *class;
+        *class = w1_class(handed, old);
+        handed = w1_after(handed, old);
+    }
+}
+
+fn w1_class(handed: BidiClass, class: BidiClass) -> BidiClass
+    ensures { result ≡ weak.w1_class handed class }
+{
+    if class == NSM { handed } else { class }
+}
+
+fn w1_after(handed: BidiClass, class: BidiClass) -> BidiClass
+    ensures { result ≡ weak.w1_after handed class }
+{
+    match class {
+        NSM => handed,
+        LRI | RLI | FSI | PDI => ON,
+        _ => class,
+    }
+}
+
+/// W2: a European number becomes an Arabic one behind an Arabic letter.
+#[tactic(auto, using(crate::proofs::Passes::pass_more, crate::proofs::WeakLaws::w2_starts))]
+pub(crate) fn w2(classes: &mut [BidiClass], sos: BidiClass)
+    ensures { classes.new ≡ weak.w2 sos classes.old }
+{
+    let mut last = sos;
+    for class in classes.iter_mut() {
+        let old = *class;
+        *class = w2_class(last, old);
+        last = w2_after(last, old);
+    }
+}
+
+fn w2_class(last: BidiClass, class: BidiClass) -> BidiClass
+    ensures { result ≡ weak.w2_class last class }
+{
+    match (last, class) {
+        (AL, EN) => AN,
+        _ => class,
+    }
+}
+
+fn w2_after(last: BidiClass, class: BidiClass) -> BidiClass
+    ensures { result ≡ weak.w2_after last class }
+{
+    match class {
+        L | R | AL => class,
+        _ => last,
+    }
+}
+
+/// W3: an Arabic letter becomes R.
+#[tactic(auto, using(crate::proofs::Passes::map_more))]
+pub(crate) fn w3(classes: &mut [BidiClass])
+    ensures { classes.new ≡ weak.w3 classes.old }
+{
+    for class in classes.iter_mut() {
+        *class = w3_class(*class);
+    }
+}
+
+fn w3_class(class: BidiClass) -> BidiClass
+    ensures { result ≡ weak.w3_class class }
+{
+    if class == AL { R } else { class }
+}
+
+/// W4: one separator between two numbers becomes a number.
+#[tactic(auto, using(crate::proofs::Passes::pass_more, crate::proofs::WeakLaws::w4_starts))]
+pub(crate) fn w4(classes: &mut [BidiClass])
+    ensures { classes.new ≡ weak.w4 classes.old }
+{
+    let mut before = ON;
+    for i in 0..classes.len() {
+        let old = classes[i];
+        classes[i] = w4_class(before, old, next_to(classes, i + 1));
+        before = old;
+    }
+}
+
+fn next_to(classes: &[BidiClass], place: usize) -> BidiClass
+    ensures { result ≡ weak.next_to (drop place classes.now) }
+{
+    if place < classes.len() { classes[place] } else { ON }
+}
+
+fn w4_class(before: BidiClass, class: BidiClass, after: BidiClass) -> BidiClass
+    ensures { result ≡ weak.w4_class before class after }
+{
+    match (before, class, after) {
+        (EN, ES | CS, EN) => EN,
+        (AN, CS, AN) => AN,
+        _ => class,
+    }
+}
+
+/// W5: a run of terminators next to a European number becomes European numbers.
+#[tactic(auto, using(crate::proofs::Passes::pass_more, crate::proofs::WeakLaws::w5_starts))]
+pub(crate) fn w5(classes: &mut [BidiClass])
+    ensures { classes.new ≡ weak.w5 classes.old }
+{
+    let mut before = ON;
+    let mut ahead = Ahead { until: 0, side: ON };
+    for i in 0..classes.len() {
+        let old = classes[i];
+        ahead = w5_ahead(classes, i + 1, ahead);
+        classes[i] = w5_class(before, old, ahead.side);
+        before = w5_after(before, old);
+    }
+}
+
+// What stands behind the run of terminators that begins at the place, or that it lies in.
+fn w5_ahead(classes: &[BidiClass], place: usize, ahead: Ahead) -> Ahead
+    requires within { place ≤ length classes.now }
+    requires sees { Sees weak.beside classes.now place ahead }
+    ensures sees { Sees weak.beside classes.now place result }
+    ensures reaches { place ≤ result.until }
+{
+    if place <= ahead.until { ahead } else { beside(classes, place) }
+}
+
+// What stands behind the run of terminators that begins at the place.
+fn beside(classes: &[BidiClass], place: usize) -> Ahead
+    requires { place ≤ length classes.now }
+    ensures sees { Sees weak.beside classes.now place result }
+    ensures reaches { place ≤ result.until }
+{
+    for until in place..classes.len() {
+        let side = classes[until];
+        if !is_passed_over(side) {
+            return Ahead { until, side };
+        }
+    }
+    Ahead { until: classes.len(), side: ON }
+}
+
+fn is_passed_over(class: BidiClass) -> bool
+    ensures yes { result ≡ true → (last : BidiClass) → weak.w5_after last class ≡ last }
+    ensures no { result ≡ false → (last : BidiClass) → weak.w5_after last class ≡ class }
+{
+    class == ET
+}
+
+fn w5_class(before: BidiClass, class: BidiClass, after: BidiClass) -> BidiClass
+    ensures { result ≡ weak.w5_class before class after }
+{
+    if class == ET && (before == EN || after == EN) { EN } else { class }
+}
+
+fn w5_after(last: BidiClass, class: BidiClass) -> BidiClass
+    ensures { result ≡ weak.w5_after last class }
+{
+    if class == ET { last } else { class }
+}
+
+/// W6: the separators and terminators that remain become neutral.
+#[tactic(auto, using(crate::proofs::Passes::map_more))]
+pub(crate) fn w6(classes: &mut [BidiClass])
+    ensures { classes.new ≡ weak.w6 classes.old }
+{
+    for class in classes.iter_mut() {
+        *class = w6_class(*class);
+    }
+}
+
+fn w6_class(class: BidiClass) -> BidiClass
+    ensures { result ≡ weak.w6_class class }
+{
+    match class {
+        ES | ET | CS => ON,
+        _ => class,
+    }
+}
+
+/// W7: a European number becomes L behind L.
+#[tactic(auto, using(crate::proofs::Passes::pass_more, crate::proofs::WeakLaws::w7_starts))]
+pub(crate) fn w7(classes: &mut [BidiClass], sos: BidiClass)
+    ensures { classes.new ≡ weak.w7 sos classes.old }
+{
+    let mut last = sos;
+    for class in classes.iter_mut() {
+        let old = *class;
+        *class = w7_class(last, old);
+        last = w7_after(last, old);
+    }
+}
+
+fn w7_class(last: BidiClass, class: BidiClass) -> BidiClass
+    ensures { result ≡ weak.w7_class last class }
+{
+    match (last, class) {
+        (L, EN) => L,
+        _ => class,
+    }
+}
+
+fn w7_after(last: BidiClass, class: BidiClass) -> BidiClass
+    ensures { result ≡ weak.w7_after last class }
+{
+    match class {
+        L | R => class,
+        _ => last,
+    }
+}
