@@ -1,3 +1,4 @@
+pub mod NeutralLaws
 pub mod Passes
 pub mod Seeing
 pub mod WeakLaws

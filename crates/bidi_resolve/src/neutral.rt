@@ -1,0 +1,137 @@
+ghost use Rattle.bidi_resolve.specs.Neutral as neutral;
+ghost use Rattle.bidi_resolve.specs.Sides.{Sees};
+ghost use Rattle.std.specs.Prelude.{◌≡◌, ◌≤◌, false, length, true};
+ghost use Rattle.wm_chars.specs.declared.classes.BidiClass.{BidiClass};
+
+use crate::sides::Ahead;
+use wm_chars::BidiClass;
+use wm_chars::BidiClass::{AN, B, EN, FSI, L, LRI, ON, PDI, R, RLI, S, WS};
+
+/// The embedding direction.
+pub(crate) fn direction(level: u8) -> BidiClass
+    ensures { result ≡ neutral.direction level }
+{
+    if level % 2 == 0 { L } else { R }
+}
+
+fn is_neutral(class: BidiClass) -> bool
+    ensures { result ≡ neutral.is_neutral class }
+{
+    matches!(class, B | S | WS | ON | LRI | RLI | FSI | PDI)
+}
+
+/// N1: a run of neutrals takes the direction of its two sides where they agree.
+#[tactic(auto, using(crate::proofs::Passes::pass_more, crate::proofs::NeutralLaws::n1_starts))]
+pub(crate) fn n1(classes: &mut [BidiClass], sos: BidiClass, eos: BidiClass)
+    ensures { classes.new ≡ neutral.n1 sos eos classes.old }
+{
+    let mut before = sos;
+    let mut ahead = Ahead { until: 0, side: eos };
+    for i in 0..classes.len() {
+        let old = classes[i];
+        ahead = n1_ahead(classes, i + 1, eos, ahead);
+        classes[i] = n1_class(before, old, ahead.side);
+        before = n1_after(before, old);
+    }
+}
+
+// The next direction from the place on, by what was seen ahead of the place before.
+fn n1_ahead(classes: &[BidiClass], place: usize, eos: BidiClass, ahead: Ahead) -> Ahead
+    requires within { place ≤ length classes.now }
+    requires sees { Sees (neutral.side eos) classes.now place ahead }
+    ensures sees { Sees (neutral.side eos) classes.now place result }
+    ensures reaches { place ≤ result.until }
+{
+    if place <= ahead.until { ahead } else { side(classes, place, eos) }
+}
+
+// The next direction from the place on.
+fn side(classes: &[BidiClass], place: usize, eos: BidiClass) -> Ahead
+    requires { place ≤ length classes.now }
+    ensures sees { Sees (neutral.side eos) classes.now place result }
+    ensures reaches { place ≤ result.until }
+{
+    for until in place..classes.len() {
+        let class = classes[until];
+        if has_direction(class) {
+            return Ahead { until, side: n1_after(eos, class) };
+        }
+    }
+    Ahead { until: classes.len(), side: eos }
+}
+
+fn has_direction(class: BidiClass) -> bool
+    ensures yes { result ≡ true → (last other : BidiClass) → neutral.n1_after last class ≡ neutral.n1_after other class }
+    ensures no { result ≡ false → (last : BidiClass) → neutral.n1_after last class ≡ last }
+{
+    matches!(class, L | R | EN | AN)
+}
+
+fn n1_class(before: BidiClass, class: BidiClass, after: BidiClass) -> BidiClass
+    ensures { result ≡ neutral.n1_class before class after }
+{
+    if !is_neutral(class) {
+        return class;
+    }
+    match (before, after) {
+        (L, L) => L,
+        (R, R) => R,
+        _ => class,
+    }
+}
+
+/// The direction that a character shows, or else the one that was seen last.
+pub(crate) fn n1_after(last: BidiClass, class: BidiClass) -> BidiClass
+    ensures { result ≡ neutral.n1_after last class }
+{
+    match class {
+        L => L,
+        R | EN | AN => R,
+        _ => last,
+    }
+}
+
+/// N2: the neutrals that remain take the embedding direction.
+#[tactic(auto, using(crate::proofs::Passes::map_more))]
+pub(crate) fn n2(classes: &mut [BidiClass], level: u8)
+    ensures { classes.new ≡ neutral.n2 level classes.old }
+{
+    for class in classes.iter_mut() {
+        *class = n2_class(level, *class);
+    }
+}
+
+fn n2_class(level: u8, class: BidiClass) -> BidiClass
+    ensures { result ≡ neutral.n2_class level class }
+{
+    if is_neutral(class) { direction(level) } else { class }
+}
+
+/// I1 and I2: how far a character is raised above its level, which is at most 125.
+pub(crate) fn raised(level: u8, class: BidiClass) -> u8
+    requires { level ≤ 125 }
+    ensures { result ≡ neutral.raised level class }
+{
+    if level % 2 == 0 { level + i1(class) } else { level + i2(class) }
+}
+
+fn i1(class: BidiClass) -> u8
+    ensures is { result ≡ neutral.i1 class }
+    ensures most { result ≤ 2 }
+{
+    match class {
+        R => 1,
+        AN | EN => 2,
+        _ => 0,
+    }
+}
+
+fn i2(class: BidiClass) -> u8
+    ensures is { result ≡ neutral.i2 class }
+    ensures most { result ≤ 2 }
+{
+    match class {
+        L | EN | AN => 1,
+        _ => 0,
+    }
+}
