@@ -1,5 +1,5 @@
 -- Paired brackets: BD14 to BD16 of UAX 9, 3.1.3, and its rule N0, 3.3.5, over one whole isolating run sequence.
-use Rattle.std.specs.Prelude.{ℕ, ◌+◌, Bool, true, false, cond, eqb, ltb, List, [], ◌∷◌, ◌++◌, take, drop, set, replicate, length, fold, Option, Some, None}
+use Rattle.std.specs.Prelude.{◌≡◌, ℕ, ◌+◌, ◌<◌, Bool, true, false, cond, eqb, ltb, List, [], ◌∷◌, ◌++◌, take, drop, set, get_or, replicate, length, fold, Option, Some, None}
 use Rattle.std.specs.List.{list_any, slice_range}
 use Rattle.wm_chars.specs.Pairs.{bracket}
 use Rattle.wm_chars.specs.declared.classes.BidiClass.{BidiClass}
@@ -62,6 +62,10 @@ read place (char ∷ chars) (class ∷ classes) reading = read (place + 1) chars
 abbrev pub closings : (chars : List ℕ) → List BidiClass → List (Option ℕ)
 closings chars classes = (read 0 chars classes (record { opened = []; closings = replicate (length classes) None; stopped = false })).closings
 
+-- each closing bracket stands behind its opening one, and before this place
+abbrev pub CloseBehind : (before : ℕ) → List (Option ℕ) → Type 0
+CloseBehind before closings = (opening closing : ℕ) → get_or closings opening None ≡ Some closing → (opening < closing) × (closing < before)
+
 -- ---- N0: what a pair becomes. Numbers count as R.
 
 abbrev pub is_l : BidiClass → Bool
@@ -81,23 +85,31 @@ is_along level c = cond (is_even level) (is_l c) (is_r c)
 abbrev pub is_against : (level : ℕ) → BidiClass → Bool
 is_against level c = cond (is_even level) (is_r c) (is_l c)
 
+abbrev pub opposite : (level : ℕ) → BidiClass
+opposite level = cond (is_even level) R L
+
 -- the last direction before the opening bracket, or sos
 abbrev pub context : (sos : BidiClass) → (before : List BidiClass) → BidiClass
 context sos before = fold n1_after sos before
 
 -- the other direction where the context has it too, else the embedding direction
 abbrev pub by_context : (level : ℕ) → (context : BidiClass) → BidiClass
-by_context level context = cond (is_against level context) (direction (level + 1)) (direction level)
+by_context level context = cond (is_against level context) (opposite level) (direction level)
 
 -- by the characters between the two brackets
 abbrev pub pair_class : (level : ℕ) → (context : BidiClass) → (inside : List BidiClass) → Option BidiClass
 pair_class level context inside = cond (list_any (is_along level) inside) (Some (direction level))
     (cond (list_any (is_against level) inside) (Some (by_context level context)) None)
 
+abbrev pub is_mark : BidiClass → Bool
+is_mark NSM = true
+is_mark c = false
+
 -- the unbroken run of characters whose original class is NSM takes the class
 abbrev pub follow : BidiClass → (originals : List BidiClass) → List BidiClass → List BidiClass
-follow class (NSM ∷ originals) (c ∷ classes) = class ∷ follow class originals classes
-follow class originals classes = classes
+follow class [] classes = classes
+follow class (original ∷ originals) [] = []
+follow class (original ∷ originals) (c ∷ classes) = cond (is_mark original) (class ∷ follow class originals classes) (c ∷ classes)
 
 -- the bracket at a place takes the class, and the run that directly follows it
 abbrev pub become : BidiClass → (place : ℕ) → (originals : List BidiClass) → List BidiClass → List BidiClass
@@ -111,12 +123,16 @@ abbrev pub resolve_pair : (level : ℕ) → (sos : BidiClass) → (opening closi
 resolve_pair level sos opening closing originals classes =
     both_become (pair_class level (context sos (take opening classes)) (slice_range classes (opening + 1) closing)) opening closing originals classes
 
+-- the pair whose opening bracket stands at this place, if one does
+abbrev pub resolve_at : (level : ℕ) → (sos : BidiClass) → (place : ℕ) → Option ℕ → (originals : List BidiClass) → List BidiClass → List BidiClass
+resolve_at level sos place None originals classes = classes
+resolve_at level sos place (Some closing) originals classes = resolve_pair level sos place closing originals classes
+
 -- the pairs whose opening brackets stand from this place on, in their order
 abbrev pub resolve_pairs : (level : ℕ) → (sos : BidiClass) → (place : ℕ) → List (Option ℕ) → (originals : List BidiClass) → List BidiClass → List BidiClass
 resolve_pairs level sos place [] originals classes = classes
-resolve_pairs level sos place (None ∷ closings) originals classes = resolve_pairs level sos (place + 1) closings originals classes
-resolve_pairs level sos place (Some closing ∷ closings) originals classes =
-    resolve_pairs level sos (place + 1) closings originals (resolve_pair level sos place closing originals classes)
+resolve_pairs level sos place (closing ∷ closings) originals classes =
+    resolve_pairs level sos (place + 1) closings originals (resolve_at level sos place closing originals classes)
 
 abbrev pub n0 : (level : ℕ) → (sos : BidiClass) → (chars : List ℕ) → (originals : List BidiClass) → List BidiClass → List BidiClass
 n0 level sos chars originals classes = resolve_pairs level sos 0 (closings chars classes) originals classes

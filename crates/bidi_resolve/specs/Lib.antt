@@ -1,5 +1,6 @@
 pub mod Brackets
 pub mod Neutral
+pub mod Pairing
 pub mod Passes
 pub mod Sequence
 pub mod Sides

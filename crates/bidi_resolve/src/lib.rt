@@ -2,6 +2,7 @@
 //! I1 and I2 on one isolating run sequence.
 #![tactic(auto)]
 
+mod brackets;
 mod neutral;
 mod pairing;
 mod sides;
