@@ -1,0 +1,3 @@
+pub mod Explicit
+pub mod Isolates
+pub mod Sequences

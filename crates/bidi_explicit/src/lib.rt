@@ -3,5 +3,6 @@
 #![tactic(auto)]
 
 mod levels;
+mod machine;
 
 pub use levels::{ClassList, LevelList, Levels, MarkList, PlaceList, Run, Runs};
