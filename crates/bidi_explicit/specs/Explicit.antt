@@ -1,5 +1,5 @@
 -- The explicit levels (UAX 9, 3.3.2): the rules X1 to X8 on the directional status stack, and X9.
-use Rattle.std.specs.Prelude.{ℕ, zero, suc, ◌+◌, ◌-◌, ◌%◌, Bool, true, false, ◌&&◌, not, cond, eqb, leb, List, [], ◌∷◌, map, Option, Some, None}
+use Rattle.std.specs.Prelude.{ℕ, ◌+◌, ◌-◌, ◌%◌, Bool, true, false, ◌&&◌, cond, eqb, leb, List, [], ◌∷◌, map, Option, Some, None}
 use Rattle.std.specs.Option.{unwrap_or}
 use Rattle.wm_chars.specs.declared.classes.BidiClass.{BidiClass}
 use Rattle.wm_chars.specs.declared.classes.BidiClass.TheVariants.{L, R, B, LRE, LRO, RLE, RLO, PDF, LRI, RLI, FSI, PDI}
@@ -43,57 +43,61 @@ pushed entry s = record s { top = entry; below = s.top ∷ s.below }
 abbrev pub embedded : ℕ → Option BidiClass → State → State
 embedded level instead s =
     cond (has_room s level)
-      (pushed (record { level = level; instead = instead; isolate = false }) s)
-      (cond (eqb s.overflow_isolates 0) (record s { overflow_embeddings = s.overflow_embeddings + 1 }) s)
+    (pushed (record { level = level; instead = instead; isolate = false }) s)
+    (cond (eqb s.overflow_isolates 0) (record s { overflow_embeddings = s.overflow_embeddings + 1 }) s)
 
 -- X5a, X5b: an isolate of this level; without room it overflows
 abbrev pub isolated : ℕ → State → State
 isolated level s =
     cond (has_room s level)
-      (pushed (record { level = level; instead = None; isolate = true }) (record s { valid_isolates = s.valid_isolates + 1 }))
-      (record s { overflow_isolates = s.overflow_isolates + 1 })
+    (pushed (record { level = level; instead = None; isolate = true }) (record s { valid_isolates = s.valid_isolates + 1 }))
+    (record s { overflow_isolates = s.overflow_isolates + 1 })
 
 -- with these entries, or unchanged where there is none: the stack always has one
 abbrev pub standing_on : List Entry → State → State
 standing_on [] s = s
 standing_on (entry ∷ below) s = record s { top = entry; below = below }
 
--- what is below the last isolate, where `top` and `below` are the stack
+-- what is below the last isolate, where `top` and `below` are the stack; the first entry is never taken away
 abbrev pub below_isolate : Entry → List Entry → List Entry
-below_isolate top [] = []
+below_isolate top [] = top ∷ []
 below_isolate top (entry ∷ below) = cond top.isolate (entry ∷ below) (below_isolate entry below)
 
 -- X6a: a PDI ends an overflow isolate; else it ends the last valid isolate with all in it, if there is one
 abbrev pub closed : State → State
 closed s =
     cond (eqb s.overflow_isolates 0)
-      (cond (eqb s.valid_isolates 0)
-        s
-        (standing_on (below_isolate s.top s.below) (record s { overflow_embeddings = 0; valid_isolates = s.valid_isolates - 1 })))
-      (record s { overflow_isolates = s.overflow_isolates - 1 })
+    (cond (eqb s.valid_isolates 0)
+    s
+    (standing_on (below_isolate s.top s.below) (record s { overflow_embeddings = 0; valid_isolates = s.valid_isolates - 1 })))
+    (record s { overflow_isolates = s.overflow_isolates - 1 })
 
 -- X7: a PDF ends an overflow embedding, else an embedding or override, but nothing outside the isolate that it
 -- stands in
 abbrev pub left : State → State
 left s =
     cond (eqb s.overflow_isolates 0)
-      (cond (eqb s.overflow_embeddings 0)
-        (cond s.top.isolate s (standing_on s.below s))
-        (record s { overflow_embeddings = s.overflow_embeddings - 1 }))
-      s
+    (cond (eqb s.overflow_embeddings 0)
+    (cond s.top.isolate s (standing_on s.below s))
+    (record s { overflow_embeddings = s.overflow_embeddings - 1 }))
+    s
 
--- what a character does to the stack, if this text follows it
-abbrev pub entered : BidiClass → List BidiClass → State → State
-entered RLE after s = embedded (next_odd s.top.level) None s
-entered LRE after s = embedded (next_even s.top.level) None s
-entered RLO after s = embedded (next_odd s.top.level) (Some R) s
-entered LRO after s = embedded (next_even s.top.level) (Some L) s
-entered RLI after s = isolated (next_odd s.top.level) s
-entered LRI after s = isolated (next_even s.top.level) s
-entered FSI after s = isolated (cond (turns_right after) (next_odd s.top.level) (next_even s.top.level)) s
-entered PDI after s = closed s
-entered PDF after s = left s
-entered _ after s = s
+-- X5c: an FSI is treated as an RLI or as an LRI, by the text that follows it
+abbrev pub plain : BidiClass → List BidiClass → BidiClass
+plain FSI after = cond (turns_right after) RLI LRI
+plain c after = c
+
+-- what a character does to the stack
+abbrev pub entered : BidiClass → State → State
+entered RLE s = embedded (next_odd s.top.level) None s
+entered LRE s = embedded (next_even s.top.level) None s
+entered RLO s = embedded (next_odd s.top.level) (Some R) s
+entered LRO s = embedded (next_even s.top.level) (Some L) s
+entered RLI s = isolated (next_odd s.top.level) s
+entered LRI s = isolated (next_even s.top.level) s
+entered PDI s = closed s
+entered PDF s = left s
+entered _ s = s
 
 -- X5a to X6a: a PDI takes the last entry as it stands behind it, each other character as it stands before it
 abbrev pub taken : BidiClass → State → State → Entry
@@ -103,7 +107,7 @@ taken _ before behind = before.top
 -- X1 to X8: the entry that each character takes, where the first meets this state
 abbrev pub entries : State → List BidiClass → List Entry
 entries s [] = []
-entries s (c ∷ after) = taken c s (entered c after s) ∷ entries (entered c after s) after
+entries s (c ∷ after) = taken c s (entered (plain c after) s) ∷ entries (entered (plain c after) s) after
 
 -- X9: what is removed
 abbrev pub is_removed : BidiClass → Bool

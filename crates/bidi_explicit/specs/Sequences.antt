@@ -1,9 +1,11 @@
 -- Isolating run sequences (UAX 9, BD7, BD13, X10).
-use Rattle.std.specs.Prelude.{ℕ, zero, suc, ◌+◌, ◌%◌, max, Bool, true, false, cond, eqb, List, [], ◌∷◌, ◌++◌, map, drop, slice_index_or, Option, Some, None}
-use Rattle.std.specs.Option.{option_map, unwrap_or}
+use Rattle.std.specs.Prelude.{ℕ, ◌+◌, ◌%◌, max, Bool, true, false, cond, eqb, List, [], ◌∷◌, ◌++◌, map, drop, slice_index_or, Option, Some, None}
+use Rattle.std.specs.Option.{option_map}
 use Rattle.wm_chars.specs.declared.classes.BidiClass.{BidiClass}
-use Rattle.wm_chars.specs.declared.classes.BidiClass.TheVariants.{L, R, ON}
-use Rattle.bidi_explicit.specs.Isolates.{Kind, strong, opens, closes, other, kind, closing}
+use Rattle.wm_chars.specs.declared.classes.BidiClass.TheVariants.{L, R}
+use Rattle.bidi_explicit.specs.declared.kind.Kind.{Kind}
+use Rattle.bidi_explicit.specs.declared.kind.Kind.TheVariants.{Opens}
+use Rattle.bidi_explicit.specs.Isolates.{kind_of, closing}
 
 -- the places of what isn't removed, where the first mark is that of the place `at`
 abbrev pub kept_from : ℕ → List Bool → List ℕ
@@ -24,20 +26,20 @@ level_runs level (p ∷ places) = run_on level p (level_runs level places)
 -- how far behind an isolate initiator its matching PDI stands, if this is the kind of a character and the text
 -- behind it
 abbrev pub distance : Kind → List BidiClass → Option ℕ
-distance opens after = closing after 0
+distance Opens after = closing after 0
 distance _ after = None
 
 -- BD9: the place of the matching PDI, if an isolate initiator that has one stands at this place
 abbrev pub match_at : List BidiClass → ℕ → Option ℕ
-match_at classes p = option_map (λ n. p + 1 + n) (distance (kind (slice_index_or classes p L)) (drop (p + 1) classes))
+match_at classes p = option_map (λ n. p + 1 + n) (distance (kind_of (slice_index_or classes p L)) (drop (p + 1) classes))
 
 -- BD9: whether an isolate initiator without a matching PDI stands at this place
 abbrev pub is_open_at : Kind → Option ℕ → Bool
-is_open_at opens None = true
+is_open_at Opens None = true
 is_open_at _ _ = false
 
 abbrev pub is_unmatched : List BidiClass → ℕ → Bool
-is_unmatched classes p = is_open_at (kind (slice_index_or classes p L)) (match_at classes p)
+is_unmatched classes p = is_open_at (kind_of (slice_index_or classes p L)) (match_at classes p)
 
 -- the last place, where this one and these are the places
 abbrev pub last_of : ℕ → List ℕ → ℕ

@@ -2,7 +2,13 @@
 //! the levels by embeddings, overrides and isolates (X1 to X9), and the isolating run sequences (X10).
 #![tactic(auto)]
 
-mod levels;
+mod ahead;
+mod base;
+mod explicit;
+mod kind;
 mod machine;
+mod paragraph;
 
-pub use levels::{ClassList, LevelList, Levels, MarkList, PlaceList, Run, Runs};
+pub use base::base_level;
+pub use explicit::levels;
+pub use paragraph::{ClassList, LevelList, Levels, MarkList, PlaceList, Run, Runs};
