@@ -1,0 +1,60 @@
+-- The pass from the end finds what P2 and P3 find in each isolate.
+use Rattle.std.proofs.Common.{◌≡◌, ◌∙◌, refl, ℕ, zero, suc, Bool, false, List, [], ◌∷◌, get_or, Option, Some, None, ◌+◌, ◌<◌, drop, length}
+use Rattle.std.proofs.lemmas.List.{drop_more}
+use Rattle.std.specs.Option.{option_map}
+use Rattle.wm_chars.specs.declared.classes.BidiClass.{BidiClass}
+use Rattle.bidi_explicit.specs.declared.kind.Kind.{Kind}
+use Rattle.bidi_explicit.specs.declared.kind.Kind.TheVariants.{Strong, Opens, Closes, Other}
+use Rattle.bidi_explicit.specs.Isolates.{kind_of, closing, closing_at, up_to, strong_from, strong_at, is_one, turns_right}
+use Rattle.bidi_explicit.specs.Ahead.{Ahead, ahead, ahead_at, rest_of, is_right}
+
+-- what it finds `depth` closing PDIs on
+abbrev at_depth : ℕ → Ahead → Bool
+at_depth zero a = a.found
+at_depth (suc depth) a = get_or a.pending depth false
+
+up_to_suc : (o : Option ℕ) (c : BidiClass) (cs : List BidiClass) → up_to (option_map suc o) (c ∷ cs) ≡ c ∷ up_to o cs
+up_to_suc None c cs = refl
+up_to_suc (Some n) c cs = refl
+
+no_more : (xs : List Bool) (n : ℕ) → get_or xs (suc n) false ≡ get_or (rest_of xs) n false
+no_more [] n = refl
+no_more (x ∷ xs) n = refl
+
+ones : (level : ℕ) → is_one (Some level) ≡ is_right level
+ones zero = refl
+ones (suc zero) = refl
+ones (suc (suc n)) = refl
+
+abbrev Finds : List BidiClass → Type 0
+Finds cs = (d : ℕ) → is_one (strong_from (up_to (closing cs d) cs) d) ≡ at_depth d (ahead cs)
+
+module _ (c : BidiClass) (cs : List BidiClass) (found : Finds cs) where
+  shown : (k : Kind) → kind_of c ≡ k → (o : Option ℕ) (d : ℕ) → is_one (strong_from (up_to (option_map suc o) (c ∷ cs)) d) ≡ is_one (strong_at k (strong_from (up_to o cs)) d)
+  shown k e o d = rw (up_to_suc o c cs) (rw e refl)
+
+  behind : (d : ℕ) → at_depth d (ahead cs) ≡ get_or ((ahead cs).found ∷ (ahead cs).pending) d false
+  behind zero = refl
+  behind (suc d) = refl
+
+  step : (k : Kind) → kind_of c ≡ k → (d : ℕ) → is_one (strong_from (up_to (closing_at k (closing cs) d) (c ∷ cs)) d) ≡ at_depth d (ahead_at k (ahead cs))
+  step (Strong level) e zero = shown (Strong level) e (closing cs 0) 0 ∙ ones level
+  step (Strong level) e (suc d) = shown (Strong level) e (closing cs (suc d)) (suc d) ∙ found (suc d)
+  step Opens e zero = shown Opens e (closing cs 1) 0 ∙ found 1
+  step Opens e (suc d) = shown Opens e (closing cs (suc (suc d))) (suc d) ∙ found (suc (suc d)) ∙ no_more (ahead cs).pending d
+  step Closes e zero = refl
+  step Closes e (suc d) = shown Closes e (closing cs d) (suc d) ∙ found d ∙ behind d
+  step Other e zero = shown Other e (closing cs 0) 0 ∙ found 0
+  step Other e (suc d) = shown Other e (closing cs (suc d)) (suc d) ∙ found (suc d)
+
+finds : (cs : List BidiClass) → Finds cs
+finds [] zero = refl
+finds [] (suc d) = refl
+finds (c ∷ cs) d = step c cs (finds cs) (kind_of c) refl d
+
+pub turns_right_found : (cs : List BidiClass) → turns_right cs ≡ (ahead cs).found
+turns_right_found cs = finds cs 0
+
+-- one step of a loop from the end
+pub drop_less : {X : Type 0} (xs : List X) (i j : ℕ) (d : X) → j + 1 ≡ i → j < length xs → drop j xs ≡ get_or xs j d ∷ drop i xs
+drop_less xs i j d e l = rw (← e) (drop_more xs j d l)

@@ -1,0 +1,62 @@
+ghost use Rattle.std.specs.Prelude.{◌≡◌, ◌∷◌, List, OnOk, IfOk};
+ghost use Rattle.bidi_explicit.specs.Isolates.{turns_right};
+ghost use Rattle.bidi_explicit.specs.Ahead.{ahead_of, ahead_at, rights};
+
+use crate::kind::{Kind, kind_of};
+use std::alloc::{AllocError, Global};
+use std::collections::VecDeque;
+use wm_chars::BidiClass;
+
+// What P2 and P3 find behind a place, as it is read from the end.
+#[derive(Drop)]
+pub(crate) struct Scan {
+    // Whether they give 1 for the text up to the PDI that closes it.
+    found: bool,
+    // The same for the text behind that PDI, behind the PDI that closes that one, and so on.
+    pending: VecDeque<bool>,
+}
+
+// Whether each FSI is treated as an RLI, in their order (UAX 9, X5c). One pass from the end answers for all.
+#[tactic(auto, using(crate::proofs::Looking::turns_right_found))]
+pub(crate) fn rights(alloc: Global, classes: &[BidiClass]) -> Result<VecDeque<bool>, AllocError>
+    ensures { IfOk result (λ answers. answers.items ≡ rights classes.now) }
+{
+    let mut scan = Scan {
+        found: false,
+        pending: VecDeque::new(alloc),
+    };
+    let mut answers = VecDeque::new(alloc);
+    let mut i = classes.len();
+    while i > 0 {
+        i -= 1;
+        let class = classes[i];
+        note(&mut answers, class, scan.found)?;
+        read(&mut scan, kind_of(class))?;
+    }
+    Ok(answers)
+}
+
+// One more character in front, of which P2 and P3 find this in what it would hold.
+fn note(answers: &mut VecDeque<bool>, class: BidiClass, found: bool) -> Result<(), AllocError>
+    ensures { OnOk result ((after : _) → found ≡ turns_right after → answers.old.items ≡ rights after → answers.new.items ≡ rights (class ∷ after)) }
+{
+    if class == BidiClass::FSI {
+        answers.push_front(found)?;
+    }
+    Ok(())
+}
+
+fn read(scan: &mut Scan, kind: Kind) -> Result<(), AllocError>
+    ensures { OnOk result (ahead_of scan.new ≡ ahead_at kind (ahead_of scan.old)) }
+{
+    match kind {
+        Kind::Strong(level) => scan.found = level == 1,
+        Kind::Opens => scan.found = scan.pending.pop_front().unwrap_or(false),
+        Kind::Closes => {
+            scan.pending.push_front(scan.found)?;
+            scan.found = false;
+        }
+        Kind::Other => {}
+    }
+    Ok(())
+}

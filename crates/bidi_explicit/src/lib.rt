@@ -1,0 +1,14 @@
+//! The explicit levels of the Unicode Bidirectional Algorithm (UAX 9): the base level of a paragraph (P2, P3),
+//! the levels by embeddings, overrides and isolates (X1 to X9), and the isolating run sequences (X10).
+#![tactic(auto)]
+
+mod ahead;
+mod base;
+mod explicit;
+mod kind;
+mod machine;
+mod paragraph;
+
+pub use base::base_level;
+pub use explicit::levels;
+pub use paragraph::{ClassList, LevelList, Levels, MarkList, PlaceList, Run, Runs};

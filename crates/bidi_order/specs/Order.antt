@@ -1,0 +1,35 @@
+-- The order of a line (UAX 9, rule L2).
+use Rattle.std.specs.Prelude.{ℕ, zero, suc, ◌+◌, ◌-◌, ◌%◌, max, min, Bool, cond, eqb, leb, List, [], ◌∷◌, ◌++◌, length, slice_index, Option, Some, None}
+use Rattle.std.specs.List.{range_with_len}
+
+-- each longest run of elements that pass the test, reversed; `run` holds the one that is being read, last first
+abbrev pub reverse_runs : {X : Type 0} → (X → Bool) → List X → List X → List X
+reverse_runs passes run [] = run
+reverse_runs passes run (x ∷ xs) = cond (passes x) (reverse_runs passes (x ∷ run) xs) (run ++ x ∷ reverse_runs passes [] xs)
+
+abbrev pub greatest : List ℕ → ℕ
+greatest [] = 0
+greatest (level ∷ levels) = max level (greatest levels)
+
+-- the least odd level, if there is one
+abbrev pub lesser : ℕ → Option ℕ → Option ℕ
+lesser level None = Some level
+lesser level (Some least) = Some (min level least)
+
+abbrev pub least_odd : List ℕ → Option ℕ
+least_odd [] = None
+least_odd (level ∷ levels) = cond (eqb (level % 2) 1) (lesser level (least_odd levels)) (least_odd levels)
+
+-- for each of these many levels from the highest down to the least one: each longest run of places that have that
+-- level or a higher one, reversed
+abbrev pub reversals : List ℕ → ℕ → ℕ → List ℕ → List ℕ
+reversals levels least zero places = places
+reversals levels least (suc n) places = reversals levels least n (reverse_runs (λ p. leb (least + n) (slice_index levels p)) [] places)
+
+abbrev pub from_least_odd : List ℕ → Option ℕ → List ℕ → List ℕ
+from_least_odd levels None places = places
+from_least_odd levels (Some least) places = reversals levels least (greatest levels + 1 - least) places
+
+-- L2: the reversals from the greatest level down to the least odd one, of all places in order
+unfoldable pub order : List ℕ → List ℕ
+order levels = from_least_odd levels (least_odd levels) (range_with_len 0 (length levels))

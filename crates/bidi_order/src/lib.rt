@@ -1,0 +1,7 @@
+//! The order of a line in the Unicode Bidirectional Algorithm (UAX 9, 3.4): levels at the line's end (L1), and
+//! the order from left to right (L2).
+#![tactic(auto)]
+
+mod places;
+
+pub use places::Order;

@@ -1,0 +1,2 @@
+/// Places in the order in which they stand on the line from left to right.
+pub type Order = Vec<usize>;
