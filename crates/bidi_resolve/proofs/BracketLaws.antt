@@ -1,5 +1,5 @@
 -- The loops over brackets, step by step.
-use Rattle.std.proofs.Common.{◌≡◌, ◌∙◌, refl, sym, ap, arith, inl, inr, ℕ, suc, ◌+◌, ◌<◌, ◌≤◌, true, false, List, [], ◌∷◌, ◌++◌, append_assoc, append-nil, length, get_or, take, drop, set, drop_of_length-le, length-append, length-drop, Option, Some, None}
+use Rattle.std.proofs.Common.{◌≡◌, ◌∙◌, refl, sym, ap, arith, inl, inr, ℕ, suc, ◌+◌, ◌<◌, ◌≤◌, true, false, List, [], ◌∷◌, ◌++◌, append_assoc, length, get_or, take, drop, set, drop_of_length-le, length-append, length-drop, Option, Some, None}
 use Rattle.std.proofs.lemmas.List.{take_more_set, drop-set-lt, drop_more, take-append-drop, take-append-le, length-take-le}
 use Rattle.std.proofs.lemmas.List.Sums.{fold_more}
 use Rattle.std.proofs.lemmas.Bool.{cases_Bool}
@@ -46,9 +46,9 @@ pub length_become : (class : BidiClass) (place : ℕ) (originals cs : List BidiC
 length_become class place originals cs lt =
     length-append (take place cs) (class ∷ follow class (drop (place + 1) originals) (drop (place + 1) cs))
     ∙ (let front = length-take-le place cs (omega arith) in
-       let tail = length_follow class (drop (place + 1) originals) (drop (place + 1) cs) in
-       let back = length-drop (place + 1) cs in
-       omega arith)
+    let tail = length_follow class (drop (place + 1) originals) (drop (place + 1) cs) in
+    let back = length-drop (place + 1) cs in
+    omega arith)
 
 -- what stands before a bracket stays
 become_before : (class : BidiClass) (place k : ℕ) (originals cs : List BidiClass) → k ≤ place → place < length cs → take k (become class place originals cs) ≡ take k cs

@@ -1,12 +1,12 @@
 -- What the reading of brackets keeps.
-use Rattle.std.proofs.Common.{◌≡◌, ◌≢◌, ◌∙◌, refl, sym, ap, arith, inl, inr, ℕ, zero, suc, ◌+◌, ◌<◌, ◌≤◌, true, false, Bool, eqb, ltb, cond, List, [], ◌∷◌, length, get_or, drop, set, Option, Some, None}
+use Rattle.std.proofs.Common.{◌≡◌, ◌∙◌, refl, sym, ap, arith, inl, inr, ℕ, zero, suc, ◌+◌, ◌<◌, true, false, Bool, eqb, ltb, cond, List, [], ◌∷◌, length, get_or, drop, set, Option, Some, None}
 use Rattle.std.specs.Prelude.{All}
 use Rattle.std.proofs.lemmas.List.{drop_more, length-set, get_or-set_same, get_or-set_other, get_or_past}
 use Rattle.std.proofs.lemmas.Bool.{cases_Bool, cases_lt, cases_eq}
 use Rattle.wm_chars.specs.declared.classes.BidiClass.{BidiClass}
 use Rattle.wm_chars.specs.declared.classes.Bracket.{Bracket}
 use Rattle.bidi_resolve.specs.declared.pairing.Opened.{Opened}
-use Rattle.bidi_resolve.specs.Brackets.{Reading, Found, bracket_of, open_, found, close_with, close, read_bracket, read_one, read, CloseBehind}
+use Rattle.bidi_resolve.specs.Brackets.{Reading, Found, bracket_of, open_, found, close_with, read_bracket, read_one, read, CloseBehind}
 use Rattle.bidi_resolve.specs.Pairing.{IsWithin}
 
 -- one place further
@@ -47,7 +47,7 @@ behind_set place at closings lt behind k b e = elim (cases_eq k at) [
     | inr past ↦
         let none : None ≡ Some b = sym (get_or_past (set closings at (Some place)) at None (let n = length-set closings at (Some place) in omega arith)) ∙ (rw same at e) in
         absurd (cc)
-    ]
+  ]
   | inr other ↦
       let h = behind k b (sym (get_or-set_other closings at k (Some place) None other) ∙ e) in
       (h.0, let lt' = h.1 in omega arith)
@@ -64,6 +64,7 @@ open_within place partner reading within = elim (cases_Bool (ltb (length reading
 ] where
   first : Opened
   first = record { place = place; partner = partner }
+
   pushed : All (λ o. o.place < place + 1) (first ∷ reading.opened)
   pushed zero d lt = omega arith
   pushed (suc k) d lt = all_more place reading.opened within.opened k d (omega arith)
@@ -91,7 +92,7 @@ bracket_length place char (Some b) reading = elim (cases_Bool b.opens) [
   | inl opens ↦ rw opens (elim (cases_Bool (ltb (length reading.opened) 63)) [
     | inl room ↦ rw room refl
     | inr full ↦ rw full refl
-    ])
+  ])
   | inr closes ↦ rw closes (close_length place (found char reading.opened) reading)
 ]
 

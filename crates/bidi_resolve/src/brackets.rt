@@ -107,13 +107,21 @@ fn has_against(level: u8, inside: &[BidiClass]) -> bool
 fn is_along(level: u8, class: BidiClass) -> bool
     ensures { result ≡ brackets.is_along level class }
 {
-    if level % 2 == 0 { is_l(class) } else { is_r(class) }
+    if level % 2 == 0 {
+        is_l(class)
+    } else {
+        is_r(class)
+    }
 }
 
 fn is_against(level: u8, class: BidiClass) -> bool
     ensures { result ≡ brackets.is_against level class }
 {
-    if level % 2 == 0 { is_r(class) } else { is_l(class) }
+    if level % 2 == 0 {
+        is_r(class)
+    } else {
+        is_l(class)
+    }
 }
 
 fn is_l(class: BidiClass) -> bool
@@ -131,7 +139,11 @@ fn is_r(class: BidiClass) -> bool
 fn by_context(level: u8, context: BidiClass) -> BidiClass
     ensures { result ≡ brackets.by_context level context }
 {
-    if is_against(level, context) { opposite(level) } else { direction(level) }
+    if is_against(level, context) {
+        opposite(level)
+    } else {
+        direction(level)
+    }
 }
 
 fn opposite(level: u8) -> BidiClass
@@ -142,12 +154,7 @@ fn opposite(level: u8) -> BidiClass
 
 // The bracket takes the class, and so do the characters directly behind it that were nonspacing marks.
 #[tactic(auto, using(crate::proofs::BracketLaws::follow_starts, crate::proofs::BracketLaws::follow_more, crate::proofs::BracketLaws::follow_stops, crate::proofs::BracketLaws::follow_ends))]
-fn become_class(
-    classes: &mut [BidiClass],
-    originals: &[BidiClass],
-    place: usize,
-    class: BidiClass,
-)
+fn become_class(classes: &mut [BidiClass], originals: &[BidiClass], place: usize, class: BidiClass)
     requires originals { length originals.now ≡ length classes.old }
     requires place { place < length classes.old }
     ensures { classes.new ≡ brackets.become class place originals.now classes.old }

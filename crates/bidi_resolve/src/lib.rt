@@ -5,5 +5,9 @@
 mod brackets;
 mod neutral;
 mod pairing;
+mod places;
+mod sequence;
 mod sides;
 mod weak;
+
+pub use sequence::resolve;

@@ -26,7 +26,10 @@ pub(crate) fn n1(classes: &mut [BidiClass], sos: BidiClass, eos: BidiClass)
     ensures { classes.new ≡ neutral.n1 sos eos classes.old }
 {
     let mut before = sos;
-    let mut ahead = Ahead { until: 0, side: eos };
+    let mut ahead = Ahead {
+        until: 0,
+        side: eos,
+    };
     for i in 0..classes.len() {
         let old = classes[i];
         ahead = n1_ahead(classes, i + 1, eos, ahead);
@@ -42,7 +45,11 @@ fn n1_ahead(classes: &[BidiClass], place: usize, eos: BidiClass, ahead: Ahead) -
     ensures sees { Sees (neutral.side eos) classes.now place result }
     ensures reaches { place ≤ result.until }
 {
-    if place <= ahead.until { ahead } else { side(classes, place, eos) }
+    if place <= ahead.until {
+        ahead
+    } else {
+        side(classes, place, eos)
+    }
 }
 
 // The next direction from the place on.
@@ -54,10 +61,16 @@ fn side(classes: &[BidiClass], place: usize, eos: BidiClass) -> Ahead
     for until in place..classes.len() {
         let class = classes[until];
         if has_direction(class) {
-            return Ahead { until, side: n1_after(eos, class) };
+            return Ahead {
+                until,
+                side: n1_after(eos, class),
+            };
         }
     }
-    Ahead { until: classes.len(), side: eos }
+    Ahead {
+        until: classes.len(),
+        side: eos,
+    }
 }
 
 fn has_direction(class: BidiClass) -> bool
@@ -104,7 +117,11 @@ pub(crate) fn n2(classes: &mut [BidiClass], level: u8)
 fn n2_class(level: u8, class: BidiClass) -> BidiClass
     ensures { result ≡ neutral.n2_class level class }
 {
-    if is_neutral(class) { direction(level) } else { class }
+    if is_neutral(class) {
+        direction(level)
+    } else {
+        class
+    }
 }
 
 /// I1 and I2: how far a character is raised above its level, which is at most 125.
@@ -112,7 +129,11 @@ pub(crate) fn raised(level: u8, class: BidiClass) -> u8
     requires { level ≤ 125 }
     ensures { result ≡ neutral.raised level class }
 {
-    if level % 2 == 0 { level + i1(class) } else { level + i2(class) }
+    if level % 2 == 0 {
+        level + i1(class)
+    } else {
+        level + i2(class)
+    }
 }
 
 fn i1(class: BidiClass) -> u8

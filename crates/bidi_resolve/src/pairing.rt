@@ -63,12 +63,7 @@ impl Pairing {
         }
     }
 
-    fn read_bracket(
-        &mut self,
-        place: usize,
-        char: char,
-        bracket: Bracket,
-    ) -> Result<(), AllocError>
+    fn read_bracket(&mut self, place: usize, char: char, bracket: Bracket) -> Result<(), AllocError>
         requires running { self.old.stopped ≡ false }
         requires within { All (λ opened. opened.place < length self.old.closings.items) self.old.opened.items }
         ensures { IfOk result (λ _. reading_of self.new ≡ brackets.read_bracket place char (Some bracket) (reading_of self.old)) }

@@ -99,7 +99,11 @@ pub(crate) fn w4(classes: &mut [BidiClass])
 fn next_to(classes: &[BidiClass], place: usize) -> BidiClass
     ensures { result ≡ weak.next_to (drop place classes.now) }
 {
-    if place < classes.len() { classes[place] } else { ON }
+    if place < classes.len() {
+        classes[place]
+    } else {
+        ON
+    }
 }
 
 fn w4_class(before: BidiClass, class: BidiClass, after: BidiClass) -> BidiClass
@@ -134,7 +138,11 @@ fn w5_ahead(classes: &[BidiClass], place: usize, ahead: Ahead) -> Ahead
     ensures sees { Sees weak.beside classes.now place result }
     ensures reaches { place ≤ result.until }
 {
-    if place <= ahead.until { ahead } else { beside(classes, place) }
+    if place <= ahead.until {
+        ahead
+    } else {
+        beside(classes, place)
+    }
 }
 
 // What stands behind the run of terminators that begins at the place.
@@ -149,7 +157,10 @@ fn beside(classes: &[BidiClass], place: usize) -> Ahead
             return Ahead { until, side };
         }
     }
-    Ahead { until: classes.len(), side: ON }
+    Ahead {
+        until: classes.len(),
+        side: ON,
+    }
 }
 
 fn is_passed_over(class: BidiClass) -> bool
@@ -162,7 +173,11 @@ fn is_passed_over(class: BidiClass) -> bool
 fn w5_class(before: BidiClass, class: BidiClass, after: BidiClass) -> BidiClass
     ensures { result ≡ weak.w5_class before class after }
 {
-    if class == ET && (before == EN || after == EN) { EN } else { class }
+    if class == ET && (before == EN || after == EN) {
+        EN
+    } else {
+        class
+    }
 }
 
 fn w5_after(last: BidiClass, class: BidiClass) -> BidiClass

@@ -1,5 +1,5 @@
-use Rattle.std.proofs.Common.{rules, ◌≡◌, ◌∙◌, ap, ◌+◌, get_or, drop, length}
-use Rattle.bidi_resolve.specs.Brackets.{Reading, read, read_one}
+use Rattle.std.proofs.Common.{rules, ◌∙◌, ap, ◌+◌, drop, length}
+use Rattle.bidi_resolve.specs.Brackets.{Reading, read}
 use Rattle.bidi_resolve.specs.Pairing.{reading_of}
 use Rattle.bidi_resolve.proofs.PairingLaws.{read_more, read_within, read_length}
 use Rattle.wm_chars.specs.declared.classes.BidiClass.TheVariants.{L}

@@ -1,0 +1,77 @@
+ghost use Rattle.bidi_resolve.specs.Neutral.{i1_i2};
+ghost use Rattle.bidi_resolve.specs.Places.{gathered, run_level, scattered};
+ghost use Rattle.std.specs.Prelude.{◌≡◌, ◌<◌, ◌≤◌, All, IfOk, length, slice_index};
+ghost use Rattle.wm_chars.specs.declared.classes.BidiClass.TheVariants.{L};
+
+use crate::neutral::raised;
+use std::alloc::{AllocError, Global};
+use wm_chars::BidiClass;
+
+/// The classes at the places of a sequence.
+pub(crate) fn classes_at(
+    alloc: Global,
+    classes: &[BidiClass],
+    places: &[usize],
+) -> Result<Vec<BidiClass>, AllocError>
+    requires { All (λ place. place < length classes.now) places.now }
+    ensures { IfOk result (λ out. out.items ≡ gathered L classes.now places.now) }
+{
+    let mut out = Vec::with_capacity(alloc, places.len())?;
+    for place in places {
+        out.push(classes[*place])?;
+    }
+    Ok(out)
+}
+
+/// The characters there.
+pub(crate) fn chars_at(
+    alloc: Global,
+    chars: &[char],
+    places: &[usize],
+) -> Result<Vec<char>, AllocError>
+    requires { All (λ place. place < length chars.now) places.now }
+    ensures { IfOk result (λ out. out.items ≡ gathered 0 chars.now places.now) }
+{
+    let mut out = Vec::with_capacity(alloc, places.len())?;
+    for place in places {
+        out.push(chars[*place])?;
+    }
+    Ok(out)
+}
+
+/// The level of a sequence: that of its first character.
+pub(crate) fn level_of(levels: &[u8], places: &[usize]) -> u8
+    requires places { All (λ place. place < length levels.now) places.now }
+    requires most { All (λ place. slice_index levels.now place ≤ 125) places.now }
+    ensures is { result ≡ run_level levels.now places.now }
+    ensures most { result ≤ 125 }
+{
+    if places.is_empty() {
+        0
+    } else {
+        levels[places[0]]
+    }
+}
+
+/// Writes the classes of a sequence to its places.
+pub(crate) fn write_classes(classes: &mut [BidiClass], places: &[usize], new: &[BidiClass])
+    requires places { All (λ place. place < length classes.old) places.now }
+    requires new { length new.now ≡ length places.now }
+    ensures { classes.new ≡ scattered places.now new.now classes.old }
+{
+    for k in 0..places.len() {
+        classes[places[k]] = new[k];
+    }
+}
+
+/// Raises the levels at these places by their classes.
+pub(crate) fn write_levels(levels: &mut [u8], places: &[usize], level: u8, classes: &[BidiClass])
+    requires level { level ≤ 125 }
+    requires places { All (λ place. place < length levels.old) places.now }
+    requires classes { length classes.now ≡ length places.now }
+    ensures { levels.new ≡ scattered places.now (i1_i2 level classes.now) levels.old }
+{
+    for k in 0..places.len() {
+        levels[places[k]] = raised(level, classes[k]);
+    }
+}
