@@ -1,4 +1,5 @@
 pub mod Brackets
+pub mod Laws
 pub mod Neutral
 pub mod Pairing
 pub mod Passes

@@ -3,6 +3,7 @@
 #![tactic(auto)]
 
 mod brackets;
+mod laws;
 mod neutral;
 mod pairing;
 mod places;
@@ -10,4 +11,8 @@ mod sequence;
 mod sides;
 mod weak;
 
+pub use laws::{
+    levels_rise_by_two, no_neutral_is_left, places_inside_are_resolved, places_outside_stay,
+    rules_look_around,
+};
 pub use sequence::resolve;

@@ -1,0 +1,105 @@
+-- Each rule leaves as many classes as it takes.
+use Rattle.std.proofs.Common.{◌≡◌, ◌∙◌, refl, sym, ap, arith, inl, inr, ℕ, zero, suc, ◌+◌, ◌<◌, ◌≤◌, Bool, true, false, cond, List, [], ◌∷◌, length, get_or, replicate, map, Option, Some, None}
+use Rattle.std.specs.Prelude.{All}
+use Rattle.std.proofs.lemmas.List.{length-map, length-replicate, get_or-replicate, get_or_past}
+use Rattle.std.proofs.lemmas.Bool.{cases_Bool, cases_lt}
+use Rattle.wm_chars.specs.declared.classes.BidiClass.{BidiClass}
+use Rattle.wm_chars.specs.declared.classes.BidiClass.TheVariants.{L, R}
+use Rattle.bidi_resolve.specs.Brackets.{Reading, read, read_one, closings, CloseBehind, both_become, become, resolve_at, resolve_pair, resolve_pairs, pair_class, context, n0}
+use Rattle.bidi_resolve.specs.Neutral.{is_neutral, is_even, direction, n1, n2, n2_class, i1_i2, raised}
+use Rattle.bidi_resolve.specs.Pairing.{IsWithin}
+use Rattle.bidi_resolve.specs.Passes.{each}
+use Rattle.bidi_resolve.specs.Sequence.{weak, resolved}
+use Rattle.bidi_resolve.specs.Weak.{w1, w2, w3, w3_class, w4, w5, w6, w6_class, w7}
+use Rattle.bidi_resolve.proofs.BracketLaws.{length_become}
+use Rattle.bidi_resolve.proofs.PairingLaws.{read_within, read_length}
+
+length_each : (rule : List BidiClass → BidiClass → List BidiClass → BidiClass) (before xs : List BidiClass) → length (each rule before xs) ≡ length xs
+length_each rule before [] = refl
+length_each rule before (x ∷ xs) = ap (λ (n : ℕ). suc n) (length_each rule (x ∷ before) xs)
+
+-- ---- the pairs
+
+within_wider : (m n : ℕ) (reading : Reading) → m ≤ n → IsWithin m reading → IsWithin n reading
+within_wider m n reading le within = record {
+  opened = λ k d lt. let h = within.opened k d lt in omega arith;
+  behind = λ k b e. let h = within.behind k b e in (h.0, let lt = h.1 in omega arith);
+}
+
+read_all_within : (place : ℕ) (chars : List ℕ) (classes : List BidiClass) (reading : Reading) → IsWithin place reading → IsWithin (place + length classes) (read place chars classes reading)
+read_all_within place [] classes reading within = within_wider place (place + length classes) reading (omega arith) within
+read_all_within place (char ∷ chars) [] reading within = within_wider place (place + 0) reading (omega arith) within
+read_all_within place (char ∷ chars) (class ∷ classes) reading within =
+    within_wider ((place + 1) + length classes) (place + suc (length classes)) _ (omega arith) (read_all_within (place + 1) chars classes (read_one place char class reading) (read_within place char class reading within))
+
+none_closed : (n before : ℕ) → CloseBehind before (replicate n None)
+none_closed n before k b e = elim (cases_lt k n) [
+  | inl inside ↦ absurd (let none : None ≡ Some b = sym (get_or-replicate n k None None inside) ∙ e in cc)
+  | inr past ↦ absurd (let none : None ≡ Some b = sym (get_or_past (replicate n None) k None (let h : length (replicate {A = Option ℕ} n None) ≡ n = length-replicate n None in omega arith)) ∙ e in cc)
+]
+
+pub closings_behind : (chars : List ℕ) (classes : List BidiClass) → CloseBehind (length classes) (closings chars classes)
+closings_behind chars classes =
+    let begun : IsWithin 0 (record { opened = []; closings = replicate (length classes) None; stopped = false }) = record { opened = λ k d lt. absurd (omega arith); behind = none_closed (length classes) 0 } in
+    (within_wider (0 + length classes) (length classes) _ (omega arith) (read_all_within 0 chars classes _ begun)).behind
+
+-- ---- what they become
+
+length_both : (class : Option BidiClass) (place closing : ℕ) (originals cs : List BidiClass) → place < closing → closing < length cs → length (both_become class place closing originals cs) ≡ length cs
+length_both None place closing originals cs behind lt = refl
+length_both (Some class) place closing originals cs behind lt =
+    let first = length_become class place originals cs (omega arith) in
+    length_become class closing originals (become class place originals cs) (omega arith) ∙ first
+
+length_at : (level : ℕ) (sos : BidiClass) (place : ℕ) (closing : Option ℕ) (originals cs : List BidiClass) → ((b : ℕ) → closing ≡ Some b → (place < b) × (b < length cs)) → length (resolve_at level sos place closing originals cs) ≡ length cs
+length_at level sos place None originals cs behind = refl
+length_at level sos place (Some closing) originals cs behind = let both = behind closing refl in length_both _ place closing originals cs both.0 both.1
+
+length_pairs : (level : ℕ) (sos : BidiClass) (place : ℕ) (closings : List (Option ℕ)) (originals cs : List BidiClass) → ((k b : ℕ) → get_or closings k None ≡ Some b → (place + k < b) × (b < length cs)) → length (resolve_pairs level sos place closings originals cs) ≡ length cs
+length_pairs level sos place [] originals cs behind = refl
+length_pairs level sos place (closing ∷ closings) originals cs behind =
+    let same = length_at level sos place closing originals cs (λ b e. let h = behind zero b e in (let lt = h.0 in omega arith, h.1)) in
+    length_pairs level sos (place + 1) closings originals (resolve_at level sos place closing originals cs) (λ k b e. let h = behind (suc k) b e in (let lt = h.0 in omega arith, rw same h.1)) ∙ same
+
+length_n0 : (level : ℕ) (sos : BidiClass) (chars : List ℕ) (originals classes : List BidiClass) → length (n0 level sos chars originals classes) ≡ length classes
+length_n0 level sos chars originals classes = length_pairs level sos 0 (closings chars classes) originals classes (λ k b e. let h = closings_behind chars classes k b e in (let lt = h.0 in omega arith, h.1))
+
+length_weak : (sos : BidiClass) (classes : List BidiClass) → length (weak sos classes) ≡ length classes
+unfolding weak
+length_weak sos classes =
+    length_each _ [] (w6 (w5 (w4 (w3 (w2 sos (w1 sos classes))))))
+    ∙ length-map (w5 (w4 (w3 (w2 sos (w1 sos classes))))) w6_class
+    ∙ length_each _ [] (w4 (w3 (w2 sos (w1 sos classes))))
+    ∙ length_each _ [] (w3 (w2 sos (w1 sos classes)))
+    ∙ length-map (w2 sos (w1 sos classes)) w3_class
+    ∙ length_each _ [] (w1 sos classes)
+    ∙ length_each _ [] classes
+
+pub length_resolved : (level : ℕ) (sos eos : BidiClass) (chars : List ℕ) (originals classes : List BidiClass) → length (resolved level sos eos chars originals classes) ≡ length classes
+unfolding resolved
+length_resolved level sos eos chars originals classes =
+    length-map (n1 sos eos (n0 level sos chars originals (weak sos classes))) (n2_class level)
+    ∙ length_each _ [] (n0 level sos chars originals (weak sos classes))
+    ∙ length_n0 level sos chars originals (weak sos classes)
+    ∙ length_weak sos classes
+
+-- ---- no neutral is left
+
+directed : (even : Bool) → is_neutral (cond even L R) ≡ false
+directed true = refl
+directed false = refl
+
+none_neutral : (level : ℕ) (c : BidiClass) → is_neutral (n2_class level c) ≡ false
+none_neutral level c = elim (cases_Bool (is_neutral c)) [
+  | inl neutral ↦ rw neutral (directed (is_even level))
+  | inr other ↦ rw (other, other) refl
+]
+
+all_resolved : (level : ℕ) (classes : List BidiClass) → All (λ c. is_neutral c ≡ false) (map (n2_class level) classes)
+all_resolved level [] k d lt = absurd (omega arith)
+all_resolved level (c ∷ classes) zero d lt = none_neutral level c
+all_resolved level (c ∷ classes) (suc k) d lt = all_resolved level classes k d (omega arith)
+
+pub no_neutral : (level : ℕ) (sos eos : BidiClass) (chars : List ℕ) (originals classes : List BidiClass) → All (λ c. is_neutral c ≡ false) (resolved level sos eos chars originals classes)
+unfolding resolved
+no_neutral level sos eos chars originals classes = all_resolved level (n1 sos eos (n0 level sos chars originals (weak sos classes)))

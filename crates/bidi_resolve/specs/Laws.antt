@@ -1,0 +1,45 @@
+-- What holds of the rules.
+use Rattle.std.specs.Prelude.{◌≡◌, ◌≢◌, ℕ, ◌+◌, ◌<◌, ◌≤◌, false, List, [], ◌∷◌, ◌++◌, ⊤, map, length, get_or, take, drop, reverse, All, Option, Some, None}
+use Rattle.wm_chars.specs.Pairs.{bracket}
+use Rattle.wm_chars.specs.declared.classes.BidiClass.{BidiClass}
+use Rattle.wm_chars.specs.declared.classes.BidiClass.TheVariants.{L, ON}
+use Rattle.bidi_explicit.specs.declared.paragraph.Levels.{Levels}
+use Rattle.bidi_explicit.specs.declared.paragraph.Run.{Run}
+use Rattle.bidi_resolve.specs.Neutral.{is_neutral, i1_i2, raised}
+use Rattle.bidi_resolve.specs.Passes.{each}
+use Rattle.bidi_resolve.specs.Places.{gathered, run_level}
+use Rattle.bidi_resolve.specs.Sequence.{resolved, run_classes, classes_with, levels_with}
+
+-- the places rise
+abbrev pub Rises : List ℕ → Type 0
+Rises [] = ⊤
+Rises (p ∷ places) = All (λ q. p < q) places × Rises places
+
+-- elsewhere the paragraph stays as it was
+pub record StayOutside : Type 0 where
+  pub classes : (chars : List ℕ) (levels : Levels) (run : Run) (k : ℕ) (d : BidiClass) → All (λ p. k ≢ p) run.places.items
+      → get_or (classes_with chars levels run) k d ≡ get_or levels.class.items k d
+  pub levels : (chars : List ℕ) (levels : Levels) (run : Run) (k d : ℕ) → All (λ p. k ≢ p) run.places.items
+      → get_or (levels_with chars levels run) k d ≡ get_or levels.level.items k d
+
+-- at the places of the sequence, which rise, stands what the rules give
+pub record StandInside : Type 0 where
+  pub classes : (chars : List ℕ) (levels : Levels) (run : Run) → Rises run.places.items → All (λ p. p < length levels.class.items) run.places.items
+      → gathered L (classes_with chars levels run) run.places.items ≡ run_classes chars levels run
+  pub levels : (chars : List ℕ) (levels : Levels) (run : Run) → Rises run.places.items → All (λ p. p < length levels.level.items) run.places.items
+      → gathered 0 (levels_with chars levels run) run.places.items ≡ i1_i2 (run_level levels.level.items run.places.items) (run_classes chars levels run)
+
+-- what a rule gives at a place hangs on what stands before it, nearest first, on its own class and on what stands
+-- behind it
+abbrev pub RulesLookAround : Type 0
+RulesLookAround = (rule : List BidiClass → BidiClass → List BidiClass → BidiClass) (classes : List BidiClass) (k : ℕ) (d : BidiClass) → k < length classes
+    → get_or (each rule [] classes) k d ≡ rule (reverse (take k classes)) (get_or classes k d) (drop (k + 1) classes)
+
+-- no neutral is left
+abbrev pub NoNeutralIsLeft : Type 0
+NoNeutralIsLeft = (level : ℕ) (sos eos : BidiClass) (chars : List ℕ) (originals classes : List BidiClass)
+    → All (λ c. is_neutral c ≡ false) (resolved level sos eos chars originals classes)
+
+-- a level is raised by at most two
+abbrev pub RaiseByTwo : Type 0
+RaiseByTwo = (level : ℕ) (c : BidiClass) → (level ≤ raised level c) × (raised level c ≤ level + 2)

@@ -1,0 +1,28 @@
+//! Laws of the rules. These functions do nothing: their contracts are the laws.
+
+ghost use Rattle.bidi_resolve.specs.Laws.{NoNeutralIsLeft, RaiseByTwo, RulesLookAround, StandInside, StayOutside};
+
+/// At places outside a sequence the classes and levels stay as they were.
+pub fn places_outside_stay()
+    ensures { StayOutside }
+{}
+
+/// At the places of a sequence, which rise, stands what the rules give for it.
+pub fn places_inside_are_resolved()
+    ensures { StandInside }
+{}
+
+/// A weak or neutral rule is told for each place by what stands before it, at it and behind it.
+pub fn rules_look_around()
+    ensures { RulesLookAround }
+{}
+
+/// Behind N2 no neutral, isolate initiator or PDI is left.
+pub fn no_neutral_is_left()
+    ensures { NoNeutralIsLeft }
+{}
+
+/// I1 and I2 raise a level by two at most.
+pub fn levels_rise_by_two()
+    ensures { RaiseByTwo }
+{}
