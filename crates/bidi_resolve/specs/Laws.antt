@@ -5,10 +5,10 @@ use Rattle.wm_chars.specs.declared.classes.BidiClass.{BidiClass}
 use Rattle.wm_chars.specs.declared.classes.BidiClass.TheVariants.{L, ON}
 use Rattle.bidi_explicit.specs.declared.paragraph.Levels.{Levels}
 use Rattle.bidi_explicit.specs.declared.paragraph.Run.{Run}
-use Rattle.bidi_resolve.specs.Neutral.{is_neutral, i1_i2, raised}
+use Rattle.bidi_resolve.specs.Neutral.{is_neutral, raised}
 use Rattle.bidi_resolve.specs.Passes.{each}
-use Rattle.bidi_resolve.specs.Places.{gathered, run_level}
-use Rattle.bidi_resolve.specs.Sequence.{resolved, run_classes, classes_with, levels_with}
+use Rattle.bidi_resolve.specs.Places.{gathered}
+use Rattle.bidi_resolve.specs.Sequence.{resolved, run_classes, run_levels, classes_with, levels_with}
 
 -- the places rise
 abbrev pub Rises : List ℕ → Type 0
@@ -27,7 +27,7 @@ pub record StandInside : Type 0 where
   pub classes : (chars : List ℕ) (levels : Levels) (run : Run) → Rises run.places.items → All (λ p. p < length levels.class.items) run.places.items
       → gathered L (classes_with chars levels run) run.places.items ≡ run_classes chars levels run
   pub levels : (chars : List ℕ) (levels : Levels) (run : Run) → Rises run.places.items → All (λ p. p < length levels.level.items) run.places.items
-      → gathered 0 (levels_with chars levels run) run.places.items ≡ i1_i2 (run_level levels.level.items run.places.items) (run_classes chars levels run)
+      → gathered 0 (levels_with chars levels run) run.places.items ≡ run_levels chars levels run
 
 -- what a rule gives at a place hangs on what stands before it, nearest first, on its own class and on what stands
 -- behind it

@@ -2,6 +2,7 @@ pub mod Brackets
 pub mod Laws
 pub mod Neutral
 pub mod Pairing
+pub mod Paragraph
 pub mod Passes
 pub mod Places
 pub mod Sequence

@@ -3,6 +3,7 @@
 use Rattle.std.specs.Prelude.{ℕ, List}
 use Rattle.wm_chars.specs.declared.classes.BidiClass.{BidiClass}
 use Rattle.wm_chars.specs.declared.classes.BidiClass.TheVariants.{L}
+use Rattle.bidi_explicit.specs.Sequences.{Sequence}
 use Rattle.bidi_explicit.specs.declared.paragraph.Levels.{Levels}
 use Rattle.bidi_explicit.specs.declared.paragraph.Run.{Run}
 use Rattle.bidi_resolve.specs.Weak.{w1, w2, w3, w4, w5, w6, w7}
@@ -18,17 +19,31 @@ weak sos classes = w7 sos (w6 (w5 (w4 (w3 (w2 sos (w1 sos classes))))))
 unfoldable pub resolved : (level : ℕ) → (sos eos : BidiClass) → (chars : List ℕ) → (originals classes : List BidiClass) → List BidiClass
 resolved level sos eos chars originals classes = n2 level (n1 sos eos (n0 level sos chars originals (weak sos classes)))
 
--- the classes at the places of a sequence
-unfoldable pub run_classes : (chars : List ℕ) → Levels → Run → List BidiClass
-run_classes chars levels run =
-    resolved (run_level levels.level.items run.places.items) run.sos run.eos
-    (gathered 0 chars run.places.items) (gathered L levels.original.items run.places.items) (gathered L levels.class.items run.places.items)
+-- the classes at the places of a sequence: by the characters of the paragraph, the classes that were handed in, and
+-- the levels and classes as X1 to X9 leave them
+unfoldable pub sequence_classes : (chars : List ℕ) → (originals : List BidiClass) → (levels : List ℕ) → (classes : List BidiClass) → Sequence → List BidiClass
+sequence_classes chars originals levels classes sequence =
+    resolved (run_level levels sequence.places) sequence.sos sequence.eos
+    (gathered 0 chars sequence.places) (gathered L originals sequence.places) (gathered L classes sequence.places)
 
--- the classes of the paragraph
-unfoldable pub classes_with : (chars : List ℕ) → Levels → Run → List BidiClass
+-- and the levels there, by I1 and I2
+unfoldable pub sequence_levels : (chars : List ℕ) → (originals : List BidiClass) → (levels : List ℕ) → (classes : List BidiClass) → Sequence → List ℕ
+sequence_levels chars originals levels classes sequence = i1_i2 (run_level levels sequence.places) (sequence_classes chars originals levels classes sequence)
+
+-- ---- in the code's types
+
+abbrev pub sequence_of : Run → Sequence
+sequence_of run = record { places = run.places.items; sos = run.sos; eos = run.eos }
+
+abbrev pub run_classes : (chars : List ℕ) → Levels → Run → List BidiClass
+run_classes chars levels run = sequence_classes chars levels.original.items levels.level.items levels.class.items (sequence_of run)
+
+abbrev pub run_levels : (chars : List ℕ) → Levels → Run → List ℕ
+run_levels chars levels run = sequence_levels chars levels.original.items levels.level.items levels.class.items (sequence_of run)
+
+-- the classes and the levels of the whole paragraph, where this sequence is resolved
+abbrev pub classes_with : (chars : List ℕ) → Levels → Run → List BidiClass
 classes_with chars levels run = scattered run.places.items (run_classes chars levels run) levels.class.items
 
--- and its levels, by I1 and I2
-unfoldable pub levels_with : (chars : List ℕ) → Levels → Run → List ℕ
-levels_with chars levels run =
-    scattered run.places.items (i1_i2 (run_level levels.level.items run.places.items) (run_classes chars levels run)) levels.level.items
+abbrev pub levels_with : (chars : List ℕ) → Levels → Run → List ℕ
+levels_with chars levels run = scattered run.places.items (run_levels chars levels run) levels.level.items

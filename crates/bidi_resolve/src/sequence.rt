@@ -14,7 +14,7 @@ use wm_chars::BidiClass;
 /// Resolves one isolating run sequence (UAX 9, 3.3.4 to 3.3.6): the rules W1 to W7, N0 to N2, I1 and I2. The
 /// characters and each list in `levels` have one length, and the places of the sequence stand below it and have
 /// levels of at most 125. The classes and levels at other places stay as they are.
-#[tactic(auto, unfolding(crate::specs::Sequence::classes_with, crate::specs::Sequence::levels_with))]
+#[tactic(auto, unfolding(crate::specs::Sequence::sequence_levels))]
 pub fn resolve(
     alloc: Global,
     chars: &[char],
@@ -42,7 +42,7 @@ pub fn resolve(
 }
 
 // The classes of a sequence by all rules.
-#[tactic(auto, unfolding(crate::specs::Sequence::run_classes))]
+#[tactic(auto, unfolding(crate::specs::Sequence::sequence_classes))]
 fn classes_of(
     alloc: Global,
     chars: &[char],
