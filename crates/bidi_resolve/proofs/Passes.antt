@@ -1,6 +1,6 @@
 -- A rule that looks back over the whole list is a pass that remembers what it saw.
-use Rattle.std.proofs.Common.{◌≡◌, ◌∙◌, refl, ap, arith, ℕ, ◌+◌, ◌<◌, List, [], ◌∷◌, ◌++◌, append_assoc, length, get_or, take, drop, set, map}
-use Rattle.std.proofs.lemmas.List.{take_more_set, drop-set-lt, drop_more}
+use Rattle.std.proofs.Common.{sym, ◌≡◌, ◌∙◌, refl, ap, arith, ℕ, ◌+◌, ◌<◌, List, [], ◌∷◌, ◌++◌, append_assoc, length, get_or, take, drop, set, map}
+use Rattle.std.proofs.lemmas.List.{take_more_set, drop-set-lt, drop_more, get_or_default, set-get_or}
 use Rattle.bidi_resolve.specs.Passes.{each}
 
 -- what is written by what is remembered, the element itself and what stands behind it; and what is remembered next
@@ -29,3 +29,7 @@ pub map_more : {X : Type 0} (f : X → X) (xs : List X) (i : ℕ) (d : X) → i 
 map_more f xs i d lt =
     rw (take_more_set xs i (f (get_or xs i d)) lt, drop-set-lt (i + 1) xs i (f (get_or xs i d)) (omega arith), drop_more xs i d lt)
     (append_assoc (take i xs) (f (get_or xs i d) ∷ []) (map f (drop (i + 1) xs)))
+
+-- an element that stays what it is
+pub set_kept : {X : Type 0} (f : X → X) (xs : List X) (i : ℕ) (d e : X) → i < length xs → f (get_or xs i e) ≡ get_or xs i e → xs ≡ set xs i (f (get_or xs i d))
+set_kept f xs i d e lt kept = sym (ap (λ y. set xs i y) (ap f (get_or_default xs i d e lt) ∙ kept) ∙ set-get_or xs i e)

@@ -1,6 +1,6 @@
 ghost use Rattle.bidi_resolve.specs.Neutral as neutral;
 ghost use Rattle.bidi_resolve.specs.Sides.{Sees};
-ghost use Rattle.std.specs.Prelude.{◌≡◌, ◌≤◌, false, length, true};
+ghost use Rattle.std.specs.Prelude.{◌≡◌, ◌+◌, ◌<◌, ◌≤◌, drop, false, get_or, length, set, true};
 ghost use Rattle.wm_chars.specs.declared.classes.BidiClass.{BidiClass};
 
 use crate::sides::Ahead;
@@ -20,10 +20,11 @@ fn is_neutral(class: BidiClass) -> bool
     matches!(class, B | S | WS | ON | LRI | RLI | FSI | PDI)
 }
 
-/// N1: a run of neutrals takes the direction of its two sides where they agree.
-#[tactic(auto, using(crate::proofs::Passes::pass_more, crate::proofs::NeutralLaws::n1_starts))]
-pub(crate) fn n1(classes: &mut [BidiClass], sos: BidiClass, eos: BidiClass)
-    ensures { classes.new ≡ neutral.n1 sos eos classes.old }
+/// N1 and N2: a run of neutrals takes the direction of its two sides where they agree, and else the embedding
+/// direction.
+#[tactic(auto, using(crate::proofs::Passes::pass_more, crate::proofs::NeutralLaws::n1_n2_starts))]
+pub(crate) fn n1_n2(classes: &mut [BidiClass], level: u8, sos: BidiClass, eos: BidiClass)
+    ensures { classes.new ≡ neutral.n2 level (neutral.n1 sos eos classes.old) }
 {
     let mut before = sos;
     let mut ahead = Ahead {
@@ -32,10 +33,32 @@ pub(crate) fn n1(classes: &mut [BidiClass], sos: BidiClass, eos: BidiClass)
     };
     for i in 0..classes.len() {
         let old = classes[i];
-        ahead = n1_ahead(classes, i + 1, eos, ahead);
-        classes[i] = n1_class(before, old, ahead.side);
+        ahead = neutral_at(classes, i, level, before, eos, ahead);
         before = n1_after(before, old);
     }
+}
+
+// Tells the next direction behind the place and the run that begins there.
+fn neutral_at(
+    classes: &mut [BidiClass],
+    place: usize,
+    level: u8,
+    before: BidiClass,
+    eos: BidiClass,
+    ahead: Ahead,
+) -> Ahead
+    requires within { place < length classes.old }
+    requires sees { Sees (neutral.side eos) classes.old (place + 1) ahead }
+    ensures class { (d : BidiClass) → classes.new ≡ set classes.old place (neutral.n2_class level (neutral.n1_class before (get_or classes.old place d) (neutral.side eos (drop (place + 1) classes.old)))) }
+    ensures sees { Sees (neutral.side eos) classes.old (place + 1) result }
+{
+    let class = classes[place];
+    if !is_neutral(class) {
+        return ahead;
+    }
+    let ahead = n1_ahead(classes, place + 1, eos, ahead);
+    classes[place] = n2_class(level, n1_class(before, class, ahead.side));
+    ahead
 }
 
 // The next direction from the place on, by what was seen ahead of the place before.
@@ -101,16 +124,6 @@ pub(crate) fn n1_after(last: BidiClass, class: BidiClass) -> BidiClass
         L => L,
         R | EN | AN => R,
         _ => last,
-    }
-}
-
-/// N2: the neutrals that remain take the embedding direction.
-#[tactic(auto, using(crate::proofs::Passes::map_more))]
-pub(crate) fn n2(classes: &mut [BidiClass], level: u8)
-    ensures { classes.new ≡ neutral.n2 level classes.old }
-{
-    for class in classes.iter_mut() {
-        *class = n2_class(level, *class);
     }
 }
 

@@ -4,7 +4,7 @@ ghost use Rattle.std.specs.Prelude.{◌≡◌, ◌<◌, ◌≤◌, All, IfOk, le
 ghost use Rattle.wm_chars.specs.declared.classes.BidiClass.TheVariants.{L};
 
 use crate::brackets::n0;
-use crate::neutral::{n1, n2};
+use crate::neutral::n1_n2;
 use crate::places::{chars_at, classes_at, level_of, write_classes, write_levels};
 use crate::weak::{w1, w2, w3, w4, w5, w6, w7};
 use bidi_explicit::{ClassList, Levels, Run};
@@ -80,8 +80,7 @@ fn rules(
 {
     weak(classes, run.sos);
     n0(alloc, classes, originals, chars, level, run.sos)?;
-    n1(classes, run.sos, run.eos);
-    n2(classes, level);
+    n1_n2(classes, level, run.sos, run.eos);
     Ok(())
 }
 

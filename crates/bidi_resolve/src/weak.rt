@@ -1,4 +1,4 @@
-ghost use Rattle.std.specs.Prelude.{◌≡◌, ◌≤◌, true, false, length, drop};
+ghost use Rattle.std.specs.Prelude.{◌≡◌, ◌+◌, ◌<◌, ◌≤◌, true, false, length, get_or, drop, set};
 ghost use Rattle.bidi_resolve.specs.Sides.{Sees};
 ghost use Rattle.wm_chars.specs.declared.classes.BidiClass.{BidiClass};
 ghost use Rattle.bidi_resolve.specs.Weak as weak;
@@ -91,9 +91,25 @@ pub(crate) fn w4(classes: &mut [BidiClass])
     let mut before = ON;
     for i in 0..classes.len() {
         let old = classes[i];
-        classes[i] = w4_class(before, old, next_to(classes, i + 1));
+        w4_at(classes, i, before);
         before = old;
     }
+}
+
+fn w4_at(classes: &mut [BidiClass], place: usize, before: BidiClass)
+    requires { place < length classes.old }
+    ensures { (d : BidiClass) → classes.new ≡ set classes.old place (weak.w4_class before (get_or classes.old place d) (weak.next_to (drop (place + 1) classes.old))) }
+{
+    let class = classes[place];
+    if is_separator(class) {
+        classes[place] = w4_class(before, class, next_to(classes, place + 1));
+    }
+}
+
+fn is_separator(class: BidiClass) -> bool
+    ensures { result ≡ false → (before after : BidiClass) → weak.w4_class before class after ≡ class }
+{
+    matches!(class, ES | CS)
 }
 
 fn next_to(classes: &[BidiClass], place: usize) -> BidiClass
@@ -125,10 +141,25 @@ pub(crate) fn w5(classes: &mut [BidiClass])
     let mut ahead = Ahead { until: 0, side: ON };
     for i in 0..classes.len() {
         let old = classes[i];
-        ahead = w5_ahead(classes, i + 1, ahead);
-        classes[i] = w5_class(before, old, ahead.side);
+        ahead = w5_at(classes, i, before, ahead);
         before = w5_after(before, old);
     }
+}
+
+// Tells what stands behind the place and the run that begins there.
+fn w5_at(classes: &mut [BidiClass], place: usize, before: BidiClass, ahead: Ahead) -> Ahead
+    requires within { place < length classes.old }
+    requires sees { Sees weak.beside classes.old (place + 1) ahead }
+    ensures class { (d : BidiClass) → classes.new ≡ set classes.old place (weak.w5_class before (get_or classes.old place d) (weak.beside (drop (place + 1) classes.old))) }
+    ensures sees { Sees weak.beside classes.old (place + 1) result }
+{
+    let class = classes[place];
+    if !is_passed_over(class) {
+        return ahead;
+    }
+    let ahead = w5_ahead(classes, place + 1, ahead);
+    classes[place] = w5_class(before, class, ahead.side);
+    ahead
 }
 
 // What stands behind the run of terminators that begins at the place, or that it lies in.
@@ -166,6 +197,7 @@ fn beside(classes: &[BidiClass], place: usize) -> Ahead
 fn is_passed_over(class: BidiClass) -> bool
     ensures yes { result ≡ true → (last : BidiClass) → weak.w5_after last class ≡ last }
     ensures no { result ≡ false → (last : BidiClass) → weak.w5_after last class ≡ class }
+    ensures stays { result ≡ false → (before after : BidiClass) → weak.w5_class before class after ≡ class }
 {
     class == ET
 }
