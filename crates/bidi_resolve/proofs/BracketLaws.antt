@@ -1,11 +1,13 @@
 -- The loops over brackets, step by step.
-use Rattle.std.proofs.Common.{◌≡◌, ◌∙◌, refl, sym, ap, arith, inl, inr, ℕ, suc, ◌+◌, ◌<◌, ◌≤◌, true, false, List, [], ◌∷◌, ◌++◌, append_assoc, length, get_or, take, drop, set, drop_of_length-le, length-append, length-drop, Option, Some, None}
-use Rattle.std.proofs.lemmas.List.{take_more_set, drop-set-lt, drop_more, take-append-drop, take-append-le, length-take-le}
+use Rattle.std.proofs.Common.{◌≡◌, ◌∙◌, Bool, refl, sym, ap, arith, inl, inr, ℕ, suc, ◌+◌, ◌<◌, ◌≤◌, true, false, List, [], ◌∷◌, ◌++◌, append_assoc, length, get_or, take, drop, set, drop_of_length-le, length-append, length-drop, Option, Some, None}
+use Rattle.std.proofs.lemmas.List.{take_more_set, drop-set-lt, drop_more, take-append-drop, take-append-le, length-take-le, length-map, get_or-map}
 use Rattle.std.proofs.lemmas.List.Sums.{fold_more}
 use Rattle.std.proofs.lemmas.Bool.{cases_Bool}
 use Rattle.wm_chars.specs.declared.classes.BidiClass.{BidiClass}
-use Rattle.bidi_resolve.specs.Brackets.{is_mark, follow, become, both_become, resolve_at, resolve_pairs, context, CloseBehind}
+use Rattle.bidi_resolve.specs.Brackets.{is_mark, follow, become, both_become, resolve_at, resolve_pairs, context}
 use Rattle.bidi_resolve.specs.Neutral.{n1_after}
+use Rattle.bidi_resolve.specs.Places.{gathered}
+use Rattle.wm_chars.specs.declared.classes.BidiClass.TheVariants.{L}
 
 -- the bracket itself has its class
 pub follow_starts : (class : BidiClass) (originals cs : List BidiClass) (place : ℕ) → place < length cs →
@@ -58,25 +60,34 @@ become_before class place k originals cs le lt =
     ∙ sym (take-append-le k (take place cs) (drop place cs) (omega arith))
     ∙ ap (take k) (take-append-drop place cs)
 
-both_before : (class : Option BidiClass) (place closing : ℕ) (originals cs : List BidiClass) → place < closing → closing < length cs → take place (both_become class place closing originals cs) ≡ take place cs
-both_before None place closing originals cs behind lt = refl
-both_before (Some class) place closing originals cs behind lt =
-    let same = length_become class place originals cs (omega arith) in
-    become_before class closing place originals (become class place originals cs) (omega arith) (omega arith) ∙ become_before class place place originals cs (omega arith) (omega arith)
+both_before : (class : Option BidiClass) (k opening closing : ℕ) (originals cs : List BidiClass) → k ≤ opening → opening < closing → closing < length cs → take k (both_become class opening closing originals cs) ≡ take k cs
+both_before None k opening closing originals cs le behind lt = refl
+both_before (Some class) k opening closing originals cs le behind lt =
+    let same = length_become class opening originals cs (omega arith) in
+    become_before class closing k originals (become class opening originals cs) (omega arith) (omega arith) ∙ become_before class opening k originals cs (omega arith) (omega arith)
 
-pub resolve_at_before : (level : ℕ) (sos : BidiClass) (place : ℕ) (closing : Option ℕ) (originals cs : List BidiClass) →
-    ((b : ℕ) → closing ≡ Some b → (place < b) × (b < length cs)) → take place (resolve_at level sos place closing originals cs) ≡ take place cs
-resolve_at_before level sos place None originals cs behind = refl
-resolve_at_before level sos place (Some closing) originals cs behind = let both = behind closing refl in both_before _ place closing originals cs both.0 both.1
+-- what stands before a pair stays
+pub resolve_at_before : (level : ℕ) (sos : BidiClass) (k opening : ℕ) (closing : Option ℕ) (originals cs : List BidiClass) → k ≤ opening →
+    ((b : ℕ) → closing ≡ Some b → (opening < b) × (b < length cs)) → take k (resolve_at level sos opening closing originals cs) ≡ take k cs
+resolve_at_before level sos k opening None originals cs le behind = refl
+resolve_at_before level sos k opening (Some closing) originals cs le behind = let both = behind closing refl in both_before _ k opening closing originals cs le both.0 both.1
 
--- one place further
-pub pairs_more : (level : ℕ) (sos : BidiClass) (closings : List (Option ℕ)) (originals cs : List BidiClass) (k : ℕ) (d : Option ℕ) → k < length closings →
-    resolve_pairs level sos (k + 1) (drop (k + 1) closings) originals (resolve_at level sos k (get_or closings k d) originals cs) ≡ resolve_pairs level sos k (drop k closings) originals cs
-pairs_more level sos closings originals cs k d lt = rw (drop_more closings k d lt) refl
+-- one pair further
+pub pairs_more : (level : ℕ) (sos : BidiClass) (openings : List ℕ) (closings : List (Option ℕ)) (originals cs : List BidiClass) (k opening : ℕ) (closing : Option ℕ) → k < length openings → k < length closings →
+    opening ≡ get_or openings k opening → closing ≡ get_or closings k closing →
+    resolve_pairs level sos (drop (k + 1) openings) (drop (k + 1) closings) originals (resolve_at level sos opening closing originals cs) ≡ resolve_pairs level sos (drop k openings) (drop k closings) originals cs
+pairs_more level sos openings closings originals cs k opening closing lt lt' is_opening is_closing =
+    ap (λ (o : ℕ). resolve_pairs level sos (drop (k + 1) openings) (drop (k + 1) closings) originals (resolve_at level sos o closing originals cs)) is_opening
+    ∙ ap (λ (c : Option ℕ). resolve_pairs level sos (drop (k + 1) openings) (drop (k + 1) closings) originals (resolve_at level sos (get_or openings k opening) c originals cs)) is_closing
+    ∙ rw (drop_more openings k opening lt, drop_more closings k closing lt') refl
 
-pub context_more : (level : ℕ) (sos : BidiClass) (closings : List (Option ℕ)) (originals cs new : List BidiClass) (n k : ℕ) (d : BidiClass) → n ≡ length cs → k < length new →
-    CloseBehind n closings → new ≡ resolve_at level sos k (get_or closings k None) originals cs →
-    n1_after (context sos (take k cs)) (get_or new k d) ≡ context sos (take (k + 1) new)
-context_more level sos closings originals cs new n k d many lt behind is =
-    let same : take k new ≡ take k cs = ap (take k) is ∙ resolve_at_before level sos k (get_or closings k None) originals cs (λ b e. let h = behind k b e in (h.0, rw (← many) h.1)) in
-    rw (← same) (sym (fold_more n1_after sos new k d lt))
+-- a class read by its place in the paragraph
+pub mark_at : (originals : List BidiClass) (places : List ℕ) (k : ℕ) (b : Bool) → k < length places → is_mark (get_or originals (get_or places k 0) L) ≡ b → is_mark (get_or (gathered L originals places) k L) ≡ b
+mark_at originals places k b lt e = ap is_mark (get_or-map (λ p. get_or originals p L) places k 0 L lt) ∙ e
+
+pub length_gathered : (originals : List BidiClass) (places : List ℕ) → length (gathered L originals places) ≡ length places
+length_gathered originals places = length-map places (λ p. get_or originals p L)
+
+-- the context so far, one character further
+pub context_more : (sos last : BidiClass) (cs : List BidiClass) (k : ℕ) (d : BidiClass) → k < length cs → last ≡ context sos (take k cs) → n1_after last (get_or cs k d) ≡ context sos (take (k + 1) cs)
+context_more sos last cs k d lt is = ap (λ s. n1_after s (get_or cs k d)) is ∙ sym (fold_more n1_after sos cs k d lt)

@@ -1,18 +1,18 @@
 -- Each rule leaves as many classes as it takes.
-use Rattle.std.proofs.Common.{◌≡◌, ◌∙◌, refl, sym, ap, arith, inl, inr, ℕ, zero, suc, ◌+◌, ◌<◌, ◌≤◌, Bool, true, false, cond, List, [], ◌∷◌, length, get_or, replicate, map, Option, Some, None}
+use Rattle.std.proofs.Common.{◌≡◌, ◌∙◌, refl, ap, arith, inl, inr, ℕ, zero, suc, ◌+◌, ◌<◌, Bool, true, false, cond, List, [], ◌∷◌, length, get_or, map, Option, Some, None}
 use Rattle.std.specs.Prelude.{All}
-use Rattle.std.proofs.lemmas.List.{length-map, length-replicate, get_or-replicate, get_or_past}
-use Rattle.std.proofs.lemmas.Bool.{cases_Bool, cases_lt}
+use Rattle.std.proofs.lemmas.List.{length-map}
+use Rattle.std.proofs.lemmas.Bool.{cases_Bool}
 use Rattle.wm_chars.specs.declared.classes.BidiClass.{BidiClass}
 use Rattle.wm_chars.specs.declared.classes.BidiClass.TheVariants.{L, R}
-use Rattle.bidi_resolve.specs.Brackets.{Reading, read, read_one, closings, CloseBehind, both_become, become, resolve_at, resolve_pair, resolve_pairs, pair_class, context, n0}
-use Rattle.bidi_resolve.specs.Neutral.{is_neutral, is_even, direction, n1, n2, n2_class, i1_i2, raised}
+use Rattle.bidi_resolve.specs.Brackets.{Reading, begin, read, read_all, read_one, both_become, become, resolve_at, resolve_pairs, n0}
+use Rattle.bidi_resolve.specs.Neutral.{is_neutral, is_even, n1, n2_class}
 use Rattle.bidi_resolve.specs.Pairing.{IsWithin}
 use Rattle.bidi_resolve.specs.Passes.{each}
 use Rattle.bidi_resolve.specs.Sequence.{weak, resolved}
-use Rattle.bidi_resolve.specs.Weak.{w1, w2, w3, w3_class, w4, w5, w6, w6_class, w7}
+use Rattle.bidi_resolve.specs.Weak.{w1, w2, w3, w3_class, w4, w5, w6, w6_class}
 use Rattle.bidi_resolve.proofs.BracketLaws.{length_become}
-use Rattle.bidi_resolve.proofs.PairingLaws.{read_within, read_length}
+use Rattle.bidi_resolve.proofs.PairingLaws.{read_within, within_wider, begin_within}
 
 length_each : (rule : List BidiClass → BidiClass → List BidiClass → BidiClass) (before xs : List BidiClass) → length (each rule before xs) ≡ length xs
 length_each rule before [] = refl
@@ -20,28 +20,14 @@ length_each rule before (x ∷ xs) = ap (λ (n : ℕ). suc n) (length_each rule 
 
 -- ---- the pairs
 
-within_wider : (m n : ℕ) (reading : Reading) → m ≤ n → IsWithin m reading → IsWithin n reading
-within_wider m n reading le within = record {
-  opened = λ k d lt. let h = within.opened k d lt in omega arith;
-  behind = λ k b e. let h = within.behind k b e in (h.0, let lt = h.1 in omega arith);
-}
-
 read_all_within : (place : ℕ) (chars : List ℕ) (classes : List BidiClass) (reading : Reading) → IsWithin place reading → IsWithin (place + length classes) (read place chars classes reading)
 read_all_within place [] classes reading within = within_wider place (place + length classes) reading (omega arith) within
 read_all_within place (char ∷ chars) [] reading within = within_wider place (place + 0) reading (omega arith) within
 read_all_within place (char ∷ chars) (class ∷ classes) reading within =
     within_wider ((place + 1) + length classes) (place + suc (length classes)) _ (omega arith) (read_all_within (place + 1) chars classes (read_one place char class reading) (read_within place char class reading within))
 
-none_closed : (n before : ℕ) → CloseBehind before (replicate n None)
-none_closed n before k b e = elim (cases_lt k n) [
-  | inl inside ↦ absurd (let none : None ≡ Some b = sym (get_or-replicate n k None None inside) ∙ e in cc)
-  | inr past ↦ absurd (let none : None ≡ Some b = sym (get_or_past (replicate n None) k None (let h : length (replicate {A = Option ℕ} n None) ≡ n = length-replicate n None in omega arith)) ∙ e in cc)
-]
-
-pub closings_behind : (chars : List ℕ) (classes : List BidiClass) → CloseBehind (length classes) (closings chars classes)
-closings_behind chars classes =
-    let begun : IsWithin 0 (record { opened = []; closings = replicate (length classes) None; stopped = false }) = record { opened = λ k d lt. absurd (omega arith); behind = none_closed (length classes) 0 } in
-    (within_wider (0 + length classes) (length classes) _ (omega arith) (read_all_within 0 chars classes _ begun)).behind
+pub all_within : (chars : List ℕ) (classes : List BidiClass) → IsWithin (length classes) (read_all chars classes)
+all_within chars classes = within_wider (0 + length classes) (length classes) _ (omega arith) (read_all_within 0 chars classes begin begin_within)
 
 -- ---- what they become
 
@@ -51,18 +37,22 @@ length_both (Some class) place closing originals cs behind lt =
     let first = length_become class place originals cs (omega arith) in
     length_become class closing originals (become class place originals cs) (omega arith) ∙ first
 
-length_at : (level : ℕ) (sos : BidiClass) (place : ℕ) (closing : Option ℕ) (originals cs : List BidiClass) → ((b : ℕ) → closing ≡ Some b → (place < b) × (b < length cs)) → length (resolve_at level sos place closing originals cs) ≡ length cs
-length_at level sos place None originals cs behind = refl
-length_at level sos place (Some closing) originals cs behind = let both = behind closing refl in length_both _ place closing originals cs both.0 both.1
+length_at : (level : ℕ) (sos : BidiClass) (opening : ℕ) (closing : Option ℕ) (originals cs : List BidiClass) → ((b : ℕ) → closing ≡ Some b → (opening < b) × (b < length cs)) → length (resolve_at level sos opening closing originals cs) ≡ length cs
+length_at level sos opening None originals cs behind = refl
+length_at level sos opening (Some closing) originals cs behind = let both = behind closing refl in length_both _ opening closing originals cs both.0 both.1
 
-length_pairs : (level : ℕ) (sos : BidiClass) (place : ℕ) (closings : List (Option ℕ)) (originals cs : List BidiClass) → ((k b : ℕ) → get_or closings k None ≡ Some b → (place + k < b) × (b < length cs)) → length (resolve_pairs level sos place closings originals cs) ≡ length cs
-length_pairs level sos place [] originals cs behind = refl
-length_pairs level sos place (closing ∷ closings) originals cs behind =
-    let same = length_at level sos place closing originals cs (λ b e. let h = behind zero b e in (let lt = h.0 in omega arith, h.1)) in
-    length_pairs level sos (place + 1) closings originals (resolve_at level sos place closing originals cs) (λ k b e. let h = behind (suc k) b e in (let lt = h.0 in omega arith, rw same h.1)) ∙ same
+length_pairs : (level : ℕ) (sos : BidiClass) (openings : List ℕ) (closings : List (Option ℕ)) (originals cs : List BidiClass)
+    → ((k b : ℕ) → get_or closings k None ≡ Some b → (get_or openings k 0 < b) × (b < length cs)) → length (resolve_pairs level sos openings closings originals cs) ≡ length cs
+length_pairs level sos [] closings originals cs behind = refl
+length_pairs level sos (opening ∷ openings) [] originals cs behind = refl
+length_pairs level sos (opening ∷ openings) (closing ∷ closings) originals cs behind =
+    let same = length_at level sos opening closing originals cs (λ b e. behind zero b e) in
+    length_pairs level sos openings closings originals (resolve_at level sos opening closing originals cs) (λ k b e. let h = behind (suc k) b e in (h.0, rw same h.1)) ∙ same
 
 length_n0 : (level : ℕ) (sos : BidiClass) (chars : List ℕ) (originals classes : List BidiClass) → length (n0 level sos chars originals classes) ≡ length classes
-length_n0 level sos chars originals classes = length_pairs level sos 0 (closings chars classes) originals classes (λ k b e. let h = closings_behind chars classes k b e in (let lt = h.0 in omega arith, h.1))
+length_n0 level sos chars originals classes =
+    let within = all_within chars classes in
+    length_pairs level sos (read_all chars classes).openings (read_all chars classes).closings originals classes (λ k b e. (within.behind k b e, within.closed k b e))
 
 length_weak : (sos : BidiClass) (classes : List BidiClass) → length (weak sos classes) ≡ length classes
 unfolding weak

@@ -1,5 +1,5 @@
 -- N1 and N2 as one pass.
-use Rattle.std.proofs.Common.{◌≡◌, ◌∙◌, refl, sym, ap, true, false, List, [], ◌∷◌, ℕ, map}
+use Rattle.std.proofs.Common.{◌≡◌, ◌∙◌, refl, sym, ap, false, List, [], ◌∷◌, ℕ, map}
 use Rattle.wm_chars.specs.declared.classes.BidiClass.{BidiClass}
 use Rattle.wm_chars.specs.declared.classes.BidiClass.TheVariants.{L, R}
 use Rattle.bidi_resolve.proofs.Passes.{pass, each_is_pass}

@@ -1,5 +1,5 @@
 -- Paired brackets: BD14 to BD16 of UAX 9, 3.1.3, and its rule N0, 3.3.5, over one whole isolating run sequence.
-use Rattle.std.specs.Prelude.{◌≡◌, ℕ, ◌+◌, ◌<◌, Bool, true, false, cond, eqb, ltb, List, [], ◌∷◌, ◌++◌, take, drop, set, get_or, replicate, length, fold, Option, Some, None}
+use Rattle.std.specs.Prelude.{ℕ, ◌+◌, Bool, true, false, cond, eqb, ltb, List, [], ◌∷◌, ◌++◌, take, drop, set, length, fold, Option, Some, None}
 use Rattle.std.specs.List.{list_any, slice_range}
 use Rattle.wm_chars.specs.Pairs.{bracket}
 use Rattle.wm_chars.specs.declared.classes.BidiClass.{BidiClass}
@@ -10,11 +10,13 @@ use Rattle.bidi_resolve.specs.Neutral.{is_even, direction, n1_after}
 
 -- ---- BD16: which bracket closes which
 
--- how far the reading has come: the brackets that are open, the last one first; at the place of each opening
--- bracket that was closed the place of the closing one, so that the pairs stand in the order of their opening
--- brackets; and whether the reading has stopped for want of room
+-- how far the reading has come: the brackets that are open, the last one first, each with its number among the
+-- opening brackets and the character that closes it; the places of the opening brackets so far, in their order;
+-- for each of them the place of its closing bracket, where that has come; and whether the reading has stopped
+-- for want of room
 pub record Reading : Type 0 where
   pub opened : List Opened
+  pub openings : List ℕ
   pub closings : List (Option ℕ)
   pub stopped : Bool
 
@@ -26,22 +28,28 @@ bracket_of class char = None
 -- an opening bracket, where the stack of 63 places has room
 abbrev pub open_ : (place partner : ℕ) → Reading → Reading
 open_ place partner reading = cond (ltb (length reading.opened) 63)
-    (record { opened = (record { place = place; partner = partner }) ∷ reading.opened; closings = reading.closings; stopped = false })
-    (record { opened = reading.opened; closings = reading.closings; stopped = true })
+    (record {
+      opened = (record { number = length reading.openings; partner = partner }) ∷ reading.opened;
+      openings = reading.openings ++ place ∷ [];
+      closings = reading.closings ++ None ∷ [];
+      stopped = false;
+    })
+    (record { opened = reading.opened; openings = reading.openings; closings = reading.closings; stopped = true })
 
 -- the last one opened of this bracket's pair, and those that it lies on
 pub record Found : Type 0 where
-  pub place : ℕ
+  pub number : ℕ
   pub below : List Opened
 
 abbrev pub found : (char : ℕ) → List Opened → Option Found
 found char [] = None
-found char (last ∷ below) = cond (eqb last.partner char) (Some (record { place = last.place; below = below })) (found char below)
+found char (last ∷ below) = cond (eqb last.partner char) (Some (record { number = last.number; below = below })) (found char below)
 
 -- a closing bracket: its partner is popped with all that lies on it; without one it is passed over
 abbrev pub close_with : (place : ℕ) → Option Found → Reading → Reading
 close_with place None reading = reading
-close_with place (Some found) reading = record { opened = found.below; closings = set reading.closings found.place (Some place); stopped = false }
+close_with place (Some found) reading =
+    record { opened = found.below; openings = reading.openings; closings = set reading.closings found.number (Some place); stopped = false }
 
 abbrev pub close : (place char : ℕ) → Reading → Reading
 close place char reading = close_with place (found char reading.opened) reading
@@ -59,12 +67,11 @@ read place [] classes reading = reading
 read place (char ∷ chars) [] reading = reading
 read place (char ∷ chars) (class ∷ classes) reading = read (place + 1) chars classes (read_one place char class reading)
 
-abbrev pub closings : (chars : List ℕ) → List BidiClass → List (Option ℕ)
-closings chars classes = (read 0 chars classes (record { opened = []; closings = replicate (length classes) None; stopped = false })).closings
+abbrev pub begin : Reading
+begin = record { opened = []; openings = []; closings = []; stopped = false }
 
--- each closing bracket stands behind its opening one, and before this place
-abbrev pub CloseBehind : (before : ℕ) → List (Option ℕ) → Type 0
-CloseBehind before closings = (opening closing : ℕ) → get_or closings opening None ≡ Some closing → (opening < closing) × (closing < before)
+abbrev pub read_all : (chars : List ℕ) → List BidiClass → Reading
+read_all chars classes = read 0 chars classes begin
 
 -- ---- N0: what a pair becomes. Numbers count as R.
 
@@ -123,16 +130,17 @@ abbrev pub resolve_pair : (level : ℕ) → (sos : BidiClass) → (opening closi
 resolve_pair level sos opening closing originals classes =
     both_become (pair_class level (context sos (take opening classes)) (slice_range classes (opening + 1) closing)) opening closing originals classes
 
--- the pair whose opening bracket stands at this place, if one does
-abbrev pub resolve_at : (level : ℕ) → (sos : BidiClass) → (place : ℕ) → Option ℕ → (originals : List BidiClass) → List BidiClass → List BidiClass
-resolve_at level sos place None originals classes = classes
-resolve_at level sos place (Some closing) originals classes = resolve_pair level sos place closing originals classes
+-- the pair of an opening bracket, if it was closed
+abbrev pub resolve_at : (level : ℕ) → (sos : BidiClass) → (opening : ℕ) → (closing : Option ℕ) → (originals : List BidiClass) → List BidiClass → List BidiClass
+resolve_at level sos opening None originals classes = classes
+resolve_at level sos opening (Some closing) originals classes = resolve_pair level sos opening closing originals classes
 
--- the pairs whose opening brackets stand from this place on, in their order
-abbrev pub resolve_pairs : (level : ℕ) → (sos : BidiClass) → (place : ℕ) → List (Option ℕ) → (originals : List BidiClass) → List BidiClass → List BidiClass
-resolve_pairs level sos place [] originals classes = classes
-resolve_pairs level sos place (closing ∷ closings) originals classes =
-    resolve_pairs level sos (place + 1) closings originals (resolve_at level sos place closing originals classes)
+-- the pairs in the order of their opening brackets
+abbrev pub resolve_pairs : (level : ℕ) → (sos : BidiClass) → (openings : List ℕ) → (closings : List (Option ℕ)) → (originals : List BidiClass) → List BidiClass → List BidiClass
+resolve_pairs level sos [] closings originals classes = classes
+resolve_pairs level sos (opening ∷ openings) [] originals classes = classes
+resolve_pairs level sos (opening ∷ openings) (closing ∷ closings) originals classes =
+    resolve_pairs level sos openings closings originals (resolve_at level sos opening closing originals classes)
 
 abbrev pub n0 : (level : ℕ) → (sos : BidiClass) → (chars : List ℕ) → (originals : List BidiClass) → List BidiClass → List BidiClass
-n0 level sos chars originals classes = resolve_pairs level sos 0 (closings chars classes) originals classes
+n0 level sos chars originals classes = resolve_pairs level sos (read_all chars classes).openings (read_all chars classes).closings originals classes

@@ -1,85 +1,138 @@
 ghost use Rattle.bidi_resolve.specs.Brackets as brackets;
+ghost use Rattle.bidi_resolve.specs.Pairing.{IsWithin, reading_of};
+ghost use Rattle.bidi_resolve.specs.Places.{gathered};
+ghost use Rattle.wm_chars.specs.declared.classes.BidiClass.TheVariants.{L};
 ghost use Rattle.wm_chars.specs.declared.classes.BidiClass.{BidiClass};
-ghost use Rattle.std.specs.List.{list_any};
-ghost use Rattle.std.specs.Prelude.{◌≡◌, ◌+◌, ◌<◌, IfOk, IfSome, length, take};
+ghost use Rattle.std.specs.List.{list_any, slice_range};
+ghost use Rattle.std.specs.Prelude.{◌≡◌, ◌+◌, ◌<◌, ◌≤◌, All, IfOk, IfSome, length, take};
 
 use crate::neutral::{direction, n1_after};
-use crate::pairing::closings;
+use crate::pairing::{Pairing, pairs};
 use std::alloc::{AllocError, Global};
 use wm_chars::BidiClass;
 use wm_chars::BidiClass::{AN, EN, L, NSM, R};
 
-/// N0: the two brackets of a pair take one direction.
+/// N0: the two brackets of a pair take one direction. The sequence has these places in the lists of its paragraph's
+/// characters and of the classes that were handed in.
 pub(crate) fn n0(
     alloc: Global,
     classes: &mut [BidiClass],
     originals: &[BidiClass],
     chars: &[char],
+    places: &[usize],
     level: u8,
     sos: BidiClass,
 ) -> Result<(), AllocError>
-    requires chars { length chars.now ≡ length classes.old }
-    requires originals { length originals.now ≡ length classes.old }
-    ensures { IfOk result (λ _. classes.new ≡ brackets.n0 level sos chars.now originals.now classes.old) }
+    requires places { length places.now ≡ length classes.old }
+    requires chars { All (λ place. place < length chars.now) places.now }
+    requires originals { length originals.now ≡ length chars.now }
+    ensures { IfOk result (λ _. classes.new ≡ brackets.n0 level sos (gathered 0 chars.now places.now) (gathered L originals.now places.now) classes.old) }
 {
-    let closings = closings(alloc, chars, classes)?;
-    resolve_pairs(classes, originals, &closings, level, sos);
+    let pairs = pairs(alloc, chars, places, classes)?;
+    resolve_pairs(classes, originals, places, &pairs, level, sos);
     Ok(())
+}
+
+// The last direction among the characters before a place, or sos.
+#[derive(Clone, Copy)]
+struct Context {
+    seen: usize,
+    last: BidiClass,
 }
 
 // The pairs in the order of their opening brackets.
 fn resolve_pairs(
     classes: &mut [BidiClass],
     originals: &[BidiClass],
-    closings: &[Option<usize>],
+    places: &[usize],
+    pairs: &Pairing,
     level: u8,
     sos: BidiClass,
 )
-    requires originals { length originals.now ≡ length classes.old }
-    requires closings { length closings.now ≡ length classes.old }
-    requires behind { brackets.CloseBehind (length classes.old) closings.now }
-    ensures { classes.new ≡ brackets.resolve_pairs level sos 0 closings.now originals.now classes.old }
+    requires places { length places.now ≡ length classes.old }
+    requires originals { All (λ place. place < length originals.now) places.now }
+    requires within { IsWithin (length classes.old) (reading_of pairs.now) }
+    ensures { classes.new ≡ brackets.resolve_pairs level sos pairs.now.openings.items pairs.now.closings.items (gathered L originals.now places.now) classes.old }
 {
-    let mut context = sos;
-    for place in 0..closings.len() {
-        resolve_at(classes, originals, place, closings[place], level, context);
-        context = n1_after(context, classes[place]);
+    let mut context = Context { seen: 0, last: sos };
+    for k in 0..pairs.openings.len() {
+        let opening = pairs.openings[k];
+        resolve_at(
+            classes,
+            originals,
+            places,
+            opening,
+            pairs.closings[k],
+            level,
+            &mut context,
+        );
     }
 }
 
-// The pair whose opening bracket stands at the place, if one does. The context is the last direction before it.
+// The pair of an opening bracket, if it was closed.
 fn resolve_at(
     classes: &mut [BidiClass],
     originals: &[BidiClass],
-    place: usize,
+    places: &[usize],
+    opening: usize,
     closing: Option<usize>,
     level: u8,
-    context: BidiClass,
+    context: &mut Context,
 )
-    requires originals { length originals.now ≡ length classes.old }
-    requires behind { IfSome closing (λ closing. (place < closing) × (closing < length classes.old)) }
-    ensures { (sos : BidiClass) → context ≡ brackets.context sos (take place classes.old) → classes.new ≡ brackets.resolve_at level sos place closing originals.now classes.old }
+    requires places { length places.now ≡ length classes.old }
+    requires originals { All (λ place. place < length originals.now) places.now }
+    requires seen { context.old.seen ≤ opening }
+    requires behind { IfSome closing (λ closing. (opening < closing) × (closing < length classes.old)) }
+    ensures classes { (sos : BidiClass) → context.old.last ≡ brackets.context sos (take context.old.seen classes.old) → classes.new ≡ brackets.resolve_at level sos opening closing (gathered L originals.now places.now) classes.old }
+    ensures context { (sos : BidiClass) → context.old.last ≡ brackets.context sos (take context.old.seen classes.old) → context.new.last ≡ brackets.context sos (take context.new.seen classes.old) }
+    ensures seen { context.new.seen ≤ opening }
 {
     let Some(closing) = closing else {
         return;
     };
-    if let Some(class) = pair_class(level, context, &classes[place + 1..closing]) {
-        become_class(classes, originals, place, class);
-        become_class(classes, originals, closing, class);
+    if let Some(class) = pair_class(classes, opening, closing, level, context) {
+        become_class(classes, originals, places, opening, class);
+        become_class(classes, originals, places, closing, class);
     }
 }
 
-// What a pair becomes, if anything, by the characters between its brackets.
-fn pair_class(level: u8, context: BidiClass, inside: &[BidiClass]) -> Option<BidiClass>
-    ensures { result ≡ brackets.pair_class level context inside.now }
+// What a pair becomes, if anything, by the characters between its brackets and by the context.
+fn pair_class(
+    classes: &[BidiClass],
+    opening: usize,
+    closing: usize,
+    level: u8,
+    context: &mut Context,
+) -> Option<BidiClass>
+    requires closing { opening < closing }
+    requires within { closing < length classes.now }
+    requires seen { context.old.seen ≤ opening }
+    ensures class { (sos : BidiClass) → context.old.last ≡ brackets.context sos (take context.old.seen classes.now) → result ≡ brackets.pair_class level (brackets.context sos (take opening classes.now)) (slice_range classes.now (opening + 1) closing) }
+    ensures context { (sos : BidiClass) → context.old.last ≡ brackets.context sos (take context.old.seen classes.now) → context.new.last ≡ brackets.context sos (take context.new.seen classes.now) }
+    ensures seen { context.new.seen ≤ opening }
 {
+    let inside = &classes[opening + 1..closing];
     if has_along(level, inside) {
         return Some(direction(level));
     }
-    if has_against(level, inside) {
-        return Some(by_context(level, context));
+    if !has_against(level, inside) {
+        return None;
     }
-    None
+    advance(context, classes, opening);
+    Some(by_context(level, context.last))
+}
+
+// The last direction before this place.
+fn advance(context: &mut Context, classes: &[BidiClass], place: usize)
+    requires seen { context.old.seen ≤ place }
+    requires within { place ≤ length classes.now }
+    ensures last { (sos : BidiClass) → context.old.last ≡ brackets.context sos (take context.old.seen classes.now) → context.new.last ≡ brackets.context sos (take place classes.now) }
+    ensures seen { context.new.seen ≡ place }
+{
+    for i in context.seen..place {
+        context.last = n1_after(context.last, classes[i]);
+    }
+    context.seen = place;
 }
 
 fn has_along(level: u8, inside: &[BidiClass]) -> bool
@@ -154,14 +207,21 @@ fn opposite(level: u8) -> BidiClass
 
 // The bracket takes the class, and so do the characters directly behind it that were nonspacing marks.
 #[tactic(auto, using(crate::proofs::BracketLaws::follow_starts, crate::proofs::BracketLaws::follow_more, crate::proofs::BracketLaws::follow_stops, crate::proofs::BracketLaws::follow_ends))]
-fn become_class(classes: &mut [BidiClass], originals: &[BidiClass], place: usize, class: BidiClass)
-    requires originals { length originals.now ≡ length classes.old }
+fn become_class(
+    classes: &mut [BidiClass],
+    originals: &[BidiClass],
+    places: &[usize],
+    place: usize,
+    class: BidiClass,
+)
+    requires places { length places.now ≡ length classes.old }
+    requires originals { All (λ place. place < length originals.now) places.now }
     requires place { place < length classes.old }
-    ensures { classes.new ≡ brackets.become class place originals.now classes.old }
+    ensures { classes.new ≡ brackets.become class place (gathered L originals.now places.now) classes.old }
 {
     classes[place] = class;
     for k in place + 1..classes.len() {
-        if !is_mark(originals[k]) {
+        if !is_mark(originals[places[k]]) {
             return;
         }
         classes[k] = class;

@@ -1,7 +1,9 @@
 ghost use Rattle.bidi_resolve.specs.Brackets as brackets;
-ghost use Rattle.bidi_resolve.specs.Pairing.{reading_of};
+ghost use Rattle.bidi_resolve.specs.Pairing.{IsWithin, reading_of};
+ghost use Rattle.bidi_resolve.specs.Places.{gathered};
 ghost use Rattle.std.specs.Option.{is_some};
-ghost use Rattle.std.specs.Prelude.{◌≡◌, ◌<◌, All, IfOk, Some, false, length};
+ghost use Rattle.std.specs.Prelude.{◌≡◌, ◌<◌, All, IfOk, Some, false, get_or, length};
+ghost use Rattle.wm_chars.specs.declared.classes.BidiClass.TheVariants.{L};
 
 use std::alloc::{AllocError, Global};
 use std::collections::VecDeque;
@@ -11,61 +13,75 @@ use wm_chars::{BidiClass, Bracket, bracket};
 /// How many brackets may be open.
 const ROOM: usize = 63;
 
-/// An opening bracket that waits for the closing one: where it stands, and the character that closes it.
+/// An opening bracket that waits for the closing one: its number among the opening brackets, and the character that
+/// closes it.
 #[derive(Clone, Copy)]
 pub(crate) struct Opened {
-    pub(crate) place: usize,
+    pub(crate) number: usize,
     pub(crate) partner: char,
 }
 
-/// How far the reading of brackets has come: those that are open, the last one first; at the place of each opening
-/// bracket that was closed the place of the closing one; whether the reading has stopped for want of room.
+/// How far the reading of brackets has come: those that are open, the last one first; the places of the opening
+/// brackets, and for each of them the place of its closing bracket; whether the reading has stopped for want of room.
 #[derive(Drop)]
 pub(crate) struct Pairing {
     pub(crate) opened: VecDeque<Opened>,
+    pub(crate) openings: Vec<usize>,
     pub(crate) closings: Vec<Option<usize>>,
     pub(crate) stopped: bool,
 }
 
-/// At the place of each opening bracket that is closed, the place of the closing one.
-pub(crate) fn closings(
+/// The pairs of brackets of a sequence, which has these places in its paragraph's characters.
+pub(crate) fn pairs(
     alloc: Global,
     chars: &[char],
+    places: &[usize],
     classes: &[BidiClass],
-) -> Result<Vec<Option<usize>>, AllocError>
-    requires { length chars.now ≡ length classes.now }
-    ensures closings { IfOk result (λ closings. closings.items ≡ brackets.closings chars.now classes.now) }
-    ensures length { IfOk result (λ closings. length closings.items ≡ length classes.now) }
-    ensures behind { IfOk result (λ closings. brackets.CloseBehind (length classes.now) closings.items) }
+) -> Result<Pairing, AllocError>
+    requires places { length places.now ≡ length classes.now }
+    requires within { All (λ place. place < length chars.now) places.now }
+    ensures pairs { IfOk result (λ pairs. reading_of pairs ≡ brackets.read_all (gathered 0 chars.now places.now) classes.now) }
+    ensures within { IfOk result (λ pairs. IsWithin (length classes.now) (reading_of pairs)) }
 {
     let mut pairing = Pairing {
         opened: VecDeque::new(alloc),
-        closings: vec![in alloc; None; classes.len()]?,
+        openings: Vec::new(alloc),
+        closings: Vec::new(alloc),
         stopped: false,
     };
-    for place in 0..classes.len() {
-        pairing.read_one(place, chars[place], classes[place])?;
+    for k in 0..classes.len() {
+        pairing.read_at(chars, places, classes, k)?;
     }
-    Ok(pairing.closings)
+    Ok(pairing)
 }
 
 impl Pairing {
-    fn read_one(&mut self, place: usize, char: char, class: BidiClass) -> Result<(), AllocError>
-        requires { All (λ opened. opened.place < length self.old.closings.items) self.old.opened.items }
-        ensures { IfOk result (λ _. reading_of self.new ≡ brackets.read_one place char class (reading_of self.old)) }
+    fn read_at(
+        &mut self,
+        chars: &[char],
+        places: &[usize],
+        classes: &[BidiClass],
+        k: usize,
+    ) -> Result<(), AllocError>
+        requires k { k < length classes.now }
+        requires places { length places.now ≡ length classes.now }
+        requires within { All (λ place. place < length chars.now) places.now }
+        requires opened { All (λ opened. opened.number < length self.old.closings.items) self.old.opened.items }
+        ensures { IfOk result (λ _. reading_of self.new ≡ brackets.read_one k (get_or chars.now (get_or places.now k 0) 0) (get_or classes.now k L) (reading_of self.old)) }
     {
-        if self.stopped {
+        if self.stopped || classes[k] != ON {
             return Ok(());
         }
-        match bracket_of(class, char) {
-            Some(bracket) => self.read_bracket(place, char, bracket),
+        let char = chars[places[k]];
+        match bracket(char) {
+            Some(bracket) => self.read_bracket(k, char, bracket),
             None => Ok(()),
         }
     }
 
     fn read_bracket(&mut self, place: usize, char: char, bracket: Bracket) -> Result<(), AllocError>
         requires running { self.old.stopped ≡ false }
-        requires within { All (λ opened. opened.place < length self.old.closings.items) self.old.opened.items }
+        requires opened { All (λ opened. opened.number < length self.old.closings.items) self.old.opened.items }
         ensures { IfOk result (λ _. reading_of self.new ≡ brackets.read_bracket place char (Some bracket) (reading_of self.old)) }
     {
         if bracket.opens {
@@ -80,17 +96,22 @@ impl Pairing {
         requires running { self.old.stopped ≡ false }
         ensures { IfOk result (λ _. reading_of self.new ≡ brackets.open_ place partner (reading_of self.old)) }
     {
-        if self.opened.len() < ROOM {
-            self.opened.push_front(Opened { place, partner })?;
-        } else {
+        if self.opened.len() >= ROOM {
             self.stopped = true;
+            return Ok(());
         }
+        self.opened.push_front(Opened {
+            number: self.openings.len(),
+            partner,
+        })?;
+        self.openings.push(place)?;
+        self.closings.push(None)?;
         Ok(())
     }
 
     fn close(&mut self, place: usize, char: char)
         requires running { self.old.stopped ≡ false }
-        requires within { All (λ opened. opened.place < length self.old.closings.items) self.old.opened.items }
+        requires opened { All (λ opened. opened.number < length self.old.closings.items) self.old.opened.items }
         ensures { reading_of self.new ≡ brackets.close place char (reading_of self.old) }
     {
         if !self.holds(char) {
@@ -98,7 +119,7 @@ impl Pairing {
         }
         while let Some(last) = self.opened.pop_front() {
             if last.partner == char {
-                self.closings[last.place] = Some(place);
+                self.closings[last.number] = Some(place);
                 return;
             }
         }
@@ -115,11 +136,4 @@ impl Pairing {
         }
         false
     }
-}
-
-// The bracket that a character is: only one whose class is ON counts.
-fn bracket_of(class: BidiClass, char: char) -> Option<Bracket>
-    ensures { result ≡ brackets.bracket_of class char }
-{
-    if class == ON { bracket(char) } else { None }
 }

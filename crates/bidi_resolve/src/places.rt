@@ -23,22 +23,6 @@ pub(crate) fn classes_at(
     Ok(out)
 }
 
-/// The characters there.
-pub(crate) fn chars_at(
-    alloc: Global,
-    chars: &[char],
-    places: &[usize],
-) -> Result<Vec<char>, AllocError>
-    requires { All (λ place. place < length chars.now) places.now }
-    ensures { IfOk result (λ out. out.items ≡ gathered 0 chars.now places.now) }
-{
-    let mut out = Vec::with_capacity(alloc, places.len())?;
-    for place in places {
-        out.push(chars[*place])?;
-    }
-    Ok(out)
-}
-
 /// The level of a sequence: that of its first character.
 pub(crate) fn level_of(levels: &[u8], places: &[usize]) -> u8
     requires places { All (λ place. place < length levels.now) places.now }

@@ -5,7 +5,7 @@ ghost use Rattle.wm_chars.specs.declared.classes.BidiClass.TheVariants.{L};
 
 use crate::brackets::n0;
 use crate::neutral::n1_n2;
-use crate::places::{chars_at, classes_at, level_of, write_classes, write_levels};
+use crate::places::{classes_at, level_of, write_classes, write_levels};
 use crate::weak::{w1, w2, w3, w4, w5, w6, w7};
 use bidi_explicit::{ClassList, Levels, Run};
 use std::alloc::{AllocError, Global};
@@ -57,10 +57,8 @@ fn classes_of(
     ensures classes { IfOk result (λ out. out.items ≡ sequence.run_classes chars.now levels.now run.now) }
     ensures length { IfOk result (λ out. length out.items ≡ length run.now.places.items) }
 {
-    let text = chars_at(alloc, chars, &run.places)?;
-    let originals = classes_at(alloc, &levels.original, &run.places)?;
     let mut classes = classes_at(alloc, &levels.class, &run.places)?;
-    rules(alloc, &mut classes, &originals, &text, level, run)?;
+    rules(alloc, &mut classes, &levels.original, chars, level, run)?;
     Ok(classes)
 }
 
@@ -74,12 +72,21 @@ fn rules(
     level: u8,
     run: &Run,
 ) -> Result<(), AllocError>
-    requires chars { length chars.now ≡ length classes.old }
-    requires originals { length originals.now ≡ length classes.old }
-    ensures { IfOk result (λ _. classes.new ≡ sequence.resolved level run.now.sos run.now.eos chars.now originals.now classes.old) }
+    requires places { length run.now.places.items ≡ length classes.old }
+    requires chars { All (λ place. place < length chars.now) run.now.places.items }
+    requires originals { length originals.now ≡ length chars.now }
+    ensures { IfOk result (λ _. classes.new ≡ sequence.resolved level run.now.sos run.now.eos (gathered 0 chars.now run.now.places.items) (gathered L originals.now run.now.places.items) classes.old) }
 {
     weak(classes, run.sos);
-    n0(alloc, classes, originals, chars, level, run.sos)?;
+    n0(
+        alloc,
+        classes,
+        originals,
+        chars,
+        &run.places,
+        level,
+        run.sos,
+    )?;
     n1_n2(classes, level, run.sos, run.eos);
     Ok(())
 }

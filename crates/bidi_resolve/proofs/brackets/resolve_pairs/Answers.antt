@@ -1,16 +1,44 @@
-use Rattle.std.proofs.Common.{rules, ◌≡◌, ◌∙◌, ap, ◌+◌, get_or, drop, None}
-use Rattle.bidi_resolve.specs.Brackets.{resolve_at, resolve_pairs}
-use Rattle.bidi_resolve.specs.Neutral.{n1_after}
-use Rattle.bidi_resolve.proofs.BracketLaws.{context_more, pairs_more}
+use Rattle.std.proofs.Common.{rules, ◌≡◌, ◌∙◌, sym, ap, arith, ◌+◌, ◌<◌, length, take, drop}
+use Rattle.std.proofs.lemmas.List.{get_or_default}
+use Rattle.bidi_resolve.specs.Brackets.{context, resolve_at, resolve_pairs}
+use Rattle.bidi_resolve.specs.Pairing.{reading_of}
+use Rattle.bidi_resolve.specs.Places.{gathered}
+use Rattle.bidi_resolve.proofs.BracketLaws.{resolve_at_before, pairs_more}
+use Rattle.bidi_resolve.proofs.PairingLaws.{pair_behind, if_behind}
 use Rattle.wm_chars.specs.declared.classes.BidiClass.TheVariants.{L}
 use Rattle.bidi_resolve.proofs.brackets.resolve_pairs.Goals as goal
 
-pub loop-place-preserved : goal.loop-place-preserved
-loop-place-preserved c =
-    let place = c.loop-place.place in
-    let is : c.resolve_at.new.classes ≡ resolve_at c.args.level c.args.sos place (get_or c.args.closings.now place None) c.args.originals.now c.loop-place.classes = c.resolve_at.ensures c.args.sos c.loop-place.invariant.before in
+pub resolve_at-requires-clause-behind : goal.resolve_at-requires-clause-behind
+resolve_at-requires-clause-behind c =
+    let same : length c.loop-k.classes ≡ length c.args.classes.now = search rules in
+    let lt : c.loop-k.k < length c.args.pairs.now.openings.items = search rules in
+    rw same (if_behind (length c.args.classes.now) c.index-opening.result.now c.index.result.now
+    (pair_behind (length c.args.classes.now) (reading_of c.args.pairs.now) c.loop-k.k c.index-opening.result.now c.index.result.now c.requires.within lt c.index-opening.ensures c.index.ensures))
+
+pub loop-k-preserved : goal.loop-k-preserved
+loop-k-preserved c =
+    let originals = gathered L c.args.originals.now c.args.places.now in
+    let pairs = c.args.pairs.now in
+    let opening = c.index-opening.result.now in
+    let closing = c.index.result.now in
+    let seen = c.resolve_at.new.context.seen in
+    let same : length c.loop-k.classes ≡ length c.args.classes.now = search rules in
+    let lt : c.loop-k.k < length pairs.openings.items = search rules in
+    let many = c.requires.within.many in
+    let lt' : c.loop-k.k < length pairs.closings.items = omega arith in
+    let behind = pair_behind (length c.args.classes.now) (reading_of pairs) c.loop-k.k opening closing c.requires.within lt c.index-opening.ensures c.index.ensures in
+    let is : c.resolve_at.new.classes ≡ resolve_at c.args.level c.args.sos opening closing originals c.loop-k.classes = c.resolve_at.ensures.classes c.args.sos c.loop-k.invariant.last in
+    let before : take seen c.resolve_at.new.classes ≡ take seen c.loop-k.classes =
+    ap (take seen) is ∙ resolve_at_before c.args.level c.args.sos seen opening closing originals c.loop-k.classes c.resolve_at.ensures.seen (λ b e. let h = behind b e in (h.0, rw same h.1)) in
     record {
-      before = c.n1_after-context.ensures ∙ ap (λ s. n1_after s (get_or c.resolve_at.new.classes place L)) c.loop-place.invariant.before
-          ∙ context_more c.args.level c.args.sos c.args.closings.now c.args.originals.now c.loop-place.classes c.resolve_at.new.classes _ place L (search rules) (search rules) c.requires.behind is;
-      pairs = ap (resolve_pairs c.args.level c.args.sos (place + 1) (drop (place + 1) c.args.closings.now) c.args.originals.now) is ∙ pairs_more c.args.level c.args.sos c.args.closings.now c.args.originals.now c.loop-place.classes place None (search rules) ∙ c.loop-place.invariant.pairs;
+      last = c.resolve_at.ensures.context c.args.sos c.loop-k.invariant.last ∙ ap (context c.args.sos) (sym before);
+      seen = λ j low high.
+          let first = get_or_default pairs.openings.items c.loop-k.k 0 opening lt in
+          let e = c.index-opening.ensures in
+          let rise = c.requires.within.rises c.loop-k.k j (omega arith) high in
+          let h = c.resolve_at.ensures.seen in
+          omega arith;
+      rest = ap (resolve_pairs c.args.level c.args.sos (drop (c.loop-k.k + 1) pairs.openings.items) (drop (c.loop-k.k + 1) pairs.closings.items) originals) is
+          ∙ pairs_more c.args.level c.args.sos pairs.openings.items pairs.closings.items originals c.loop-k.classes c.loop-k.k opening closing lt lt' c.index-opening.ensures c.index.ensures
+          ∙ c.loop-k.invariant.rest;
     }

@@ -1,4 +1,4 @@
-use Rattle.std.proofs.Common.{◌≡◌, ◌∙◌, rules, ap, false, ◌+◌, drop, ℕ, refl}
+use Rattle.std.proofs.Common.{rules, ◌+◌, drop}
 use Rattle.bidi_resolve.proofs.Passes.{set_kept}
 use Rattle.bidi_resolve.proofs.NeutralLaws.{other_stays}
 use Rattle.bidi_resolve.specs.Neutral.{n1_class, n2_class, side}

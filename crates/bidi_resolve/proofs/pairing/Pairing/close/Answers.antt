@@ -12,6 +12,7 @@ loop-last-preserved c =
       first = sym below ∙ c.loop-last.invariant.first;
       some = ap is_some (sym below) ∙ c.loop-last.invariant.some;
       within = all_below _ c.in-Some.last c.pop_front.new.self.items (rw is at c.loop-last.invariant.within);
+      openings = c.loop-last.invariant.openings;
       closings = c.loop-last.invariant.closings;
       stopped = c.loop-last.invariant.stopped;
     }

@@ -7,7 +7,8 @@ abbrev pub invariant-loop-last : goal.invariant-loop-last
 invariant-loop-last l = record {
   first : found l.char l.self.opened.items ≡ found l.char l.fn.self.opened.items;
   some : is_some (found l.char l.self.opened.items) ≡ true;
-  within : All (λ opened. opened.place < length l.self.closings.items) l.self.opened.items;
+  within : All (λ opened. opened.number < length l.self.closings.items) l.self.opened.items;
+  openings : l.self.openings.items ≡ l.fn.self.openings.items;
   closings : l.self.closings.items ≡ l.fn.self.closings.items;
   stopped : l.self.stopped ≡ l.fn.self.stopped;
 }

@@ -1,6 +1,0 @@
-use Rattle.std.proofs.Common.{◌≡◌, take}
-use Rattle.bidi_resolve.specs.Places.{gathered}
-use Rattle.bidi_resolve.proofs.places.chars_at.Given as goal
-
-abbrev pub invariant-loop-place : goal.invariant-loop-place
-invariant-loop-place l = l.out.items ≡ gathered 0 l.chars (take l.place-index l.places)
