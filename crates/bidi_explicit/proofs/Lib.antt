@@ -1,1 +1,4 @@
+pub mod Chains
+pub mod Linking
 pub mod Looking
+pub mod Matches

@@ -6,6 +6,7 @@ mod ahead;
 mod base;
 mod explicit;
 mod kind;
+mod links;
 mod machine;
 mod paragraph;
 
