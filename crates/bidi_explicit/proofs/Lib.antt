@@ -2,3 +2,4 @@ pub mod Chains
 pub mod Linking
 pub mod Looking
 pub mod Matches
+pub mod Walking

@@ -207,3 +207,25 @@ module _ (links : List Link) (i behind : ℕ) (sequences : List (List ℕ)) (hol
   pub hold_linked : (followed : Option ℕ) → IfSome followed (λ q. (i < q) × (q < length links)) → Hold (linked links i followed behind) i (joined followed (i ∷ []) sequences)
   hold_linked None l = hold_alone
   hold_linked (Some q) l = hold_taking q l.0 l.1
+
+module _ (links : List Link) (i behind : ℕ) (inside : i < length links) where
+  pub length_linked : (followed : Option ℕ) → length (linked links i followed behind) ≡ length links
+  length_linked None = length-set links i _
+  length_linked (Some q) = length-set (freed links q) i _ ∙ length-set links q _
+
+  pub behind_here : (followed : Option ℕ) → behind_at (linked links i followed behind) i ≡ behind
+  behind_here None = ap (λ (k : Link). k.behind) (same_link links i _ inside)
+  behind_here (Some q) = ap (λ (k : Link). k.behind) (same_link (freed links q) i _ (rw length-set inside))
+
+  pub behind_else : (followed : Option ℕ) → IfSome followed (λ q. (i < q) × (q < length links)) → (p : ℕ) → (p ≡ i → ⊥) → behind_at (linked links i followed behind) p ≡ behind_at links p
+  behind_else None w p n = ap (λ (k : Link). k.behind) (other_link links i p _ n)
+  behind_else (Some q) w p n = ap (λ (k : Link). k.behind) (other_link (freed links q) i p _ n) ∙ elim (cases_eq p q) [
+    | inl e ↦ let P : ℕ → Type 0 = λ r. behind_at (freed links q) r ≡ behind_at links r in subst P (sym e) (ap (λ (k : Link). k.behind) (same_link links q _ w.1))
+    | inr m ↦ ap (λ (k : Link). k.behind) (other_link links q p _ m)
+  ]
+
+  pub skipped_here : behind_at (skipped links i behind) i ≡ behind
+  skipped_here = ap (λ (k : Link). k.behind) (same_link links i _ inside)
+
+  pub skipped_else : (p : ℕ) → (p ≡ i → ⊥) → behind_at (skipped links i behind) p ≡ behind_at links p
+  skipped_else p n = ap (λ (k : Link). k.behind) (other_link links i p _ n)

@@ -6,7 +6,6 @@ use Rattle.wm_chars.specs.declared.classes.BidiClass.TheVariants.{L}
 use Rattle.bidi_explicit.specs.declared.kind.Kind.{Kind}
 use Rattle.bidi_explicit.specs.declared.kind.Kind.TheVariants.{Opens, Closes}
 use Rattle.bidi_explicit.specs.declared.links.Link.{Link}
-use Rattle.bidi_explicit.specs.declared.links.Links.{Links}
 use Rattle.bidi_explicit.specs.declared.paragraph.Levels.{Levels}
 use Rattle.bidi_explicit.specs.Isolates.{kind_of}
 use Rattle.bidi_explicit.specs.Sequences.{is_open_at, match_at, joined, kept_from, level_at_end, level_in}
@@ -112,10 +111,11 @@ pub record AreAligned (levels : Levels) : Type 0 where
 abbrev pub kept_behind : Levels → ℕ → List ℕ
 kept_behind levels i = kept_from i (drop i levels.removed.items)
 
--- how far the pass from the end has come
-pub record IsLinked (levels : Levels) (i : ℕ) (links : Links) : Type 0 where
-  pub pending : links.pending.items ≡ closers i (drop i levels.original.items)
-  pub next : links.next ≡ first_of (kept_behind levels i)
-  pub hold : Hold links.links.items i (chains (level_in levels.level.items) levels.original.items (kept_behind levels i))
-  pub behind : (p : ℕ) → i ≤ p → p < length levels.original.items → behind_at links.links.items p ≡ level_at_end levels.base (level_in levels.level.items) levels.original.items (kept_from 0 levels.removed.items) p
-  pub length : length links.links.items ≡ length levels.original.items
+-- the pass from the end has come to the place i: these are the links, the PDIs that close what is open before, and
+-- the next kept place
+pub record IsLinked (levels : Levels) (i : ℕ) (links : List Link) (pdis : List ℕ) (nearest : Option ℕ) : Type 0 where
+  pub pending : pdis ≡ closers i (drop i levels.original.items)
+  pub next : nearest ≡ first_of (kept_behind levels i)
+  pub hold : Hold links i (chains (level_in levels.level.items) levels.original.items (kept_behind levels i))
+  pub behind : (p : ℕ) → i ≤ p → p < length levels.original.items → behind_at links p ≡ level_at_end levels.base (level_in levels.level.items) levels.original.items (kept_from 0 levels.removed.items) p
+  pub length : length links ≡ length levels.original.items
