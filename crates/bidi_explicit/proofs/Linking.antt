@@ -1,7 +1,7 @@
 -- What one more place does to the links.
-use Rattle.std.proofs.Common.{◌≡◌, ◌∙◌, sym, refl, ap, subst, ℕ, ◌+◌, ◌<◌, ◌≤◌, Bool, true, false, ◌||◌, cond, eqb, List, [], ◌∷◌, ◌++◌, append-nil, length, get_or, set, Option, Some, None, inl, inr, arith}
+use Rattle.std.proofs.Common.{◌≡◌, ◌∙◌, sym, refl, ap, subst, ℕ, ◌+◌, ◌<◌, ◌≤◌, Bool, true, false, ◌||◌, cond, eqb, List, [], ◌∷◌, length, get_or, set, Option, Some, None, inl, inr, arith}
 use Rattle.std.specs.Prelude.{IfSome}
-use Rattle.std.proofs.lemmas.Bool.{eq-eqb, ne_eqb, eqb-true, eqb-false, cases_eq, cases_order}
+use Rattle.std.proofs.lemmas.Bool.{eq-eqb, ne_eqb, eqb-true, cases_eq, cases_order}
 use Rattle.std.proofs.lemmas.List.{get_or-set_same, get_or-set_other, length-set}
 use Rattle.bidi_explicit.specs.declared.links.Link.{Link}
 use Rattle.bidi_explicit.specs.Sequences.{joined, beginning_with, others_than}
@@ -41,12 +41,12 @@ module _ (links : List Link) where
   others_are_chains q [] k a = tt
   others_are_chains q ([] ∷ sequences) k a = absurd a
   others_are_chains q ((p ∷ places) ∷ sequences) k a = go (eqb p q)
-    (let b : k ≤ p = a.0 in chains_lower sequences (p + 1) k (omega arith) a.2)
-    (a.0, a.1, others_are_chains q sequences (p + 1) a.2)
+      (let b : k ≤ p = a.0 in chains_lower sequences (p + 1) k (omega arith) a.2)
+      (a.0, a.1, others_are_chains q sequences (p + 1) a.2)
     where
-    go : (b : Bool) → AreChains links k sequences → AreChains links k ((p ∷ places) ∷ others_than q sequences) → AreChains links k (cond b sequences ((p ∷ places) ∷ others_than q sequences))
-    go true x y = x
-    go false x y = y
+      go : (b : Bool) → AreChains links k sequences → AreChains links k ((p ∷ places) ∷ others_than q sequences) → AreChains links k (cond b sequences ((p ∷ places) ∷ others_than q sequences))
+      go true x y = x
+      go false x y = y
 
   -- the one that is taken up leads from its first place
   pub record IsTaken (q k : ℕ) (sequence : List ℕ) : Type 0 where
@@ -60,38 +60,38 @@ module _ (links : List Link) where
   taken q ([] ∷ sequences) k a e = absurd a
   taken q ((p ∷ places) ∷ sequences) k a e = go (eqb p q) refl (λ others. taken q sequences (p + 1) a.2 others)
     where
-    go : (b : Bool) → eqb p q ≡ b → (is_first q sequences ≡ true → IsTaken q (p + 1) (beginning_with q sequences)) → IsTaken q k (cond (eqb p q) (p ∷ places) (beginning_with q sequences))
-    go true same rest =
-        let here : p ≡ q = eqb-true p q same in
-        let P : ℕ → Type 0 = λ r. Follows links r places in
-        let low : k ≤ p = a.0 in
-        rw same (record { places = places; is = ap (λ (r : ℕ). r ∷ places) here; follows = subst P here a.1; above = omega arith })
-    go false apart rest =
-        let t : IsTaken q (p + 1) (beginning_with q sequences) = rest (rw apart at e) in
-        let low : k ≤ p = a.0 in
-        let high : p + 1 ≤ q = t.above in
-        rw apart (record { places = t.places; is = t.is; follows = t.follows; above = omega arith })
+      go : (b : Bool) → eqb p q ≡ b → (is_first q sequences ≡ true → IsTaken q (p + 1) (beginning_with q sequences)) → IsTaken q k (cond (eqb p q) (p ∷ places) (beginning_with q sequences))
+      go true same rest =
+          let here : p ≡ q = eqb-true p q same in
+          let P : ℕ → Type 0 = λ r. Follows links r places in
+          let low : k ≤ p = a.0 in
+          rw same (record { places = places; is = ap (λ (r : ℕ). r ∷ places) here; follows = subst P here a.1; above = omega arith })
+      go false apart rest =
+          let t : IsTaken q (p + 1) (beginning_with q sequences) = rest (rw apart at e) in
+          let low : k ≤ p = a.0 in
+          let high : p + 1 ≤ q = t.above in
+          rw apart (record { places = t.places; is = t.is; follows = t.follows; above = omega arith })
 
   taken_is_gone : (q : ℕ) (sequences : List (List ℕ)) (k : ℕ) → AreChains links k sequences → is_first q (others_than q sequences) ≡ false
   taken_is_gone q [] k a = refl
   taken_is_gone q ([] ∷ sequences) k a = absurd a
   taken_is_gone q ((p ∷ places) ∷ sequences) k a = go (eqb p q) refl (taken_is_gone q sequences (p + 1) a.2)
     where
-    go : (b : Bool) → eqb p q ≡ b → is_first q (others_than q sequences) ≡ false → is_first q (cond (eqb p q) sequences ((p ∷ places) ∷ others_than q sequences)) ≡ false
-    go true same rest = let here : p ≡ q = eqb-true p q same in rw same (low_is_not_first sequences (p + 1) q (omega arith) a.2)
-    go false apart rest = rw apart (rw apart rest)
+      go : (b : Bool) → eqb p q ≡ b → is_first q (others_than q sequences) ≡ false → is_first q (cond (eqb p q) sequences ((p ∷ places) ∷ others_than q sequences)) ≡ false
+      go true same rest = let here : p ≡ q = eqb-true p q same in rw same (low_is_not_first sequences (p + 1) q (omega arith) a.2)
+      go false apart rest = rw apart (rw apart rest)
 
 others_stay : (j q : ℕ) (sequences : List (List ℕ)) → (j ≡ q → ⊥) → is_first j (others_than q sequences) ≡ is_first j sequences
 others_stay j q [] n = refl
 others_stay j q ([] ∷ sequences) n = others_stay j q sequences n
 others_stay j q ((p ∷ places) ∷ sequences) n = go (eqb p q) refl (others_stay j q sequences n)
   where
-  go : (b : Bool) → eqb p q ≡ b → is_first j (others_than q sequences) ≡ is_first j sequences → is_first j (cond (eqb p q) sequences ((p ∷ places) ∷ others_than q sequences)) ≡ (eqb p j || is_first j sequences)
-  go true same rest =
-      let here : p ≡ q = eqb-true p q same in
-      let other : eqb p j ≡ false = ne_eqb p j (λ e. n (sym e ∙ here)) in
-      rw same (rw other refl)
-  go false apart rest = rw apart (ap (λ (b : Bool). eqb p j || b) rest)
+    go : (b : Bool) → eqb p q ≡ b → is_first j (others_than q sequences) ≡ is_first j sequences → is_first j (cond (eqb p q) sequences ((p ∷ places) ∷ others_than q sequences)) ≡ (eqb p j || is_first j sequences)
+    go true same rest =
+        let here : p ≡ q = eqb-true p q same in
+        let other : eqb p j ≡ false = ne_eqb p j (λ e. n (sym e ∙ here)) in
+        rw same (rw other refl)
+    go false apart rest = rw apart (ap (λ (b : Bool). eqb p j || b) rest)
 
 -- a place with which none begins takes up nothing
 nothing_taken : (q : ℕ) (sequences : List (List ℕ)) → is_first q sequences ≡ false → (beginning_with q sequences ≡ []) × (others_than q sequences ≡ sequences)
@@ -99,10 +99,10 @@ nothing_taken q [] e = (refl, refl)
 nothing_taken q ([] ∷ sequences) e = let t = nothing_taken q sequences e in (t.0, ap (λ l. [] ∷ l) t.1)
 nothing_taken q ((p ∷ places) ∷ sequences) e = go (eqb p q) refl (λ rest. nothing_taken q sequences rest)
   where
-  go : (b : Bool) → eqb p q ≡ b → (is_first q sequences ≡ false → (beginning_with q sequences ≡ []) × (others_than q sequences ≡ sequences))
-      → (cond (eqb p q) (p ∷ places) (beginning_with q sequences) ≡ []) × (cond (eqb p q) sequences ((p ∷ places) ∷ others_than q sequences) ≡ (p ∷ places) ∷ sequences)
-  go true same rest = let bad : true ≡ false = (rw same at e) in absurd (cc)
-  go false apart rest = let t = rest (rw apart at e) in rw apart (t.0, ap (λ l. (p ∷ places) ∷ l) t.1)
+    go : (b : Bool) → eqb p q ≡ b → (is_first q sequences ≡ false → (beginning_with q sequences ≡ []) × (others_than q sequences ≡ sequences))
+        → (cond (eqb p q) (p ∷ places) (beginning_with q sequences) ≡ []) × (cond (eqb p q) sequences ((p ∷ places) ∷ others_than q sequences) ≡ (p ∷ places) ∷ sequences)
+    go true same rest = let bad : true ≡ false = (rw same at e) in absurd (cc)
+    go false apart rest = let t = rest (rw apart at e) in rw apart (t.0, ap (λ l. (p ∷ places) ∷ l) t.1)
 
 -- what a link says after a write to this place, and at the others
 same_link : (links : List Link) (i : ℕ) (x : Link) → i < length links → get_or (set links i x) i no_link ≡ x
@@ -133,7 +133,7 @@ here_first i places sequences = let e : eqb i i ≡ true = eq-eqb i i refl in rw
 
 module _ (links : List Link) (i behind : ℕ) (sequences : List (List ℕ)) (hold : Hold links (i + 1) sequences) (inside : i < length links) where
   above : (q : ℕ) → (q ≡ i → ⊥) → i ≤ q → begins_at links q ≡ is_first q sequences
-  above q n l = hold.first q (elim (cases_order q i) [ | inl e ↦ absurd (n e) | inr o ↦ elim o [ | inl b ↦ omega arith | inr a ↦ omega arith ] ])
+  above q n l = hold.first q (elim (cases_order q i) [ inl e ↦ absurd (n e) | inr o ↦ elim o [ inl b ↦ omega arith | inr a ↦ omega arith ] ])
 
   pub hold_skipped : Hold (skipped links i behind) i sequences
   hold_skipped = record {
@@ -178,28 +178,32 @@ module _ (links : List Link) (i behind : ℕ) (sequences : List (List ℕ)) (hol
     taking : (b : Bool) → begins_at links q ≡ b → Hold (set (freed links q) i (record { next = cond b (Some q) None; begins = true; behind = behind })) i (joined (Some q) (i ∷ []) sequences)
     taking true e = whole (taken links q sequences (i + 1) hold.chains (sym (hold.first q (omega arith)) ∙ e))
       where
-      whole : IsTaken links q (i + 1) (beginning_with q sequences) → Hold (set (freed links q) i (record { next = Some q; begins = true; behind = behind })) i ((i ∷ beginning_with q sequences) ∷ others_than q sequences)
-      whole t =
-          let x : Link = record { next = Some q; begins = true; behind = behind } in
-          rw t.is (record {
-            chains = (omega arith,
-              (rw length-set freed_inside, ap (λ (k : Link). k.next) (same_link (freed links q) i x freed_inside), low, follows_alike links (set (freed links q) i x) (i + 1) (alike x) t.places q (omega arith) t.follows),
-              chains_alike links (set (freed links q) i x) (i + 1) (alike x) (others_than q sequences) (i + 1) (omega arith) (others_are_chains links q sequences (i + 1) hold.chains));
-            first = at_first (freed links q) i x (others_than q sequences) ((i ∷ q ∷ t.places) ∷ others_than q sequences) freed_inside (here_first i (q ∷ t.places) (others_than q sequences)) freed_above
-              (λ j n. let e : eqb i j ≡ false = ne_eqb i j (λ same. n (sym same)) in rw e refl);
-          })
+        whole : IsTaken links q (i + 1) (beginning_with q sequences) → Hold (set (freed links q) i (record { next = Some q; begins = true; behind = behind })) i ((i ∷ beginning_with q sequences) ∷ others_than q sequences)
+        whole t =
+            let x : Link = record { next = Some q; begins = true; behind = behind } in
+            rw t.is (record {
+              chains = (
+                omega arith,
+                (rw length-set freed_inside, ap (λ (k : Link). k.next) (same_link (freed links q) i x freed_inside), low, follows_alike links (set (freed links q) i x) (i + 1) (alike x) t.places q (omega arith) t.follows),
+                chains_alike links (set (freed links q) i x) (i + 1) (alike x) (others_than q sequences) (i + 1) (omega arith) (others_are_chains links q sequences (i + 1) hold.chains),
+              );
+              first = at_first (freed links q) i x (others_than q sequences) ((i ∷ q ∷ t.places) ∷ others_than q sequences) freed_inside (here_first i (q ∷ t.places) (others_than q sequences)) freed_above
+                  (λ j n. let e : eqb i j ≡ false = ne_eqb i j (λ same. n (sym same)) in rw e refl);
+            })
     taking false e = none (nothing_taken q sequences (sym (hold.first q (omega arith)) ∙ e))
       where
-      none : (beginning_with q sequences ≡ []) × (others_than q sequences ≡ sequences) → Hold (set (freed links q) i (record { next = None; begins = true; behind = behind })) i ((i ∷ beginning_with q sequences) ∷ others_than q sequences)
-      none t =
-          let x : Link = record { next = None; begins = true; behind = behind } in
-          rw t.0 (record {
-            chains = (omega arith,
-              (rw length-set freed_inside, ap (λ (k : Link). k.next) (same_link (freed links q) i x freed_inside)),
-              chains_alike links (set (freed links q) i x) (i + 1) (alike x) (others_than q sequences) (i + 1) (omega arith) (others_are_chains links q sequences (i + 1) hold.chains));
-            first = at_first (freed links q) i x (others_than q sequences) ((i ∷ []) ∷ others_than q sequences) freed_inside (here_first i [] (others_than q sequences)) freed_above
-              (λ j n. apart_first i j (others_than q sequences) n);
-          })
+        none : (beginning_with q sequences ≡ []) × (others_than q sequences ≡ sequences) → Hold (set (freed links q) i (record { next = None; begins = true; behind = behind })) i ((i ∷ beginning_with q sequences) ∷ others_than q sequences)
+        none t =
+            let x : Link = record { next = None; begins = true; behind = behind } in
+            rw t.0 (record {
+              chains = (
+                omega arith,
+                (rw length-set freed_inside, ap (λ (k : Link). k.next) (same_link (freed links q) i x freed_inside)),
+                chains_alike links (set (freed links q) i x) (i + 1) (alike x) (others_than q sequences) (i + 1) (omega arith) (others_are_chains links q sequences (i + 1) hold.chains),
+              );
+              first = at_first (freed links q) i x (others_than q sequences) ((i ∷ []) ∷ others_than q sequences) freed_inside (here_first i [] (others_than q sequences)) freed_above
+                  (λ j n. apart_first i j (others_than q sequences) n);
+            })
 
     hold_taking : Hold (linked links i (Some q) behind) i (joined (Some q) (i ∷ []) sequences)
     hold_taking = taking (begins_at links q) refl

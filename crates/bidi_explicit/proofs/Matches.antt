@@ -45,11 +45,11 @@ finds (c ∷ cs) i d = step cs (finds cs) (kind_of c) i d
 pub matched : (classes : List BidiClass) (p : ℕ) (c : BidiClass) → get_or classes p L ≡ c → matched_by (kind_of c) (closers (p + 1) (drop (p + 1) classes)) ≡ match_at classes p
 matched classes p c e = rw e (go (kind_of c))
   where
-  go : (k : Kind) → matched_by k (closers (p + 1) (drop (p + 1) classes)) ≡ option_map (λ n. p + 1 + n) (distance k (drop (p + 1) classes))
-  go (Strong level) = refl
-  go Opens = sym (nth_zero (closers (p + 1) (drop (p + 1) classes))) ∙ finds (drop (p + 1) classes) (p + 1) 0
-  go Closes = refl
-  go Other = refl
+    go : (k : Kind) → matched_by k (closers (p + 1) (drop (p + 1) classes)) ≡ option_map (λ n. p + 1 + n) (distance k (drop (p + 1) classes))
+    go (Strong level) = refl
+    go Opens = sym (nth_zero (closers (p + 1) (drop (p + 1) classes))) ∙ finds (drop (p + 1) classes) (p + 1) 0
+    go Closes = refl
+    go Other = refl
 
 -- each of them is a place of the text
 abbrev pub AreWithin : ℕ → ℕ → List ℕ → Type 0
@@ -68,8 +68,8 @@ pub closers_within : (cs : List BidiClass) (i high : ℕ) → i + length cs ≤ 
 closers_within [] i high l = tt
 closers_within (c ∷ cs) i high l = go (kind_of c) (lower (i + 1) i high (closers (i + 1) cs) (omega arith) (closers_within cs (i + 1) high (omega arith)))
   where
-  go : (k : Kind) → AreWithin i high (closers (i + 1) cs) → AreWithin i high (closers_at k i (closers (i + 1) cs))
-  go (Strong level) a = a
-  go Opens a = within_rest i high (closers (i + 1) cs) a
-  go Closes a = (omega arith, omega arith, a)
-  go Other a = a
+    go : (k : Kind) → AreWithin i high (closers (i + 1) cs) → AreWithin i high (closers_at k i (closers (i + 1) cs))
+    go (Strong level) a = a
+    go Opens a = within_rest i high (closers (i + 1) cs) a
+    go Closes a = (omega arith, omega arith, a)
+    go Other a = a

@@ -1,12 +1,10 @@
 -- The pass from the end, place by place.
 use Rattle.std.proofs.Common.{◌≡◌, ◌∙◌, sym, refl, ap, subst, ℕ, zero, suc, ◌+◌, ◌-◌, ◌<◌, ◌≤◌, Bool, true, false, cond, eqb, ltb, List, [], ◌∷◌, length, get_or, drop, replicate, Option, Some, None, inl, inr, arith}
 use Rattle.std.specs.Prelude.{IfSome}
-use Rattle.std.specs.Option.{option_map}
 use Rattle.std.proofs.Math.Numerals.{add-one}
 use Rattle.std.proofs.Math.Nat.{add-zero}
 use Rattle.std.proofs.lemmas.Bool.{lt-ltb, le-ltb, cases_order}
 use Rattle.std.proofs.lemmas.List.{drop_more, drop_all, get_or_past, length-replicate, length-set, length-drop}
-use Rattle.wm_chars.specs.declared.classes.BidiClass.{BidiClass}
 use Rattle.wm_chars.specs.declared.classes.BidiClass.TheVariants.{L}
 use Rattle.bidi_explicit.specs.declared.kind.Kind.TheVariants.{Strong, Opens, Closes, Other}
 use Rattle.bidi_explicit.specs.declared.kind.Kind.{Kind}
@@ -14,22 +12,24 @@ use Rattle.bidi_explicit.specs.declared.links.Link.{Link}
 use Rattle.bidi_explicit.specs.declared.paragraph.Levels.{Levels}
 use Rattle.bidi_explicit.specs.Isolates.{kind_of}
 use Rattle.bidi_explicit.specs.Sequences.{is_open_at, match_at, kept_from, level_behind, level_at_end, level_in}
-use Rattle.bidi_explicit.specs.Links.{no_link, first_of, closers, closers_at, matched_by, followed, chains, behind_of, next_at, begins_at, behind_at, linked, skipped, Hold, AreAligned, kept_behind, IsLinked}
+use Rattle.bidi_explicit.specs.Links.{no_link, first_of, closers, closers_at, matched_by, followed, chains, behind_of, behind_at, linked, skipped, AreAligned, kept_behind, IsLinked, IsLinkedWhole}
+use Rattle.bidi_explicit.proofs.Chains.{by_place}
 use Rattle.bidi_explicit.proofs.Matches.{matched, AreWithin, closers_within}
 use Rattle.bidi_explicit.proofs.Linking.{hold_skipped, hold_linked, length_linked, behind_here, behind_else, skipped_here, skipped_else}
 
 -- ---- kept places
 
-kept_within : (marks : List Bool) (i high : ℕ) → i + length marks ≤ high → AreWithin i high (kept_from i marks)
+pub kept_within : (marks : List Bool) (i high : ℕ) → i + length marks ≤ high → AreWithin i high (kept_from i marks)
 kept_within [] i high l = tt
 kept_within (b ∷ marks) i high l = go b (lower (kept_from (i + 1) marks) (kept_within marks (i + 1) high (omega arith)))
   where
-  lower : (xs : List ℕ) → AreWithin (i + 1) high xs → AreWithin i high xs
-  lower [] a = tt
-  lower (x ∷ xs) a = let b : i + 1 ≤ x = a.0 in (omega arith, a.1, lower xs a.2)
-  go : (b : Bool) → AreWithin i high (kept_from (i + 1) marks) → AreWithin i high (cond b (kept_from (i + 1) marks) (i ∷ kept_from (i + 1) marks))
-  go true a = a
-  go false a = (omega arith, omega arith, a)
+    lower : (xs : List ℕ) → AreWithin (i + 1) high xs → AreWithin i high xs
+    lower [] a = tt
+    lower (x ∷ xs) a = let b : i + 1 ≤ x = a.0 in (omega arith, a.1, lower xs a.2)
+
+    go : (b : Bool) → AreWithin i high (kept_from (i + 1) marks) → AreWithin i high (cond b (kept_from (i + 1) marks) (i ∷ kept_from (i + 1) marks))
+    go true a = a
+    go false a = (omega arith, omega arith, a)
 
 first_within : (low high : ℕ) (xs : List ℕ) → AreWithin low high xs → IfSome (first_of xs) (λ q. (low ≤ q) × (q < high))
 first_within low high [] a = tt
@@ -55,30 +55,32 @@ behind_kept : (level : ℕ → ℕ) (base : ℕ) (marks : List Bool) (i d : ℕ)
 behind_kept level base [] i d = rw (drop_none (d + 1)) refl
 behind_kept level base (b ∷ marks) i zero = rw add-zero (go b (behind_all level base i (i + 1 + length marks) (kept_from (i + 1) marks) (kept_within marks (i + 1) (i + 1 + length marks) (omega arith))))
   where
-  go : (b : Bool) → level_behind level base (kept_from (i + 1) marks) i ≡ level_of level base (first_of (kept_from (i + 1) marks)) → level_behind level base (cond b (kept_from (i + 1) marks) (i ∷ kept_from (i + 1) marks)) i ≡ level_of level base (first_of (kept_from (i + 1) marks))
-  go true e = e
-  go false e = let no : ltb i i ≡ false = le-ltb i i (omega arith) in rw no e
+    go : (b : Bool) → level_behind level base (kept_from (i + 1) marks) i ≡ level_of level base (first_of (kept_from (i + 1) marks)) → level_behind level base (cond b (kept_from (i + 1) marks) (i ∷ kept_from (i + 1) marks)) i ≡ level_of level base (first_of (kept_from (i + 1) marks))
+    go true e = e
+    go false e = let no : ltb i i ≡ false = le-ltb i i (omega arith) in rw no e
 behind_kept level base (b ∷ marks) i (suc d) = go b (ap (λ k. level_behind level base (kept_from (i + 1) marks) k) same ∙ behind_kept level base marks (i + 1) d ∙ ap (λ k. level_of level base (first_of (kept_from (k + 1) (drop (d + 1) marks)))) (sym same) ∙ ap (λ k. level_of level base (first_of (kept_from (i + suc d + 1) k))) shorter)
   where
-  same : i + suc d ≡ i + 1 + d
-  same = omega arith
-  shorter : drop (d + 1) marks ≡ drop (suc d + 1) (b ∷ marks)
-  shorter = rw (add-one, add-one) refl
-  go : (b : Bool) → level_behind level base (kept_from (i + 1) marks) (i + suc d) ≡ level_of level base (first_of (kept_from (i + suc d + 1) (drop (suc d + 1) (b ∷ marks)))) → level_behind level base (cond b (kept_from (i + 1) marks) (i ∷ kept_from (i + 1) marks)) (i + suc d) ≡ level_of level base (first_of (kept_from (i + suc d + 1) (drop (suc d + 1) (b ∷ marks))))
-  go true e = e
-  go false e = let no : ltb (i + suc d) i ≡ false = le-ltb (i + suc d) i (omega arith) in rw no e
+    same : i + suc d ≡ i + 1 + d
+    same = omega arith
+
+    shorter : drop (d + 1) marks ≡ drop (suc d + 1) (b ∷ marks)
+    shorter = rw (add-one, add-one) refl
+
+    go : (b : Bool) → level_behind level base (kept_from (i + 1) marks) (i + suc d) ≡ level_of level base (first_of (kept_from (i + suc d + 1) (drop (suc d + 1) (b ∷ marks)))) → level_behind level base (cond b (kept_from (i + 1) marks) (i ∷ kept_from (i + 1) marks)) (i + suc d) ≡ level_of level base (first_of (kept_from (i + suc d + 1) (drop (suc d + 1) (b ∷ marks))))
+    go true e = e
+    go false e = let no : ltb (i + suc d) i ≡ false = le-ltb (i + suc d) i (omega arith) in rw no e
 
 -- the nearest kept place, with one more mark in front
-with_mark : (marks : List Bool) (i : ℕ) (b : Bool) → i < length marks → get_or marks i false ≡ b → kept_from i (drop i marks) ≡ cond b (kept_from (i + 1) (drop (i + 1) marks)) (i ∷ kept_from (i + 1) (drop (i + 1) marks))
+pub with_mark : (marks : List Bool) (i : ℕ) (b : Bool) → i < length marks → get_or marks i false ≡ b → kept_from i (drop i marks) ≡ cond b (kept_from (i + 1) (drop (i + 1) marks)) (i ∷ kept_from (i + 1) (drop (i + 1) marks))
 with_mark marks i b l e = rw (drop_more marks i false l, e) refl
 
 level_if : (base : ℕ) (level : ℕ → ℕ) (kind : Kind) (m next : Option ℕ) → behind_of base level kind m next ≡ cond (is_open_at kind m) base (level_of level base next)
 level_if base level kind m (Some q) = refl
 level_if base level kind m None = go (is_open_at kind m)
   where
-  go : (b : Bool) → base ≡ cond b base base
-  go true = refl
-  go false = refl
+    go : (b : Bool) → base ≡ cond b base base
+    go true = refl
+    go false = refl
 
 -- ---- one place
 
@@ -96,10 +98,10 @@ module _ (levels : Levels) (aligned : AreAligned levels) (i : ℕ) (inside : i <
   behind_is =
       let zero_i : 0 + i ≡ i = omega arith in
       let k : level_behind (level_in levels.level.items) levels.base (kept_from 0 levels.removed.items) i ≡ level_of (level_in levels.level.items) levels.base nearest
-          = ap (λ j. level_behind (level_in levels.level.items) levels.base (kept_from 0 levels.removed.items) j) (sym zero_i)
-          ∙ behind_kept (level_in levels.level.items) levels.base levels.removed.items 0 i
-          ∙ ap (λ j. level_of (level_in levels.level.items) levels.base (first_of (kept_from (j + 1) (drop (i + 1) levels.removed.items)))) zero_i
-          ∙ ap (λ o. level_of (level_in levels.level.items) levels.base o) (sym l.next) in
+      = ap (λ j. level_behind (level_in levels.level.items) levels.base (kept_from 0 levels.removed.items) j) (sym zero_i)
+      ∙ behind_kept (level_in levels.level.items) levels.base levels.removed.items 0 i
+      ∙ ap (λ j. level_of (level_in levels.level.items) levels.base (first_of (kept_from (j + 1) (drop (i + 1) levels.removed.items)))) zero_i
+      ∙ ap (λ o. level_of (level_in levels.level.items) levels.base o) (sym l.next) in
       level_if levels.base (level_in levels.level.items) (kind_of (get_or levels.original.items i L)) (match_at levels.original.items i) nearest ∙ rw k refl
 
   pub nearest_within : IfSome nearest (λ q. (i + 1 ≤ q) × (q < length levels.original.items))
@@ -113,11 +115,11 @@ module _ (levels : Levels) (aligned : AreAligned levels) (i : ℕ) (inside : i <
       let d : length (drop (i + 1) levels.original.items) ≡ length levels.original.items - (i + 1) = length-drop (i + 1) levels.original.items in
       rw (← matched_is) (go (kind_of (get_or levels.original.items i L)) (rw l.pending (closers_within (drop (i + 1) levels.original.items) (i + 1) (length levels.original.items) (omega arith))))
     where
-    go : (k : Kind) → AreWithin (i + 1) (length levels.original.items) pdis → IfSome (matched_by k pdis) (λ q. (i + 1 ≤ q) × (q < length levels.original.items))
-    go (Strong level) a = tt
-    go Opens a = first_within (i + 1) (length levels.original.items) pdis a
-    go Closes a = tt
-    go Other a = tt
+      go : (k : Kind) → AreWithin (i + 1) (length levels.original.items) pdis → IfSome (matched_by k pdis) (λ q. (i + 1 ≤ q) × (q < length levels.original.items))
+      go (Strong level) a = tt
+      go Opens a = first_within (i + 1) (length levels.original.items) pdis a
+      go Closes a = tt
+      go Other a = tt
 
   abbrev pub follower : Option ℕ
   follower = followed (level_in levels.level.items) i nearest (match_at levels.original.items i)
@@ -125,15 +127,15 @@ module _ (levels : Levels) (aligned : AreAligned levels) (i : ℕ) (inside : i <
   pub follower_within : IfSome follower (λ q. (i < q) × (q < length links))
   follower_within = rw l.length (go nearest nearest_within (match_at levels.original.items i) matched_within)
     where
-    go : (near : Option ℕ) → IfSome near (λ q. (i + 1 ≤ q) × (q < length levels.original.items)) → (m : Option ℕ) → IfSome m (λ q. (i + 1 ≤ q) × (q < length levels.original.items)) → IfSome (followed (level_in levels.level.items) i near m) (λ q. (i < q) × (q < length levels.original.items))
-    go None n None w = tt
-    go None n (Some q) w = let low : i + 1 ≤ q = w.0 in (omega arith, w.1)
-    go (Some r) n m w = either (eqb (level_in levels.level.items i) (level_in levels.level.items r)) m w
-      where
-      either : (b : Bool) (m : Option ℕ) → IfSome m (λ q. (i + 1 ≤ q) × (q < length levels.original.items)) → IfSome (cond b (Some r) m) (λ q. (i < q) × (q < length levels.original.items))
-      either true m w = let low : i + 1 ≤ r = n.0 in (omega arith, n.1)
-      either false None w = tt
-      either false (Some q) w = let low : i + 1 ≤ q = w.0 in (omega arith, w.1)
+      go : (near : Option ℕ) → IfSome near (λ q. (i + 1 ≤ q) × (q < length levels.original.items)) → (m : Option ℕ) → IfSome m (λ q. (i + 1 ≤ q) × (q < length levels.original.items)) → IfSome (followed (level_in levels.level.items) i near m) (λ q. (i < q) × (q < length levels.original.items))
+      go None n None w = tt
+      go None n (Some q) w = let low : i + 1 ≤ q = w.0 in (omega arith, w.1)
+      go (Some r) n m w = either (eqb (level_in levels.level.items i) (level_in levels.level.items r)) m w
+        where
+          either : (b : Bool) (m : Option ℕ) → IfSome m (λ q. (i + 1 ≤ q) × (q < length levels.original.items)) → IfSome (cond b (Some r) m) (λ q. (i < q) × (q < length levels.original.items))
+          either true m w = let low : i + 1 ≤ r = n.0 in (omega arith, n.1)
+          either false None w = tt
+          either false (Some q) w = let low : i + 1 ≤ q = w.0 in (omega arith, w.1)
 
   links_inside : i < length links
   links_inside = let e : length links ≡ length levels.original.items = l.length in omega arith
@@ -148,7 +150,7 @@ module _ (levels : Levels) (aligned : AreAligned levels) (i : ℕ) (inside : i <
       → (p : ℕ) → i ≤ p → p < length levels.original.items → behind_at links' p ≡ level_at_end levels.base (level_in levels.level.items) levels.original.items (kept_from 0 levels.removed.items) p
   at_each links' here else p low high = elim (cases_order p i) [
     | inl e ↦ let P : ℕ → Type 0 = λ r. behind_at links' r ≡ level_at_end levels.base (level_in levels.level.items) levels.original.items (kept_from 0 levels.removed.items) r in subst P (sym e) here
-    | inr o ↦ else p (elim o [ | inl b ↦ λ e. omega arith | inr a ↦ λ e. omega arith ]) ∙ l.behind p (elim o [ | inl b ↦ omega arith | inr a ↦ omega arith ]) high
+    | inr o ↦ else p (elim o [ inl b ↦ λ e. omega arith | inr a ↦ λ e. omega arith ]) ∙ l.behind p (elim o [ inl b ↦ omega arith | inr a ↦ omega arith ]) high
   ]
 
   pub step_removed : get_or levels.removed.items i false ≡ true → IsLinked levels i (skipped links i end_level) (closers_at (kind_of (get_or levels.original.items i L)) i pdis) nearest
@@ -210,4 +212,16 @@ begins_linked levels i aligned e =
       hold = rw m (record { chains = tt; first = λ q low. ap (λ (k : Link). k.begins) (get_or_past (replicate i no_link) q no_link (omega arith)) });
       behind = λ p low high. absurd (omega arith);
       length = len ∙ e;
+    }
+
+pub ends_linked : (levels : Levels) (i : ℕ) (links : List Link) (pdis : List ℕ) (nearest : Option ℕ) → i ≡ 0 → IsLinked levels i links pdis nearest → IsLinkedWhole levels links
+ends_linked levels i links pdis nearest e l =
+    let P : ℕ → Type 0 = λ j. IsLinked levels j links pdis nearest in
+    go (subst P e l)
+  where
+    go : IsLinked levels 0 links pdis nearest → IsLinkedWhole levels links
+    go z = record {
+      hold = rw (by_place (level_in levels.level.items) levels.original.items (kept_from 0 levels.removed.items)) z.hold;
+      behind = λ p high. z.behind p (omega arith) high;
+      length = z.length;
     }

@@ -1,14 +1,14 @@
 -- How the code of X10 holds the sequences of the places from one on: each place knows the one behind it in its
 -- sequence, and whether it begins one.
-use Rattle.std.specs.Prelude.{ℕ, ◌+◌, ◌<◌, ◌≤◌, ◌≡◌, Bool, true, false, ◌||◌, cond, eqb, List, [], ◌∷◌, drop, length, slice_index_or, slice_set, Option, Some, None}
+use Rattle.std.specs.Prelude.{ℕ, max, ◌+◌, ◌<◌, ◌≤◌, ◌≡◌, Bool, true, false, ◌||◌, cond, eqb, List, [], ◌∷◌, drop, length, slice_index_or, slice_set, Option, Some, None}
 use Rattle.wm_chars.specs.declared.classes.BidiClass.{BidiClass}
-use Rattle.wm_chars.specs.declared.classes.BidiClass.TheVariants.{L}
 use Rattle.bidi_explicit.specs.declared.kind.Kind.{Kind}
 use Rattle.bidi_explicit.specs.declared.kind.Kind.TheVariants.{Opens, Closes}
 use Rattle.bidi_explicit.specs.declared.links.Link.{Link}
 use Rattle.bidi_explicit.specs.declared.paragraph.Levels.{Levels}
+use Rattle.bidi_explicit.specs.declared.paragraph.Run.{Run}
 use Rattle.bidi_explicit.specs.Isolates.{kind_of}
-use Rattle.bidi_explicit.specs.Sequences.{is_open_at, match_at, joined, kept_from, level_at_end, level_in}
+use Rattle.bidi_explicit.specs.Sequences.{Sequence, direction, last_of, is_open_at, match_at, joined, kept_from, level_at_end, level_in, level_runs, sequences}
 
 -- ---- matching
 
@@ -119,3 +119,28 @@ pub record IsLinked (levels : Levels) (i : ℕ) (links : List Link) (pdis : List
   pub hold : Hold links i (chains (level_in levels.level.items) levels.original.items (kept_behind levels i))
   pub behind : (p : ℕ) → i ≤ p → p < length levels.original.items → behind_at links p ≡ level_at_end levels.base (level_in levels.level.items) levels.original.items (kept_from 0 levels.removed.items) p
   pub length : length links ≡ length levels.original.items
+
+-- the pass has come to the front
+pub record IsLinkedWhole (levels : Levels) (links : List Link) : Type 0 where
+  pub hold : Hold links 0 (sequences levels.original.items (level_runs (level_in levels.level.items) (kept_from 0 levels.removed.items)))
+  pub behind : (p : ℕ) → p < length levels.original.items → behind_at links p ≡ level_at_end levels.base (level_in levels.level.items) levels.original.items (kept_from 0 levels.removed.items) p
+  pub length : length links ≡ length levels.original.items
+
+-- ---- what is read out of the links
+
+-- the links lead from this place to an end
+pub record HasChain (links : List Link) (p : ℕ) : Type 0 where
+  pub places : List ℕ
+  pub follows : Follows links p places
+
+-- a run as a sequence
+abbrev pub sequence_of : Run → Sequence
+sequence_of run = record { places = run.places.items; sos = run.sos; eos = run.eos }
+
+-- the sequence of these places, with that level before it
+abbrev pub sequence_by : (ℕ → ℕ) → List Link → ℕ → List ℕ → ℕ → Sequence
+sequence_by level links p places before = record {
+  places = p ∷ places;
+  sos = direction (max (level p) before);
+  eos = direction (max (level p) (behind_at links (last_of p places)));
+}

@@ -1,6 +1,6 @@
 ghost use Rattle.std.specs.Prelude.{◌≡◌, ◌+◌, ◌<◌, length, slice_index, IfSome, IfOk, OnOk};
 ghost use Rattle.bidi_explicit.specs.Sequences.{level_in};
-ghost use Rattle.bidi_explicit.specs.Links.{AreAligned, IsLinked, begins_at, behind_of, closers_at, followed, freed, linked, matched_by, skipped};
+ghost use Rattle.bidi_explicit.specs.Links.{AreAligned, IsLinked, IsLinkedWhole, begins_at, behind_of, closers_at, followed, freed, linked, matched_by, skipped};
 
 use crate::kind::{Kind, kind_of};
 use crate::paragraph::Levels;
@@ -36,9 +36,10 @@ pub(crate) struct Links {
 }
 
 // The links of a whole paragraph.
+#[tactic(auto, using(crate::proofs::Walking::begins_linked))]
 pub(crate) fn linked_levels(alloc: Global, levels: &Levels) -> Result<Links, AllocError>
     requires { AreAligned levels.now }
-    ensures { IfOk result (λ links. IsLinked levels.now 0 links.links.items links.pending.items links.next) }
+    ensures { IfOk result (λ links. IsLinkedWhole levels.now links.links.items) }
 {
     let mut i = levels.original.len();
     let mut links = Links {
@@ -74,7 +75,11 @@ fn step(links: &mut Links, levels: &Levels, i: usize) -> Result<(), AllocError>
 }
 
 // The matching PDI of an isolate initiator (UAX 9, BD9).
-fn matched_by(pending: &mut VecDeque<usize>, kind: Kind, at: usize) -> Result<Option<usize>, AllocError>
+fn matched_by(
+    pending: &mut VecDeque<usize>,
+    kind: Kind,
+    at: usize,
+) -> Result<Option<usize>, AllocError>
     ensures matched { IfOk result (λ matched. matched ≡ matched_by kind pending.old.items) }
     ensures pending { OnOk result (pending.new.items ≡ closers_at kind at pending.old.items) }
 {
