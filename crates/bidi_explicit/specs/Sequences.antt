@@ -1,5 +1,5 @@
 -- Isolating run sequences (UAX 9, BD7, BD13, X10).
-use Rattle.std.specs.Prelude.{ℕ, ◌+◌, ◌%◌, max, Bool, true, false, cond, eqb, List, [], ◌∷◌, ◌++◌, map, drop, slice_index_or, Option, Some, None}
+use Rattle.std.specs.Prelude.{ℕ, ◌+◌, ◌%◌, max, Bool, true, false, cond, eqb, ltb, List, [], ◌∷◌, ◌++◌, map, drop, slice_index_or, Option, Some, None}
 use Rattle.std.specs.Option.{option_map}
 use Rattle.wm_chars.specs.declared.classes.BidiClass.{BidiClass}
 use Rattle.wm_chars.specs.declared.classes.BidiClass.TheVariants.{L, R}
@@ -73,20 +73,20 @@ abbrev pub sequences : List BidiClass → List (List ℕ) → List (List ℕ)
 sequences classes [] = []
 sequences classes (run ∷ runs) = joined (match_of_last classes run) run (sequences classes runs)
 
--- the level of the place before this one among these places, or that base level
+-- the level of the last of these places that stand before this one, or the base level where none does
 abbrev pub level_before : (ℕ → ℕ) → ℕ → List ℕ → ℕ → ℕ
 level_before level base [] p = base
-level_before level base (q ∷ places) p = cond (eqb q p) base (level_before level (level q) places p)
+level_before level base (q ∷ places) p = cond (ltb q p) (level_before level (level q) places p) base
 
--- the level of the first place, or the base level
-abbrev pub level_of_first : (ℕ → ℕ) → ℕ → List ℕ → ℕ
-level_of_first level base [] = base
-level_of_first level base (q ∷ places) = level q
-
--- the level of the place behind this one, or the base level
+-- the level of the first of these places that stand behind this one, or the base level where none does
 abbrev pub level_behind : (ℕ → ℕ) → ℕ → List ℕ → ℕ → ℕ
 level_behind level base [] p = base
-level_behind level base (q ∷ places) p = cond (eqb q p) (level_of_first level base places) (level_behind level base places p)
+level_behind level base (q ∷ places) p = cond (ltb p q) (level q) (level_behind level base places p)
+
+-- X10: the level behind a sequence that ends at this place, which for an isolate initiator without a matching PDI
+-- is the base level
+abbrev pub level_at_end : ℕ → (ℕ → ℕ) → List BidiClass → List ℕ → ℕ → ℕ
+level_at_end base level classes kept p = cond (is_unmatched classes p) base (level_behind level base kept p)
 
 -- the class for the direction of a level: R where it is odd, L where it is even
 abbrev pub direction : ℕ → BidiClass
@@ -99,14 +99,13 @@ pub record Sequence : Type 0 where
   pub eos : BidiClass
 
 -- X10: sos and eos of a sequence, by the higher of its own level and that of the character before it or behind it;
--- the base level takes the place of the latter at the ends of the paragraph, and for eos behind an isolate
--- initiator without a matching PDI
+-- at the ends of the paragraph the base level takes the place of the latter
 abbrev pub with_sides : ℕ → (ℕ → ℕ) → List BidiClass → List ℕ → List ℕ → Sequence
 with_sides base level classes kept [] = record { places = []; sos = L; eos = L }
 with_sides base level classes kept (p ∷ places) = record {
   places = p ∷ places;
   sos = direction (max (level p) (level_before level base kept p));
-  eos = direction (max (level p) (cond (is_unmatched classes (last_of p places)) base (level_behind level base kept (last_of p places))));
+  eos = direction (max (level p) (level_at_end base level classes kept (last_of p places)));
 }
 
 abbrev pub level_in : List ℕ → ℕ → ℕ

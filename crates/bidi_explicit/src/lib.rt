@@ -6,9 +6,12 @@ mod ahead;
 mod base;
 mod explicit;
 mod kind;
+mod links;
 mod machine;
 mod paragraph;
+mod sequences;
 
 pub use base::base_level;
 pub use explicit::levels;
 pub use paragraph::{ClassList, LevelList, Levels, MarkList, PlaceList, Run, Runs};
+pub use sequences::runs;

@@ -2,6 +2,10 @@
 //! the order from left to right (L2).
 #![tactic(auto)]
 
+mod blanks;
 mod places;
+mod reversals;
 
+pub use blanks::reset;
 pub use places::Order;
+pub use reversals::order;

@@ -1,0 +1,167 @@
+ghost use Rattle.std.specs.Prelude.{◌≡◌, ◌+◌, ◌<◌, length, slice_index, IfSome, IfOk, OnOk};
+ghost use Rattle.bidi_explicit.specs.Sequences.{level_in};
+ghost use Rattle.bidi_explicit.specs.Links.{AreAligned, IsLinked, IsLinkedWhole, begins_at, behind_of, closers_at, followed, freed, linked, matched_by, skipped};
+
+use crate::kind::{Kind, kind_of};
+use crate::paragraph::Levels;
+use std::alloc::{AllocError, Global};
+use std::collections::VecDeque;
+
+// What one pass from the end tells of a place.
+#[derive(Clone, Copy)]
+pub(crate) struct Link {
+    // The place behind it in its sequence, if it isn't the last.
+    pub(crate) next: Option<usize>,
+    // Whether a sequence begins with it.
+    pub(crate) begins: bool,
+    // The level that counts for eos where it is the last.
+    pub(crate) behind: u8,
+}
+
+const NO_LINK: Link = Link {
+    next: None,
+    begins: false,
+    behind: 0,
+};
+
+// The links of a paragraph, as far as the pass has come.
+#[derive(Drop)]
+pub(crate) struct Links {
+    // One for each place.
+    pub(crate) links: Vec<Link>,
+    // The places of the PDIs that close what is open before, the nearest first.
+    pending: VecDeque<usize>,
+    // The nearest place that isn't removed.
+    next: Option<usize>,
+}
+
+// The links of a whole paragraph.
+#[tactic(auto, using(crate::proofs::Walking::begins_linked))]
+pub(crate) fn linked_levels(alloc: Global, levels: &Levels) -> Result<Links, AllocError>
+    requires { AreAligned levels.now }
+    ensures { IfOk result (λ links. IsLinkedWhole levels.now links.links.items) }
+{
+    let mut i = levels.original.len();
+    let mut links = Links {
+        links: Vec::from_elem(alloc, NO_LINK, i)?,
+        pending: VecDeque::new(alloc),
+        next: None,
+    };
+    while i > 0 {
+        i -= 1;
+        step(&mut links, levels, i)?;
+    }
+    Ok(links)
+}
+
+// One place more.
+fn step(links: &mut Links, levels: &Levels, i: usize) -> Result<(), AllocError>
+    requires aligned { AreAligned levels.now }
+    requires inside { i < length levels.now.original.items }
+    requires linked { IsLinked levels.now (i + 1) links.old.links.items links.old.pending.items links.old.next }
+    ensures { OnOk result (IsLinked levels.now i links.new.links.items links.new.pending.items links.new.next) }
+{
+    let kind = kind_of(levels.original[i]);
+    let matched = matched_by(&mut links.pending, kind, i)?;
+    let behind = behind_of(levels, kind, matched, links.next);
+    if levels.removed[i] {
+        skip(&mut links.links, i, behind);
+    } else {
+        let followed = followed(levels, i, links.next, matched);
+        begin_at(&mut links.links, i, followed, behind);
+        links.next = Some(i);
+    }
+    Ok(())
+}
+
+// The matching PDI of an isolate initiator (UAX 9, BD9).
+fn matched_by(
+    pending: &mut VecDeque<usize>,
+    kind: Kind,
+    at: usize,
+) -> Result<Option<usize>, AllocError>
+    ensures matched { IfOk result (λ matched. matched ≡ matched_by kind pending.old.items) }
+    ensures pending { OnOk result (pending.new.items ≡ closers_at kind at pending.old.items) }
+{
+    match kind {
+        Kind::Opens => Ok(pending.pop_front()),
+        Kind::Closes => {
+            pending.push_front(at)?;
+            Ok(None)
+        }
+        _ => Ok(None),
+    }
+}
+
+// The level that counts for eos where a sequence ends.
+fn behind_of(levels: &Levels, kind: Kind, matched: Option<usize>, next: Option<usize>) -> u8
+    requires { IfSome next (λ q. q < length levels.now.level.items) }
+    ensures { result ≡ behind_of levels.now.base (level_in levels.now.level.items) kind matched next }
+{
+    match next {
+        None => levels.base,
+        Some(next) => match kind {
+            Kind::Opens if matched.is_none() => levels.base,
+            _ => levels.level[next],
+        },
+    }
+}
+
+// The place behind one in its sequence, if a sequence begins there.
+fn followed(levels: &Levels, i: usize, next: Option<usize>, matched: Option<usize>) -> Option<usize>
+    requires inside { i < length levels.now.level.items }
+    requires next { IfSome next (λ q. q < length levels.now.level.items) }
+    ensures { result ≡ followed (level_in levels.now.level.items) i next matched }
+{
+    match next {
+        Some(q) if levels.level[i] == levels.level[q] => next,
+        _ => matched,
+    }
+}
+
+// A sequence begins with the place, and takes up the one that begins with what follows it, if one does.
+fn begin_at(links: &mut [Link], i: usize, followed: Option<usize>, behind: u8)
+    requires inside { i < length links.old }
+    requires followed { IfSome followed (λ q. q < length links.old) }
+    ensures { links.new ≡ linked links.old i followed behind }
+{
+    match followed {
+        None => {
+            links[i] = Link {
+                next: None,
+                begins: true,
+                behind,
+            };
+        }
+        Some(q) => {
+            let next = if free(links, q) { followed } else { None };
+            links[i] = Link {
+                next,
+                begins: true,
+                behind,
+            };
+        }
+    }
+}
+
+// No sequence begins with the place any more. Whether one did.
+fn free(links: &mut [Link], q: usize) -> bool
+    requires { q < length links.old }
+    ensures result { result ≡ begins_at links.old q }
+    ensures freed { links.new ≡ freed links.old q }
+{
+    let begins = links[q].begins;
+    links[q].begins = false;
+    begins
+}
+
+fn skip(links: &mut [Link], i: usize, behind: u8)
+    requires { i < length links.old }
+    ensures { links.new ≡ skipped links.old i behind }
+{
+    links[i] = Link {
+        next: None,
+        begins: false,
+        behind,
+    };
+}

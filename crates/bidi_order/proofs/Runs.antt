@@ -1,0 +1,115 @@
+-- Runs of a list, reversed one after the other.
+use Rattle.std.proofs.Common.{◌≡◌, ◌∙◌, sym, refl, ap, ℕ, ◌+◌, ◌-◌, ◌<◌, ◌≤◌, Bool, true, false, List, [], ◌∷◌, ◌++◌, length, get_or, take, drop, reverse, append_assoc, append-nil, subst, arith}
+use Rattle.std.specs.List.{All, range_with_len}
+use Rattle.std.specs.List.Sorted.{IsPermutation}
+use Rattle.std.proofs.lemmas.List.{drop_more, drop_all, take_more, take_at, drop_at, length-take-le, length-drop, length-append, length-reverse, reverse-append, take-append-drop, drop-drop, get_or-drop, map-id}
+use Rattle.std.proofs.lemmas.List.FromFn.{length-range_with_len, get_or-range_with_len, map-range_with_len_more}
+use Rattle.std.proofs.lemmas.List.Sorted.{IsPermutation-refl, length_permutation, IsPermutation-trans, IsPermutation-reverse, IsPermutation-append_left, IsPermutation-append_right}
+use Rattle.std.specs.Prelude.{leb, slice_index}
+use Rattle.std.proofs.Math.Numerals.{add-one}
+use Rattle.bidi_order.specs.Order.{reverse_runs, reversals}
+
+-- the elements from `start` up to `end`, reversed in place
+abbrev pub reversed_part : {X : Type 0} → List X → ℕ → ℕ → List X
+reversed_part xs start end_ = take start xs ++ reverse (take (end_ - start) (drop start xs)) ++ drop end_ xs
+
+pub record Reversing {X : Type 0} (passes : X → Bool) (old now : List X) (start i : ℕ) : Type 0 where
+  pub begun : start ≤ i
+  pub within : i ≤ length now
+  pub rearranged : IsPermutation old now
+  pub runs : take start now ++ reverse_runs passes (reverse (take (i - start) (drop start now))) (drop i now) ≡ reverse_runs passes [] old
+
+module _ {X : Type 0} (xs : List X) (start end_ : ℕ) (begun : start ≤ end_) (within : end_ ≤ length xs) where
+  parts_length : length (take start xs ++ reverse (take (end_ - start) (drop start xs))) ≡ end_
+  parts_length =
+      let a : length (take start xs) ≡ start = length-take-le start xs (omega arith) in
+      let d : length (drop start xs) ≡ length xs - start = length-drop start xs in
+      let m : length (take (end_ - start) (drop start xs)) ≡ end_ - start = length-take-le (end_ - start) (drop start xs) (omega arith) in
+      let r : length (reverse (take (end_ - start) (drop start xs))) ≡ length (take (end_ - start) (drop start xs)) = length-reverse (take (end_ - start) (drop start xs)) in
+      let s : length (take start xs ++ reverse (take (end_ - start) (drop start xs))) ≡ length (take start xs) + length (reverse (take (end_ - start) (drop start xs))) = length-append (take start xs) (reverse (take (end_ - start) (drop start xs))) in
+      omega arith
+
+  parts_joined : (take start xs ++ take (end_ - start) (drop start xs)) ++ drop end_ xs ≡ xs
+  parts_joined =
+      let dd : drop (end_ - start) (drop start xs) ≡ drop (start + (end_ - start)) xs = drop-drop (end_ - start) start xs in
+      let n : start + (end_ - start) ≡ end_ = omega arith in
+      append_assoc (take start xs) (take (end_ - start) (drop start xs)) (drop end_ xs)
+      ∙ ap (λ l. take start xs ++ l) (ap (λ l. take (end_ - start) (drop start xs) ++ l) (sym (dd ∙ ap (λ k. drop k xs) n)) ∙ take-append-drop (end_ - start) (drop start xs))
+      ∙ take-append-drop start xs
+
+  part_rearranged : IsPermutation xs (reversed_part xs start end_)
+  part_rearranged =
+      let P : List X → Type 0 = λ l. IsPermutation l (reversed_part xs start end_) in
+      subst P parts_joined
+      (IsPermutation-append_left (drop end_ xs) (take start xs ++ take (end_ - start) (drop start xs)) (take start xs ++ reverse (take (end_ - start) (drop start xs)))
+      (IsPermutation-append_right (take start xs) (take (end_ - start) (drop start xs)) (reverse (take (end_ - start) (drop start xs))) (IsPermutation-reverse (take (end_ - start) (drop start xs)))))
+
+pub starts : {X : Type 0} (passes : X → Bool) (xs : List X) → Reversing passes xs xs 0 0
+starts passes xs = record { begun = omega arith; within = omega arith; rearranged = IsPermutation-refl xs; runs = refl }
+
+module _ {X : Type 0} (passes : X → Bool) (old now : List X) (start i : ℕ) (x d : X) (r : Reversing passes old now start i) (below : i < length now) (x-is : x ≡ get_or now i d) where
+  behind : drop i now ≡ x ∷ drop (i + 1) now
+  behind = rw x-is (drop_more now i d below)
+
+  pub passes_more : passes x ≡ true → Reversing passes old now start (i + 1)
+  passes_more e =
+      let begun : start ≤ i = r.begun in
+      let n : i + 1 - start ≡ (i - start) + 1 = omega arith in
+      let dl : length (drop start now) ≡ length now - start = length-drop start now in
+      let t : take ((i - start) + 1) (drop start now) ≡ take (i - start) (drop start now) ++ get_or (drop start now) (i - start) d ∷ [] = take_more (drop start now) (i - start) d (omega arith) in
+      let g : get_or (drop start now) (i - start) d ≡ get_or now (start + (i - start)) d = get_or-drop start now (i - start) d in
+      let k : start + (i - start) ≡ i = omega arith in
+      let at : get_or (drop start now) (i - start) d ≡ x = g ∙ ap (λ j. get_or now j d) k ∙ sym x-is in
+      let whole : take (i + 1 - start) (drop start now) ≡ take (i - start) (drop start now) ++ x ∷ [] = ap (λ j. take j (drop start now)) n ∙ t ∙ ap (λ y. take (i - start) (drop start now) ++ y ∷ []) at in
+      let back : reverse (take (i + 1 - start) (drop start now)) ≡ x ∷ reverse (take (i - start) (drop start now)) = ap reverse whole ∙ reverse-append (take (i - start) (drop start now)) (x ∷ []) in
+      let one : reverse_runs passes (reverse (take (i - start) (drop start now))) (drop i now) ≡ reverse_runs passes (x ∷ reverse (take (i - start) (drop start now))) (drop (i + 1) now) = rw behind (rw e refl) in
+      record {
+        begun = omega arith;
+        within = omega arith;
+        rearranged = r.rearranged;
+        runs = rw back (ap (λ l. take start now ++ l) (sym one) ∙ r.runs);
+      }
+
+  pub stops_more : passes x ≡ false → (now' : List X) → now' ≡ reversed_part now start i → Reversing passes old now' (i + 1) (i + 1)
+  stops_more e now' now-is =
+      let begun : start ≤ i = r.begun in
+      let front : List X = take start now ++ reverse (take (i - start) (drop start now)) in
+      let fl : length front ≡ i = parts_length now start i begun (omega arith) in
+      let all : now' ≡ (front ++ x ∷ []) ++ drop (i + 1) now = now-is ∙ ap (λ l. front ++ l) behind ∙ sym (append_assoc front (x ∷ []) (drop (i + 1) now)) in
+      let fl1 : length (front ++ x ∷ []) ≡ i + 1 = length-append front (x ∷ []) ∙ omega arith in
+      let t : take (i + 1) now' ≡ front ++ x ∷ [] = ap (take (i + 1)) all ∙ take_at (front ++ x ∷ []) (drop (i + 1) now) (i + 1) fl1 in
+      let b : drop (i + 1) now' ≡ drop (i + 1) now = ap (drop (i + 1)) all ∙ drop_at (front ++ x ∷ []) (drop (i + 1) now) (i + 1) fl1 in
+      let z : i + 1 - (i + 1) ≡ 0 = omega arith in
+      let one : reverse_runs passes (reverse (take (i - start) (drop start now))) (drop i now) ≡ reverse (take (i - start) (drop start now)) ++ x ∷ reverse_runs passes [] (drop (i + 1) now) = rw behind (rw e refl) in
+      let perm : IsPermutation now now' = subst (λ l. IsPermutation now l) (sym now-is) (part_rearranged now start i begun (omega arith)) in
+      let len : length now' ≡ length now = length_permutation now now' perm in
+      record {
+        begun = omega arith;
+        within = omega arith;
+        rearranged = IsPermutation-trans old now now' r.rearranged perm;
+        runs = rw (z, t, b)
+            (append_assoc front (x ∷ []) (reverse_runs passes [] (drop (i + 1) now))
+            ∙ append_assoc (take start now) (reverse (take (i - start) (drop start now))) (x ∷ reverse_runs passes [] (drop (i + 1) now))
+            ∙ ap (λ l. take start now ++ l) (sym one)
+            ∙ r.runs);
+      }
+
+module _ {X : Type 0} (passes : X → Bool) (old now : List X) (start i : ℕ) (r : Reversing passes old now start i) (all : length now ≤ i) (now' : List X) (now-is : now' ≡ reversed_part now start i) where
+  pub ends : now' ≡ reverse_runs passes [] old
+  ends =
+      let none : drop i now ≡ [] = drop_all i now all in
+      now-is ∙ rw none (append-nil (take start now ++ reverse (take (i - start) (drop start now)))) ∙ (rw none at r.runs)
+
+  pub ends_rearranged : IsPermutation old now'
+  ends_rearranged =
+      IsPermutation-trans old now now' r.rearranged (subst (λ l. IsPermutation now l) (sym now-is) (part_rearranged now start i r.begun r.within))
+
+pub range_more : (a n b : ℕ) → a + n ≡ b → range_with_len a (n + 1) ≡ range_with_len a n ++ b ∷ []
+range_more a n b e = sym (map-id (range_with_len a (n + 1))) ∙ map-range_with_len_more (λ k. k) a n b e ∙ ap (λ l. l ++ b ∷ []) (map-id (range_with_len a n))
+
+pub range_below : (n : ℕ) → All (λ p. p < n) (range_with_len 0 n)
+range_below n = λ k d l. let h : length (range_with_len 0 n) ≡ n = length-range_with_len 0 n in let g : get_or (range_with_len 0 n) k d ≡ 0 + k = get_or-range_with_len 0 n k d (omega arith) in omega arith
+
+pub reversals_more : (levels : List ℕ) (least m n : ℕ) (places places' : List ℕ) → m + 1 ≡ n → places' ≡ reverse_runs (λ p. leb (least + m) (slice_index levels p)) [] places
+    → reversals levels least m places' ≡ reversals levels least n places
+reversals_more levels least m n places places' e f = rw (← e, add-one, f) refl
