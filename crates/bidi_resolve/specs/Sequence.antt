@@ -3,6 +3,7 @@
 use Rattle.std.specs.Prelude.{ℕ, List}
 use Rattle.wm_chars.specs.declared.classes.BidiClass.{BidiClass}
 use Rattle.wm_chars.specs.declared.classes.BidiClass.TheVariants.{L}
+use Rattle.bidi_explicit.specs.Links.{sequence_of}
 use Rattle.bidi_explicit.specs.Sequences.{Sequence}
 use Rattle.bidi_explicit.specs.declared.paragraph.Levels.{Levels}
 use Rattle.bidi_explicit.specs.declared.paragraph.Run.{Run}
@@ -31,9 +32,6 @@ unfoldable pub sequence_levels : (chars : List ℕ) → (originals : List BidiCl
 sequence_levels chars originals levels classes sequence = i1_i2 (run_level levels sequence.places) (sequence_classes chars originals levels classes sequence)
 
 -- ---- in the code's types
-
-abbrev pub sequence_of : Run → Sequence
-sequence_of run = record { places = run.places.items; sos = run.sos; eos = run.eos }
 
 abbrev pub run_classes : (chars : List ℕ) → Levels → Run → List BidiClass
 run_classes chars levels run = sequence_classes chars levels.original.items levels.level.items levels.class.items (sequence_of run)
