@@ -1,4 +1,6 @@
+pub mod Between
 pub mod Chains
+pub mod Covering
 pub mod Following
 pub mod Gathering
 pub mod Linking

@@ -12,7 +12,8 @@ use Rattle.bidi_explicit.specs.declared.links.Link.{Link}
 use Rattle.bidi_explicit.specs.declared.paragraph.Levels.{Levels}
 use Rattle.bidi_explicit.specs.Isolates.{kind_of}
 use Rattle.bidi_explicit.specs.Sequences.{is_open_at, match_at, kept_from, level_behind, level_at_end, level_in}
-use Rattle.bidi_explicit.specs.Links.{no_link, first_of, closers, closers_at, matched_by, followed, chains, behind_of, behind_at, linked, skipped, AreAligned, kept_behind, IsLinked, IsLinkedWhole}
+use Rattle.bidi_explicit.specs.Bounds.{AreAligned}
+use Rattle.bidi_explicit.specs.Links.{no_link, first_of, closers, closers_at, matched_by, followed, chains, behind_of, behind_at, linked, skipped, kept_behind, IsLinked, IsLinkedWhole}
 use Rattle.bidi_explicit.proofs.Chains.{by_place}
 use Rattle.bidi_explicit.proofs.Matches.{matched, AreWithin, closers_within}
 use Rattle.bidi_explicit.proofs.Linking.{hold_skipped, hold_linked, length_linked, behind_here, behind_else, skipped_here, skipped_else}

@@ -1,4 +1,6 @@
 pub mod Ahead
+pub mod Bounds
+pub mod Cover
 pub mod Explicit
 pub mod Isolates
 pub mod Links

@@ -103,11 +103,6 @@ pub record Hold (links : List Link) (i : ℕ) (sequences : List (List ℕ)) : Ty
   pub chains : AreChains links i sequences
   pub first : (q : ℕ) → i ≤ q → begins_at links q ≡ is_first q sequences
 
--- the lists of a paragraph have one length
-pub record AreAligned (levels : Levels) : Type 0 where
-  pub level : length levels.level.items ≡ length levels.original.items
-  pub removed : length levels.removed.items ≡ length levels.original.items
-
 abbrev pub kept_behind : Levels → ℕ → List ℕ
 kept_behind levels i = kept_from i (drop i levels.removed.items)
 

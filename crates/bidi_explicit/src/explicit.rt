@@ -1,5 +1,7 @@
 ghost use Rattle.std.specs.Prelude.{◌≡◌, ◌+◌, ◌<◌, ◌≤◌, ◌^◌, [], ◌∷◌, ◌++◌, IfOk, OnOk};
+ghost use Rattle.std.specs.List.{All};
 ghost use Rattle.bidi_explicit.specs.Ahead.{rights};
+ghost use Rattle.bidi_explicit.specs.Bounds.{AreAligned, IsBetween};
 ghost use Rattle.bidi_explicit.specs.Explicit.{plain, entered, taken, entries, begin, is_removed, level_at, levels_by, class_at, classes_by, explicit_levels, explicit_classes, removed_marks};
 ghost use Rattle.bidi_explicit.specs.Machine.{state_of, total};
 
@@ -10,7 +12,8 @@ use std::alloc::{AllocError, Global};
 use std::collections::VecDeque;
 use wm_chars::BidiClass;
 
-/// The explicit levels of a paragraph whose base level is 0 or 1 (UAX 9, X1 to X9).
+/// The explicit levels of a paragraph whose base level is 0 or 1 (UAX 9, X1 to X9). No level is below the base level
+/// or above 125.
 pub fn levels(alloc: Global, classes: &[BidiClass], base: u8) -> Result<Levels, AllocError>
     requires { base ≤ 1 }
     ensures base { IfOk result (λ levels. levels.base ≡ base) }
@@ -18,6 +21,8 @@ pub fn levels(alloc: Global, classes: &[BidiClass], base: u8) -> Result<Levels, 
     ensures class { IfOk result (λ levels. levels.class.items ≡ explicit_classes base classes.now) }
     ensures original { IfOk result (λ levels. levels.original.items ≡ classes.now) }
     ensures removed { IfOk result (λ levels. levels.removed.items ≡ removed_marks classes.now) }
+    ensures aligned { IfOk result (λ levels. AreAligned levels) }
+    ensures between { IfOk result (λ levels. All (IsBetween base) levels.level.items) }
 {
     let written = walk(alloc, classes, base)?;
     let original = Vec::from_slice(alloc, classes)?;

@@ -1,6 +1,7 @@
 ghost use Rattle.std.specs.Prelude.{◌≡◌, ◌+◌, ◌<◌, length, slice_index, IfSome, IfOk, OnOk};
 ghost use Rattle.bidi_explicit.specs.Sequences.{level_in};
-ghost use Rattle.bidi_explicit.specs.Links.{AreAligned, IsLinked, IsLinkedWhole, begins_at, behind_of, closers_at, followed, freed, linked, matched_by, skipped};
+ghost use Rattle.bidi_explicit.specs.Bounds.{AreAligned};
+ghost use Rattle.bidi_explicit.specs.Links.{IsLinked, IsLinkedWhole, begins_at, behind_of, closers_at, followed, freed, linked, matched_by, skipped};
 
 use crate::kind::{Kind, kind_of};
 use crate::paragraph::Levels;

@@ -1,6 +1,10 @@
 ghost use Rattle.std.specs.Prelude.{◌≡◌, ◌∷◌, ◌++◌, ◌<◌, [], List, true, false, cond, length, map, max, slice_index_or, IfOk, OnOk};
+ghost use Rattle.std.specs.List.{All, concat};
+ghost use Rattle.std.specs.List.Sorted.{IsPermutation};
+ghost use Rattle.bidi_explicit.specs.Cover.{IsRunOf, kept_places};
 ghost use Rattle.bidi_explicit.specs.Sequences.{direction, isolating_runs, last_of, level_in};
-ghost use Rattle.bidi_explicit.specs.Links.{AreAligned, Follows, HasChain, IsLinkedWhole, begins_at, sequence_by, sequence_of};
+ghost use Rattle.bidi_explicit.specs.Bounds.{AreAligned};
+ghost use Rattle.bidi_explicit.specs.Links.{Follows, HasChain, IsLinkedWhole, begins_at, sequence_by, sequence_of};
 
 use crate::links::{self, Link};
 use crate::paragraph::{Levels, PlaceList, Run, Runs};
@@ -8,18 +12,20 @@ use std::alloc::{AllocError, Global};
 use wm_chars::BidiClass;
 
 /// The isolating run sequences of a paragraph with their sos and eos (UAX 9, BD13 and X10), in the order of their
-/// first characters. The lists of the paragraph have one length.
-#[tactic(auto, unfolding(crate::specs::Sequences::isolating_runs))]
+/// first characters. The lists of the paragraph have one length. The places of each sequence rise, and all of them
+/// together are the places of what isn't removed, each once.
 pub fn runs(alloc: Global, levels: &Levels) -> Result<Runs, AllocError>
     requires { AreAligned levels.now }
-    ensures { IfOk result (λ runs. map sequence_of runs.items ≡ isolating_runs levels.now.base levels.now.level.items levels.now.original.items levels.now.removed.items) }
+    ensures runs { IfOk result (λ runs. map sequence_of runs.items ≡ isolating_runs levels.now.base levels.now.level.items levels.now.original.items levels.now.removed.items) }
+    ensures cover { IfOk result (λ runs. IsPermutation (kept_places levels.now.removed.items) (concat (map (λ run. run.places.items) runs.items))) }
+    ensures each { IfOk result (λ runs. All (λ run. IsRunOf levels.now.removed.items run.places.items) runs.items) }
 {
     let linked = links::linked_levels(alloc, levels)?;
-    gather(alloc, levels, &linked.links)
+    let runs = gather(alloc, levels, &linked.links)?;
+    Ok(runs)
 }
 
 // The sequences that the links lead through.
-#[tactic(auto, unfolding(crate::specs::Sequences::isolating_runs))]
 fn gather(alloc: Global, levels: &Levels, links: &[Link]) -> Result<Runs, AllocError>
     requires aligned { AreAligned levels.now }
     requires linked { IsLinkedWhole levels.now links.now }
