@@ -2,6 +2,7 @@ pub mod BracketLaws
 pub mod LengthLaws
 pub mod NeutralLaws
 pub mod PairingLaws
+pub mod ParagraphLaws
 pub mod Passes
 pub mod PlaceLaws
 pub mod Seeing

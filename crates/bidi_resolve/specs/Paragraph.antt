@@ -10,17 +10,17 @@ use Rattle.bidi_explicit.specs.Sequences.{Sequence, isolating_runs}
 use Rattle.bidi_resolve.specs.Places.{scattered}
 use Rattle.bidi_resolve.specs.Sequence.{sequence_levels}
 
--- each sequence by itself, on the levels and classes as X1 to X9 leave them
-abbrev pub with_sequences : (chars : List ℕ) → (originals : List BidiClass) → (levels : List ℕ) → (classes : List BidiClass) → List Sequence → List ℕ
-with_sequences chars originals levels classes sequences =
-    fold (λ out sequence. scattered sequence.places (sequence_levels chars originals levels classes sequence) out) levels sequences
+-- the levels, where these sequences are resolved, each by itself, on the levels and classes as X1 to X9 leave them
+abbrev pub resolved_from : (chars : List ℕ) → (originals : List BidiClass) → (levels : List ℕ) → (classes : List BidiClass) → List Sequence → List ℕ → List ℕ
+resolved_from chars originals levels classes sequences out =
+    fold (λ out sequence. scattered sequence.places (sequence_levels chars originals levels classes sequence) out) out sequences
 
 -- the levels of a paragraph of these characters and classes with this base level: X1 to X10, W1 to W7, N0 to N2, I1
 -- and I2
-unfoldable pub levels_of : (chars : List ℕ) → List BidiClass → (base : ℕ) → List ℕ
-levels_of chars classes base =
-    with_sequences chars classes (explicit_levels base classes) (explicit_classes base classes)
-    (isolating_runs base (explicit_levels base classes) classes (removed_marks classes))
+unfoldable pub paragraph_levels : (chars : List ℕ) → List BidiClass → (base : ℕ) → List ℕ
+paragraph_levels chars classes base =
+    resolved_from chars classes (explicit_levels base classes) (explicit_classes base classes)
+    (isolating_runs base (explicit_levels base classes) classes (removed_marks classes)) (explicit_levels base classes)
 
 -- the classes of characters; what isn't in the repertoire is neutral
 abbrev pub classes_of : (chars : List ℕ) → List BidiClass
@@ -33,4 +33,4 @@ base_of None classes = unwrap_or (first_strong classes) 0
 
 -- the levels of a text
 unfoldable pub text_levels : (chars : List ℕ) → (base : Option ℕ) → List ℕ
-text_levels chars base = levels_of chars (classes_of chars) (base_of base (classes_of chars))
+text_levels chars base = paragraph_levels chars (classes_of chars) (base_of base (classes_of chars))

@@ -41,9 +41,9 @@ pub fn resolve(
     Ok(())
 }
 
-// The classes of a sequence by all rules.
+/// The classes of a sequence by all rules.
 #[tactic(auto, unfolding(crate::specs::Sequence::sequence_classes))]
-fn classes_of(
+pub(crate) fn classes_of(
     alloc: Global,
     chars: &[char],
     levels: &Levels,

@@ -1,0 +1,110 @@
+ghost use Rattle.bidi_explicit.specs.Links.{sequence_of};
+ghost use Rattle.bidi_resolve.specs.Paragraph as paragraph;
+ghost use Rattle.bidi_resolve.specs.Paragraph.{resolved_from};
+ghost use Rattle.bidi_resolve.specs.Places.{scattered};
+ghost use Rattle.bidi_resolve.specs.Sequence.{run_levels};
+ghost use Rattle.std.specs.Prelude.{◌≡◌, ◌<◌, ◌≤◌, All, IfOk, IfSome, length, map};
+
+use crate::places::{level_of, write_levels};
+use crate::sequence::classes_of;
+use bidi_explicit::{ClassList, LevelList, Levels, Run, base_level, levels, runs};
+use std::alloc::{AllocError, Global};
+use wm_chars::{BidiClass, bidi_class};
+
+/// The resolved levels of a text that is one bidi paragraph, by all rules of UAX 9 up to I2: with this base level, 0 or
+/// 1, or with the one that P2 and P3 give. What isn't in the repertoire counts as ON.
+#[tactic(auto, unfolding(crate::specs::Paragraph::text_levels))]
+pub fn text_levels(alloc: Global, chars: &[char], base: Option<u8>) -> Result<LevelList, AllocError>
+    requires { IfSome base (λ base. base ≤ 1) }
+    ensures { IfOk result (λ levels. levels.items ≡ paragraph.text_levels chars.now base) }
+{
+    let classes = classes(alloc, chars)?;
+    paragraph_levels(alloc, chars, &classes, base_of(base, &classes))
+}
+
+fn classes(alloc: Global, chars: &[char]) -> Result<ClassList, AllocError>
+    ensures { IfOk result (λ classes. classes.items ≡ paragraph.classes_of chars.now) }
+{
+    let mut classes = Vec::with_capacity(alloc, chars.len())?;
+    for c in chars {
+        classes.push(bidi_class(*c).unwrap_or(BidiClass::ON))?;
+    }
+    Ok(classes)
+}
+
+#[tactic(auto, using(crate::proofs::ParagraphLaws::strong_most))]
+fn base_of(base: Option<u8>, classes: &[BidiClass]) -> u8
+    requires { IfSome base (λ base. base ≤ 1) }
+    ensures is { result ≡ paragraph.base_of base classes.now }
+    ensures most { result ≤ 1 }
+{
+    match base {
+        Some(base) => base,
+        None => base_level(classes).unwrap_or(0),
+    }
+}
+
+/// The resolved levels of a bidi paragraph of these characters and classes with this base level, 0 or 1, by the rules
+/// X1 to X10, W1 to W7, N0 to N2, I1 and I2 of UAX 9. The characters count for brackets alone.
+#[tactic(auto, unfolding(crate::specs::Paragraph::paragraph_levels))]
+pub fn paragraph_levels(
+    alloc: Global,
+    chars: &[char],
+    classes: &[BidiClass],
+    base: u8,
+) -> Result<LevelList, AllocError>
+    requires base { base ≤ 1 }
+    requires chars { length chars.now ≡ length classes.now }
+    ensures { IfOk result (λ levels. levels.items ≡ paragraph.paragraph_levels chars.now classes.now base) }
+{
+    let levels = levels(alloc, classes, base)?;
+    let runs = runs(alloc, &levels)?;
+    let mut out = Vec::from_slice(alloc, &levels.level)?;
+    write_runs(alloc, chars, &levels, &runs, &mut out)?;
+    Ok(out)
+}
+
+// Writes the levels of these sequences.
+fn write_runs(
+    alloc: Global,
+    chars: &[char],
+    levels: &Levels,
+    runs: &[Run],
+    out: &mut [u8],
+) -> Result<(), AllocError>
+    requires level { length levels.now.level.items ≡ length chars.now }
+    requires class { length levels.now.class.items ≡ length chars.now }
+    requires original { length levels.now.original.items ≡ length chars.now }
+    requires out { length out.old ≡ length chars.now }
+    requires places { All (λ run. All (λ place. place < length chars.now) run.places.items) runs.now }
+    requires most { All (λ level. level ≤ 125) levels.now.level.items }
+    ensures { IfOk result (λ _. out.new ≡ resolved_from chars.now levels.now.original.items levels.now.level.items levels.now.class.items (map sequence_of runs.now) out.old) }
+{
+    for run in runs {
+        write_run(alloc, chars, levels, run, out)?;
+    }
+    Ok(())
+}
+
+// Writes the levels of one sequence, which is resolved by itself on the levels and classes as X1 to X9 leave them.
+#[tactic(auto, unfolding(crate::specs::Sequence::sequence_levels), using(crate::proofs::ParagraphLaws::most_at))]
+fn write_run(
+    alloc: Global,
+    chars: &[char],
+    levels: &Levels,
+    run: &Run,
+    out: &mut [u8],
+) -> Result<(), AllocError>
+    requires level { length levels.now.level.items ≡ length chars.now }
+    requires class { length levels.now.class.items ≡ length chars.now }
+    requires original { length levels.now.original.items ≡ length chars.now }
+    requires out { length out.old ≡ length chars.now }
+    requires places { All (λ place. place < length chars.now) run.now.places.items }
+    requires most { All (λ level. level ≤ 125) levels.now.level.items }
+    ensures { IfOk result (λ _. out.new ≡ scattered run.now.places.items (run_levels chars.now levels.now run.now) out.old) }
+{
+    let level = level_of(&levels.level, &run.places);
+    let classes = classes_of(alloc, chars, levels, run, level)?;
+    write_levels(out, &run.places, level, &classes);
+    Ok(())
+}
