@@ -1,4 +1,5 @@
 pub mod BracketLaws
+pub mod Examples
 pub mod LengthLaws
 pub mod NeutralLaws
 pub mod PairingLaws

@@ -4,7 +4,6 @@ use Rattle.std.specs.Prelude.{All, slice_index}
 use Rattle.std.specs.Option.{unwrap_or}
 use Rattle.wm_chars.specs.declared.classes.BidiClass.{BidiClass}
 use Rattle.wm_chars.specs.declared.classes.BidiClass.TheVariants.{L, R, AL, LRI, RLI, FSI, PDI}
-use Rattle.bidi_explicit.specs.Bounds.{IsBetween}
 use Rattle.bidi_explicit.specs.Isolates.{strong_from, first_strong}
 
 -- the levels at places of a list whose levels are at most 125
