@@ -6,4 +6,6 @@ pub mod Gathering
 pub mod Linking
 pub mod Looking
 pub mod Matches
+pub mod Matching
+pub mod OneLevel
 pub mod Walking
