@@ -1,6 +1,7 @@
 pub mod Between
 pub mod Chains
 pub mod Covering
+pub mod Examples
 pub mod Following
 pub mod Gathering
 pub mod Linking
@@ -8,4 +9,5 @@ pub mod Looking
 pub mod Matches
 pub mod Matching
 pub mod OneLevel
+pub mod Strong
 pub mod Walking
