@@ -124,7 +124,7 @@ module _ (base : ℕ) where
 
 -- ---- lengths
 
-entries_length : (s : State) (cs : List BidiClass) → length (entries s cs) ≡ length cs
+pub entries_length : (s : State) (cs : List BidiClass) → length (entries s cs) ≡ length cs
 entries_length s [] = refl
 entries_length s (c ∷ after) = ap suc (entries_length (entered (plain c after) s) after)
 

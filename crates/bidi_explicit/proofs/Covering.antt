@@ -177,7 +177,7 @@ all_places base level classes kept [] = refl
 all_places base level classes kept (l ∷ lists) = rw (places_stay base level classes kept l, all_places base level classes kept lists) refl
 
 module _ (base : ℕ) (levels : List ℕ) (classes : List BidiClass) (marks : List Bool) (runs : List Run) (are : map sequence_of runs ≡ isolating_runs base levels classes marks) where
-  places_of : map (λ run. run.places.items) runs ≡ sequences classes (level_runs (level_in levels) (kept_places marks))
+  pub places_of : map (λ run. run.places.items) runs ≡ sequences classes (level_runs (level_in levels) (kept_places marks))
   unfolding isolating_runs
   places_of = twice runs ∙ ap (map (λ s. s.places)) are ∙ all_places base (level_in levels) classes (kept_places marks) (sequences classes (level_runs (level_in levels) (kept_places marks)))
     where

@@ -1,9 +1,13 @@
 pub mod Between
 pub mod Chains
 pub mod Covering
+pub mod Examples
 pub mod Following
 pub mod Gathering
 pub mod Linking
 pub mod Looking
 pub mod Matches
+pub mod Matching
+pub mod OneLevel
+pub mod Strong
 pub mod Walking

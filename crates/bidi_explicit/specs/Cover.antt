@@ -17,3 +17,8 @@ pub record IsRunOf (marks : List Bool) (places : List ℕ) : Type 0 where
   pub rise : Rises places
   pub within : All (λ p. p < length marks) places
   pub kept : All (λ p. slice_index_or marks p true ≡ false) places
+
+-- all of them have the level of the first
+abbrev pub HasOneLevel : List ℕ → List ℕ → Type 0
+HasOneLevel levels [] = ⊤
+HasOneLevel levels (p ∷ places) = All (λ q. slice_index_or levels q 0 ≡ slice_index_or levels p 0) places

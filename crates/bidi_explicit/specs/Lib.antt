@@ -3,6 +3,7 @@ pub mod Bounds
 pub mod Cover
 pub mod Explicit
 pub mod Isolates
+pub mod Laws
 pub mod Links
 pub mod Machine
 pub mod Sequences

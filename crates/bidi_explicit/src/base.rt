@@ -1,4 +1,4 @@
-ghost use Rattle.std.specs.Prelude.{◌≡◌};
+ghost use Rattle.std.specs.Prelude.{◌≡◌, ◌≤◌, IfSome};
 ghost use Rattle.bidi_explicit.specs.Isolates.{first_strong};
 
 use crate::kind::{Kind, kind_of};
@@ -6,8 +6,10 @@ use wm_chars::BidiClass;
 
 /// The base level of a paragraph by its first strong character, L, R or AL, outside its isolates: 0 for L, 1 for
 /// R and AL, or None exactly where it has none (UAX 9, P2 and P3).
+#[tactic(auto, using(crate::proofs::Strong::found_low))]
 pub fn base_level(classes: &[BidiClass]) -> Option<u8>
-    ensures { result ≡ first_strong classes.now }
+    ensures first { result ≡ first_strong classes.now }
+    ensures low { IfSome result (λ level. level ≤ 1) }
 {
     let mut depth: usize = 0;
     for class in classes {

@@ -6,12 +6,16 @@ mod ahead;
 mod base;
 mod explicit;
 mod kind;
+mod laws;
 mod links;
 mod machine;
 mod paragraph;
 mod sequences;
+#[cfg(test)]
+mod tests;
 
 pub use base::base_level;
 pub use explicit::levels;
+pub use laws::matching_pdis_have_one_level;
 pub use paragraph::{ClassList, LevelList, Levels, MarkList, PlaceList, Run, Runs};
 pub use sequences::runs;

@@ -1,7 +1,8 @@
 ghost use Rattle.std.specs.Prelude.{◌≡◌, ◌∷◌, ◌++◌, ◌<◌, [], List, true, false, cond, length, map, max, slice_index_or, IfOk, OnOk};
 ghost use Rattle.std.specs.List.{All, concat};
 ghost use Rattle.std.specs.List.Sorted.{IsPermutation};
-ghost use Rattle.bidi_explicit.specs.Cover.{IsRunOf, kept_places};
+ghost use Rattle.bidi_explicit.specs.Cover.{HasOneLevel, IsRunOf, kept_places};
+ghost use Rattle.bidi_explicit.specs.Explicit.{explicit_levels};
 ghost use Rattle.bidi_explicit.specs.Sequences.{direction, isolating_runs, last_of, level_in};
 ghost use Rattle.bidi_explicit.specs.Bounds.{AreAligned};
 ghost use Rattle.bidi_explicit.specs.Links.{Follows, HasChain, IsLinkedWhole, begins_at, sequence_by, sequence_of};
@@ -13,12 +14,14 @@ use wm_chars::BidiClass;
 
 /// The isolating run sequences of a paragraph with their sos and eos (UAX 9, BD13 and X10), in the order of their
 /// first characters. The lists of the paragraph have one length. The places of each sequence rise, and all of them
-/// together are the places of what isn't removed, each once.
+/// together are the places of what isn't removed, each once. Where the levels are those that X1 to X9 give, each
+/// sequence has one level.
 pub fn runs(alloc: Global, levels: &Levels) -> Result<Runs, AllocError>
     requires { AreAligned levels.now }
     ensures runs { IfOk result (λ runs. map sequence_of runs.items ≡ isolating_runs levels.now.base levels.now.level.items levels.now.original.items levels.now.removed.items) }
     ensures cover { IfOk result (λ runs. IsPermutation (kept_places levels.now.removed.items) (concat (map (λ run. run.places.items) runs.items))) }
     ensures each { IfOk result (λ runs. All (λ run. IsRunOf levels.now.removed.items run.places.items) runs.items) }
+    ensures level { IfOk result (λ runs. levels.now.level.items ≡ explicit_levels levels.now.base levels.now.original.items → All (λ run. HasOneLevel levels.now.level.items run.places.items) runs.items) }
 {
     let linked = links::linked_levels(alloc, levels)?;
     let runs = gather(alloc, levels, &linked.links)?;

@@ -5,6 +5,8 @@
 mod blanks;
 mod places;
 mod reversals;
+#[cfg(test)]
+mod tests;
 
 pub use blanks::reset;
 pub use places::Order;
