@@ -32,7 +32,6 @@ fn classes(alloc: Global, chars: &[char]) -> Result<ClassList, AllocError>
     Ok(classes)
 }
 
-#[tactic(auto, using(crate::proofs::ParagraphLaws::strong_most))]
 fn base_of(base: Option<u8>, classes: &[BidiClass]) -> u8
     requires { IfSome base (λ base. base ≤ 1) }
     ensures is { result ≡ paragraph.base_of base classes.now }
