@@ -7,4 +7,5 @@ pub mod ParagraphLaws
 pub mod Passes
 pub mod PlaceLaws
 pub mod Seeing
+pub mod TurnLaws
 pub mod WeakLaws

@@ -1,18 +1,18 @@
 -- What holds of the rules.
-use Rattle.std.specs.Prelude.{◌≡◌, ◌≢◌, ℕ, ◌+◌, ◌<◌, ◌≤◌, false, List, [], ◌∷◌, ⊤, length, get_or, take, drop, reverse, All}
+use Rattle.std.specs.List.{concat}
+use Rattle.std.specs.List.Sorted.{IsPermutation}
+use Rattle.std.specs.Prelude.{fold, map, Bool, ⊤, ◌∷◌, ◌≡◌, ◌≢◌, ℕ, ◌+◌, ◌<◌, ◌≤◌, false, List, [], ◌∷◌, ⊤, length, get_or, take, drop, reverse, All}
 use Rattle.wm_chars.specs.declared.classes.BidiClass.{BidiClass}
 use Rattle.wm_chars.specs.declared.classes.BidiClass.TheVariants.{L}
+use Rattle.bidi_explicit.specs.Cover.{Rises, kept_places}
+use Rattle.bidi_explicit.specs.Sequences.{Sequence}
 use Rattle.bidi_explicit.specs.declared.paragraph.Levels.{Levels}
 use Rattle.bidi_explicit.specs.declared.paragraph.Run.{Run}
 use Rattle.bidi_resolve.specs.Neutral.{is_neutral, raised}
 use Rattle.bidi_resolve.specs.Passes.{each}
-use Rattle.bidi_resolve.specs.Places.{gathered}
-use Rattle.bidi_resolve.specs.Sequence.{resolved, run_classes, run_levels, classes_with, levels_with}
-
--- the places rise
-abbrev pub Rises : List ℕ → Type 0
-Rises [] = ⊤
-Rises (p ∷ places) = All (λ q. p < q) places × Rises places
+use Rattle.bidi_resolve.specs.Paragraph.{resolved_from}
+use Rattle.bidi_resolve.specs.Places.{gathered, scattered}
+use Rattle.bidi_resolve.specs.Sequence.{sequence_classes, sequence_levels, resolved, run_classes, run_levels, classes_with, levels_with}
 
 -- elsewhere the paragraph stays as it was
 pub record StayOutside : Type 0 where
@@ -42,3 +42,35 @@ NoNeutralIsLeft = (level : ℕ) (sos eos : BidiClass) (chars : List ℕ) (origin
 -- a level is raised by at most two
 abbrev pub RaiseByTwo : Type 0
 RaiseByTwo = (level : ℕ) (c : BidiClass) → (level ≤ raised level c) × (raised level c ≤ level + 2)
+
+-- ---- one sequence after the other
+
+-- the levels and classes of a paragraph on their way
+pub record Lists : Type 0 where
+  pub levels : List ℕ
+  pub classes : List BidiClass
+
+-- with one more sequence resolved
+abbrev pub resolved_next : (chars : List ℕ) → (originals : List BidiClass) → Lists → Sequence → Lists
+resolved_next chars originals lists sequence = record {
+  levels = scattered sequence.places (sequence_levels chars originals lists.levels lists.classes sequence) lists.levels;
+  classes = scattered sequence.places (sequence_classes chars originals lists.levels lists.classes sequence) lists.classes;
+}
+
+-- the sequences have no place in common with these places, and none with each other
+abbrev pub AreApartFrom : (places : List ℕ) → List Sequence → Type 0
+AreApartFrom places [] = ⊤
+AreApartFrom places (sequence ∷ sequences) = All (λ q. All (λ p. q ≢ p) places) sequence.places × AreApartFrom places sequences
+
+abbrev pub AreApart : List Sequence → Type 0
+AreApart [] = ⊤
+AreApart (sequence ∷ sequences) = AreApartFrom sequence.places sequences × AreApart sequences
+
+-- sequences that are apart may be resolved one after the other in the same lists: each gives what it gives by itself
+abbrev pub MayComeInTurn : Type 0
+MayComeInTurn = (chars : List ℕ) (originals : List BidiClass) (levels : List ℕ) (classes : List BidiClass) (sequences : List Sequence) → AreApart sequences
+    → (fold (resolved_next chars originals) (record { levels = levels; classes = classes }) sequences).levels ≡ resolved_from chars originals levels classes sequences levels
+
+-- sequences that together have each place that is kept once are apart
+abbrev pub AreApartWhereTheyCover : Type 0
+AreApartWhereTheyCover = (marks : List Bool) (sequences : List Sequence) → IsPermutation (kept_places marks) (concat (map (λ s. s.places) sequences)) → AreApart sequences

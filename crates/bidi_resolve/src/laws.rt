@@ -1,6 +1,6 @@
 //! Laws of the rules. These functions do nothing: their contracts are the laws.
 
-ghost use Rattle.bidi_resolve.specs.Laws.{NoNeutralIsLeft, RaiseByTwo, RulesLookAround, StandInside, StayOutside};
+ghost use Rattle.bidi_resolve.specs.Laws.{AreApartWhereTheyCover, MayComeInTurn, NoNeutralIsLeft, RaiseByTwo, RulesLookAround, StandInside, StayOutside};
 
 /// At places outside a sequence the classes and levels stay as they were.
 pub fn places_outside_stay()
@@ -25,4 +25,15 @@ pub fn no_neutral_is_left()
 /// I1 and I2 raise a level by two at most.
 pub fn levels_rise_by_two()
     ensures { RaiseByTwo }
+{}
+
+/// Sequences that have no place in common may be resolved one after the other in the same lists: each gives what it
+/// gives by itself.
+pub fn sequences_may_come_in_turn()
+    ensures { MayComeInTurn }
+{}
+
+/// The sequences of a paragraph have no place in common, since together they have each place that is kept once.
+pub fn sequences_that_cover_are_apart()
+    ensures { AreApartWhereTheyCover }
 {}

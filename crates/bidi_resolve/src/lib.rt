@@ -16,7 +16,7 @@ mod weak;
 
 pub use laws::{
     levels_rise_by_two, no_neutral_is_left, places_inside_are_resolved, places_outside_stay,
-    rules_look_around,
+    rules_look_around, sequences_may_come_in_turn, sequences_that_cover_are_apart,
 };
 pub use paragraph::{paragraph_levels, text_levels};
 pub use sequence::resolve;
