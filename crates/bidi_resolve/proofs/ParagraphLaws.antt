@@ -1,7 +1,100 @@
 -- What the levels of a paragraph rest on.
-use Rattle.std.proofs.Common.{◌≡◌, arith, ℕ, ◌<◌, ◌≤◌, List, length, get_or}
-use Rattle.std.specs.Prelude.{All, slice_index}
+use Rattle.std.proofs.Common.{◌≡◌, arith, inl, inr, ℕ, zero, suc, ◌+◌, ◌<◌, ◌≤◌, List, [], ◌∷◌, length, get_or, set, map}
+use Rattle.std.specs.Prelude.{All, IfOk, Result, Ok, Err, slice_index}
+use Rattle.std.proofs.lemmas.Bool.{cases_Bool}
+use Rattle.std.proofs.lemmas.List.Elements.{All-set}
+use Rattle.wm_chars.specs.declared.classes.BidiClass.{BidiClass}
+use Rattle.wm_chars.specs.declared.classes.BidiClass.TheVariants.{L, R, EN, AN}
+use Rattle.bidi_explicit.specs.Bounds.{IsBetween}
+use Rattle.bidi_resolve.specs.Neutral.{is_even, i1, i2, raised, i1_i2}
+use Rattle.bidi_explicit.specs.Links.{sequence_of}
+use Rattle.bidi_explicit.specs.declared.paragraph.Run.{Run}
+use Rattle.bidi_resolve.specs.Paragraph.{IsResolvedLevel, resolved_from}
+use Rattle.bidi_resolve.specs.Sequence.{sequence_classes, sequence_levels}
+use Rattle.bidi_resolve.specs.Places.{scattered, run_level}
 
 -- the levels at places of a list whose levels are at most 125
 pub most_at : (levels : List ℕ) (places : List ℕ) (n : ℕ) → length levels ≡ n → All (λ level. level ≤ 125) levels → All (λ place. place < n) places → All (λ place. slice_index levels place ≤ 125) places
 most_at levels places n many most within k d lt = most (get_or places k d) 0 (let h = within k d lt in omega arith)
+
+-- ---- the bounds
+
+two : (n : ℕ) → n ≤ 2 → (m : ℕ) → (m ≤ m + n) × (m + n ≤ m + 2)
+two n low m = (omega arith, omega arith)
+
+i1_two : (c : BidiClass) → i1 c ≤ 2
+i1_two R = omega arith
+i1_two AN = omega arith
+i1_two EN = omega arith
+i1_two c = omega arith
+
+i2_two : (c : BidiClass) → i2 c ≤ 2
+i2_two L = omega arith
+i2_two AN = omega arith
+i2_two EN = omega arith
+i2_two c = omega arith
+
+by_two : (level : ℕ) (c : BidiClass) → (level ≤ raised level c) × (raised level c ≤ level + 2)
+by_two level c = elim (cases_Bool (is_even level)) [
+  | inl even ↦ rw even (two (i1 c) (i1_two c) level)
+  | inr odd ↦ rw odd (two (i2 c) (i2_two c) level)
+]
+
+raised_between : (base level : ℕ) (c : BidiClass) → IsBetween base level → IsResolvedLevel base (raised level c)
+raised_between base level c between =
+    let low = between.low in
+    let high = between.high in
+    let rise = by_two level c in
+    let up = rise.0 in
+    let most = rise.1 in
+    record { low = omega arith; high = omega arith }
+
+set_between : (base : ℕ) (p level : ℕ) (out : List ℕ) → IsResolvedLevel base level → All (IsResolvedLevel base) out → All (IsResolvedLevel base) (set out p level)
+set_between base p level out is all = All-set (IsResolvedLevel base) out p level is all
+
+scattered_between : (base : ℕ) (places new out : List ℕ) → All (IsResolvedLevel base) new → All (IsResolvedLevel base) out → All (IsResolvedLevel base) (scattered places new out)
+scattered_between base [] new out all_new all_out = all_out
+scattered_between base (p ∷ places) [] out all_new all_out = all_out
+scattered_between base (p ∷ places) (level ∷ new) out all_new all_out =
+    scattered_between base places new (set out p level) (λ k d lt. all_new (suc k) d (omega arith)) (set_between base p level out (all_new zero level (omega arith)) all_out)
+
+all_raised : (base level : ℕ) (classes : List BidiClass) → IsBetween base level → All (IsResolvedLevel base) (i1_i2 level classes)
+all_raised base level [] between k d lt = absurd (omega arith)
+all_raised base level (c ∷ classes) between zero d lt = raised_between base level c between
+all_raised base level (c ∷ classes) between (suc k) d lt = all_raised base level classes between k d (omega arith)
+
+-- one sequence, whose first place has one of the levels
+written_between : (base : ℕ) (levels places out : List ℕ) (classes : List BidiClass) → All (IsBetween base) levels → All (λ p. p < length levels) places → All (IsResolvedLevel base) out
+    → All (IsResolvedLevel base) (scattered places (i1_i2 (run_level levels places) classes) out)
+written_between base levels [] out classes between within all = all
+written_between base levels (p ∷ places) out classes between within all =
+    scattered_between base (p ∷ places) (i1_i2 (slice_index levels p) classes) out (all_raised base (slice_index levels p) classes (between p 0 (within zero p (omega arith)))) all
+
+-- explicit levels are within the bounds
+explicit_between : (base : ℕ) (levels : List ℕ) → All (IsBetween base) levels → All (IsResolvedLevel base) levels
+explicit_between base levels between k d lt =
+    let h = between k d lt in
+    let low = h.low in
+    let high = h.high in
+    record { low = omega arith; high = omega arith }
+
+tail_all : {X : Type 0} (P : X → Type 0) (x : X) (xs : List X) → All P (x ∷ xs) → All P xs
+tail_all P x xs all k d lt = all (suc k) d (omega arith)
+
+-- and so they stay, sequence by sequence
+from_between : (base : ℕ) (chars : List ℕ) (originals : List BidiClass) (levels : List ℕ) (classes : List BidiClass) (runs : List Run) (out : List ℕ) → All (IsBetween base) levels
+    → All (λ run. All (λ p. p < length levels) run.places.items) runs → All (IsResolvedLevel base) out → All (IsResolvedLevel base) (resolved_from chars originals levels classes (map sequence_of runs) out)
+unfolding sequence_levels
+from_between base chars originals levels classes [] out between within all = all
+from_between base chars originals levels classes (run ∷ runs) out between within all =
+    from_between base chars originals levels classes runs (scattered run.places.items (sequence_levels chars originals levels classes (sequence_of run)) out) between
+    (tail_all (λ r. All (λ p. p < length levels) r.places.items) run runs within)
+    (written_between base levels run.places.items out (sequence_classes chars originals levels classes (sequence_of run)) between (within zero run (omega arith)) all)
+
+pub all_between : (base : ℕ) (chars : List ℕ) (originals : List BidiClass) (levels : List ℕ) (classes : List BidiClass) (runs : List Run) → All (IsBetween base) levels
+    → All (λ run. All (λ p. p < length levels) run.places.items) runs → All (IsResolvedLevel base) (resolved_from chars originals levels classes (map sequence_of runs) levels)
+all_between base chars originals levels classes runs between within = from_between base chars originals levels classes runs levels between within (explicit_between base levels between)
+
+pub if_ok : {X E : Type 0} (P Q : X → Type 0) (result : Result X E) → ((x : X) → P x → Q x) → IfOk result P → IfOk result Q
+if_ok P Q (Ok x) so holds = so x holds
+if_ok P Q (Err e) so holds = tt

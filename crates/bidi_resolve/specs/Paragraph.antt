@@ -1,5 +1,5 @@
 -- The resolved levels of a bidi paragraph: all rules of UAX 9 up to I2, in their order.
-use Rattle.std.specs.Prelude.{ℕ, List, fold, map, Option, Some, None}
+use Rattle.std.specs.Prelude.{ℕ, ◌≤◌, List, fold, map, Option, Some, None}
 use Rattle.std.specs.Option.{unwrap_or}
 use Rattle.wm_chars.specs.Repertoire.{bidi_class}
 use Rattle.wm_chars.specs.declared.classes.BidiClass.{BidiClass}
@@ -34,3 +34,8 @@ base_of None classes = unwrap_or (first_strong classes) 0
 -- the levels of a text
 unfoldable pub text_levels : (chars : List ℕ) → (base : Option ℕ) → List ℕ
 text_levels chars base = paragraph_levels chars (classes_of chars) (base_of base (classes_of chars))
+
+-- the bounds of a resolved level: two above those of an explicit one
+pub record IsResolvedLevel (base level : ℕ) : Type 0 where
+  pub low : base ≤ level
+  pub high : level ≤ 127

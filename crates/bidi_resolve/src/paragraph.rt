@@ -1,9 +1,10 @@
+ghost use Rattle.bidi_explicit.specs.Bounds.{IsBetween};
 ghost use Rattle.bidi_explicit.specs.Links.{sequence_of};
 ghost use Rattle.bidi_resolve.specs.Paragraph as paragraph;
-ghost use Rattle.bidi_resolve.specs.Paragraph.{resolved_from};
+ghost use Rattle.bidi_resolve.specs.Paragraph.{IsResolvedLevel, resolved_from};
 ghost use Rattle.bidi_resolve.specs.Places.{scattered};
 ghost use Rattle.bidi_resolve.specs.Sequence.{run_levels};
-ghost use Rattle.std.specs.Prelude.{◌≡◌, ◌<◌, ◌≤◌, All, IfOk, IfSome, length, map};
+ghost use Rattle.std.specs.Prelude.{ℕ, ◌≡◌, ◌<◌, ◌≤◌, All, IfOk, IfSome, length, map};
 
 use crate::places::{level_of, write_levels};
 use crate::sequence::classes_of;
@@ -16,14 +17,17 @@ use wm_chars::{BidiClass, bidi_class};
 #[tactic(auto, unfolding(crate::specs::Paragraph::text_levels))]
 pub fn text_levels(alloc: Global, chars: &[char], base: Option<u8>) -> Result<LevelList, AllocError>
     requires { IfSome base (λ base. base ≤ 1) }
-    ensures { IfOk result (λ levels. levels.items ≡ paragraph.text_levels chars.now base) }
+    ensures levels { IfOk result (λ levels. levels.items ≡ paragraph.text_levels chars.now base) }
+    ensures length { IfOk result (λ levels. length levels.items ≡ length chars.now) }
+    ensures between { IfOk result (λ levels. All (IsResolvedLevel (paragraph.base_of base (paragraph.classes_of chars.now))) levels.items) }
 {
     let classes = classes(alloc, chars)?;
     paragraph_levels(alloc, chars, &classes, base_of(base, &classes))
 }
 
 fn classes(alloc: Global, chars: &[char]) -> Result<ClassList, AllocError>
-    ensures { IfOk result (λ classes. classes.items ≡ paragraph.classes_of chars.now) }
+    ensures classes { IfOk result (λ classes. classes.items ≡ paragraph.classes_of chars.now) }
+    ensures length { IfOk result (λ classes. length classes.items ≡ length chars.now) }
 {
     let mut classes = Vec::with_capacity(alloc, chars.len())?;
     for c in chars {
@@ -54,12 +58,32 @@ pub fn paragraph_levels(
 ) -> Result<LevelList, AllocError>
     requires base { base ≤ 1 }
     requires chars { length chars.now ≡ length classes.now }
-    ensures { IfOk result (λ levels. levels.items ≡ paragraph.paragraph_levels chars.now classes.now base) }
+    ensures levels { IfOk result (λ levels. levels.items ≡ paragraph.paragraph_levels chars.now classes.now base) }
+    ensures length { IfOk result (λ levels. length levels.items ≡ length classes.now) }
+    ensures between { IfOk result (λ levels. All (IsResolvedLevel base) levels.items) }
 {
     let levels = levels(alloc, classes, base)?;
     let runs = runs(alloc, &levels)?;
+    with_runs(alloc, chars, &levels, &runs)
+}
+
+// The levels of a paragraph, where these sequences are resolved.
+fn with_runs(
+    alloc: Global,
+    chars: &[char],
+    levels: &Levels,
+    runs: &[Run],
+) -> Result<LevelList, AllocError>
+    requires level { length levels.now.level.items ≡ length chars.now }
+    requires class { length levels.now.class.items ≡ length chars.now }
+    requires original { length levels.now.original.items ≡ length chars.now }
+    requires places { All (λ run. All (λ place. place < length chars.now) run.places.items) runs.now }
+    requires most { All (λ level. level ≤ 125) levels.now.level.items }
+    ensures levels { IfOk result (λ out. out.items ≡ resolved_from chars.now levels.now.original.items levels.now.level.items levels.now.class.items (map sequence_of runs.now) levels.now.level.items) }
+    ensures length { IfOk result (λ out. length out.items ≡ length chars.now) }
+{
     let mut out = Vec::from_slice(alloc, &levels.level)?;
-    write_runs(alloc, chars, &levels, &runs, &mut out)?;
+    write_runs(alloc, chars, levels, runs, &mut out)?;
     Ok(out)
 }
 
