@@ -1,8 +1,8 @@
 -- Sequences one after the other.
-use Rattle.std.proofs.Common.{◌≡◌, ◌≢◌, ◌∙◌, refl, sym, ap, arith, inl, inr, ℕ, zero, suc, ◌+◌, ◌-◌, ◌<◌, ◌≤◌, Bool, true, false, eqb, eq-eqb, List, [], ◌∷◌, ◌++◌, length, length-append, get_or, map}
+use Rattle.std.proofs.Common.{◌≡◌, ◌≢◌, ◌∙◌, refl, sym, ap, arith, inl, inr, ℕ, zero, suc, ◌+◌, ◌<◌, Bool, true, false, eqb, eq-eqb, List, [], ◌∷◌, ◌++◌, length, length-append, get_or, map}
 use Rattle.std.specs.List.{AllByRecursion, IsDistinct, concat}
 use Rattle.std.specs.List.Sorted.{IsPermutation}
-use Rattle.std.specs.Prelude.{All, fold, slice_index}
+use Rattle.std.specs.Prelude.{All, fold}
 use Rattle.std.proofs.lemmas.Bool.{cases_Bool, eqb-true, eqb-false}
 use Rattle.std.proofs.lemmas.List.{get_or_append_left, get_or-append-add}
 use Rattle.std.proofs.lemmas.Map.Keys.{IsDistinct-IsPermutation}
@@ -11,10 +11,9 @@ use Rattle.wm_chars.specs.declared.classes.BidiClass.TheVariants.{L}
 use Rattle.bidi_explicit.specs.Cover.{kept_places}
 use Rattle.bidi_explicit.specs.Sequences.{Sequence, kept_from}
 use Rattle.bidi_resolve.specs.Laws.{Lists, resolved_next, AreApartFrom, AreApart}
-use Rattle.bidi_resolve.specs.Neutral.{i1_i2}
 use Rattle.bidi_resolve.specs.Paragraph.{resolved_from}
 use Rattle.bidi_resolve.specs.Places.{gathered, scattered, run_level}
-use Rattle.bidi_resolve.specs.Sequence.{resolved, sequence_classes, sequence_levels}
+use Rattle.bidi_resolve.specs.Sequence.{sequence_classes, sequence_levels}
 use Rattle.bidi_resolve.proofs.PlaceLaws.{outside}
 
 tail_all : {X : Type 0} (P : X → Type 0) (x : X) (xs : List X) → All P (x ∷ xs) → All P xs
