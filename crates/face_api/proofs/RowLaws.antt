@@ -1,6 +1,6 @@
 -- Rows that ascend: where the search by halves ends, there stands the character's row, or it belongs there.
-use Rattle.std.proofs.Common.{◌≡◌, ◌≢◌, ℕ, zero, suc, ◌+◌, ◌<◌, ◌≤◌, Bool, true, false, true≢false, ◌==◌, nat_lt, List, [], ◌∷◌, ◌++◌, length, take, drop, slice_index_or, slice_set, Option, Some, None, inl, inr, ap, ap₂, subst, sym, ◌∙◌, refl, arith, length-append, length-drop, drop-cons}
-use Rattle.std.specs.Prelude.{find, filter, insert, is_some, unwrap_or, All, AllPairs}
+use Rattle.std.proofs.Common.{◌≡◌, ℕ, suc, ◌+◌, ◌<◌, ◌≤◌, Bool, true, false, true≢false, ◌==◌, nat_lt, List, [], ◌∷◌, ◌++◌, length, take, drop, slice_index_or, slice_set, Some, None, inl, inr, ap, ap₂, subst, sym, ◌∙◌, refl, arith, length-append, length-drop, drop-cons}
+use Rattle.std.specs.Prelude.{find, filter, insert, is_some, unwrap_or, All}
 use Rattle.std.specs.List.{AllWithin}
 use Rattle.std.specs.List.Sorted.{IsNonDecreasingBy}
 use Rattle.std.specs.Prelude.{slice_get}
@@ -10,7 +10,7 @@ use Rattle.std.proofs.lemmas.List.{take-append-drop, get_or-take, get_or-drop, s
 use Rattle.std.proofs.lemmas.List.Elements.{filter-append, All-nil, All-cons, All-append, All-filter}
 use Rattle.std.proofs.lemmas.List.Kept.{AllPairs-cons, AllPairs-filter}
 use Rattle.face_api.specs.Rows.{DividesAt}
-use Rattle.face_api.specs.Tables.{Ascend, AreRows, HasRoom, IsCrowded, rank, rank_of, row_for, rows_with}
+use Rattle.face_api.specs.Tables.{Ascend, AreRows, rank, rank_of, row_for, rows_with}
 use Rattle.face_api.specs.declared.row.Row.{Row}
 
 -- ---- filters on lists that all pass, or of which none does

@@ -1,6 +1,6 @@
 -- Seats, each with a box or none: the tables behind them.
-use Rattle.std.proofs.Common.{◌≡◌, ℕ, zero, suc, ◌+◌, ◌<◌, ◌≤◌, List, [], ◌∷◌, ◌++◌, map, length, slice_index_or, slice_set, Option, Some, None, ap, subst, sym, ◌∙◌, refl, arith, rules}
-use Rattle.std.specs.Prelude.{Bool, option_map, unwrap_or, IsSome, IsSomeAnd}
+use Rattle.std.proofs.Common.{◌≡◌, ℕ, zero, suc, ◌<◌, ◌≤◌, List, [], ◌∷◌, ◌++◌, map, length, slice_index_or, slice_set, Option, Some, None, ap, subst, sym, ◌∙◌, refl, arith}
+use Rattle.std.specs.Prelude.{Bool, option_map, unwrap_or, IsSome}
 use Rattle.std.proofs.lemmas.List.{map-set, set-get_or, get_or_default, append-nil}
 use Rattle.face_api.specs.Kinds.{mono_table}
 use Rattle.face_api.specs.Living.{living, used_table, set_table, retired}

@@ -1,5 +1,5 @@
 -- The tables with which the three kinds of face begin.
-use Rattle.std.specs.Prelude.{ℕ, true, false, List, [], ◌∷◌}
+use Rattle.std.specs.Prelude.{true, false, [], ◌∷◌}
 use Rattle.face_api.specs.Tables.{Table}
 
 -- every character half as wide as high, and wide ones as wide as high

@@ -1,5 +1,5 @@
 -- Up to eight tables, each with its mark of life: None is a face that is retired.
-use Rattle.std.specs.Prelude.{ℕ, Bool, List, map, Option, Some, None, option_map, unwrap_or, slice_index_or, slice_set}
+use Rattle.std.specs.Prelude.{ℕ, Bool, List, Option, None, option_map, unwrap_or, slice_index_or, slice_set}
 use Rattle.face_api.specs.Tables.{Table, set_row}
 use Rattle.face_api.specs.Kinds.{mono_table}
 

@@ -1,5 +1,5 @@
 -- What a face means: a table of advances, in thousandths of the font size.
-use Rattle.std.specs.Prelude.{◌≡◌, ℕ, ◌+◌, ◌*◌, ◌<◌, ◌≤◌, Bool, true, false, ◌||◌, ◌==◌, nat_lt, nat_le, if◌then◌else◌, List, ◌∷◌, ◌++◌, length, filter, find, Option, Some, None, is_some, option_map, unwrap_or, All, AllPairs, IsTrue}
+use Rattle.std.specs.Prelude.{◌≡◌, ℕ, ◌+◌, ◌*◌, ◌<◌, ◌≤◌, Bool, false, ◌||◌, ◌==◌, nat_lt, nat_le, if◌then◌else◌, List, ◌∷◌, ◌++◌, length, filter, find, Option, None, is_some, option_map, unwrap_or, All, AllPairs, IsTrue}
 use Rattle.face_api.specs.declared.row.Row.{Row}
 use Rattle.face_api.specs.declared.row.Metrics.{Metrics}
 use Rattle.face_api.specs.declared.row.Defaults.{Defaults}

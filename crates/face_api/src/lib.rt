@@ -9,6 +9,8 @@ mod living;
 mod row;
 mod rows;
 mod table;
+#[cfg(test)]
+mod tests;
 
 pub use error::{FaceError, FacesError};
 pub use face::Face;

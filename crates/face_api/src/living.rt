@@ -1,7 +1,7 @@
-ghost use Rattle.std.specs.Prelude.{◌≡◌, ◌≤◌, ◌↔◌, true, map, Some, None, length, slice_index_or, IsSome, IsErrOf, IsSomeAnd, IfOk, OnOk, OnErr, IsOkUnless, option_map};
+ghost use Rattle.std.specs.Prelude.{◌≡◌, ◌≤◌, ◌↔◌, true, Some, None, length, slice_index_or, IsSome, IsErrOf, IsSomeAnd, IfOk, OnOk, OnErr, IsOkUnless, option_map};
 ghost use Rattle.std.specs.Option.{option_copied};
 ghost use Rattle.face_api.specs.Living.{living, used_table, set_table, retired};
-ghost use Rattle.face_api.specs.Seats.{faces_of, table_in};
+ghost use Rattle.face_api.specs.Seats.{all_living, faces_of, table_in};
 ghost use Rattle.face_api.specs.Tables.{IsFull, TakesRow, set_row};
 ghost use Rattle.face_api.specs.declared.error.FacesError.TheVariants.{NoFace, Fixed, Full};
 
@@ -13,7 +13,7 @@ impl Faces {
     pub fn new(alloc: Global, faces: Vec<Box<dyn Face>>) -> Result<Faces, AllocError>
         requires some { 1 ≤ length faces.items }
         requires few { length faces.items ≤ 8 }
-        ensures { IfOk result (λ own. faces_of ⟦<dyn Face as Face>⟧ own ≡ map (λ b. Some ((⟦<dyn Face as Face>⟧ b.vtable).table b.value)) faces.items) }
+        ensures { IfOk result (λ own. faces_of ⟦<dyn Face as Face>⟧ own ≡ all_living ⟦<dyn Face as Face>⟧ faces.items) }
     {
         let mut seats = Vec::new(alloc);
         for face in faces {

@@ -1,4 +1,4 @@
-use Rattle.std.proofs.Common.{◌≡◌, ◌<◌, ◌≤◌, ◌∙◌, true, false, length, sym, ap, subst, arith, rules}
+use Rattle.std.proofs.Common.{◌≡◌, ◌<◌, ◌≤◌, ◌∙◌, true, false, length, sym, subst, rules}
 use Rattle.std.specs.Prelude.{is_some}
 use Rattle.face_api.specs.Rows.{DividesAt}
 use Rattle.face_api.specs.Tables.{Ascend, rank, rank_of, row_for}

@@ -1,4 +1,4 @@
-use Rattle.std.proofs.Common.{◌≡◌, ◌<◌, length, rules}
+use Rattle.std.proofs.Common.{◌<◌, length, rules}
 use Rattle.std.proofs.lemmas.Result.{on_ok_weaker, on_err_weaker}
 use Rattle.face_api.proofs.SeatLaws.{set_seats, same_seats}
 use Rattle.face_api.proofs.faces.Faces.set.Goals as goal

@@ -1,4 +1,4 @@
-use Rattle.std.proofs.Common.{◌≡◌, ◌∙◌, sym, rules}
+use Rattle.std.proofs.Common.{◌∙◌, rules}
 use Rattle.face_api.proofs.SeatLaws.{used_living, used_first}
 use Rattle.face_api.proofs.faces.Faces.used.Goals as goal
 
