@@ -26,8 +26,9 @@ module _ {B : Type 0} (table : B → Table) where
       sym (ap (λ found. unwrap_or found (unwrap_or (living (tables_of seats) 0) mono_table)) (living_seat seats face ∙ ap (option_map table) (sym is))
       ∙ ap (λ found. unwrap_or found mono_table) lives)
 
-  pub retired_seats : (seats : List (Option B)) (face at : ℕ) → at ≡ face → tables_of (slice_set seats at None) ≡ retired (tables_of seats) face
-  retired_seats seats face at same = map-set (option_map table) seats at None ∙ ap (retired (tables_of seats)) same
+  pub retired_seats : (seats : List (Option B)) (face at : ℕ) (new : Option B) → at ≡ face → new ≡ None → tables_of (slice_set seats at new) ≡ retired (tables_of seats) face
+  retired_seats seats face at new same none =
+      ap (λ seat. tables_of (slice_set seats at seat)) none ∙ map-set (option_map table) seats at None ∙ ap (retired (tables_of seats)) same
 
   -- what was done to the table in the seat is done to the tables
   pub set_seats : (seats : List (Option B)) (face at c : ℕ) (upright : Bool) (value : ℕ) (old new : Option B) → at ≡ face → at < length seats → old ≡ slice_index_or seats at old

@@ -59,11 +59,11 @@ impl Faces {
         ensures only { IsOkUnless result NoFace }
         ensures unchanged { OnErr result (faces_of ⟦<dyn Face as Face>⟧ self.new ≡ faces_of ⟦<dyn Face as Face>⟧ self.old) }
     {
-        if self.living(face).is_none() {
+        let at = usize::from(face);
+        if at >= self.seats.len() {
             return Err(FacesError::NoFace);
         }
-        self.seats[usize::from(face)] = None;
-        Ok(())
+        vacate(&mut self.seats[at])
     }
 
     // The face of that number, if it lives.
@@ -81,7 +81,7 @@ impl Faces {
         ensures { living (faces_of ⟦<dyn Face as Face>⟧ self.now) 0 ≡ Some (table result.now) }
     {
         match &self.seats[0] {
-            Some(face) => lend(face),
+            Some(first) => lend(first),
             None => unreachable!(),
         }
     }
@@ -113,5 +113,19 @@ fn set_seat(
     match seat {
         Some(face) => Ok(face.set(c, upright, value)?),
         None => Err(FacesError::NoFace),
+    }
+}
+
+// Drops the face in the seat.
+fn vacate(seat: &mut Option<Box<dyn Face>>) -> Result<(), FacesError>
+    ensures vacant { OnOk result (seat.new ≡ None) }
+    ensures no_face { IsErrOf result NoFace ↔ (table_in ⟦<dyn Face as Face>⟧ seat.old ≡ None) }
+    ensures only { IsOkUnless result NoFace }
+    ensures unchanged { OnErr result (seat.new ≡ seat.old) }
+{
+    if seat.take().is_some() {
+        Ok(())
+    } else {
+        Err(FacesError::NoFace)
     }
 }

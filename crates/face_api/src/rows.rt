@@ -72,7 +72,8 @@ pub(crate) fn put(rows: &mut Vec<Row>, row: Row) -> Result<(), FaceError>
     ensures unchanged { OnErr result (rows.new.items ≡ rows.old.items) }
 {
     let place = rows_before(rows, row.character, row.upright);
-    if row_at(rows, place, row.character, row.upright).is_some() {
+    let found = row_at(rows, place, row.character, row.upright).is_some();
+    if found {
         rows[place] = row;
         return Ok(());
     }

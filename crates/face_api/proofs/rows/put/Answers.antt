@@ -19,15 +19,15 @@ index_mut-requires c =
     let inside = found_within c.args.rows.now.items row.character row.upright c.rows_before-place.result c.requires.rows.ascending divides found in
     search rules
 
-pub returns-then-is_some-clause-row : goal.returns-then-is_some-clause-row
-returns-then-is_some-clause-row c =
+pub returns-then-found-clause-row : goal.returns-then-found-clause-row
+returns-then-found-clause-row c =
     let row = c.args.row in
     let divides = subst (λ rows. DividesAt rows (rank_of row) c.rows_before-place.result) c.deref.ensures.value c.rows_before-place.ensures in
     let found : is_some (row_for c.args.rows.now.items row.character row.upright) ≡ true = search rules in
     replaced c.args.rows.now.items row c.rows_before-place.result c.requires.rows.ascending divides found
 
-pub returns-then-is_some-clause-rows : goal.returns-then-is_some-clause-rows
-returns-then-is_some-clause-rows c =
+pub returns-then-found-clause-rows : goal.returns-then-found-clause-rows
+returns-then-found-clause-rows c =
     let row = c.args.row in
     let divides = subst (λ rows. DividesAt rows (rank_of row) c.rows_before-place.result) c.deref.ensures.value c.rows_before-place.ensures in
     let found : is_some (row_for c.args.rows.now.items row.character row.upright) ≡ true = search rules in
