@@ -1,3 +1,4 @@
 pub mod Clusters
+pub mod Joined
 pub mod Runs
 pub mod Units

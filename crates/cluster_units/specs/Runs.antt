@@ -1,5 +1,5 @@
 -- A list cut into runs.
-use Rattle.std.specs.Prelude.{Bool, ◌&&◌, if◌then◌else◌, List, [], ◌∷◌, Option, Some, unwrap_or}
+use Rattle.std.specs.Prelude.{Bool, ◌&&◌, if◌then◌else◌, List, [], ◌∷◌, Some, unwrap_or}
 use Rattle.std.specs.List.{last_or}
 
 -- a list that isn't empty

@@ -1,6 +1,10 @@
 //! The units of text: grapheme clusters with their orientation and advance, and combined runs.
 #![tactic(auto)]
 
+mod cluster;
+mod single;
+mod text;
 mod unit;
 
+pub use text::units;
 pub use unit::{Unit, UnitKind, Units};
