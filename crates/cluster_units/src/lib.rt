@@ -3,7 +3,11 @@
 
 mod cluster;
 mod single;
+#[cfg(test)]
+mod tests;
 mod text;
+#[cfg(test)]
+mod texts;
 mod unit;
 
 pub use text::units;
