@@ -1,3 +1,4 @@
 pub mod JoinLaws
 pub mod Pieces
+pub mod PlainLaws
 pub mod Walk

@@ -2,6 +2,7 @@
 #![tactic(auto)]
 
 mod cluster;
+mod plain;
 mod single;
 #[cfg(test)]
 mod tests;

@@ -6,6 +6,7 @@ ghost use Rattle.cluster_units.specs.Units.{lone_unit, units_of};
 ghost use Rattle.cluster_units.specs.Joined.{added, joined, merged, is_combined, AreWithin};
 
 use crate::cluster::{Cluster, cluster_at};
+use crate::plain::{is_plain, plain_units};
 use crate::single::unit_of;
 use crate::{Unit, UnitKind, Units};
 use face_api::{Face, Faces};
@@ -33,6 +34,9 @@ fn units_by(alloc: Global, text: &str, style: &Style, face: &dyn Face) -> Result
     requires high { style.now.font_size ≤ℤ pos 65536 }
     ensures { IfOk result (λ units. units.items ≡ units_of style.now (table face.now) (chars text.now)) }
 {
+    if is_plain(text) {
+        return plain_units(alloc, text.as_bytes(), style, face);
+    }
     let mut units = Vec::new(alloc);
     let mut place = 0;
     for piece in text.graphemes(true) {
@@ -44,7 +48,7 @@ fn units_by(alloc: Global, text: &str, style: &Style, face: &dyn Face) -> Result
 }
 
 // Adds the unit of the next cluster, if it is one.
-fn add_cluster(
+pub(crate) fn add_cluster(
     units: &mut Units,
     cluster: Cluster,
     style: &Style,
