@@ -1,3 +1,4 @@
+pub mod Examples
 pub mod JoinLaws
 pub mod Pieces
 pub mod PlainLaws
