@@ -1,0 +1,5 @@
+pub mod Examples
+pub mod JoinLaws
+pub mod Pieces
+pub mod PlainLaws
+pub mod Walk

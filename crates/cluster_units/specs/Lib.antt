@@ -1,0 +1,5 @@
+pub mod Clusters
+pub mod Joined
+pub mod Plain
+pub mod Runs
+pub mod Units

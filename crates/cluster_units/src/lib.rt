@@ -1,0 +1,15 @@
+//! The units of text: grapheme clusters with their orientation and advance, and combined runs.
+#![tactic(auto)]
+
+mod cluster;
+mod plain;
+mod single;
+#[cfg(test)]
+mod tests;
+mod text;
+#[cfg(test)]
+mod texts;
+mod unit;
+
+pub use text::units;
+pub use unit::{Unit, UnitKind, Units};

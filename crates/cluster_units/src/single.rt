@@ -1,0 +1,127 @@
+ghost use Rattle.std.specs.Prelude.{◌≡◌, ◌≤◌, pos, ◌≤ℤ◌, unsigned_abs, IfSome, []};
+ghost use Rattle.wm_chars.specs.Repertoire.{break_class};
+ghost use Rattle.cluster_units.specs.Units as spec;
+
+use crate::cluster::Cluster;
+use crate::{Unit, UnitKind};
+use face_api::Face;
+use style_types::{Combine, Style, TextOrientation};
+use wm_chars::{BreakClass, Orient, break_class, orientation};
+use wm_modes::WritingMode;
+
+// The unit of a cluster by itself, a combined run of one where it combines; None of a bidi control.
+pub(crate) fn unit_of(cluster: Cluster, style: &Style, face: &dyn Face) -> Option<Unit>
+    requires low { pos 0 ≤ℤ style.now.font_size }
+    requires high { style.now.font_size ≤ℤ pos 65536 }
+    ensures unit { result ≡ spec.lone_unit style.now (table face.now) cluster }
+    ensures near { IfSome result (λ unit. unsigned_abs unit.natural ≤ 655360) }
+{
+    let class = break_class(cluster.head);
+    if class == Some(BreakClass::Control) {
+        return None;
+    }
+    if combines(cluster, style) {
+        Some(combined(cluster, style, face))
+    } else {
+        Some(single(cluster, class, style, face))
+    }
+}
+
+// Whether the cluster belongs to a combined run.
+fn combines(cluster: Cluster, style: &Style) -> bool
+    ensures { result ≡ spec.combines style.now cluster }
+{
+    is_vertical(style.mode) && style.combine == Combine::All && !cluster.is_space()
+}
+
+fn is_vertical(mode: WritingMode) -> bool
+    ensures { result ≡ spec.is_vertical mode }
+{
+    matches!(mode, WritingMode::VerticalRl | WritingMode::VerticalLr)
+}
+
+// A combined run of one cluster.
+fn combined(cluster: Cluster, style: &Style, face: &dyn Face) -> Unit
+    requires low { pos 0 ≤ℤ style.now.font_size }
+    requires high { style.now.font_size ≤ℤ pos 65536 }
+    ensures unit { result ≡ spec.combined_unit style.now (table face.now) (record { first = cluster; others = [] }) }
+    ensures near { unsigned_abs result.natural ≤ 655360 }
+{
+    Unit {
+        first: cluster.first,
+        end: cluster.end,
+        kind: UnitKind::Combined,
+        advance: style.font_size,
+        natural: scaled(style.font_size, face.advance(cluster.head, false)),
+        break_class: BreakClass::Ideographic,
+    }
+}
+
+// A cluster that stands by itself. The class is that of its first character.
+fn single(cluster: Cluster, class: Option<BreakClass>, style: &Style, face: &dyn Face) -> Unit
+    requires low { pos 0 ≤ℤ style.now.font_size }
+    requires high { style.now.font_size ≤ℤ pos 65536 }
+    requires class { class ≡ break_class cluster.head }
+    ensures unit { result ≡ spec.single_unit style.now (table face.now) cluster }
+    ensures near { unsigned_abs result.natural ≤ 655360 }
+{
+    let kind = kind_of(style, cluster.head);
+    let upright = kind == UnitKind::Upright;
+    let advance = scaled(style.font_size, face.advance(cluster.head, upright));
+    Unit {
+        first: cluster.first,
+        end: cluster.end,
+        kind,
+        advance,
+        natural: advance,
+        break_class: class_of(cluster, class),
+    }
+}
+
+// The break class of a cluster whose first character has this one.
+fn class_of(cluster: Cluster, class: Option<BreakClass>) -> BreakClass
+    requires { class ≡ break_class cluster.head }
+    ensures { result ≡ spec.class_of cluster }
+{
+    if cluster.is_several() && cluster.head == ' ' {
+        BreakClass::Other
+    } else {
+        class.unwrap_or(BreakClass::Other)
+    }
+}
+
+// How a unit with this first character stands on its line.
+fn kind_of(style: &Style, c: char) -> UnitKind
+    ensures { result ≡ spec.kind_of style.now c }
+{
+    if is_vertical(style.mode) {
+        vertical_kind(style.orientation, c)
+    } else {
+        UnitKind::Along
+    }
+}
+
+// How it stands in a vertical line.
+fn vertical_kind(text_orientation: TextOrientation, c: char) -> UnitKind
+    ensures { result ≡ spec.vertical_kind text_orientation c }
+{
+    match text_orientation {
+        TextOrientation::Mixed => match orientation(c) {
+            Some(Orient::V) => UnitKind::Upright,
+            _ => UnitKind::Turned,
+        },
+        TextOrientation::Upright => UnitKind::Upright,
+        TextOrientation::Sideways => UnitKind::Turned,
+    }
+}
+
+// An advance in thousandths of the font size, rounded down.
+fn scaled(font_size: i64, value: u32) -> i64
+    requires low { pos 0 ≤ℤ font_size }
+    requires high { font_size ≤ℤ pos 65536 }
+    requires value { value ≤ 10000 }
+    ensures scaled { result ≡ spec.scaled font_size value }
+    ensures near { unsigned_abs result ≤ 655360 }
+{
+    (i64::from(value) * font_size).div_euclid(1000)
+}
