@@ -26,8 +26,8 @@ same_answer {A = A} x y a b e =
 
 -- ---- the leaves
 
-pub give_spells : {A : Type 0} (x : A) → Spells (give x) (Given x) Anything
-give_spells x = record {
+pub give_spells : {E A : Type 0} (x : A) → Spells {E = E} (give x) (Given x) Anything
+give_spells {E = E} x = record {
   takes = λ bytes y rest e.
       let same = same_answer x y bytes rest e in
       ([], (refl, sym same.0), same.1);

@@ -1,6 +1,6 @@
 -- What ties a reader to a grammar.
 use Rattle.std.specs.Prelude.{◌≡◌, ℕ, ◌<◌, Bool, true, false, List, ◌++◌, length, Ok, ⊤}
-use Rattle.reading.specs.Readers.{Reader}
+use Rattle.reading.specs.Readers.{ReaderOr}
 use Rattle.reading.specs.Grammars.{Grammar}
 
 -- bytes with no demand on them
@@ -8,7 +8,7 @@ abbrev pub Anything : List ℕ → Type 0
 Anything rest = ⊤
 
 -- What is read stands in the grammar; what stands in the grammar is read, where the bytes behind it let it end.
-pub record Spells {A : Type 0} (f : Reader A) (R : Grammar A) (Ends : List ℕ → Type 0) : Type 0 where
+pub record Spells {E A : Type 0} (f : ReaderOr E A) (R : Grammar A) (Ends : List ℕ → Type 0) : Type 0 where
   pub takes : (bytes : List ℕ) (x : A) (rest : List ℕ) → f bytes ≡ Ok (x, rest) → (text : List ℕ) × R text x × (bytes ≡ text ++ rest)
   pub again : (text : List ℕ) (x : A) (rest : List ℕ) → R text x → Ends rest → f (text ++ rest) ≡ Ok (x, rest)
 
