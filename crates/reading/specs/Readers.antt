@@ -114,18 +114,22 @@ can_read f bytes = is_ok (f bytes)
 unfoldable pub up_to : {A : Type 0} → Reader A → Reader (List ℕ)
 up_to f = follow (until (can_read f)) (λ run. mapped (λ x. run) f)
 
--- the first of these texts that the bytes begin with; where there is none, what is left behind the longest front that they share with one
-abbrev pub further : {A : Type 0} → List ℕ → Read A → Read A
-further left (Ok x) = Ok x
-further left (Err other) = Err (if nat_lt (length other) (length left) then other else left)
+-- the shorter of two ends of the bytes
+abbrev pub shorter_of : List ℕ → List ℕ → List ℕ
+shorter_of best left = if nat_lt (length left) (length best) then left else best
 
-abbrev pub first_word : {A : Type 0} → A → Read ⊤ → Read A → Read A
-first_word x (Ok there) others = Ok (x, there.1)
-first_word x (Err left) others = further left others
+-- the first of these texts that the bytes begin with; where there is none, `best` or what is left behind a longer front that they share with one
+abbrev pub word_or : {A : Type 0} → A → (List ℕ → Read A) → Read ⊤ → Read A
+word_or x others (Ok there) = Ok (x, there.1)
+word_or x others (Err left) = others left
 
+unfoldable pub word_from : {A : Type 0} → List (List ℕ × A) → (best : List ℕ) → Reader A
+word_from [] best bytes = Err best
+word_from (word ∷ words) best bytes = word_or word.1 (λ left. word_from words (shorter_of best left) bytes) (strip word.0 bytes)
+
+-- one of these texts; where there is none, what is left behind the longest front that the bytes share with one
 unfoldable pub one_word : {A : Type 0} → List (List ℕ × A) → Reader A
-one_word [] bytes = Err bytes
-one_word (word ∷ words) bytes = first_word word.1 (strip word.0 bytes) (one_word words bytes)
+one_word words bytes = word_from words bytes bytes
 
 -- a text, then what f reads
 unfoldable pub after : {A : Type 0} → List ℕ → Reader A → Reader A
