@@ -1,17 +1,14 @@
-//! The reader of documents.
+//! The reader of documents (docs/PROFILE/html.md).
 #![tactic(auto)]
 
-mod divs;
-mod document;
-mod early;
+mod attribute;
+mod entity;
 mod error;
-mod laws;
-mod start_tag;
+mod node;
+mod tag;
 
-pub use document::read_early;
-pub use early::{Early, EarlyBox, EarlyBoxes};
-pub use error::EarlyError;
-pub use laws::boxes_are_counted;
-
-#[cfg(test)]
-mod tests;
+pub use attribute::{ATTRIBUTES, Role};
+pub use entity::ENTITIES;
+pub use error::{HtmlError, Refusal};
+pub use node::{Attributes, PlacedText, ReadDocument, ReadKind, ReadNode, ReadNodes, Sheets};
+pub use tag::{TAGS, Tag};
