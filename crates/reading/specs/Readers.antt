@@ -1,6 +1,6 @@
 -- Readers of bytes, and the few ways to build one from others. The code of a reader is a chain of `?`; its contract
 -- says by `Answers` that it gives what such a reader gives.
-use Rattle.std.specs.Prelude.{◌≡◌, ◌≤◌, ◌<◌, ℕ, zero, suc, nat_lt, Bool, true, false, ◌==◌, if◌then◌else◌, List, [], ◌∷◌, ◌++◌, length, Option, Some, None, Result, Ok, Err, is_ok, ⊤}
+use Rattle.std.specs.Prelude.{◌≡◌, ◌≤◌, ◌<◌, ℕ, zero, suc, nat_lt, Bool, false, ◌==◌, if◌then◌else◌, List, [], ◌∷◌, ◌++◌, length, Option, Some, None, Result, Ok, Err, is_ok, ⊤}
 use Rattle.std.specs.Char.{to_ascii_lowercase}
 use denote.Bor.{Bor}
 
