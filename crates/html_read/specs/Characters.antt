@@ -28,7 +28,7 @@ lowered = map to_ascii_lowercase
 
 -- the tag of a name that may stand in the body
 unfoldable pub tag_named : List ℕ → Option Tag
-tag_named name = option_map (λ row. row.1) (find (λ row. bytes_eq row.0.now name) TAGS)
+tag_named name = option_map (λ row. row.1) (find (λ row. bytes_eq (lowered row.0.now) name) TAGS)
 
 -- `br` has no end tag
 unfoldable pub is_void : List ℕ → Bool
@@ -38,7 +38,7 @@ is_void name = bytes_eq name (codes "br")
 unfoldable pub role_of : List ℕ → Option Role
 role_of name =
     if starts (codes "data-") name || starts (codes "aria-") name then Some Ignored
-    else option_map (λ row. row.1) (find (λ row. bytes_eq row.0.now name) ATTRIBUTES)
+    else option_map (λ row. row.1) (find (λ row. bytes_eq (lowered row.0.now) name) ATTRIBUTES)
 
 -- the names of references, with the characters that they mean
 unfoldable pub entities : List (List ℕ × ℕ)

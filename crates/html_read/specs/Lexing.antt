@@ -2,36 +2,60 @@
 use Rattle.std.specs.Prelude.{ℕ, zero, suc, ◌+◌, ◌*◌, nat_lt, nat_le, Bool, true, ◌&&◌, ◌||◌, not, ◌==◌, List, [], ◌∷◌, ◌++◌, codes, ⊤}
 use Rattle.std.specs.Char.{encode_utf8, digit_value}
 use lib.Utf8.{scalar}
-use Rattle.reading.specs.Readers.{Reader, give, refuse, follow, mapped, choice, optional, strip, strip_either_case, starts, one_of, next_is, run_of, up_to, can_read, one_word, after, repeat, joined}
+use Rattle.reading.specs.Readers.{Reader, give, refuse, follow, mapped, choice, optional, strip, strip_either_case, starts, one_of, next_is, run_of, skip, up_to, can_read, one_word, after, repeat, joined}
+use Rattle.html_read.specs.declared.raw.RawEnd.{RawEnd}
+use Rattle.html_read.specs.declared.raw.RawEnd.TheVariants as ends
 use Rattle.html_read.specs.Characters.{is_white, is_letter, is_name_byte, lowered, entities, first_code}
 use Rattle.html_read.specs.Judging.{Attribute}
 
 -- ---- white space, names and comments
 
-unfoldable pub spaces : Reader (List ℕ)
-spaces = run_of is_white
+unfoldable pub spaces : Reader ⊤
+spaces = skip is_white
+
+-- one character of white space
+unfoldable pub white : Reader ⊤
+white = mapped (λ byte. tt) (one_of is_white)
 
 -- a name, in small letters
 unfoldable pub name : Reader (List ℕ)
 name = follow (one_of is_letter) (λ first. mapped (λ more. lowered (first ∷ more)) (run_of is_name_byte))
 
--- a comment up to the first place where its end can be read
+-- the end tag of this name
+unfoldable pub end_of : List ℕ → Reader ⊤
+end_of word = follow (strip (codes "</")) (λ u. follow (strip_either_case word) (λ u. follow spaces (λ u. strip (codes ">"))))
+
+-- what ends characters that may be any: they run to the first place where it can be read
+abbrev pub raw_end : RawEnd → Reader ⊤
+raw_end ends.Comment = strip (codes "-->")
+raw_end ends.Title = end_of (codes "title")
+raw_end ends.Style = end_of (codes "style")
+
+-- the byte with which it begins
+abbrev pub raw_mark : RawEnd → ℕ
+raw_mark ends.Comment = 45
+raw_mark ends.Title = 60
+raw_mark ends.Style = 60
+
+unfoldable pub raw : RawEnd → Reader (List ℕ)
+raw end_ = up_to (raw_end end_)
+
 unfoldable pub comment : Reader ⊤
-comment = after (codes "<!--") (mapped (λ inside. tt) (up_to (strip (codes "-->"))))
+comment = after (codes "<!--") (mapped (λ inside. tt) (raw ends.Comment))
 
 -- white space and comments; a comment begins where the bytes begin with `mark`
 abbrev pub in_misc : (mark : List ℕ) → List ℕ → Bool
 in_misc mark bytes = next_is is_white bytes || starts mark bytes
 
 unfoldable pub misc_piece : Reader (List ℕ)
-misc_piece = choice (next_is is_white) (mapped (λ byte. []) (one_of is_white)) (mapped (λ u. []) comment)
+misc_piece = choice (next_is is_white) (mapped (λ u. []) white) (mapped (λ u. []) comment)
 
 unfoldable pub misc : (mark : List ℕ) → Reader ⊤
 misc mark = mapped (λ text. tt) (joined (in_misc mark) misc_piece)
 
 unfoldable pub doctype : Reader ⊤
-doctype = follow (strip_either_case (codes "<!doctype")) (λ u. follow (one_of is_white) (λ byte. follow spaces (λ run.
-    follow (strip_either_case (codes "html")) (λ u. follow spaces (λ run. strip (codes ">"))))))
+doctype = follow (strip_either_case (codes "<!doctype")) (λ u. follow white (λ u. follow spaces (λ u.
+    follow (strip_either_case (codes "html")) (λ u. follow spaces (λ u. strip (codes ">"))))))
 
 -- ---- references
 
@@ -89,11 +113,11 @@ unfoldable pub quoted : Reader (List ℕ)
 quoted = follow (one_of is_quote) (λ quote. value_in quote)
 
 unfoldable pub equals : Reader ⊤
-equals = follow spaces (λ run. strip (codes "="))
+equals = follow spaces (λ u. strip (codes "="))
 
 -- the value of an attribute; without one it is the empty text
 unfoldable pub value : Reader (List ℕ)
-value = choice (can_read equals) (follow equals (λ u. follow spaces (λ run. quoted))) (give [])
+value = choice (can_read equals) (follow equals (λ u. follow spaces (λ u. quoted))) (give [])
 
 -- an attribute and what stands from its name on
 unfoldable pub attribute : Reader Attribute
@@ -101,13 +125,13 @@ attribute bytes = follow name (λ n. mapped (λ v. record { name = n; value = v;
 
 -- white space and the first letter of a name
 unfoldable pub name_ahead : Reader ℕ
-name_ahead = follow (one_of is_white) (λ byte. follow spaces (λ run. one_of is_letter))
+name_ahead = follow white (λ u. follow spaces (λ u. one_of is_letter))
 
 unfoldable pub next_attribute : List Attribute → Reader (List Attribute)
-next_attribute so_far = follow spaces (λ run. mapped (λ a. so_far ++ a ∷ []) attribute)
+next_attribute so_far = follow spaces (λ u. mapped (λ a. so_far ++ a ∷ []) attribute)
 
 unfoldable pub attributes : Reader (List Attribute)
-attributes = follow (repeat (λ so_far bytes. can_read name_ahead bytes) next_attribute []) (λ all. mapped (λ run. all) spaces)
+attributes = follow (repeat (λ so_far bytes. can_read name_ahead bytes) next_attribute []) (λ all. mapped (λ u. all) spaces)
 
 -- the end of a start tag; where `slash` says so a `/` may stand before the `>`
 unfoldable pub tag_end : (slash : Bool) → Reader ⊤
@@ -115,13 +139,9 @@ tag_end slash = choice (λ bytes. slash && starts (codes "/") bytes) (strip (cod
 
 -- ---- end tags and characters
 
--- the end tag of this name
-unfoldable pub end_of : List ℕ → Reader ⊤
-end_of word = follow (strip (codes "</")) (λ u. follow (strip_either_case word) (λ u. follow spaces (λ run. strip (codes ">"))))
-
 -- an end tag, as its name
 unfoldable pub end_name : Reader (List ℕ)
-end_name = follow (strip (codes "</")) (λ u. follow name (λ n. follow spaces (λ run. mapped (λ u. n) (strip (codes ">")))))
+end_name = follow (strip (codes "</")) (λ u. follow name (λ n. follow spaces (λ u. mapped (λ u. n) (strip (codes ">")))))
 
 -- the character with whose bytes the bytes begin
 unfoldable pub character : Reader ℕ

@@ -1,4 +1,5 @@
 pub mod Characters
+pub mod Cuts
 pub mod Faults
 pub mod Grammar
 pub mod Judging
@@ -6,3 +7,4 @@ pub mod Lexing
 pub mod Reading
 pub mod Tree
 pub mod Values
+pub mod Views

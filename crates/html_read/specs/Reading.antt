@@ -1,16 +1,18 @@
 -- Texts, tags, what stands in an element, and documents, with each refusal: a function here for each of the code.
-use Rattle.std.specs.Prelude.{◌≡◌, ℕ, zero, ◌-◌, Bool, true, false, not, ◌&&◌, ◌||◌, ◌==◌, List, [], ◌∷◌, ◌++◌, length, is_empty, bytes_eq, codes, Option, Some, None, Result, Ok, Err, ⊤, if◌then◌else◌}
+use Rattle.std.specs.Prelude.{◌≡◌, ℕ, zero, ◌-◌, Bool, true, false, not, ◌&&◌, ◌||◌, ◌==◌, List, [], ◌∷◌, ◌++◌, length, drop, bytes_eq, codes, Option, Some, None, Result, Ok, Err, ⊤, if◌then◌else◌}
 use Rattle.std.specs.Char.{encode_utf8}
 use Rattle.std.specs.Str.Lossy.{utf8_valid_len}
-use Rattle.std.specs.List.{drop}
-use Rattle.reading.specs.Readers.{ReadOr, ReaderOr, Reader, run_of, ◌>>=◌, give, refuse, follow, mapped, choice, optional, strip, strip_either_case, starts, one_of, next_is, up_to, can_read, after, repeat, joined}
+use Rattle.reading.specs.Readers.{ReadOr, ReaderOr, Reader, skip, ◌>>=◌, give, refuse, follow, mapped, choice, optional, strip, strip_either_case, starts, one_of, next_is, can_read, after, repeat, joined}
 use Rattle.html_read.specs.declared.tag.Tag.{Tag}
 use Rattle.html_read.specs.declared.tag.Tag.TheVariants.{Html, Body, Br}
 use Rattle.html_read.specs.declared.error.Refusal.TheVariants.{Utf8, Character, UnknownTag, Nesting}
+use Rattle.html_read.specs.declared.raw.RawEnd.TheVariants as ends
+use Rattle.html_read.specs.declared.content.Base.{Base}
+use Rattle.html_read.specs.declared.content.Base.TheVariants as bases
 use Rattle.html_read.specs.Characters.{is_white, tag_named, is_void, in_repertoire}
 use Rattle.html_read.specs.Faults.{Fault, Judged, syntax, spelled}
 use Rattle.html_read.specs.Judging.{Attribute, judged}
-use Rattle.html_read.specs.Lexing.{name, comment, misc, doctype, reference, attributes, tag_end, end_of, end_name, character}
+use Rattle.html_read.specs.Lexing.{white, name, raw, comment, misc, doctype, reference, attributes, tag_end, end_of, end_name, character}
 use Rattle.html_read.specs.Tree.{with_text, with_element}
 use Rattle.html_read.specs.Values.{TextAt, Acting, Node, Whole}
 
@@ -53,9 +55,9 @@ pub record Start : Type 0 where
   pub acting : Acting
 
 abbrev pub start_judged : (name : List ℕ) → Option Tag → Result Acting Fault → (here : List ℕ) → Result Start Fault
-start_judged name None acting here = Err (UnknownTag, here)
-start_judged name (Some tag) (Ok acting) here = Ok (record { name = name; tag = tag; acting = acting })
-start_judged name (Some tag) (Err fault) here = Err fault
+start_judged n None acting here = Err (UnknownTag, here)
+start_judged n (Some tag) (Ok acting) here = Ok (record { name = n; tag = tag; acting = acting })
+start_judged n (Some tag) (Err fault) here = Err fault
 
 -- a start tag in the body: its name is judged first, and then its attributes
 unfoldable pub start_tag : (size : ℕ) → Judged Start
@@ -74,11 +76,6 @@ end_tag open_name here = follow (spelled end_name) (λ n. closed (bytes_eq n ope
 
 -- ---- what stands in an element, by a list of those that are open
 
--- where the outermost items stand: in `body`, up to its end tag, or in nothing, up to the end of the text
-pub data Base : Type 0 where
-  in_body : Base
-  in_fragment : Base
-
 pub record Open : Type 0 where
   pub name : List ℕ
   pub number : ℕ
@@ -92,20 +89,20 @@ abbrev pub content_of : List Open → List Node → Content
 content_of opened nodes = record { opened = opened; nodes = nodes }
 
 abbrev pub base_parent : Base → Option ℕ
-base_parent in_body = Some 1
-base_parent in_fragment = None
+base_parent bases.Body = Some 1
+base_parent bases.Fragment = None
 
 abbrev pub parent_in : Base → List Open → Option ℕ
 parent_in base [] = base_parent base
 parent_in base (open_ ∷ opened) = Some open_.number
 
 abbrev pub base_ends : Base → List ℕ → Bool
-base_ends in_body bytes = starts (codes "</") bytes
-base_ends in_fragment bytes = is_empty bytes
+base_ends bases.Body bytes = starts (codes "</") bytes
+base_ends bases.Fragment bytes = length bytes == 0
 
 -- there is more to read
 unfoldable pub goes_on : Base → Content → List ℕ → Bool
-goes_on base content bytes = not (is_empty content.opened && base_ends base bytes)
+goes_on base content bytes = not (length content.opened == 0 && base_ends base bytes)
 
 -- an element begins; a `br` is whole at once
 unfoldable pub begun : Base → Content → Start → Content
@@ -145,14 +142,14 @@ abbrev pub ahead : List ℕ → List ℕ → Bool
 ahead word = can_read (strip_either_case word)
 
 unfoldable pub title : (size : ℕ) → Judged ⊤
-title size = follow (start_of size (codes "<title") false) (λ acting. spelled (mapped (λ inside. tt) (up_to (end_of (codes "title")))))
+title size = follow (start_of size (codes "<title") false) (λ acting. spelled (mapped (λ inside. tt) (raw ends.Title)))
 
 unfoldable pub meta : (size : ℕ) → Judged ⊤
 meta size = mapped (λ acting. tt) (start_of size (codes "<meta") true)
 
 -- the text of a style element, with the place at which it begins
 unfoldable pub sheet : (size : ℕ) → Judged TextAt
-sheet size here = spelled (mapped (λ inside. record { text = inside; place = size - length here }) (up_to (end_of (codes "style")))) here
+sheet size here = spelled (mapped (λ inside. record { text = inside; place = size - length here }) (raw ends.Style)) here
 
 unfoldable pub style : (size : ℕ) → Judged TextAt
 style size = follow (start_of size (codes "<style") false) (λ acting. sheet size)
@@ -160,7 +157,7 @@ style size = follow (start_of size (codes "<style") false) (λ acting. sheet siz
 -- what comes next in the head, with the sheets so far
 unfoldable pub head_turn : (size : ℕ) → List TextAt → Judged (List TextAt)
 head_turn size sheets =
-    choice (next_is is_white) (spelled (mapped (λ byte. sheets) (one_of is_white)))
+    choice (next_is is_white) (spelled (mapped (λ u. sheets) white))
     (choice (starts (codes "<!")) (spelled (mapped (λ u. sheets) comment))
     (choice (ahead (codes "<t")) (mapped (λ u. sheets) (title size))
     (choice (ahead (codes "<m")) (mapped (λ u. sheets) (meta size))
@@ -199,7 +196,7 @@ roots html body = with_element (Some 0) Body body (with_element None Html html [
 
 -- `body` with all that stands in it, and the nodes of the document
 unfoldable pub body : (size : ℕ) → (html : Acting) → Judged (List Node)
-body size html = follow (start_of size (codes "<body") false) (λ acting. follow (content size in_body (roots html acting)) (λ nodes.
+body size html = follow (start_of size (codes "<body") false) (λ acting. follow (content size bases.Body (roots html acting)) (λ nodes.
     mapped (λ u. nodes) (end_tag (codes "body"))))
 
 -- from the start tag of `html` to its end tag
@@ -220,7 +217,7 @@ input bytes = if utf8_valid_len bytes == length bytes then document (length byte
 
 -- a fragment: items with nothing round them, to the end of the text
 unfoldable pub fragment : List ℕ → ReadOr Fault (List Node)
-fragment text = content (length text) in_fragment [] text
+fragment text = content (length text) bases.Fragment [] text
 
 -- ---- what follows a document
 
@@ -238,5 +235,5 @@ nothing (byte ∷ bytes) = Err (byte ∷ bytes)
 
 -- before a script: the rest of the line; without one: misc to the end
 unfoldable pub tail : (script : Bool) → Reader ⊤
-tail true = follow (run_of is_blank) (λ run. line_end)
+tail true = follow (skip is_blank) (λ u. line_end)
 tail false = follow (misc (codes "<!")) (λ u. nothing)

@@ -2,13 +2,27 @@
 #![tactic(auto)]
 
 mod attribute;
+mod attributes;
+mod content;
+mod document;
 mod entity;
 mod error;
+mod head;
+mod judging;
+mod lexing;
 mod node;
+mod raw;
+mod reference;
 mod tag;
+mod tags;
+mod tail;
+mod text;
 
 pub use attribute::{ATTRIBUTES, Role};
+pub use document::{read_document, read_fragment};
 pub use entity::ENTITIES;
 pub use error::{HtmlError, Refusal};
 pub use node::{Attributes, PlacedText, ReadDocument, ReadKind, ReadNode, ReadNodes, Sheets};
+pub use raw::RawEnd;
 pub use tag::{TAGS, Tag};
+pub use tail::read_tail;

@@ -3,3 +3,4 @@ pub mod Grammars
 pub mod Decimals
 pub mod Spelling
 pub mod Places
+pub mod Placed

@@ -102,6 +102,11 @@ unfoldable pub run_of : (ℕ → Bool) → Reader (List ℕ)
 run_of test [] = Ok ([], [])
 run_of test (byte ∷ bytes) = if test byte then with_byte byte (run_of test bytes) else Ok ([], byte ∷ bytes)
 
+-- over the bytes that pass the test
+unfoldable pub skip : (ℕ → Bool) → Reader ⊤
+skip test [] = Ok (tt, [])
+skip test (byte ∷ bytes) = if test byte then skip test bytes else Ok (tt, byte ∷ bytes)
+
 -- the bytes up to the first place where the test of the next bytes says so
 unfoldable pub until : (List ℕ → Bool) → Reader (List ℕ)
 until test [] = if test [] then Ok ([], []) else Err []

@@ -1,0 +1,156 @@
+//! Documents and fragments.
+
+ghost use Rattle.std.specs.Prelude.{◌≡◌, length, IfOk, IfErr};
+ghost use Rattle.reading.specs.Readers.{Answers};
+ghost use Rattle.html_read.specs.Faults.{Gives, GivesFront, Tells, Told};
+ghost use Rattle.html_read.specs.Reading as readers;
+ghost use Rattle.html_read.specs.Values.{acting_of, nodes_of, sheets_of, whole_of};
+ghost use Rattle.html_read.specs.declared.error.Stop.TheVariants as Stops;
+
+use crate::content::{Base, content};
+use crate::error::{HtmlError, Refusal, Stop};
+use crate::head::maybe_head;
+use crate::lexing::{doctype, end_of, misc};
+use crate::node::{Attributes, PlacedText, ReadDocument, ReadKind, ReadNode, ReadNodes};
+use crate::tag::Tag;
+use crate::tags::{end_tag, start_of};
+use reading::{starts, strip};
+use std::alloc::Global;
+
+/// Reads a document, from the first byte to past `</html>`. Bytes may stand behind it.
+pub fn read_document(alloc: Global, bytes: &[u8]) -> Result<ReadDocument, HtmlError>
+    ensures read { Told (length bytes.now) whole_of result (readers.input bytes.now) }
+{
+    match input(alloc, bytes) {
+        Ok(document) => Ok(document),
+        Err(stop) => Err(told(bytes.len(), stop)),
+    }
+}
+
+/// Reads what may stand in an element, to the end of the text.
+pub fn read_fragment(alloc: Global, text: &str) -> Result<ReadNodes, HtmlError>
+    ensures read { Told (length text.now) (λ nodes. nodes_of nodes.items) result (readers.fragment text.now) }
+{
+    match fragment(alloc, text) {
+        Ok(nodes) => Ok(nodes),
+        Err(stop) => Err(told(text.len(), stop)),
+    }
+}
+
+// The refusal with its place in an input of this size.
+fn told(size: usize, stop: Stop<'_>) -> HtmlError
+    ensures { Tells size stop result }
+{
+    match stop {
+        Stop::Refused(kind, left) => HtmlError::Refused {
+            kind,
+            place: size.saturating_sub(left.len()),
+        },
+        Stop::Memory => HtmlError::Memory,
+    }
+}
+
+fn fragment(alloc: Global, text: &str) -> Result<ReadNodes, Stop<'_>>
+    ensures { GivesFront (λ nodes. nodes_of nodes.items) result (readers.fragment text.now) }
+{
+    let mut nodes = Vec::new(alloc);
+    content(alloc, text.len(), Base::Fragment, &mut nodes, text)?;
+    Ok(nodes)
+}
+
+fn input(alloc: Global, bytes: &[u8]) -> Result<ReadDocument, Stop<'_>>
+    ensures { GivesFront whole_of result (readers.input bytes.now) }
+{
+    match str::from_utf8(bytes) {
+        Ok(text) => Ok(document(alloc, text)?.0),
+        Err(error) => Err(Stop::Refused(Refusal::Utf8, bytes.split_at(error.valid_up_to()).1)),
+    }
+}
+
+fn document(alloc: Global, text: &str) -> Result<(ReadDocument, &str), Stop<'_>>
+    ensures { Gives (λ d. (whole_of d.0, d.1.now)) result (readers.document (length text.now) text.now) }
+{
+    let size = text.len();
+    let rest = prolog(text)?;
+    let (nodes, sheets, rest) = html(alloc, size, rest)?;
+    let document = ReadDocument {
+        nodes,
+        sheets,
+        end: size.saturating_sub(rest.len()),
+    };
+    Ok((document, rest))
+}
+
+// What stands before the start tag of `html`.
+fn prolog(text: &str) -> Result<&str, &[u8]>
+    ensures { Answers (λ rest. (tt, rest.now)) result (readers.prolog text.now) }
+{
+    let rest = maybe_mark(text)?;
+    let rest = misc("<!-", rest)?;
+    maybe_doctype(rest)
+}
+
+fn maybe_mark(text: &str) -> Result<&str, &[u8]>
+    ensures { Answers (λ rest. (tt, rest.now)) result (readers.maybe_mark text.now) }
+{
+    if starts("\u{FEFF}", text) {
+        strip("\u{FEFF}", text)
+    } else {
+        Ok(text)
+    }
+}
+
+fn maybe_doctype(text: &str) -> Result<&str, &[u8]>
+    ensures { Answers (λ rest. (tt, rest.now)) result (readers.maybe_doctype text.now) }
+{
+    if starts("<!", text) {
+        misc("<!", doctype(text)?)
+    } else {
+        Ok(text)
+    }
+}
+
+// From the start tag of `html` to its end tag.
+fn html(alloc: Global, size: usize, text: &str) -> Result<(Vec<ReadNode>, Vec<PlacedText>, &str), Stop<'_>>
+    ensures { Gives (λ h. ((nodes_of h.0.items, sheets_of h.1.items), h.2.now)) result (readers.html size text.now) }
+{
+    let (attributes, rest) = start_of(alloc, size, "<html", false, text)?;
+    let rest = misc("<!", rest)?;
+    let (sheets, rest) = maybe_head(alloc, size, rest)?;
+    let (nodes, rest) = body(alloc, size, attributes, rest)?;
+    let rest = misc("<!", rest)?;
+    Ok((nodes, sheets, end_of("html", rest)?))
+}
+
+// `body` with all that stands in it, and the nodes of the document.
+fn body(alloc: Global, size: usize, html: Attributes, text: &str) -> Result<(Vec<ReadNode>, &str), Stop<'_>>
+    ensures { Gives (λ b. (nodes_of b.0.items, b.1.now)) result (readers.body size (acting_of html) text.now) }
+{
+    let (attributes, rest) = start_of(alloc, size, "<body", false, text)?;
+    let mut nodes = roots(alloc, html, attributes)?;
+    let rest = content(alloc, size, Base::Body, &mut nodes, rest)?;
+    Ok((nodes, end_tag("body", rest)?))
+}
+
+// The nodes of `html` and `body`.
+fn roots(alloc: Global, html: Attributes, body: Attributes) -> Result<Vec<ReadNode>, Stop<'static>>
+    ensures { IfOk result (λ nodes. nodes_of nodes.items ≡ readers.roots (acting_of html) (acting_of body)) }
+    ensures memory { IfErr result (λ stop. stop ≡ Stops.Memory) }
+{
+    let mut nodes = Vec::new(alloc);
+    nodes.push(ReadNode {
+        parent: None,
+        kind: ReadKind::Element {
+            tag: Tag::Html,
+            attributes: html,
+        },
+    })?;
+    nodes.push(ReadNode {
+        parent: Some(0),
+        kind: ReadKind::Element {
+            tag: Tag::Body,
+            attributes: body,
+        },
+    })?;
+    Ok(nodes)
+}

@@ -1,0 +1,158 @@
+//! White space, names, comments, and the ends of tags: what refuses by `Syntax` alone.
+
+ghost use Rattle.std.specs.Prelude.{◌≡◌, ◌++◌, ◌≤◌, ◌<◌, [], length, IfOk, Ok};
+ghost use Rattle.reading.specs.Readers as reading;
+ghost use Rattle.reading.specs.Readers.{Answers};
+ghost use Rattle.html_read.specs.Characters.{lowered, is_white, is_name_byte};
+ghost use Rattle.html_read.specs.Cuts.{EndsWith, ReadsFront};
+ghost use Rattle.html_read.specs.Lexing as readers;
+
+use crate::raw::raw;
+use crate::raw::RawEnd;
+use reading::{first, starts, strip, strip_either_case};
+
+// The front of the text that `rest` leaves.
+pub(crate) fn front_of<'a>(text: &'a str, rest: &str) -> &'a str
+    requires { EndsWith text.now rest.now }
+    ensures { text.now ≡ result.now ++ rest.now }
+{
+    text.split_at(text.len() - rest.len()).0
+}
+
+/// What stands behind white space.
+pub(crate) fn spaces(text: &str) -> &str
+    ensures { readers.spaces text.now ≡ Ok (tt, result.now) }
+    ensures shorter { length result.now ≤ length text.now }
+{
+    let mut rest = text;
+    while let Some((byte, after)) = first(rest) {
+        if !byte.is_ascii_whitespace() {
+            break;
+        }
+        rest = after;
+    }
+    rest
+}
+
+/// White space, one character of it.
+pub(crate) fn white(text: &str) -> Result<&str, &[u8]>
+    ensures read { Answers (λ rest. (tt, rest.now)) result (readers.white text.now) }
+    ensures shorter { IfOk result (λ rest. length rest.now < length text.now) }
+{
+    match first(text) {
+        Some((byte, after)) if byte.is_ascii_whitespace() => Ok(after),
+        _ => Err(text.as_bytes()),
+    }
+}
+
+/// Does white space come next?
+pub(crate) fn white_ahead(text: &str) -> bool
+    ensures { result ≡ reading.next_is is_white text.now }
+{
+    white(text).is_ok()
+}
+
+/// A name as it is written.
+pub(crate) fn name(text: &str) -> Result<(&str, &str), &[u8]>
+    ensures read { Answers (λ n. (lowered n.0.now, n.1.now)) result (readers.name text.now) }
+    ensures shorter { IfOk result (λ n. length n.1.now < length text.now) }
+{
+    let Some((byte, after)) = first(text) else {
+        return Err(text.as_bytes());
+    };
+    if !byte.is_ascii_alphabetic() {
+        return Err(text.as_bytes());
+    }
+    let rest = name_end(after);
+    Ok((front_of(text, rest), rest))
+}
+
+// What stands behind the bytes that a name may go on with.
+fn name_end(text: &str) -> &str
+    ensures { ReadsFront (reading.run_of is_name_byte text.now) text.now result.now }
+{
+    let mut rest = text;
+    while let Some((byte, after)) = first(rest) {
+        if !is_name_byte(byte) {
+            break;
+        }
+        rest = after;
+    }
+    rest
+}
+
+fn is_name_byte(byte: u8) -> bool
+    ensures { result ≡ is_name_byte byte }
+{
+    byte.is_ascii_alphanumeric() || byte == b'-' || byte == b'_'
+}
+
+/// A comment.
+pub(crate) fn comment(text: &str) -> Result<&str, &[u8]>
+    ensures read { Answers (λ rest. (tt, rest.now)) result (readers.comment text.now) }
+    ensures shorter { IfOk result (λ rest. length rest.now < length text.now) }
+{
+    let inside = strip("<!--", text)?;
+    Ok(raw(RawEnd::Comment, inside)?.1)
+}
+
+/// White space and comments, where a comment begins with `mark`.
+pub(crate) fn misc<'a>(mark: &str, text: &'a str) -> Result<&'a str, &'a [u8]>
+    ensures read { Answers (λ rest. (tt, rest.now)) result (readers.misc mark.now text.now) }
+{
+    let mut rest = text;
+    while white_ahead(rest) || starts(mark, rest) {
+        rest = misc_piece(rest)?;
+    }
+    Ok(rest)
+}
+
+fn misc_piece(text: &str) -> Result<&str, &[u8]>
+    ensures read { Answers (λ rest. ([], rest.now)) result (readers.misc_piece text.now) }
+    ensures shorter { IfOk result (λ rest. length rest.now < length text.now) }
+{
+    if white_ahead(text) {
+        white(text)
+    } else {
+        comment(text)
+    }
+}
+
+/// The doctype.
+pub(crate) fn doctype(text: &str) -> Result<&str, &[u8]>
+    ensures { Answers (λ rest. (tt, rest.now)) result (readers.doctype text.now) }
+{
+    let rest = strip_either_case("<!doctype", text)?;
+    let rest = spaces(white(rest)?);
+    let rest = strip_either_case("html", rest)?;
+    strip(">", spaces(rest))
+}
+
+/// The end of a start tag. Where `slash` says so a `/` may stand before the `>`.
+pub(crate) fn tag_end(slash: bool, text: &str) -> Result<&str, &[u8]>
+    ensures { Answers (λ rest. (tt, rest.now)) result (readers.tag_end slash text.now) }
+{
+    if slash && starts("/", text) {
+        strip("/>", text)
+    } else {
+        strip(">", text)
+    }
+}
+
+/// The end tag of this name, in either case.
+pub(crate) fn end_of<'a>(word: &str, text: &'a str) -> Result<&'a str, &'a [u8]>
+    ensures read { Answers (λ rest. (tt, rest.now)) result (readers.end_of word.now text.now) }
+{
+    let rest = strip("</", text)?;
+    let rest = strip_either_case(word, rest)?;
+    strip(">", spaces(rest))
+}
+
+/// An end tag, as its name.
+pub(crate) fn end_name(text: &str) -> Result<(&str, &str), &[u8]>
+    ensures read { Answers (λ n. (lowered n.0.now, n.1.now)) result (readers.end_name text.now) }
+{
+    let rest = strip("</", text)?;
+    let (name, rest) = name(rest)?;
+    Ok((name, strip(">", spaces(rest))?))
+}

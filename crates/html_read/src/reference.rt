@@ -1,0 +1,127 @@
+//! Character references.
+
+ghost use Rattle.std.specs.Prelude.{◌≡◌, ◌≤◌, ◌<◌, ◌+◌, ◌*◌, length, IfOk, Some, None, if◌then◌else◌};
+ghost use Rattle.std.specs.Char.{digit_value};
+ghost use Rattle.reading.specs.Readers as reading;
+ghost use Rattle.reading.specs.Readers.{Answers};
+ghost use Rattle.html_read.specs.Characters.{entities};
+ghost use Rattle.html_read.specs.Lexing as readers;
+
+use crate::entity::ENTITIES;
+use reading::{first, starts, strip};
+
+/// A reference, as the character that it means.
+pub(crate) fn reference(text: &str) -> Result<(char, &str), &[u8]>
+    ensures read { Answers (λ c. (c.0, c.1.now)) result (readers.reference text.now) }
+    ensures shorter { IfOk result (λ c. length c.1.now < length text.now) }
+{
+    let rest = strip("&", text)?;
+    if starts("#", rest) {
+        number_reference(rest)
+    } else {
+        entity(rest)
+    }
+}
+
+// The name of a reference. Where it is none, what is left behind the longest front of one.
+fn entity(text: &str) -> Result<(char, &str), &[u8]>
+    ensures { Answers (λ c. (c.0, c.1.now)) result (reading.one_word entities text.now) }
+{
+    let mut best = text.as_bytes();
+    for (name, meaning) in &ENTITIES {
+        match strip(name, text) {
+            Ok(rest) => return Ok((*meaning, rest)),
+            Err(left) => best = shorter_of(best, left),
+        }
+    }
+    Err(best)
+}
+
+fn shorter_of<'a>(best: &'a [u8], left: &'a [u8]) -> &'a [u8]
+    ensures { result.now ≡ reading.shorter_of best.now left.now }
+{
+    if left.len() < best.len() { left } else { best }
+}
+
+// A number behind `#`.
+fn number_reference(text: &str) -> Result<(char, &str), &[u8]>
+    ensures { Answers (λ c. (c.0, c.1.now)) result (readers.number_reference text.now) }
+{
+    let rest = strip("#", text)?;
+    match first(rest) {
+        Some((b'x' | b'X', digits)) => scalar_number(16, 6, digits),
+        _ => scalar_number(10, 7, rest),
+    }
+}
+
+// One to `most` digits of the base, and `;`.
+fn scalar_number(base: u32, most: u32, text: &str) -> Result<(char, &str), &[u8]>
+    requires base { base ≤ 16 }
+    requires most { 0 < most }
+    ensures { Answers (λ c. (c.0, c.1.now)) result (readers.scalar_number base most text.now) }
+{
+    let Some((byte, after)) = first(text) else {
+        return Err(text.as_bytes());
+    };
+    let digit = digit_value(byte);
+    if digit < base {
+        number_from(base, most - 1, digit, after)
+    } else {
+        Err(text.as_bytes())
+    }
+}
+
+// At most `most` digits more behind those that stand for `value`, and `;`.
+fn number_from(base: u32, most: u32, value: u32, text: &str) -> Result<(char, &str), &[u8]>
+    requires base { base ≤ 16 }
+    requires value { value ≤ 0x10FFFF }
+    ensures { Answers (λ c. (c.0, c.1.now)) result (readers.number_from base most value text.now) }
+{
+    let mut value = value;
+    let mut rest = text;
+    for read in 0..most {
+        let Some((byte, after)) = first(rest) else {
+            break;
+        };
+        match next_value(base, most - 1 - read, value, byte) {
+            Some(next) => value = next,
+            None => break,
+        }
+        rest = after;
+    }
+    number_end(value, rest)
+}
+
+// The value with this digit behind it, where a number that is a Unicode scalar value begins so.
+fn next_value(base: u32, left: u32, value: u32, byte: u8) -> Option<u32>
+    requires base { base ≤ 16 }
+    requires value { value ≤ 0x10FFFF }
+    ensures { result ≡ (if readers.may_follow base left value byte then Some (base * value + digit_value byte) else None) }
+{
+    let digit = digit_value(byte);
+    let next = base * value + digit;
+    if digit < base && next <= 0x10_FFFF && (char::from_u32(next).is_some() || 0 < left) {
+        Some(next)
+    } else {
+        None
+    }
+}
+
+fn number_end(value: u32, text: &str) -> Result<(char, &str), &[u8]>
+    ensures { Answers (λ c. (c.0, c.1.now)) result (readers.number_end value text.now) }
+{
+    match char::from_u32(value) {
+        Some(c) => Ok((c, strip(";", text)?)),
+        None => Err(text.as_bytes()),
+    }
+}
+
+// The value of a digit or a letter, from 0 for `0` to 35 for `z`; 36 for all else.
+fn digit_value(byte: u8) -> u32
+    ensures { result ≡ digit_value byte }
+{
+    match char::from(byte).to_digit(36) {
+        Some(value) => value,
+        None => 36,
+    }
+}

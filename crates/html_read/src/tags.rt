@@ -1,0 +1,81 @@
+//! Start tags and end tags.
+
+ghost use Rattle.std.specs.Prelude.{◌≡◌};
+ghost use Rattle.html_read.specs.Characters.{lowered, is_void, tag_named};
+ghost use Rattle.html_read.specs.Faults.{Gives};
+ghost use Rattle.html_read.specs.Reading as readers;
+ghost use Rattle.html_read.specs.Values.{acting_of};
+ghost use Rattle.html_read.specs.Views.{start_of};
+
+use crate::attributes::attributes;
+use crate::error::{Refusal, Stop};
+use crate::judging::judged;
+use crate::lexing::{end_name, name, tag_end};
+use crate::node::Attributes;
+use crate::tag::{TAGS, Tag};
+use reading::{strip, strip_either_case};
+use std::alloc::Global;
+
+/// An element that begins.
+#[derive(Debug, Drop)]
+pub(crate) struct Start<'a> {
+    pub name: &'a str,
+    pub tag: Tag,
+    pub attributes: Attributes,
+}
+
+/// The start tag of this word, which begins with `<`: wholly read, and then judged.
+pub(crate) fn start_of<'a>(alloc: Global, size: usize, word: &str, slash: bool, text: &'a str) -> Result<(Attributes, &'a str), Stop<'a>>
+    ensures { Gives (λ r. (acting_of r.0, r.1.now)) result (readers.start_of size word.now slash text.now) }
+{
+    let rest = strip_either_case(word, text)?;
+    let (all, rest) = attributes(alloc, rest)?;
+    let rest = tag_end(slash, rest)?;
+    Ok((judged(alloc, size, all)?, rest))
+}
+
+/// A start tag in `body`: wholly read, and then its name and its attributes judged.
+pub(crate) fn start_tag(alloc: Global, size: usize, text: &str) -> Result<(Start<'_>, &str), Stop<'_>>
+    ensures { Gives (λ r. (start_of r.0, r.1.now)) result (readers.start_tag size text.now) }
+{
+    let rest = strip("<", text)?;
+    let (name, rest) = name(rest)?;
+    let (all, rest) = attributes(alloc, rest)?;
+    let rest = tag_end(is_void(name), rest)?;
+    let Some(tag) = tag_named(name) else {
+        return Err(Stop::Refused(Refusal::UnknownTag, text.as_bytes()));
+    };
+    let attributes = judged(alloc, size, all)?;
+    let start = Start {
+        name,
+        tag,
+        attributes,
+    };
+    Ok((start, rest))
+}
+
+/// The end tag of an element of this name: wholly read, and then its name judged.
+pub(crate) fn end_tag<'a>(open: &str, text: &'a str) -> Result<&'a str, Stop<'a>>
+    ensures { Gives (λ rest. (tt, rest.now)) result (readers.end_tag (lowered open.now) text.now) }
+{
+    let (name, rest) = end_name(text)?;
+    if !name.eq_ignore_ascii_case(open) {
+        return Err(Stop::Refused(Refusal::Nesting, text.as_bytes()));
+    }
+    Ok(rest)
+}
+
+/// `br` has no end tag.
+pub(crate) fn is_void(name: &str) -> bool
+    ensures { result ≡ is_void (lowered name.now) }
+{
+    name.eq_ignore_ascii_case("br")
+}
+
+// The tag of a name that may stand in the body.
+fn tag_named(name: &str) -> Option<Tag>
+    ensures { result ≡ tag_named (lowered name.now) }
+{
+    let row = TAGS.iter().find(|row| row.0.eq_ignore_ascii_case(name))?;
+    Some(row.1)
+}
