@@ -236,4 +236,4 @@ nothing (byte ∷ bytes) = Err (byte ∷ bytes)
 -- before a script: the rest of the line; without one: misc to the end
 unfoldable pub tail : (script : Bool) → Reader ⊤
 tail true = follow (skip is_blank) (λ u. line_end)
-tail false = follow (misc (codes "<!")) (λ u. nothing)
+tail false = follow (misc (codes "<")) (λ u. nothing)

@@ -2,7 +2,7 @@
 use Rattle.std.specs.Prelude.{ℕ, List, map, reverse}
 use Rattle.std.specs.String.{string_bytes}
 use denote.Bor.{Bor}
-use Rattle.html_read.specs.declared.attributes.Attribute as code
+use Rattle.html_read.specs.declared.attributes.WrittenAttribute as code
 use Rattle.html_read.specs.declared.tags.Start as code_start
 use Rattle.html_read.specs.declared.content.Open as code_open
 use Rattle.html_read.specs.Characters.{lowered}
@@ -10,7 +10,7 @@ use Rattle.html_read.specs.Judging.{Attribute}
 use Rattle.html_read.specs.Reading.{Start, Open}
 use Rattle.html_read.specs.Values.{acting_of}
 
-abbrev pub attribute_of : code.Attribute → Attribute
+abbrev pub attribute_of : code.WrittenAttribute → Attribute
 attribute_of a = record { name = lowered a.name.now; value = string_bytes a.value; left = a.left.now }
 
 abbrev pub start_of : code_start.Start → Start

@@ -17,14 +17,14 @@ use style_types::Letters;
 
 /// An attribute: its name as it is written, its value with references replaced, and the bytes from its name on.
 #[derive(Debug, Drop)]
-pub(crate) struct Attribute<'a> {
+pub(crate) struct WrittenAttribute<'a> {
     pub name: &'a str,
     pub value: Letters,
     pub left: &'a str,
 }
 
 /// The attributes of a tag, and white space behind them.
-pub(crate) fn attributes(alloc: Global, text: &str) -> Result<(Vec<Attribute<'_>>, &str), Stop<'_>>
+pub(crate) fn attributes(alloc: Global, text: &str) -> Result<(Vec<WrittenAttribute<'_>>, &str), Stop<'_>>
     ensures { Gives (λ r. (map attribute_of r.0.items, r.1.now)) result (spelled readers.attributes text.now) }
 {
     let mut all = Vec::new(alloc);
@@ -56,13 +56,13 @@ fn letter_ahead(text: &str) -> bool
     }
 }
 
-fn attribute(alloc: Global, text: &str) -> Result<(Attribute<'_>, &str), Stop<'_>>
+fn attribute(alloc: Global, text: &str) -> Result<(WrittenAttribute<'_>, &str), Stop<'_>>
     ensures read { Gives (λ r. (attribute_of r.0, r.1.now)) result (spelled readers.attribute text.now) }
     ensures shorter { IfOk result (λ r. length r.1.now < length text.now) }
 {
     let (name, rest) = name(text)?;
     let (value, rest) = value(alloc, rest)?;
-    let attribute = Attribute {
+    let attribute = WrittenAttribute {
         name,
         value,
         left: text,

@@ -94,7 +94,7 @@ fn ending<'a>(opened: &mut Vec<Open<'a>>, text: &'a str) -> Result<&'a str, Stop
 
 // An element begins; a `br` is whole at once.
 fn begin<'a>(base: Base, start: Start<'a>, opened: &mut Vec<Open<'a>>, nodes: &mut Vec<ReadNode>) -> Result<(), Stop<'a>>
-    ensures { OnOk result (readers.content_of (opened_of opened.new.items) (nodes_of nodes.new.items)
+    ensures begun { OnOk result (readers.content_of (opened_of opened.new.items) (nodes_of nodes.new.items)
         ≡ readers.begun base (readers.content_of (opened_of opened.old.items) (nodes_of nodes.old.items)) (start_of start)) }
     ensures memory { IfErr result (λ stop. stop ≡ Stops.Memory) }
 {
@@ -146,7 +146,7 @@ fn with_gap<'a>(alloc: Global, base: Base, opened: &[Open<'a>], nodes: &mut Vec<
 }
 
 fn with_text(parent: Option<usize>, text: Letters, nodes: &mut Vec<ReadNode>) -> Result<(), Stop<'static>>
-    ensures { OnOk result (nodes_of nodes.new.items ≡ with_text parent (string_bytes text) (nodes_of nodes.old.items)) }
+    ensures put { OnOk result (nodes_of nodes.new.items ≡ with_text parent (string_bytes text) (nodes_of nodes.old.items)) }
     ensures memory { IfErr result (λ stop. stop ≡ Stops.Memory) }
 {
     if !text.is_empty() {

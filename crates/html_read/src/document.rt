@@ -134,7 +134,7 @@ fn body(alloc: Global, size: usize, html: Attributes, text: &str) -> Result<(Vec
 
 // The nodes of `html` and `body`.
 fn roots(alloc: Global, html: Attributes, body: Attributes) -> Result<Vec<ReadNode>, Stop<'static>>
-    ensures { IfOk result (λ nodes. nodes_of nodes.items ≡ readers.roots (acting_of html) (acting_of body)) }
+    ensures roots { IfOk result (λ nodes. nodes_of nodes.items ≡ readers.roots (acting_of html) (acting_of body)) }
     ensures memory { IfErr result (λ stop. stop ≡ Stops.Memory) }
 {
     let mut nodes = Vec::new(alloc);

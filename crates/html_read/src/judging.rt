@@ -10,7 +10,7 @@ ghost use Rattle.html_read.specs.Values.{acting_of};
 ghost use Rattle.html_read.specs.Views.{attribute_of, names_of};
 
 use crate::attribute::{ATTRIBUTES, Role};
-use crate::attributes::Attribute;
+use crate::attributes::WrittenAttribute;
 use crate::error::{Refusal, Stop};
 use crate::node::{Attributes, PlacedText};
 use reading::starts;
@@ -19,7 +19,7 @@ use style_types::{LetterList, Letters};
 use wm_modes::Direction;
 
 /// What the attributes say, from left to right. Places are counted in an input of `size` bytes.
-pub(crate) fn judged<'a>(alloc: Global, size: usize, attributes: Vec<Attribute<'a>>) -> Result<Attributes, Stop<'a>>
+pub(crate) fn judged<'a>(alloc: Global, size: usize, attributes: Vec<WrittenAttribute<'a>>) -> Result<Attributes, Stop<'a>>
     ensures { Gives acting_of result (judging.judged size (map attribute_of attributes.items)) }
 {
     let mut said = Attributes {
@@ -47,7 +47,7 @@ fn has_name(name: &str, seen: &[&str]) -> bool
 }
 
 // What this attribute says, too.
-fn with_attribute<'a>(alloc: Global, size: usize, attribute: Attribute<'a>, said: &mut Attributes) -> Result<(), Stop<'a>>
+fn with_attribute<'a>(alloc: Global, size: usize, attribute: WrittenAttribute<'a>, said: &mut Attributes) -> Result<(), Stop<'a>>
     ensures { Gives (λ u. acting_of said.new) result (judging.with_attribute size (role_of (attribute_of attribute).name) (attribute_of attribute) (acting_of said.old)) }
 {
     match role_of(attribute.name) {

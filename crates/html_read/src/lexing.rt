@@ -21,7 +21,7 @@ pub(crate) fn front_of<'a>(text: &'a str, rest: &str) -> &'a str
 
 /// What stands behind white space.
 pub(crate) fn spaces(text: &str) -> &str
-    ensures { readers.spaces text.now ≡ Ok (tt, result.now) }
+    ensures read { readers.spaces text.now ≡ Ok (tt, result.now) }
     ensures shorter { length result.now ≤ length text.now }
 {
     let mut rest = text;

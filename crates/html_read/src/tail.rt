@@ -36,7 +36,7 @@ fn tail(script: bool, text: &str) -> Result<&str, &[u8]>
     if script {
         line_end(blanks(text))
     } else {
-        nothing(misc("<!", text)?)
+        nothing(misc("<", text)?)
     }
 }
 
