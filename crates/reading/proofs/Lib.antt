@@ -4,3 +4,6 @@ pub mod DecimalLaws
 pub mod Turns
 pub mod ManyLaws
 pub mod PlaceLaws
+pub mod RunLaws
+pub mod WordLaws
+pub mod UpToLaws

@@ -3,3 +3,5 @@ pub mod Grammars
 pub mod Decimals
 pub mod Spelling
 pub mod Places
+pub mod Words
+pub mod Closings
