@@ -7,3 +7,4 @@ pub mod PlaceLaws
 pub mod RunLaws
 pub mod WordLaws
 pub mod UpToLaws
+mod Examples

@@ -54,23 +54,27 @@ nowhere_as test (byte ∷ run) one other same nowhere = (sym (same byte run) ∙
 
 -- ---- up to where a reader can read
 
+-- the text of the grammar at the place where it could be read
+found_there : {A : Type 0} (f : Reader A) (R : Grammar A) (Ends : List ℕ → Type 0) (bytes run at left : List ℕ) (x : A) → Spells f R Ends → SeesWithin f R
+    → until (can_read f) bytes ≡ ok (run, at) → f at ≡ ok (x, left) → (text : List ℕ) × UpTo f R text run × (bytes ≡ text ++ left)
+found_there f R Ends bytes run at left x p within first second =
+    let u = until_is (can_read f) bytes run at first in
+    let t = p.takes at x left second in
+    let read : f (t.0 ++ left) ≡ ok (x, left) = ap f (sym t.2) ∙ second in
+    let before : NowhereIn (can_read f) run (t.0 ++ left) = subst (λ (s : List ℕ). NowhereIn (can_read f) run s) t.2 u.1 in
+    let nowhere : NowhereIn (can_read f) run t.0 =
+    nowhere_as (can_read f) run (t.0 ++ left) t.0 (λ byte before. within.sees byte before t.0 left x t.1 read) before in
+    (run ++ t.0, (x, t.0, t.1, nowhere, refl), u.0 ∙ ap (λ (s : List ℕ). run ++ s) t.2 ∙ sym (append_assoc run t.0 left))
+
 pub up_to_spells : {A : Type 0} {f : Reader A} {R : Grammar A} {Ends : List ℕ → Type 0} → Spells f R Ends → SeesWithin f R → Spells (up_to f) (UpTo f R) Ends
 unfolding up_to
-up_to_spells {A = A} {f = f} {R = R} p within = record {
+up_to_spells {A = A} {f = f} {R = R} {Ends = Ends} p within = record {
   takes = λ bytes inside rest e.
       let a = bind_ok (until (can_read f) bytes) (λ (x : List ℕ × List ℕ). mapped (λ (y : A). x.0) f x.1) (inside, rest) e in
       let b = bind_ok (f a.0.1) (λ (v : A × List ℕ). give a.0.0 v.1) (inside, rest) a.2 in
-      let same : (a.0.0 ≡ inside) × (b.0.1 ≡ rest) = same_answer {E = List ℕ} a.0.0 inside b.0.1 rest b.2 in
-      let u = until_is (can_read f) bytes a.0.0 a.0.1 a.1 in
-      let t = p.takes a.0.1 b.0.0 b.0.1 b.1 in
-      let read : f (t.0 ++ b.0.1) ≡ ok (b.0.0, b.0.1) = ap f (sym t.2) ∙ b.1 in
-      let before : NowhereIn (can_read f) a.0.0 (t.0 ++ b.0.1) = subst (λ (s : List ℕ). NowhereIn (can_read f) a.0.0 s) t.2 u.1 in
-      let nowhere : NowhereIn (can_read f) a.0.0 t.0 =
-      nowhere_as (can_read f) a.0.0 (t.0 ++ b.0.1) t.0 (λ byte before. within.sees byte before t.0 b.0.1 b.0.0 t.1 read) before in (
-        inside ++ t.0,
-        (b.0.0, t.0, t.1, subst (λ (s : List ℕ). NowhereIn (can_read f) s t.0) same.0 nowhere, refl),
-        u.0 ∙ ap (λ (s : List ℕ). s ++ a.0.1) same.0 ∙ ap (λ (s : List ℕ). inside ++ s) (t.2 ∙ ap (λ (s : List ℕ). t.0 ++ s) same.1) ∙ sym (append_assoc inside t.0 rest),
-      );
+      let same = same_answer {E = List ℕ} a.0.0 inside b.0.1 rest b.2 in
+      let there = found_there f R Ends bytes a.0.0 a.0.1 b.0.1 b.0.0 p within a.1 b.1 in
+      (there.0, subst (λ (s : List ℕ). UpTo f R there.0 s) same.0 there.1, there.2 ∙ ap (λ (s : List ℕ). there.0 ++ s) same.1);
   again = λ text inside rest r ends.
       let x = r.0 in
       let read : f (r.1 ++ rest) ≡ ok (x, rest) = p.again r.1 x rest r.2 ends in
