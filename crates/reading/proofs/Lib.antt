@@ -8,3 +8,4 @@ pub mod RunLaws
 pub mod WordLaws
 pub mod UpToLaws
 mod Examples
+pub mod TextCuts

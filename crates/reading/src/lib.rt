@@ -13,7 +13,7 @@ pub use laws::{
     repetitions_spell, runs_spell, sequences_spell, sequences_stop_in_place, single_bytes_spell,
     tellings_spell, texts_spell, texts_stop_in_place, texts_up_to_spell, views_spell, words_spell,
 };
-pub use texts::{digit, starts, strip};
+pub use texts::{digit, first, starts, strip, strip_either_case};
 
 #[cfg(test)]
 mod tests;
