@@ -9,3 +9,5 @@ pub mod WordLaws
 pub mod UpToLaws
 mod Examples
 pub mod TextCuts
+pub mod RunPlaces
+pub mod TurnPlaces

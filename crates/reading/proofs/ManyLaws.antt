@@ -38,7 +38,7 @@ item_back {E = E} {A = A} {S = S} push f R Ends end_ rest state later x y p e l 
       parts = t.2 ∙ ap (λ (s : List ℕ). t.0 ++ s) (same.1 ∙ l.parts) ∙ sym (append_assoc t.0 l.text rest);
     }
 
-item_shortens : {E A S : Type 0} (push : S → A → S) (f : ReaderOr E A) (R : Grammar A) (Ends More : List ℕ → Type 0) (test : List ℕ → Bool) (state later : S) (x y : List ℕ)
+pub item_shortens : {E A S : Type 0} (push : S → A → S) (f : ReaderOr E A) (R : Grammar A) (Ends More : List ℕ → Type 0) (test : List ℕ → Bool) (state later : S) (x y : List ℕ)
     → Spells f R Ends → IsTestOf test R Ends More → push_one push f state x ≡ ok (later, y) → length y < length x
 item_shortens {E = E} {A = A} push f R Ends More test state later x y p t e =
     let a = bind_ok (f x) (λ (v : A × List ℕ). give (push state v.0) v.1) (later, y) e in
@@ -92,7 +92,7 @@ gathered_spells {E = E} {A = A} {S = S} push start {test = test} {f = f} {R = R}
 
 -- ---- lists
 
-all_pushed : {A : Type 0} (items xs : List A) → fold (λ (l : List A) x. l ++ x ∷ []) items xs ≡ items ++ xs
+pub all_pushed : {A : Type 0} (items xs : List A) → fold (λ (l : List A) x. l ++ x ∷ []) items xs ≡ items ++ xs
 all_pushed items [] = sym (append-nil items)
 all_pushed items (x ∷ xs) = all_pushed (items ++ x ∷ []) xs ∙ append_assoc items (x ∷ []) xs
 
@@ -106,7 +106,7 @@ many_spells {E = E} {A = A} {R = R} p t =
 
 -- ---- pieces joined
 
-all_joined : (text : List ℕ) (pieces : List (List ℕ)) → fold (λ (t : List ℕ) piece. t ++ piece) text pieces ≡ text ++ concat pieces
+pub all_joined : (text : List ℕ) (pieces : List (List ℕ)) → fold (λ (t : List ℕ) piece. t ++ piece) text pieces ≡ text ++ concat pieces
 all_joined text [] = sym (append-nil text)
 all_joined text (piece ∷ pieces) = all_joined (text ++ piece) pieces ∙ append_assoc text piece (concat pieces)
 

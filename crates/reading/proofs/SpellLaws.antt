@@ -197,7 +197,7 @@ choice_spells {E = E} {A = A} test {f = f} {g = g} {R = R} {S = S} {Ends = Ends}
   ];
 }
 
-to_optional : {A : Type 0} (R : Grammar A) (text : List ℕ) (x : Option A) → Either (Mapped Some R) (Given None) text x → Optional R text x
+pub to_optional : {A : Type 0} (R : Grammar A) (text : List ℕ) (x : Option A) → Either (Mapped Some R) (Given None) text x → Optional R text x
 to_optional R text None (inl r) = absurd (cc r.2)
 to_optional {A = A} R text (Some x) (inl r) =
     let same : r.0 ≡ x = cc r.2 in
