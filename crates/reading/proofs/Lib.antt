@@ -4,3 +4,10 @@ pub mod DecimalLaws
 pub mod Turns
 pub mod ManyLaws
 pub mod PlaceLaws
+pub mod RunLaws
+pub mod WordLaws
+pub mod UpToLaws
+mod Examples
+pub mod TextCuts
+pub mod RunPlaces
+pub mod TurnPlaces

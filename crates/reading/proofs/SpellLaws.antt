@@ -2,7 +2,7 @@
 use Rattle.std.proofs.Common.{◌≡◌, inl, inr, ℕ, Bool, true, false, cond, eqb, List, [], ◌∷◌, ◌++◌, Option, Some, None, Ok, Err, refl, sym, ap, subst, ◌∙◌, append_assoc}
 use Rattle.std.specs.Prelude.{⊤}
 use Rattle.std.proofs.lemmas.Bool.{eqb-true, eq-eqb}
-use Rattle.reading.specs.Readers.{Read, Reader, ReadOr, ReaderOr, ◌>>=◌, give, follow, mapped, choice, optional, strip, starts, one_of, after, between}
+use Rattle.reading.specs.Readers.{Read, Reader, ReadOr, ReaderOr, ◌>>=◌, give, follow, mapped, choice, optional, read_or, telling, strip, starts, one_of, after, between}
 use Rattle.reading.specs.Grammars.{Grammar, Given, Fixed, OneOf, Seq, Mapped, Either, Optional, After, Between}
 use Rattle.reading.specs.Spelling.{Anything, Spells}
 
@@ -197,7 +197,7 @@ choice_spells {E = E} {A = A} test {f = f} {g = g} {R = R} {S = S} {Ends = Ends}
   ];
 }
 
-to_optional : {A : Type 0} (R : Grammar A) (text : List ℕ) (x : Option A) → Either (Mapped Some R) (Given None) text x → Optional R text x
+pub to_optional : {A : Type 0} (R : Grammar A) (text : List ℕ) (x : Option A) → Either (Mapped Some R) (Given None) text x → Optional R text x
 to_optional R text None (inl r) = absurd (cc r.2)
 to_optional {A = A} R text (Some x) (inl r) =
     let same : r.0 ≡ x = cc r.2 in
@@ -217,3 +217,17 @@ optional_spells {E = E} {A = A} test {f = f} {R = R} {Ends = Ends} p first secon
     (λ text x rest r ends. first text r.0 rest r.1 ends)
     (λ text x rest r ends. rw r.0 (second rest ends)))
     (to_optional R) (from_optional R)
+
+-- ---- another word for where it stopped
+
+told_ok : {E A : Type 0} (told : List ℕ → E) (r : Read A) (x : A × List ℕ) → read_or told r ≡ ok x → r ≡ ok x
+told_ok told (Ok y) x e =
+    let same : y ≡ x = cc in
+    rw same refl
+told_ok told (Err left) x e = absurd cc
+
+pub telling_spells : {E A : Type 0} (told : List ℕ → E) {f : Reader A} {R : Grammar A} {Ends : List ℕ → Type 0} → Spells f R Ends → Spells (telling told f) R Ends
+telling_spells {E = E} {A = A} told {f = f} p = record {
+  takes = λ bytes x rest e. p.takes bytes x rest (told_ok told (f bytes) (x, rest) e);
+  again = λ text x rest r ends. ap (λ (s : Read A). read_or told s) (p.again text x rest r ends);
+}

@@ -5,11 +5,11 @@ use Rattle.reading.proofs.SpellLaws.{ok, stop, bind_ok, same_answer}
 
 -- ---- one turn
 
-turn_once : {E S : Type 0} (goes : S → List ℕ → Bool) (turn : S → ReaderOr E S) (fuel : ℕ) (s : S) (bytes : List ℕ) → goes s bytes ≡ true → turns goes turn (suc fuel) s bytes ≡ follow (turn s) (turns goes turn fuel) bytes
+pub turn_once : {E S : Type 0} (goes : S → List ℕ → Bool) (turn : S → ReaderOr E S) (fuel : ℕ) (s : S) (bytes : List ℕ) → goes s bytes ≡ true → turns goes turn (suc fuel) s bytes ≡ follow (turn s) (turns goes turn fuel) bytes
 unfolding turns
 turn_once goes turn fuel s bytes e = rw e refl
 
-turn_none : {E S : Type 0} (goes : S → List ℕ → Bool) (turn : S → ReaderOr E S) (fuel : ℕ) (s : S) (bytes : List ℕ) → goes s bytes ≡ false → turns goes turn (suc fuel) s bytes ≡ ok (s, bytes)
+pub turn_none : {E S : Type 0} (goes : S → List ℕ → Bool) (turn : S → ReaderOr E S) (fuel : ℕ) (s : S) (bytes : List ℕ) → goes s bytes ≡ false → turns goes turn (suc fuel) s bytes ≡ ok (s, bytes)
 unfolding turns
 turn_none goes turn fuel s bytes e = rw e refl
 

@@ -4,3 +4,5 @@ pub mod Decimals
 pub mod Spelling
 pub mod Places
 pub mod Placed
+pub mod Words
+pub mod Closings

@@ -1,6 +1,6 @@
 -- What ties a reader to a grammar.
-use Rattle.std.specs.Prelude.{◌≡◌, ℕ, ◌<◌, Bool, true, false, List, ◌++◌, length, Ok, ⊤}
-use Rattle.reading.specs.Readers.{ReaderOr}
+use Rattle.std.specs.Prelude.{◌≡◌, ℕ, ◌<◌, Bool, true, false, List, ◌∷◌, ◌++◌, length, Ok, ⊤}
+use Rattle.reading.specs.Readers.{Reader, ReaderOr, can_read}
 use Rattle.reading.specs.Grammars.{Grammar}
 
 -- bytes with no demand on them
@@ -19,3 +19,7 @@ pub record IsTestOf {A : Type 0} (test : List ℕ → Bool) (R : Grammar A) (End
   pub next : (rest : List ℕ) → test rest ≡ true → Ends rest
   pub last : (rest : List ℕ) → More rest → Ends rest
   pub ends : (rest : List ℕ) → More rest → test rest ≡ false
+
+-- Whether the reader can read at a place before a text that it reads hangs on the bytes up to the end of that text alone.
+pub record SeesWithin {A : Type 0} (f : Reader A) (R : Grammar A) : Type 0 where
+  pub sees : (byte : ℕ) (before end_ rest : List ℕ) (x : A) → R end_ x → f (end_ ++ rest) ≡ Ok (x, rest) → can_read f ((byte ∷ before) ++ (end_ ++ rest)) ≡ can_read f ((byte ∷ before) ++ end_)

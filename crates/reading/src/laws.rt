@@ -7,15 +7,29 @@ ghost use Rattle.reading.specs.Readers as readers;
 ghost use Rattle.reading.specs.Readers.{Reader};
 ghost use Rattle.reading.specs.Decimals as decimals;
 ghost use Rattle.reading.specs.Decimals.{IsDecimal, NoDigit};
-ghost use Rattle.reading.specs.Grammars.{Grammar, Fixed, OneOf, Given, Seq, Mapped, Either, Optional, After, Between, Each};
+ghost use Rattle.reading.specs.Closings.{closing, Closing};
+ghost use Rattle.reading.specs.Grammars.{Grammar, Fixed, OneOf, RunOf, EitherCase, OneWord, UpTo, Given, Seq, Mapped, Either, Optional, After, Between, Each, Joined};
 ghost use Rattle.reading.specs.Places.{IsLocal, IsViable, GoesOnFrom};
-ghost use Rattle.reading.specs.Spelling.{Anything, Spells, IsTestOf};
+ghost use Rattle.reading.specs.Spelling.{Anything, Spells, IsTestOf, SeesWithin};
+ghost use Rattle.reading.specs.Words.{all_differ, longest_first, all_of};
 
 /// A reader of values `A`, with the grammar that it spells.
 pub trait Rule<A> {
     ghost reads: { Reader A };
 
     ghost spelled: { List ℕ → A → Type 0 };
+
+    /// What may come behind a text of the grammar.
+    ghost ends: { List ℕ → Type 0 };
+
+    ghost spells: { Spells reads spelled ends };
+}
+
+/// A reader of texts, with the grammar that it spells.
+pub trait TextRule {
+    ghost reads: { Reader (List ℕ) };
+
+    ghost spelled: { List ℕ → List ℕ → Type 0 };
 
     /// What may come behind a text of the grammar.
     ghost ends: { List ℕ → Type 0 };
@@ -99,6 +113,56 @@ pub fn choices_spell<A, R: Rule<A>, S: Rule<A>>()
 pub fn repetitions_spell<A, R: Rule<A>, M: Behind>()
     ensures { (test : List ℕ → Bool) → IsTestOf test R.spelled R.ends M.ends
         → Spells (readers.many test R.reads) (Each R.spelled) M.ends }
+{}
+
+/// Pieces of text as often as a test of the next bytes says, joined.
+pub fn joined_pieces_spell<R: TextRule, M: Behind>()
+    ensures { (test : List ℕ → Bool) → IsTestOf test R.spelled R.ends M.ends
+        → Spells (readers.joined test R.reads) (Joined R.spelled) M.ends }
+{}
+
+/// The same reader with another word for where it stops.
+pub fn tellings_spell<A, E, R: Rule<A>>()
+    ensures { (told : List ℕ → E) → Spells (readers.telling told R.reads) R.spelled R.ends }
+{}
+
+/// Bytes that pass a test, where none comes behind them.
+pub fn runs_spell()
+    ensures { (test : ℕ → Bool) → Spells (readers.run_of test) (RunOf test) (λ rest. readers.next_is test rest ≡ false) }
+{}
+
+/// A text in either case.
+pub fn cased_texts_spell()
+    ensures { (word : List ℕ) → Spells (readers.strip_either_case word) (EitherCase word) Anything }
+{}
+
+/// One text of a table, where each two differ at a byte that both have.
+pub fn words_spell<A>()
+    ensures { (words : List (List ℕ × A)) → all_differ words ≡ true → Spells (readers.one_word words) (OneWord words) Anything }
+{}
+
+/// One text of a table, where no text begins with one before it, and none of their bytes comes behind them.
+pub fn longest_words_spell<A>()
+    ensures { (test : ℕ → Bool) (words : List (List ℕ × A)) → all_of test words ≡ true → longest_first words ≡ true
+        → Spells (readers.one_word words) (OneWord words) (λ rest. readers.next_is test rest ≡ false) }
+{}
+
+/// A text up to the first place where a reader can read.
+pub fn texts_up_to_spell<A, R: Rule<A>>()
+    ensures { SeesWithin R.reads R.spelled → Spells (readers.up_to R.reads) (UpTo R.reads R.spelled) R.ends }
+{}
+
+/// What fixed texts and closings read at a place hangs on the bytes up to the end of the next such text.
+pub fn ends_see_within()
+    ensures texts { (text : List ℕ) → SeesWithin (readers.strip text) (Fixed text) }
+    ensures closings { (opening word : List ℕ) (test : ℕ → Bool) (last : ℕ) (behind : List ℕ) → test last ≡ false
+        → SeesWithin (closing opening word test (last ∷ behind)) (Closing opening word test (last ∷ behind)) }
+{}
+
+/// A closing, where its run can't take the byte behind it.
+pub fn closings_spell()
+    ensures { (opening word : List ℕ) (test : ℕ → Bool) (last : ℕ) (behind : List ℕ) → test last ≡ false
+        → Spells (closing opening word test (last ∷ behind)) (Closing opening word test (last ∷ behind)) Anything }
 {}
 
 /// A fixed text stops at the first byte that differs.

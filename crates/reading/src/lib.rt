@@ -7,11 +7,13 @@ mod texts;
 
 pub use decimals::decimal;
 pub use laws::{
-    Behind, PlacedRule, PlacedRuleBehind, Rule, RuleBehind, choices_spell, decimals_spell,
-    decimals_stop_in_place, enclosed_spells, none_goes_further, repetitions_spell, sequences_spell,
-    sequences_stop_in_place, single_bytes_spell, texts_spell, texts_stop_in_place, views_spell,
+    Behind, PlacedRule, PlacedRuleBehind, Rule, RuleBehind, TextRule, cased_texts_spell,
+    choices_spell, closings_spell, decimals_spell, decimals_stop_in_place, enclosed_spells,
+    ends_see_within, joined_pieces_spell, longest_words_spell, none_goes_further,
+    repetitions_spell, runs_spell, sequences_spell, sequences_stop_in_place, single_bytes_spell,
+    tellings_spell, texts_spell, texts_stop_in_place, texts_up_to_spell, views_spell, words_spell,
 };
-pub use texts::{digit, starts, strip};
+pub use texts::{digit, first, starts, strip, strip_either_case};
 
 #[cfg(test)]
 mod tests;
