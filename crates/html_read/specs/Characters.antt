@@ -1,6 +1,7 @@
 -- Names, references and characters: which bytes they are made of, and what the tables say of them.
 use Rattle.std.specs.Prelude.{ℕ, zero, suc, ◌+◌, ◌-◌, ◌*◌, nat_lt, Bool, ◌&&◌, ◌||◌, ◌==◌, List, [], ◌∷◌, map, find, is_some, bytes_eq, codes, Option, Some, option_map, if◌then◌else◌}
 use Rattle.std.specs.Char.{to_ascii_lowercase, is_ascii_alphabetic, is_ascii_alphanumeric, is_ascii_whitespace}
+use denote.Bor.{Bor}
 use Rattle.std.specs.Str.{continuation_len, lead_bits}
 use Rattle.reading.specs.Readers.{starts}
 use Rattle.wm_chars.specs.Repertoire.{row_of}
@@ -26,9 +27,13 @@ is_name_byte byte = is_ascii_alphanumeric byte || byte == 45 || byte == 95
 abbrev pub lowered : List ℕ → List ℕ
 lowered = map to_ascii_lowercase
 
+-- what a table has for a name
+abbrev pub named : {T : Type 0} → List (Bor (List ℕ) × T) → List ℕ → Option T
+named table name = option_map (λ row. row.1) (find (λ row. bytes_eq (lowered row.0.now) name) table)
+
 -- the tag of a name that may stand in the body
 unfoldable pub tag_named : List ℕ → Option Tag
-tag_named name = option_map (λ row. row.1) (find (λ row. bytes_eq (lowered row.0.now) name) TAGS)
+tag_named name = named TAGS name
 
 -- `br` has no end tag
 unfoldable pub is_void : List ℕ → Bool
@@ -38,11 +43,14 @@ is_void name = bytes_eq name (codes "br")
 unfoldable pub role_of : List ℕ → Option Role
 role_of name =
     if starts (codes "data-") name || starts (codes "aria-") name then Some Ignored
-    else option_map (λ row. row.1) (find (λ row. bytes_eq (lowered row.0.now) name) ATTRIBUTES)
+    else named ATTRIBUTES name
 
 -- the names of references, with the characters that they mean
+abbrev pub words_of : {T : Type 0} → List (Bor (List ℕ) × T) → List (List ℕ × T)
+words_of table = map (λ row. (row.0.now, row.1)) table
+
 unfoldable pub entities : List (List ℕ × ℕ)
-entities = map (λ row. (row.0.now, row.1)) ENTITIES
+entities = words_of ENTITIES
 
 -- whether the character may stand in a text
 unfoldable pub in_repertoire : ℕ → Bool

@@ -20,7 +20,6 @@
 --   reference  = "&" (word | "#" number | "#x" number) ";"
 --   s          = one white space character
 use Rattle.std.specs.Prelude.{◌≡◌, ◌⊎◌, ℕ, ◌+◌, ◌-◌, ◌*◌, ◌<◌, ◌≤◌, nat_lt, Bool, true, false, ◌==◌, List, [], ◌∷◌, ◌++◌, length, fold, codes, Option, Some, None, Ok, ⊤}
-use Rattle.std.specs.List.{concat}
 use Rattle.std.specs.Char.{IsScalar, encode_utf8, digit_value}
 use Rattle.std.specs.Str.{IsUtf8}
 use Rattle.reading.specs.Grammars.{Grammar, Given, Fixed, OneOf, AllPass, RunOf, EitherCase, OneWord, UpTo, Seq, Mapped, Either, After, Each, Joined}
@@ -199,8 +198,13 @@ abbrev pub AreHeadPieces : (size : ℕ) → PlacedGrammar (List (List TextAt))
 AreHeadPieces size text behind [] = text ≡ []
 AreHeadPieces size text behind (sheets ∷ others) = (here back : List ℕ) × IsHeadPiece size here (back ++ behind) sheets × AreHeadPieces size back behind others × (text ≡ here ++ back)
 
+-- the style sheets of all parts
+abbrev pub all_of : List (List TextAt) → List TextAt
+all_of [] = []
+all_of (sheets ∷ others) = sheets ++ all_of others
+
 abbrev pub IsHead : (size : ℕ) → PlacedGrammar (List TextAt)
-IsHead size = PlacedSeq (IsStartOf size (codes "<head") false) (λ acting. PlacedSeq (PlacedMapped concat (AreHeadPieces size))
+IsHead size = PlacedSeq (IsStartOf size (codes "<head") false) (λ acting. PlacedSeq (PlacedMapped all_of (AreHeadPieces size))
     (λ sheets. Anywhere (Mapped (λ u. sheets) (IsEndOf (codes "head")))))
 
 abbrev pub IsMaybeHead : (size : ℕ) → PlacedGrammar (List TextAt)

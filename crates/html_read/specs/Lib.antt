@@ -4,6 +4,7 @@ pub mod Faults
 pub mod Grammar
 pub mod Judging
 pub mod Lexing
+pub mod Pieces
 pub mod Reading
 pub mod Tree
 pub mod Values

@@ -6,6 +6,8 @@ ghost use Rattle.reading.specs.Readers as reading;
 ghost use Rattle.html_read.specs.Characters.{is_letter};
 ghost use Rattle.html_read.specs.Faults.{Gives, spelled};
 ghost use Rattle.html_read.specs.Lexing as readers;
+ghost use Rattle.html_read.specs.Lexing.{in_value, value_piece};
+ghost use Rattle.html_read.specs.Pieces.{Joins, JoinsRun, IsPlainEnd};
 ghost use Rattle.html_read.specs.Views.{attribute_of};
 
 use crate::error::Stop;
@@ -24,6 +26,7 @@ pub(crate) struct WrittenAttribute<'a> {
 }
 
 /// The attributes of a tag, and white space behind them.
+#[tactic(auto, unfolding(crate::specs::Lexing::attributes))]
 pub(crate) fn attributes(alloc: Global, text: &str) -> Result<(Vec<WrittenAttribute<'_>>, &str), Stop<'_>>
     ensures { Gives (λ r. (map attribute_of r.0.items, r.1.now)) result (spelled readers.attributes text.now) }
 {
@@ -38,6 +41,7 @@ pub(crate) fn attributes(alloc: Global, text: &str) -> Result<(Vec<WrittenAttrib
 }
 
 // White space, and behind it the first letter of a name.
+#[tactic(auto, unfolding(crate::specs::Lexing::name_ahead))]
 fn name_ahead(text: &str) -> bool
     ensures { result ≡ reading.can_read readers.name_ahead text.now }
 {
@@ -47,6 +51,7 @@ fn name_ahead(text: &str) -> bool
     }
 }
 
+#[tactic(auto, unfolding(reading::specs::Readers::one_of))]
 fn letter_ahead(text: &str) -> bool
     ensures { result ≡ reading.can_read (reading.one_of is_letter) text.now }
 {
@@ -56,6 +61,7 @@ fn letter_ahead(text: &str) -> bool
     }
 }
 
+#[tactic(auto, unfolding(crate::specs::Lexing::attribute))]
 fn attribute(alloc: Global, text: &str) -> Result<(WrittenAttribute<'_>, &str), Stop<'_>>
     ensures read { Gives (λ r. (attribute_of r.0, r.1.now)) result (spelled readers.attribute text.now) }
     ensures shorter { IfOk result (λ r. length r.1.now < length text.now) }
@@ -71,6 +77,7 @@ fn attribute(alloc: Global, text: &str) -> Result<(WrittenAttribute<'_>, &str), 
 }
 
 // The value of an attribute, empty where it has none.
+#[tactic(auto, unfolding(crate::specs::Lexing::value, crate::specs::Lexing::equals))]
 fn value(alloc: Global, text: &str) -> Result<(Letters, &str), Stop<'_>>
     ensures read { Gives (λ v. (string_bytes v.0, v.1.now)) result (spelled readers.value text.now) }
     ensures shorter { IfOk result (λ v. length v.1.now ≤ length text.now) }
@@ -82,6 +89,7 @@ fn value(alloc: Global, text: &str) -> Result<(Letters, &str), Stop<'_>>
 }
 
 // A value between two quotes of one kind.
+#[tactic(auto, unfolding(crate::specs::Lexing::quoted, reading::specs::Readers::one_of))]
 fn quoted(alloc: Global, text: &str) -> Result<(Letters, &str), Stop<'_>>
     ensures read { Gives (λ v. (string_bytes v.0, v.1.now)) result (spelled readers.quoted text.now) }
     ensures shorter { IfOk result (λ v. length v.1.now ≤ length text.now) }
@@ -94,6 +102,7 @@ fn quoted(alloc: Global, text: &str) -> Result<(Letters, &str), Stop<'_>>
 
 // A value up to its quote.
 fn value_in(alloc: Global, quote: u8, text: &str) -> Result<(Letters, &str), Stop<'_>>
+    requires { quote < 128 }
     ensures read { Gives (λ v. (string_bytes v.0, v.1.now)) result (spelled (readers.value_in quote) text.now) }
     ensures shorter { IfOk result (λ v. length v.1.now ≤ length text.now) }
 {
@@ -112,6 +121,10 @@ fn value_in(alloc: Global, quote: u8, text: &str) -> Result<(Letters, &str), Sto
 
 // The characters up to the next quote or `&`, put behind the value.
 fn plain<'a>(value: &mut Letters, quote: u8, text: &'a str) -> Result<&'a str, Stop<'a>>
+    requires { quote < 128 }
+    ensures read { Joins (in_value quote) (spelled (value_piece quote)) (string_bytes value.old) (string_bytes value.new) text.now result }
+    ensures next { IfOk result (λ rest. IsPlainEnd quote rest.now) }
+    ensures shorter { IfOk result (λ rest. length rest.now ≤ length text.now) }
 {
     let rest = plain_end(quote, text);
     value.push_str(front_of(text, rest))?;
@@ -119,6 +132,10 @@ fn plain<'a>(value: &mut Letters, quote: u8, text: &'a str) -> Result<&'a str, S
 }
 
 fn plain_end(quote: u8, text: &str) -> &str
+    requires { quote < 128 }
+    ensures read { JoinsRun (in_value quote) (spelled (value_piece quote)) text.now result.now }
+    ensures next { IsPlainEnd quote result.now }
+    ensures shorter { length result.now ≤ length text.now }
 {
     let bytes = text.as_bytes();
     let mut at = 0;

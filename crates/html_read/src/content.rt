@@ -32,6 +32,7 @@ struct Open<'a> {
 }
 
 /// Puts the nodes of all that stands in the base behind those so far.
+#[tactic(auto, unfolding(crate::specs::Reading::content))]
 pub(crate) fn content<'a>(alloc: Global, size: usize, base: Base, nodes: &mut Vec<ReadNode>, text: &'a str) -> Result<&'a str, Stop<'a>>
     ensures { Gives (λ rest. (nodes_of nodes.new.items, rest.now)) result (readers.content size base (nodes_of nodes.old.items) text.now) }
 {
@@ -44,6 +45,7 @@ pub(crate) fn content<'a>(alloc: Global, size: usize, base: Base, nodes: &mut Ve
 }
 
 // There is more to read.
+#[tactic(auto, unfolding(crate::specs::Reading::goes_on))]
 fn goes_on(base: Base, opened: &[Open<'_>], text: &str) -> bool
     ensures { (nodes : List Node) → result ≡ readers.goes_on base (readers.content_of (opened_of opened.now) nodes) text.now }
 {
@@ -60,6 +62,7 @@ fn base_ends(base: Base, text: &str) -> bool
 }
 
 // A tag, and the text behind it.
+#[tactic(auto, unfolding(crate::specs::Reading::turn))]
 fn turn<'a>(alloc: Global, size: usize, base: Base, opened: &mut Vec<Open<'a>>, nodes: &mut Vec<ReadNode>, text: &'a str) -> Result<&'a str, Stop<'a>>
     ensures { Gives (λ rest. (readers.content_of (opened_of opened.new.items) (nodes_of nodes.new.items), rest.now)) result
         (readers.turn size base (readers.content_of (opened_of opened.old.items) (nodes_of nodes.old.items)) text.now) }
@@ -68,6 +71,7 @@ fn turn<'a>(alloc: Global, size: usize, base: Base, opened: &mut Vec<Open<'a>>, 
     with_gap(alloc, base, opened, nodes, rest)
 }
 
+#[tactic(auto, unfolding(crate::specs::Reading::markup))]
 fn markup<'a>(alloc: Global, size: usize, base: Base, opened: &mut Vec<Open<'a>>, nodes: &mut Vec<ReadNode>, text: &'a str) -> Result<&'a str, Stop<'a>>
     ensures { Gives (λ rest. (readers.content_of (opened_of opened.new.items) (nodes_of nodes.new.items), rest.now)) result
         (readers.markup size base (readers.content_of (opened_of opened.old.items) (nodes_of nodes.old.items)) text.now) }
@@ -82,6 +86,7 @@ fn markup<'a>(alloc: Global, size: usize, base: Base, opened: &mut Vec<Open<'a>>
 }
 
 // The innermost open element ends.
+#[tactic(auto, unfolding(reading::specs::Readers::after))]
 fn ending<'a>(opened: &mut Vec<Open<'a>>, text: &'a str) -> Result<&'a str, Stop<'a>>
     ensures { (nodes : List Node) → Gives (λ rest. (readers.content_of (opened_of opened.new.items) nodes, rest.now)) result
         (readers.ending (opened_of opened.old.items) nodes text.now) }
@@ -93,6 +98,7 @@ fn ending<'a>(opened: &mut Vec<Open<'a>>, text: &'a str) -> Result<&'a str, Stop
 }
 
 // An element begins; a `br` is whole at once.
+#[tactic(auto, unfolding(crate::specs::Reading::begun))]
 fn begin<'a>(base: Base, start: Start<'a>, opened: &mut Vec<Open<'a>>, nodes: &mut Vec<ReadNode>) -> Result<(), Stop<'a>>
     ensures begun { OnOk result (readers.content_of (opened_of opened.new.items) (nodes_of nodes.new.items)
         ≡ readers.begun base (readers.content_of (opened_of opened.old.items) (nodes_of nodes.old.items)) (start_of start)) }
@@ -136,6 +142,7 @@ fn base_parent(base: Base) -> Option<usize>
 }
 
 // The text up to the next tag; an empty one is no node.
+#[tactic(auto, unfolding(crate::specs::Reading::with_gap))]
 fn with_gap<'a>(alloc: Global, base: Base, opened: &[Open<'a>], nodes: &mut Vec<ReadNode>, text: &'a str) -> Result<&'a str, Stop<'a>>
     ensures { Gives (λ rest. (readers.content_of (opened_of opened.now) (nodes_of nodes.new.items), rest.now)) result
         (readers.with_gap base (readers.content_of (opened_of opened.now) (nodes_of nodes.old.items)) text.now) }

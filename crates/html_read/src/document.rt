@@ -39,7 +39,7 @@ pub fn read_fragment(alloc: Global, text: &str) -> Result<ReadNodes, HtmlError>
 
 // The refusal with its place in an input of this size.
 fn told(size: usize, stop: Stop<'_>) -> HtmlError
-    ensures { Tells size stop result }
+    ensures { Tells size stop.entry result }
 {
     match stop {
         Stop::Refused(kind, left) => HtmlError::Refused {
@@ -50,6 +50,7 @@ fn told(size: usize, stop: Stop<'_>) -> HtmlError
     }
 }
 
+#[tactic(auto, unfolding(crate::specs::Reading::fragment))]
 fn fragment(alloc: Global, text: &str) -> Result<ReadNodes, Stop<'_>>
     ensures { GivesFront (λ nodes. nodes_of nodes.items) result (readers.fragment text.now) }
 {
@@ -58,6 +59,7 @@ fn fragment(alloc: Global, text: &str) -> Result<ReadNodes, Stop<'_>>
     Ok(nodes)
 }
 
+#[tactic(auto, unfolding(crate::specs::Reading::input))]
 fn input(alloc: Global, bytes: &[u8]) -> Result<ReadDocument, Stop<'_>>
     ensures { GivesFront whole_of result (readers.input bytes.now) }
 {
@@ -67,6 +69,7 @@ fn input(alloc: Global, bytes: &[u8]) -> Result<ReadDocument, Stop<'_>>
     }
 }
 
+#[tactic(auto, unfolding(crate::specs::Reading::document, crate::specs::Reading::ended))]
 fn document(alloc: Global, text: &str) -> Result<(ReadDocument, &str), Stop<'_>>
     ensures { Gives (λ d. (whole_of d.0, d.1.now)) result (readers.document (length text.now) text.now) }
 {
@@ -82,6 +85,7 @@ fn document(alloc: Global, text: &str) -> Result<(ReadDocument, &str), Stop<'_>>
 }
 
 // What stands before the start tag of `html`.
+#[tactic(auto, unfolding(crate::specs::Reading::prolog))]
 fn prolog(text: &str) -> Result<&str, &[u8]>
     ensures { Answers (λ rest. (tt, rest.now)) result (readers.prolog text.now) }
 {
@@ -90,6 +94,7 @@ fn prolog(text: &str) -> Result<&str, &[u8]>
     maybe_doctype(rest)
 }
 
+#[tactic(auto, unfolding(crate::specs::Reading::maybe_mark, crate::specs::Reading::mark))]
 fn maybe_mark(text: &str) -> Result<&str, &[u8]>
     ensures { Answers (λ rest. (tt, rest.now)) result (readers.maybe_mark text.now) }
 {
@@ -100,6 +105,7 @@ fn maybe_mark(text: &str) -> Result<&str, &[u8]>
     }
 }
 
+#[tactic(auto, unfolding(crate::specs::Reading::maybe_doctype))]
 fn maybe_doctype(text: &str) -> Result<&str, &[u8]>
     ensures { Answers (λ rest. (tt, rest.now)) result (readers.maybe_doctype text.now) }
 {
@@ -111,6 +117,7 @@ fn maybe_doctype(text: &str) -> Result<&str, &[u8]>
 }
 
 // From the start tag of `html` to its end tag.
+#[tactic(auto, unfolding(crate::specs::Reading::html))]
 fn html(alloc: Global, size: usize, text: &str) -> Result<(Vec<ReadNode>, Vec<PlacedText>, &str), Stop<'_>>
     ensures { Gives (λ h. ((nodes_of h.0.items, sheets_of h.1.items), h.2.now)) result (readers.html size text.now) }
 {
@@ -123,6 +130,7 @@ fn html(alloc: Global, size: usize, text: &str) -> Result<(Vec<ReadNode>, Vec<Pl
 }
 
 // `body` with all that stands in it, and the nodes of the document.
+#[tactic(auto, unfolding(crate::specs::Reading::body))]
 fn body(alloc: Global, size: usize, html: Attributes, text: &str) -> Result<(Vec<ReadNode>, &str), Stop<'_>>
     ensures { Gives (λ b. (nodes_of b.0.items, b.1.now)) result (readers.body size (acting_of html) text.now) }
 {

@@ -15,6 +15,7 @@ use std::alloc::Global;
 use style_types::Letters;
 
 /// The style sheets of the head and what stands behind it, if there is one.
+#[tactic(auto, unfolding(crate::specs::Reading::maybe_head))]
 pub(crate) fn maybe_head(alloc: Global, size: usize, text: &str) -> Result<(Vec<PlacedText>, &str), Stop<'_>>
     ensures { Gives (λ h. (sheets_of h.0.items, h.1.now)) result (readers.maybe_head size text.now) }
 {
@@ -25,6 +26,7 @@ pub(crate) fn maybe_head(alloc: Global, size: usize, text: &str) -> Result<(Vec<
     Ok((sheets, misc("<!", rest)?))
 }
 
+#[tactic(auto, unfolding(crate::specs::Reading::head))]
 fn head(alloc: Global, size: usize, text: &str) -> Result<(Vec<PlacedText>, &str), Stop<'_>>
     ensures { Gives (λ h. (sheets_of h.0.items, h.1.now)) result (readers.head size text.now) }
 {
@@ -33,6 +35,7 @@ fn head(alloc: Global, size: usize, text: &str) -> Result<(Vec<PlacedText>, &str
     Ok((sheets, end_of("head", rest)?))
 }
 
+#[tactic(auto, unfolding(crate::specs::Reading::head_items))]
 fn head_items(alloc: Global, size: usize, text: &str) -> Result<(Vec<PlacedText>, &str), Stop<'_>>
     ensures { Gives (λ h. (sheets_of h.0.items, h.1.now)) result (readers.head_items size text.now) }
 {
@@ -45,6 +48,7 @@ fn head_items(alloc: Global, size: usize, text: &str) -> Result<(Vec<PlacedText>
 }
 
 // What comes next in the head.
+#[tactic(auto, unfolding(crate::specs::Reading::head_turn, crate::specs::Reading::meta, reading::specs::Readers::after))]
 fn head_turn<'a>(alloc: Global, size: usize, sheets: &mut Vec<PlacedText>, text: &'a str) -> Result<&'a str, Stop<'a>>
     ensures { Gives (λ rest. (sheets_of sheets.new.items, rest.now)) result (readers.head_turn size (sheets_of sheets.old.items) text.now) }
 {
@@ -71,6 +75,7 @@ fn ahead(word: &str, text: &str) -> bool
     strip_either_case(word, text).is_ok()
 }
 
+#[tactic(auto, unfolding(crate::specs::Reading::title))]
 fn title(alloc: Global, size: usize, text: &str) -> Result<&str, Stop<'_>>
     ensures { Gives (λ rest. (tt, rest.now)) result (readers.title size text.now) }
 {
@@ -78,6 +83,7 @@ fn title(alloc: Global, size: usize, text: &str) -> Result<&str, Stop<'_>>
     Ok(raw(RawEnd::Title, rest)?.1)
 }
 
+#[tactic(auto, unfolding(crate::specs::Reading::style))]
 fn style(alloc: Global, size: usize, text: &str) -> Result<(PlacedText, &str), Stop<'_>>
     ensures { Gives (λ s. (text_at s.0, s.1.now)) result (readers.style size text.now) }
 {
@@ -86,6 +92,7 @@ fn style(alloc: Global, size: usize, text: &str) -> Result<(PlacedText, &str), S
 }
 
 // The text of a style sheet up to its end tag.
+#[tactic(auto, unfolding(crate::specs::Reading::sheet))]
 fn sheet(alloc: Global, size: usize, text: &str) -> Result<(PlacedText, &str), Stop<'_>>
     ensures { Gives (λ s. (text_at s.0, s.1.now)) result (readers.sheet size text.now) }
 {

@@ -1,6 +1,6 @@
 //! What the attributes of a tag say.
 
-ghost use Rattle.std.specs.Prelude.{◌≡◌, IfOk, map};
+ghost use Rattle.std.specs.Prelude.{◌≡◌, IfOk, map, bytes_eq};
 ghost use Rattle.std.specs.String.{string_bytes};
 ghost use Rattle.reading.specs.Readers as reading;
 ghost use Rattle.html_read.specs.Characters.{lowered, role_of};
@@ -13,14 +13,16 @@ use crate::attribute::{ATTRIBUTES, Role};
 use crate::attributes::WrittenAttribute;
 use crate::error::{Refusal, Stop};
 use crate::node::{Attributes, PlacedText};
+use crate::table::{named, same_name};
 use reading::starts;
 use std::alloc::Global;
 use style_types::{LetterList, Letters};
 use wm_modes::Direction;
 
 /// What the attributes say, from left to right. Places are counted in an input of `size` bytes.
+#[tactic(auto, unfolding(crate::specs::Judging::judged))]
 pub(crate) fn judged<'a>(alloc: Global, size: usize, attributes: Vec<WrittenAttribute<'a>>) -> Result<Attributes, Stop<'a>>
-    ensures { Gives acting_of result (judging.judged size (map attribute_of attributes.items)) }
+    ensures { Gives acting_of result (judging.judged size (map attribute_of attributes.entry.items)) }
 {
     let mut said = Attributes {
         id: None,
@@ -43,12 +45,16 @@ pub(crate) fn judged<'a>(alloc: Global, size: usize, attributes: Vec<WrittenAttr
 fn has_name(name: &str, seen: &[&str]) -> bool
     ensures { result ≡ judging.has_name (lowered name.now) (names_of seen.now) }
 {
-    seen.iter().any(|other| other.eq_ignore_ascii_case(name))
+    seen.iter().any(
+        |other| -> bool
+            ensures { result ≡ bytes_eq (lowered other.now.now) (lowered name.now) }
+        { same_name(other, name) },
+    )
 }
 
 // What this attribute says, too.
 fn with_attribute<'a>(alloc: Global, size: usize, attribute: WrittenAttribute<'a>, said: &mut Attributes) -> Result<(), Stop<'a>>
-    ensures { Gives (λ u. acting_of said.new) result (judging.with_attribute size (role_of (attribute_of attribute).name) (attribute_of attribute) (acting_of said.old)) }
+    ensures { Gives (λ u. acting_of said.new) result (judging.with_attribute size (role_of (attribute_of attribute.entry).name) (attribute_of attribute.entry) (acting_of said.old)) }
 {
     match role_of(attribute.name) {
         None => return Err(Stop::Refused(Refusal::UnknownAttribute, attribute.left.as_bytes())),
@@ -70,14 +76,14 @@ fn with_attribute<'a>(alloc: Global, size: usize, attribute: WrittenAttribute<'a
 }
 
 // What an attribute of this name is for.
+#[tactic(auto, unfolding(crate::specs::Characters::role_of, reading::specs::Readers::starts))]
 fn role_of(name: &str) -> Option<Role>
     ensures { result ≡ role_of (lowered name.now) }
 {
     if begins("data-", name) || begins("aria-", name) {
         return Some(Role::Ignored);
     }
-    let row = ATTRIBUTES.iter().find(|row| row.0.eq_ignore_ascii_case(name))?;
-    Some(row.1)
+    named(&ATTRIBUTES, name)
 }
 
 fn begins(word: &str, name: &str) -> bool
@@ -86,12 +92,13 @@ fn begins(word: &str, name: &str) -> bool
     reading::strip_either_case(word, name).is_ok()
 }
 
+#[tactic(auto, unfolding(crate::specs::Judging::direction_of))]
 fn direction_of(value: &str) -> Option<Direction>
     ensures { result ≡ judging.direction_of value.now }
 {
-    if value.eq_ignore_ascii_case("ltr") {
+    if same_name(value, "ltr") {
         Some(Direction::Ltr)
-    } else if value.eq_ignore_ascii_case("rtl") {
+    } else if same_name(value, "rtl") {
         Some(Direction::Rtl)
     } else {
         None

@@ -19,7 +19,7 @@ pub(crate) fn front_of<'a>(text: &'a str, rest: &str) -> &'a str
     text.split_at(text.len() - rest.len()).0
 }
 
-/// What stands behind white space.
+#[tactic(auto, unfolding(crate::specs::Lexing::spaces, reading::specs::Readers::skip))]
 pub(crate) fn spaces(text: &str) -> &str
     ensures read { readers.spaces text.now ≡ Ok (tt, result.now) }
     ensures shorter { length result.now ≤ length text.now }
@@ -35,6 +35,7 @@ pub(crate) fn spaces(text: &str) -> &str
 }
 
 /// White space, one character of it.
+#[tactic(auto, unfolding(crate::specs::Lexing::white, reading::specs::Readers::one_of))]
 pub(crate) fn white(text: &str) -> Result<&str, &[u8]>
     ensures read { Answers (λ rest. (tt, rest.now)) result (readers.white text.now) }
     ensures shorter { IfOk result (λ rest. length rest.now < length text.now) }
@@ -46,13 +47,18 @@ pub(crate) fn white(text: &str) -> Result<&str, &[u8]>
 }
 
 /// Does white space come next?
+#[tactic(auto, using(crate::proofs::Runs::no_white))]
 pub(crate) fn white_ahead(text: &str) -> bool
     ensures { result ≡ reading.next_is is_white text.now }
 {
-    white(text).is_ok()
+    match first(text) {
+        Some((byte, _)) => byte.is_ascii_whitespace(),
+        None => false,
+    }
 }
 
 /// A name as it is written.
+#[tactic(auto, unfolding(crate::specs::Lexing::name, reading::specs::Readers::one_of), using(crate::proofs::Runs::ends_behind, crate::proofs::Runs::name_read))]
 pub(crate) fn name(text: &str) -> Result<(&str, &str), &[u8]>
     ensures read { Answers (λ n. (lowered n.0.now, n.1.now)) result (readers.name text.now) }
     ensures shorter { IfOk result (λ n. length n.1.now < length text.now) }
@@ -68,6 +74,7 @@ pub(crate) fn name(text: &str) -> Result<(&str, &str), &[u8]>
 }
 
 // What stands behind the bytes that a name may go on with.
+#[tactic(auto, using(crate::proofs::Runs::running_starts, crate::proofs::Runs::running_goes_on, crate::proofs::Runs::running_stops, crate::proofs::Runs::running_ends))]
 fn name_end(text: &str) -> &str
     ensures { ReadsFront (reading.run_of is_name_byte text.now) text.now result.now }
 {
@@ -88,6 +95,7 @@ fn is_name_byte(byte: u8) -> bool
 }
 
 /// A comment.
+#[tactic(auto, unfolding(crate::specs::Lexing::comment, reading::specs::Readers::after))]
 pub(crate) fn comment(text: &str) -> Result<&str, &[u8]>
     ensures read { Answers (λ rest. (tt, rest.now)) result (readers.comment text.now) }
     ensures shorter { IfOk result (λ rest. length rest.now < length text.now) }
@@ -97,6 +105,7 @@ pub(crate) fn comment(text: &str) -> Result<&str, &[u8]>
 }
 
 /// White space and comments, where a comment begins with `mark`.
+#[tactic(auto, unfolding(crate::specs::Lexing::misc))]
 pub(crate) fn misc<'a>(mark: &str, text: &'a str) -> Result<&'a str, &'a [u8]>
     ensures read { Answers (λ rest. (tt, rest.now)) result (readers.misc mark.now text.now) }
 {
@@ -107,6 +116,7 @@ pub(crate) fn misc<'a>(mark: &str, text: &'a str) -> Result<&'a str, &'a [u8]>
     Ok(rest)
 }
 
+#[tactic(auto, unfolding(crate::specs::Lexing::misc_piece))]
 fn misc_piece(text: &str) -> Result<&str, &[u8]>
     ensures read { Answers (λ rest. ([], rest.now)) result (readers.misc_piece text.now) }
     ensures shorter { IfOk result (λ rest. length rest.now < length text.now) }
@@ -119,6 +129,7 @@ fn misc_piece(text: &str) -> Result<&str, &[u8]>
 }
 
 /// The doctype.
+#[tactic(auto, unfolding(crate::specs::Lexing::doctype))]
 pub(crate) fn doctype(text: &str) -> Result<&str, &[u8]>
     ensures { Answers (λ rest. (tt, rest.now)) result (readers.doctype text.now) }
 {
@@ -129,6 +140,7 @@ pub(crate) fn doctype(text: &str) -> Result<&str, &[u8]>
 }
 
 /// The end of a start tag. Where `slash` says so a `/` may stand before the `>`.
+#[tactic(auto, unfolding(crate::specs::Lexing::tag_end))]
 pub(crate) fn tag_end(slash: bool, text: &str) -> Result<&str, &[u8]>
     ensures { Answers (λ rest. (tt, rest.now)) result (readers.tag_end slash text.now) }
 {
@@ -140,6 +152,7 @@ pub(crate) fn tag_end(slash: bool, text: &str) -> Result<&str, &[u8]>
 }
 
 /// The end tag of this name, in either case.
+#[tactic(auto, unfolding(crate::specs::Lexing::end_of))]
 pub(crate) fn end_of<'a>(word: &str, text: &'a str) -> Result<&'a str, &'a [u8]>
     ensures read { Answers (λ rest. (tt, rest.now)) result (readers.end_of word.now text.now) }
 {
@@ -149,6 +162,7 @@ pub(crate) fn end_of<'a>(word: &str, text: &'a str) -> Result<&'a str, &'a [u8]>
 }
 
 /// An end tag, as its name.
+#[tactic(auto, unfolding(crate::specs::Lexing::end_name))]
 pub(crate) fn end_name(text: &str) -> Result<(&str, &str), &[u8]>
     ensures read { Answers (λ n. (lowered n.0.now, n.1.now)) result (readers.end_name text.now) }
 {

@@ -13,6 +13,7 @@ mod lexing;
 mod node;
 mod raw;
 mod reference;
+mod table;
 mod tag;
 mod tags;
 mod tail;

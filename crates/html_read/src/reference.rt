@@ -4,13 +4,14 @@ ghost use Rattle.std.specs.Prelude.{◌≡◌, ◌≤◌, ◌<◌, ◌+◌, ◌*
 ghost use Rattle.std.specs.Char.{digit_value};
 ghost use Rattle.reading.specs.Readers as reading;
 ghost use Rattle.reading.specs.Readers.{Answers};
-ghost use Rattle.html_read.specs.Characters.{entities};
+ghost use Rattle.html_read.specs.Characters.{entities, words_of};
 ghost use Rattle.html_read.specs.Lexing as readers;
 
 use crate::entity::ENTITIES;
 use reading::{first, starts, strip};
 
 /// A reference, as the character that it means.
+#[tactic(auto, unfolding(crate::specs::Lexing::reference))]
 pub(crate) fn reference(text: &str) -> Result<(char, &str), &[u8]>
     ensures read { Answers (λ c. (c.0, c.1.now)) result (readers.reference text.now) }
     ensures shorter { IfOk result (λ c. length c.1.now < length text.now) }
@@ -23,12 +24,20 @@ pub(crate) fn reference(text: &str) -> Result<(char, &str), &[u8]>
     }
 }
 
-// The name of a reference. Where it is none, what is left behind the longest front of one.
+// The name of a reference.
+#[tactic(auto, unfolding(crate::specs::Characters::entities))]
 fn entity(text: &str) -> Result<(char, &str), &[u8]>
     ensures { Answers (λ c. (c.0, c.1.now)) result (reading.one_word entities text.now) }
 {
+    one_word(&ENTITIES, text)
+}
+
+// One of the names of the table. Where it is none, what is left behind the longest front of one.
+fn one_word<'a>(table: &[(&str, char)], text: &'a str) -> Result<(char, &'a str), &'a [u8]>
+    ensures { Answers (λ c. (c.0, c.1.now)) result (reading.one_word (words_of table.now) text.now) }
+{
     let mut best = text.as_bytes();
-    for (name, meaning) in &ENTITIES {
+    for (name, meaning) in table {
         match strip(name, text) {
             Ok(rest) => return Ok((*meaning, rest)),
             Err(left) => best = shorter_of(best, left),
@@ -44,6 +53,7 @@ fn shorter_of<'a>(best: &'a [u8], left: &'a [u8]) -> &'a [u8]
 }
 
 // A number behind `#`.
+#[tactic(auto, unfolding(crate::specs::Lexing::number_reference, reading::specs::Readers::one_of))]
 fn number_reference(text: &str) -> Result<(char, &str), &[u8]>
     ensures { Answers (λ c. (c.0, c.1.now)) result (readers.number_reference text.now) }
 {
@@ -55,6 +65,7 @@ fn number_reference(text: &str) -> Result<(char, &str), &[u8]>
 }
 
 // One to `most` digits of the base, and `;`.
+#[tactic(auto, unfolding(crate::specs::Lexing::scalar_number, reading::specs::Readers::one_of))]
 fn scalar_number(base: u32, most: u32, text: &str) -> Result<(char, &str), &[u8]>
     requires base { base ≤ 16 }
     requires most { 0 < most }
@@ -72,6 +83,7 @@ fn scalar_number(base: u32, most: u32, text: &str) -> Result<(char, &str), &[u8]
 }
 
 // At most `most` digits more behind those that stand for `value`, and `;`.
+#[tactic(auto, unfolding(crate::specs::Lexing::number_from))]
 fn number_from(base: u32, most: u32, value: u32, text: &str) -> Result<(char, &str), &[u8]>
     requires base { base ≤ 16 }
     requires value { value ≤ 0x10FFFF }
@@ -107,6 +119,7 @@ fn next_value(base: u32, left: u32, value: u32, byte: u8) -> Option<u32>
     }
 }
 
+#[tactic(auto, unfolding(crate::specs::Lexing::number_end))]
 fn number_end(value: u32, text: &str) -> Result<(char, &str), &[u8]>
     ensures { Answers (λ c. (c.0, c.1.now)) result (readers.number_end value text.now) }
 {

@@ -12,6 +12,7 @@ use crate::error::{Refusal, Stop};
 use crate::judging::judged;
 use crate::lexing::{end_name, name, tag_end};
 use crate::node::Attributes;
+use crate::table::{named, same_name};
 use crate::tag::{TAGS, Tag};
 use reading::{strip, strip_either_case};
 use std::alloc::Global;
@@ -25,6 +26,7 @@ pub(crate) struct Start<'a> {
 }
 
 /// The start tag of this word, which begins with `<`: wholly read, and then judged.
+#[tactic(auto, unfolding(crate::specs::Reading::start_of, crate::specs::Reading::tag_behind))]
 pub(crate) fn start_of<'a>(alloc: Global, size: usize, word: &str, slash: bool, text: &'a str) -> Result<(Attributes, &'a str), Stop<'a>>
     ensures { Gives (λ r. (acting_of r.0, r.1.now)) result (readers.start_of size word.now slash text.now) }
 {
@@ -35,6 +37,7 @@ pub(crate) fn start_of<'a>(alloc: Global, size: usize, word: &str, slash: bool, 
 }
 
 /// A start tag in `body`: wholly read, and then its name and its attributes judged.
+#[tactic(auto, unfolding(crate::specs::Reading::start_tag, reading::specs::Readers::after))]
 pub(crate) fn start_tag(alloc: Global, size: usize, text: &str) -> Result<(Start<'_>, &str), Stop<'_>>
     ensures { Gives (λ r. (start_of r.0, r.1.now)) result (readers.start_tag size text.now) }
 {
@@ -55,27 +58,29 @@ pub(crate) fn start_tag(alloc: Global, size: usize, text: &str) -> Result<(Start
 }
 
 /// The end tag of an element of this name: wholly read, and then its name judged.
-pub(crate) fn end_tag<'a>(open: &str, text: &'a str) -> Result<&'a str, Stop<'a>>
-    ensures { Gives (λ rest. (tt, rest.now)) result (readers.end_tag (lowered open.now) text.now) }
+#[tactic(auto, unfolding(crate::specs::Reading::end_tag))]
+pub(crate) fn end_tag<'a>(open_name: &str, text: &'a str) -> Result<&'a str, Stop<'a>>
+    ensures { Gives (λ rest. (tt, rest.now)) result (readers.end_tag (lowered open_name.now) text.now) }
 {
     let (name, rest) = end_name(text)?;
-    if !name.eq_ignore_ascii_case(open) {
+    if !same_name(name, open_name) {
         return Err(Stop::Refused(Refusal::Nesting, text.as_bytes()));
     }
     Ok(rest)
 }
 
 /// `br` has no end tag.
+#[tactic(auto, unfolding(crate::specs::Characters::is_void))]
 pub(crate) fn is_void(name: &str) -> bool
     ensures { result ≡ is_void (lowered name.now) }
 {
-    name.eq_ignore_ascii_case("br")
+    same_name(name, "br")
 }
 
 // The tag of a name that may stand in the body.
+#[tactic(auto, unfolding(crate::specs::Characters::tag_named))]
 fn tag_named(name: &str) -> Option<Tag>
     ensures { result ≡ tag_named (lowered name.now) }
 {
-    let row = TAGS.iter().find(|row| row.0.eq_ignore_ascii_case(name))?;
-    Some(row.1)
+    named(&TAGS, name)
 }

@@ -30,6 +30,7 @@ pub fn read_tail(bytes: &[u8], end: usize, script: bool) -> Result<usize, HtmlEr
     }
 }
 
+#[tactic(auto, unfolding(crate::specs::Reading::tail))]
 fn tail(script: bool, text: &str) -> Result<&str, &[u8]>
     ensures { Answers (λ rest. (tt, rest.now)) result (readers.tail script text.now) }
 {
@@ -41,6 +42,7 @@ fn tail(script: bool, text: &str) -> Result<&str, &[u8]>
 }
 
 // What stands behind spaces, tabs and CR.
+#[tactic(auto, unfolding(reading::specs::Readers::skip))]
 fn blanks(text: &str) -> &str
     ensures { reading.skip readers.is_blank text.now ≡ Ok (tt, result.now) }
 {

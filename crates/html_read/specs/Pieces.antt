@@ -1,0 +1,44 @@
+-- Loops that read a text by pieces of more than one turn: whatever the turns come to from here, they come to from there.
+use Rattle.std.specs.Prelude.{◌≡◌, ℕ, List, [], ◌∷◌, ◌++◌, Result, Ok, Err, Bool, false, ◌==◌, ⊤}
+use denote.Bor.{Bor}
+use Rattle.reading.specs.Readers.{ReadOr, mapped}
+use Rattle.reading.proofs.Turns.{IsTurning}
+use Rattle.html_read.specs.declared.error.Stop.{Stop}
+use Rattle.html_read.specs.Faults.{Fault, Judged, Stops, spelled}
+use Rattle.html_read.specs.Lexing.{is_plain}
+
+-- the turns that read a text by its pieces
+abbrev pub joining : Judged (List ℕ) → List ℕ → Judged (List ℕ)
+joining f text = mapped (λ piece. text ++ piece) f
+
+abbrev pub IsJoining : (test : List ℕ → Bool) → Judged (List ℕ) → ReadOr Fault (List ℕ) → (text rest : List ℕ) → Type 0
+IsJoining test f total text rest = IsTurning (λ so_far bytes. test bytes) (joining f) total text rest
+
+-- a piece of the text was read, and put behind the letters; or reading stopped
+abbrev pub Joins : (test : List ℕ → Bool) → Judged (List ℕ) → (old new text : List ℕ) → Result (Bor (List ℕ)) Stop → Type 0
+Joins test f old new text (Ok rest) = (total : ReadOr Fault (List ℕ)) → IsJoining test f total old text → IsJoining test f total new rest.now
+Joins test f old new text (Err stop) = (total : ReadOr Fault (List ℕ)) → IsJoining test f total old text → Stops stop total
+
+-- the same for a run of pieces that stand for themselves
+abbrev pub JoinsRun : (test : List ℕ → Bool) → Judged (List ℕ) → (text rest : List ℕ) → Type 0
+JoinsRun test f text rest = (front : List ℕ) × (text ≡ front ++ rest)
+    × ((total : ReadOr Fault (List ℕ)) (so_far : List ℕ) → IsJoining test f total so_far text → IsJoining test f total (so_far ++ front) rest)
+
+abbrev pub RunsOrStops : (test : List ℕ → Bool) → Judged (List ℕ) → (text : List ℕ) → Result (Bor (List ℕ)) Stop → Type 0
+RunsOrStops test f text (Ok rest) = JoinsRun test f text rest.now
+RunsOrStops test f text (Err stop) = (total : ReadOr Fault (List ℕ)) (so_far : List ℕ) → IsJoining test f total so_far text → Stops stop total
+
+-- the reader's piece was put behind the letters
+abbrev pub PutsPiece : Judged (List ℕ) → (old new text : List ℕ) → Result (Bor (List ℕ)) Stop → Type 0
+PutsPiece f old new text (Ok rest) = (piece : List ℕ) × (f text ≡ Ok (piece, rest.now)) × (new ≡ old ++ piece)
+PutsPiece f old new text (Err stop) = Stops stop (f text)
+
+-- a byte comes next that is neither `<` nor `&`
+abbrev pub IsLetterNext : List ℕ → Type 0
+IsLetterNext [] = ⊥
+IsLetterNext (byte ∷ bytes) = ((byte == 60) ≡ false) × ((byte == 38) ≡ false)
+
+-- the end of the text, the quote or `&` comes next
+abbrev pub IsPlainEnd : (quote : ℕ) → List ℕ → Type 0
+IsPlainEnd quote [] = ⊤
+IsPlainEnd quote (byte ∷ bytes) = is_plain quote byte ≡ false
