@@ -9,16 +9,16 @@ use Rattle.html_read.specs.Lexing.{name}
 use Rattle.html_read.specs.Cuts.{EndsWith, ReadsFront}
 
 -- a front before the bytes that are read
-pub with_front : List ℕ → Read (List ℕ) → Read (List ℕ)
+unfoldable pub with_front : List ℕ → Read (List ℕ) → Read (List ℕ)
 with_front front (Ok x) = Ok (front ++ x.0, x.1)
 with_front front (Err left) = Err left
 
-no_front : (r : Read (List ℕ)) → with_front [] r ≡ r
+pub no_front : (r : Read (List ℕ)) → with_front [] r ≡ r
 unfolding with_front
 no_front (Ok x) = refl
 no_front (Err left) = refl
 
-longer_front : (front : List ℕ) (byte : ℕ) (r : Read (List ℕ)) → with_front front (with_byte byte r) ≡ with_front (front ++ byte ∷ []) r
+pub longer_front : (front : List ℕ) (byte : ℕ) (r : Read (List ℕ)) → with_front front (with_byte byte r) ≡ with_front (front ++ byte ∷ []) r
 unfolding with_front
 longer_front front byte (Ok x) = ap (λ (run : List ℕ). Ok (run, x.1)) (sym (append_assoc front (byte ∷ []) x.0))
 longer_front front byte (Err left) = refl
@@ -54,7 +54,7 @@ front_nil : (front rest : List ℕ) → with_front front (Ok ([], rest)) ≡ Ok 
 unfolding with_front
 front_nil front rest = refl
 
-append_none : (xs : List ℕ) → xs ++ [] ≡ xs
+pub append_none : (xs : List ℕ) → xs ++ [] ≡ xs
 append_none [] = refl
 append_none (x ∷ xs) = ap (λ (r : List ℕ). x ∷ r) (append_none xs)
 

@@ -27,13 +27,23 @@ is_name_byte byte = is_ascii_alphanumeric byte || byte == 45 || byte == 95
 abbrev pub lowered : List ℕ → List ℕ
 lowered = map to_ascii_lowercase
 
+-- a table of the code, by its words
+abbrev pub words_of : {T : Type 0} → List (Bor (List ℕ) × T) → List (List ℕ × T)
+words_of table = map (λ row. (row.0.now, row.1)) table
+
 -- what a table has for a name
-abbrev pub named : {T : Type 0} → List (Bor (List ℕ) × T) → List ℕ → Option T
-named table name = option_map (λ row. row.1) (find (λ row. bytes_eq (lowered row.0.now) name) table)
+abbrev pub named : {T : Type 0} → List (List ℕ × T) → List ℕ → Option T
+named table name = option_map (λ row. row.1) (find (λ row. bytes_eq (lowered row.0) name) table)
+
+unfoldable pub tags : List (List ℕ × Tag)
+tags = map (λ row. (row.0.now, row.1)) TAGS
+
+unfoldable pub roles : List (List ℕ × Role)
+roles = map (λ row. (row.0.now, row.1)) ATTRIBUTES
 
 -- the tag of a name that may stand in the body
 unfoldable pub tag_named : List ℕ → Option Tag
-tag_named name = named TAGS name
+tag_named name = named tags name
 
 -- `br` has no end tag
 unfoldable pub is_void : List ℕ → Bool
@@ -43,14 +53,11 @@ is_void name = bytes_eq name (codes "br")
 unfoldable pub role_of : List ℕ → Option Role
 role_of name =
     if starts (codes "data-") name || starts (codes "aria-") name then Some Ignored
-    else named ATTRIBUTES name
+    else named roles name
 
 -- the names of references, with the characters that they mean
-abbrev pub words_of : {T : Type 0} → List (Bor (List ℕ) × T) → List (List ℕ × T)
-words_of table = map (λ row. (row.0.now, row.1)) table
-
 unfoldable pub entities : List (List ℕ × ℕ)
-entities = words_of ENTITIES
+entities = map (λ row. (row.0.now, row.1)) ENTITIES
 
 -- whether the character may stand in a text
 unfoldable pub in_repertoire : ℕ → Bool

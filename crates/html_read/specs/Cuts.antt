@@ -1,6 +1,7 @@
 -- A text cut in two.
-use Rattle.std.specs.Prelude.{◌≡◌, ℕ, List, ◌++◌, Result, Ok}
-use Rattle.reading.specs.Readers.{Read}
+use Rattle.std.specs.Prelude.{◌≡◌, ℕ, Bool, false, List, ◌++◌, take, drop, Option, Some, None, Result, Ok, ⊤}
+use denote.Bor.{Bor}
+use Rattle.reading.specs.Readers.{Read, Reader, can_read}
 
 -- the text ends so
 abbrev pub EndsWith : (text rest : List ℕ) → Type 0
@@ -9,3 +10,8 @@ EndsWith text rest = (front : List ℕ) × (text ≡ front ++ rest)
 -- what is read is what stands before the rest
 abbrev pub ReadsFront : Read (List ℕ) → (text rest : List ℕ) → Type 0
 ReadsFront read text rest = (front : List ℕ) × (read ≡ Ok (front, rest)) × (text ≡ front ++ rest)
+
+-- what f reads can be read at this place of the text: what stands before it and what stands behind it
+abbrev pub EndsHere : Reader ⊤ → (text : List ℕ) → (at : ℕ) → Option (Bor (List ℕ) × Bor (List ℕ)) → Type 0
+EndsHere f text at None = can_read f (drop at text) ≡ false
+EndsHere f text at (Some r) = (f (drop at text) ≡ Ok (tt, r.1.now)) × (r.0.now ≡ take at text)

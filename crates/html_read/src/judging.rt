@@ -76,7 +76,7 @@ fn with_attribute<'a>(alloc: Global, size: usize, attribute: WrittenAttribute<'a
 }
 
 // What an attribute of this name is for.
-#[tactic(auto, unfolding(crate::specs::Characters::role_of, reading::specs::Readers::starts))]
+#[tactic(auto, unfolding(crate::specs::Characters::role_of, crate::specs::Characters::roles, reading::specs::Readers::starts))]
 fn role_of(name: &str) -> Option<Role>
     ensures { result ≡ role_of (lowered name.now) }
 {

@@ -58,7 +58,7 @@ pub(crate) fn white_ahead(text: &str) -> bool
 }
 
 /// A name as it is written.
-#[tactic(auto, unfolding(crate::specs::Lexing::name, reading::specs::Readers::one_of), using(crate::proofs::Runs::ends_behind, crate::proofs::Runs::name_read))]
+#[tactic(auto, unfolding(crate::specs::Lexing::name, reading::specs::Readers::one_of), using(crate::proofs::Runs::ends_behind, crate::proofs::Runs::name_read, crate::proofs::Runs::no_name))]
 pub(crate) fn name(text: &str) -> Result<(&str, &str), &[u8]>
     ensures read { Answers (λ n. (lowered n.0.now, n.1.now)) result (readers.name text.now) }
     ensures shorter { IfOk result (λ n. length n.1.now < length text.now) }

@@ -1,7 +1,8 @@
 //! Characters that may be any, up to the first place where their end can be read.
 
-ghost use Rattle.std.specs.Prelude.{◌≡◌, ◌≤◌, length, IfOk};
+ghost use Rattle.std.specs.Prelude.{◌≡◌, ◌≤◌, ◌<◌, length, IfOk, IfSome};
 ghost use Rattle.reading.specs.Readers.{Answers};
+ghost use Rattle.html_read.specs.Cuts.{EndsHere};
 ghost use Rattle.html_read.specs.Lexing as readers;
 
 use crate::lexing::end_of;
@@ -16,27 +17,38 @@ pub enum RawEnd {
 }
 
 /// The characters, and what stands behind their end.
+#[tactic(auto, using(crate::proofs::Seeking::at_start, crate::proofs::Seeking::at_not_here, crate::proofs::Seeking::at_here, crate::proofs::Seeking::at_nothing))]
 pub(crate) fn raw(end: RawEnd, text: &str) -> Result<(&str, &str), &[u8]>
     ensures read { Answers (λ r. (r.0.now, r.1.now)) result (readers.raw end text.now) }
     ensures shorter { IfOk result (λ r. length r.1.now ≤ length text.now) }
 {
-    let bytes = text.as_bytes();
-    let mark = first_byte(end);
-    let mut at = 0;
-    while at < bytes.len() {
-        if bytes[at] == mark {
-            let (inside, here) = text.split_at(at);
-            if let Ok(rest) = raw_end(end, here) {
-                return Ok((inside, rest));
-            }
+    for at in 0..text.len() {
+        if let Some(found) = end_at(end, text, at) {
+            return Ok(found);
         }
-        at += 1;
     }
-    Err(&bytes[at..])
+    Err(text.as_bytes().split_at(text.len()).1)
+}
+
+// The characters before this place and what stands behind their end, where it can be read here.
+fn end_at(end: RawEnd, text: &str, at: usize) -> Option<(&str, &str)>
+    requires { at < length text.now }
+    ensures read { EndsHere (readers.raw_end end) text.now at result }
+    ensures shorter { IfSome result (λ r. length r.1.now ≤ length text.now) }
+{
+    if text.as_bytes()[at] != first_byte(end) {
+        return None;
+    }
+    let (inside, here) = text.split_at(at);
+    match raw_end(end, here) {
+        Ok(rest) => Some((inside, rest)),
+        Err(_) => None,
+    }
 }
 
 fn raw_end(end: RawEnd, text: &str) -> Result<&str, &[u8]>
     ensures read { Answers (λ rest. (tt, rest.now)) result (readers.raw_end end text.now) }
+    ensures shorter { IfOk result (λ rest. length rest.now ≤ length text.now) }
 {
     match end {
         RawEnd::Comment => strip("-->", text),

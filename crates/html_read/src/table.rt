@@ -1,18 +1,19 @@
 //! Tables of names.
 
 ghost use Rattle.std.specs.Prelude.{◌≡◌, bytes_eq};
-ghost use Rattle.html_read.specs.Characters.{lowered, named};
+ghost use Rattle.html_read.specs.Characters.{lowered, named, words_of};
 
 /// What the table has for a name, in either case.
+#[tactic(auto, using(crate::proofs::Tables::here, crate::proofs::Tables::further, crate::proofs::Tables::nowhere))]
 pub(crate) fn named<T: Copy>(table: &[(&str, T)], name: &str) -> Option<T>
-    ensures { result ≡ named table.now (lowered name.now) }
+    ensures { result ≡ named (words_of table.now) (lowered name.now) }
 {
-    let row = table.iter().find(
-        |row| -> bool
-            ensures { result ≡ bytes_eq (lowered row.now.now.0.now) (lowered name.now) }
-        { same_name(row.0, name) },
-    )?;
-    Some(row.1)
+    for (other, value) in table {
+        if same_name(other, name) {
+            return Some(*value);
+        }
+    }
+    None
 }
 
 /// Are the names one, in either case?

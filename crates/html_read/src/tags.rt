@@ -78,7 +78,7 @@ pub(crate) fn is_void(name: &str) -> bool
 }
 
 // The tag of a name that may stand in the body.
-#[tactic(auto, unfolding(crate::specs::Characters::tag_named))]
+#[tactic(auto, unfolding(crate::specs::Characters::tag_named, crate::specs::Characters::tags))]
 fn tag_named(name: &str) -> Option<Tag>
     ensures { result ≡ tag_named (lowered name.now) }
 {
