@@ -1,3 +1,5 @@
+mod Miscellany
+mod Numbers
 mod Runs
 mod Seeking
 mod Tables

@@ -1,8 +1,9 @@
 -- Runs of bytes, as loops read them one by one.
-use Rattle.std.proofs.Common.{◌≡◌, ℕ, ◌<◌, ◌≤◌, ◌+◌, ◌-◌, None, Bool, true, false, cond, List, [], ◌∷◌, ◌++◌, length, Ok, Err, refl, sym, ap, ◌∙◌, append_assoc, length-append, arith}
+use Rattle.std.proofs.Common.{◌≡◌, ℕ, ◌<◌, ◌≤◌, ◌+◌, ◌-◌, None, Bool, true, false, cond, List, [], ◌∷◌, ◌++◌, length, codes, Ok, Err, refl, sym, ap, ◌∙◌, append_assoc, length-append, arith}
 use Rattle.std.proofs.lemmas.Str.{IsCharBoundary-at_seam}
+use Rattle.reading.proofs.SpellLaws.{strip_spells}
 use Rattle.std.specs.Str.{IsUtf8, IsCharBoundary}
-use Rattle.reading.specs.Readers.{Read, run_of, one_of, next_is, with_byte, IsAsciiFirst}
+use Rattle.reading.specs.Readers.{Read, run_of, one_of, next_is, strip, with_byte, IsAsciiFirst}
 use Rattle.std.proofs.lemmas.List.{append_cancel_right}
 use Rattle.html_read.specs.Characters.{is_white, is_name_byte, is_letter, lowered}
 use Rattle.html_read.specs.Lexing.{name}
@@ -123,3 +124,15 @@ wide_white byte le = grind arith
 pub no_white : (text : List ℕ) → IsAsciiFirst None text → next_is is_white text ≡ false
 no_white [] none = refl
 no_white (byte ∷ after) none = wide_white byte none
+
+-- ---- comments
+
+pub strip_shortens : (word text rest : List ℕ) → strip word text ≡ Ok (tt, rest) → length text ≡ length word + length rest
+strip_shortens word text rest e =
+    let t = (strip_spells word).takes text tt rest e in
+    ap length (t.2 ∙ ap (λ (w : List ℕ). w ++ rest) t.1) ∙ length-append word rest
+
+pub comment_shorter : (text inside rest : List ℕ) → strip (codes "<!--") text ≡ Ok (tt, inside) → length rest ≤ length inside → length rest < length text
+comment_shorter text inside rest e le =
+    let long : length text ≡ 4 + length inside = strip_shortens (codes "<!--") text inside e in
+    omega arith

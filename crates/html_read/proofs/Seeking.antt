@@ -3,6 +3,8 @@ use Rattle.std.proofs.Common.{◌≡◌, ℕ, ◌<◌, ◌≤◌, ◌+◌, Bool,
 use denote.Bor.{Bor}
 use Rattle.std.specs.Prelude.{⊤, Result, Some, None}
 use Rattle.html_read.specs.Cuts.{EndsHere}
+use Rattle.std.proofs.lemmas.Bool.{ne_eqb}
+use Rattle.std.proofs.Common.{slice_index_or}
 use Rattle.std.proofs.lemmas.List.{drop_all, take_more}
 use Rattle.reading.specs.Readers.{Read, ◌>>=◌, follow, mapped, until, with_byte, can_read, up_to, strip}
 use Rattle.html_read.specs.declared.raw.RawEnd.{RawEnd}
@@ -131,3 +133,7 @@ at_nothing end_ text at now le =
     let none : drop at text ≡ [] = drop_all at text le in
     let here : IsSeeking (can_read (raw_end end_)) text (take at text) [] = subst (λ (r : List ℕ). IsSeeking (can_read (raw_end end_)) text (take at text) r) none now.seeking in
     rw none (raw_none end_ text [] (missed (can_read (raw_end end_)) text (take at text) here (end_none end_)))
+
+pub not_begun : (end_ : RawEnd) (text bytes : List ℕ) (at mark : ℕ) → bytes ≡ text → mark ≡ raw_mark end_ → at < length text → (slice_index_or bytes at 0 ≡ mark → ⊥) → can_read (raw_end end_) (drop at text) ≡ false
+not_begun end_ text bytes at mark same is lt n =
+    other_here end_ text at lt (ne_eqb (get_or text at 0) (raw_mark end_) (λ e. n (rw (same, is) e)))

@@ -1,11 +1,12 @@
 -- Loops that read a text by pieces of more than one turn: whatever the turns come to from here, they come to from there.
-use Rattle.std.specs.Prelude.{◌≡◌, ℕ, List, [], ◌∷◌, ◌++◌, Result, Ok, Err, Bool, false, ◌==◌, ⊤}
+use Rattle.std.specs.Prelude.{◌≡◌, ℕ, List, [], ◌∷◌, ◌++◌, ◌+◌, ◌*◌, Option, Some, None, Result, Ok, Err, Bool, false, ◌==◌, ⊤}
+use Rattle.std.specs.Char.{digit_value}
 use denote.Bor.{Bor}
-use Rattle.reading.specs.Readers.{ReadOr, mapped}
+use Rattle.reading.specs.Readers.{ReadOr, mapped, next_is}
 use Rattle.reading.proofs.Turns.{IsTurning}
 use Rattle.html_read.specs.declared.error.Stop.{Stop}
 use Rattle.html_read.specs.Faults.{Fault, Judged, Stops, spelled}
-use Rattle.html_read.specs.Lexing.{is_plain}
+use Rattle.html_read.specs.Lexing.{is_plain, may_follow}
 
 -- the turns that read a text by its pieces
 abbrev pub joining : Judged (List ℕ) → List ℕ → Judged (List ℕ)
@@ -42,3 +43,8 @@ IsLetterNext (byte ∷ bytes) = ((byte == 60) ≡ false) × ((byte == 38) ≡ fa
 abbrev pub IsPlainEnd : (quote : ℕ) → List ℕ → Type 0
 IsPlainEnd quote [] = ⊤
 IsPlainEnd quote (byte ∷ bytes) = is_plain quote byte ≡ false
+
+-- the next digit of a number was read, where one may follow
+abbrev pub GoesOnWith : (base left value : ℕ) → (text : List ℕ) → Option (ℕ × Bor (List ℕ)) → Type 0
+GoesOnWith base left value text None = next_is (may_follow base left value) text ≡ false
+GoesOnWith base left value text (Some d) = (byte : ℕ) × (text ≡ byte ∷ d.1.now) × (may_follow base left value byte ≡ true) × (d.0 ≡ base * value + digit_value byte)

@@ -95,7 +95,7 @@ fn is_name_byte(byte: u8) -> bool
 }
 
 /// A comment.
-#[tactic(auto, unfolding(crate::specs::Lexing::comment, reading::specs::Readers::after))]
+#[tactic(auto, unfolding(crate::specs::Lexing::comment, reading::specs::Readers::after), using(crate::proofs::Runs::comment_shorter))]
 pub(crate) fn comment(text: &str) -> Result<&str, &[u8]>
     ensures read { Answers (λ rest. (tt, rest.now)) result (readers.comment text.now) }
     ensures shorter { IfOk result (λ rest. length rest.now < length text.now) }
@@ -110,10 +110,17 @@ pub(crate) fn misc<'a>(mark: &str, text: &'a str) -> Result<&'a str, &'a [u8]>
     ensures read { Answers (λ rest. (tt, rest.now)) result (readers.misc mark.now text.now) }
 {
     let mut rest = text;
-    while white_ahead(rest) || starts(mark, rest) {
+    while in_misc(mark, rest) {
         rest = misc_piece(rest)?;
     }
     Ok(rest)
+}
+
+// White space or a comment comes next.
+fn in_misc(mark: &str, text: &str) -> bool
+    ensures { result ≡ readers.in_misc mark.now text.now }
+{
+    white_ahead(text) || starts(mark, text)
 }
 
 #[tactic(auto, unfolding(crate::specs::Lexing::misc_piece))]
@@ -155,6 +162,7 @@ pub(crate) fn tag_end(slash: bool, text: &str) -> Result<&str, &[u8]>
 #[tactic(auto, unfolding(crate::specs::Lexing::end_of))]
 pub(crate) fn end_of<'a>(word: &str, text: &'a str) -> Result<&'a str, &'a [u8]>
     ensures read { Answers (λ rest. (tt, rest.now)) result (readers.end_of word.now text.now) }
+    ensures shorter { IfOk result (λ rest. length rest.now ≤ length text.now) }
 {
     let rest = strip("</", text)?;
     let rest = strip_either_case(word, rest)?;

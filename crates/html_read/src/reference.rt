@@ -1,11 +1,12 @@
 //! Character references.
 
-ghost use Rattle.std.specs.Prelude.{◌≡◌, ◌≤◌, ◌<◌, ◌+◌, ◌*◌, length, IfOk, Some, None, if◌then◌else◌};
+ghost use Rattle.std.specs.Prelude.{◌≡◌, ◌≤◌, ◌<◌, ◌+◌, ◌*◌, length, IfOk, IfSome};
 ghost use Rattle.std.specs.Char.{digit_value};
 ghost use Rattle.reading.specs.Readers as reading;
 ghost use Rattle.reading.specs.Readers.{Answers};
 ghost use Rattle.html_read.specs.Characters.{entities, words_of};
 ghost use Rattle.html_read.specs.Lexing as readers;
+ghost use Rattle.html_read.specs.Pieces.{GoesOnWith};
 
 use crate::entity::ENTITIES;
 use reading::{first, starts, strip};
@@ -83,7 +84,6 @@ fn scalar_number(base: u32, most: u32, text: &str) -> Result<(char, &str), &[u8]
 }
 
 // At most `most` digits more behind those that stand for `value`, and `;`.
-#[tactic(auto, unfolding(crate::specs::Lexing::number_from))]
 fn number_from(base: u32, most: u32, value: u32, text: &str) -> Result<(char, &str), &[u8]>
     requires base { base ≤ 16 }
     requires value { value ≤ 0x10FFFF }
@@ -92,28 +92,29 @@ fn number_from(base: u32, most: u32, value: u32, text: &str) -> Result<(char, &s
     let mut value = value;
     let mut rest = text;
     for read in 0..most {
-        let Some((byte, after)) = first(rest) else {
-            break;
-        };
-        match next_value(base, most - 1 - read, value, byte) {
-            Some(next) => value = next,
-            None => break,
+        match next_digit(base, most - 1 - read, value, rest) {
+            Some((next, after)) => {
+                value = next;
+                rest = after;
+            }
+            None => return number_end(value, rest),
         }
-        rest = after;
     }
     number_end(value, rest)
 }
 
-// The value with this digit behind it, where a number that is a Unicode scalar value begins so.
-fn next_value(base: u32, left: u32, value: u32, byte: u8) -> Option<u32>
+// The value with the next digit behind it, where a number that is a Unicode scalar value begins so.
+fn next_digit(base: u32, left: u32, value: u32, text: &str) -> Option<(u32, &str)>
     requires base { base ≤ 16 }
     requires value { value ≤ 0x10FFFF }
-    ensures { result ≡ (if readers.may_follow base left value byte then Some (base * value + digit_value byte) else None) }
+    ensures read { GoesOnWith base left value text.now result }
+    ensures low { IfSome result (λ d. d.0 ≤ 0x10FFFF) }
 {
+    let (byte, after) = first(text)?;
     let digit = digit_value(byte);
     let next = base * value + digit;
     if digit < base && next <= 0x10_FFFF && (char::from_u32(next).is_some() || 0 < left) {
-        Some(next)
+        Some((next, after))
     } else {
         None
     }
