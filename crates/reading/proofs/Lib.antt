@@ -11,3 +11,4 @@ mod Examples
 pub mod TextCuts
 pub mod RunPlaces
 pub mod TurnPlaces
+pub mod WordPlaces
