@@ -12,3 +12,4 @@ pub mod TextCuts
 pub mod RunPlaces
 pub mod TurnPlaces
 pub mod WordPlaces
+pub mod UpToPlaces
