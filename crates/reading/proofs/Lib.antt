@@ -13,3 +13,4 @@ pub mod RunPlaces
 pub mod TurnPlaces
 pub mod WordPlaces
 pub mod UpToPlaces
+pub mod ClosingPlaces
