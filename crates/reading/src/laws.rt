@@ -116,6 +116,19 @@ pub fn choices_spell<A, R: Rule<A>, S: Rule<A>>()
         → Spells (readers.choice test R.reads S.reads) (Either R.spelled S.spelled) S.ends }
 {}
 
+/// What may be missing, by a test of the next bytes.
+pub fn options_spell<A, R: Rule<A>>()
+    ensures { (test : List ℕ → Bool)
+        → ((text : List ℕ) (x : A) (rest : List ℕ) → R.spelled text x → R.ends rest → test (text ++ rest) ≡ true)
+        → ((rest : List ℕ) → R.ends rest → test rest ≡ false)
+        → Spells (readers.optional test R.reads) (Optional R.spelled) R.ends }
+{}
+
+/// What is read behind a text.
+pub fn introduced_spells<A, R: Rule<A>>()
+    ensures { (text : List ℕ) → Spells (readers.after text R.reads) (After text R.spelled) R.ends }
+{}
+
 /// As often as a test of the next bytes says.
 pub fn repetitions_spell<A, R: Rule<A>, M: Behind>()
     ensures { (test : List ℕ → Bool) → IsTestOf test R.spelled R.ends M.ends
