@@ -5,10 +5,9 @@ use Rattle.reading.specs.Readers.{Read, Reader, ◌>>=◌, give, mapped, with_by
 use Rattle.reading.specs.Grammars.{Grammar, NowhereIn, UpTo}
 use Rattle.reading.specs.Spelling.{Anything, Spells, SeesWithin}
 use Rattle.reading.specs.Places.{SameNext, IsLocal, GoesOnFrom, IsViable}
-use Rattle.reading.proofs.SpellLaws.{ok, stop, bind_ok, same_answer}
+use Rattle.reading.proofs.SpellLaws.{ok, stop, bind_ok, Stopped, at_first, at_second, bind_err, same_answer}
 use Rattle.reading.proofs.RunLaws.{with_byte_ok}
 use Rattle.reading.proofs.UpToLaws.{until_is, nowhere_as, read_up_to, up_to_spells}
-use Rattle.reading.proofs.PlaceLaws.{Stopped, at_first, at_second, bind_err}
 
 -- ---- the test at the place that is found, and at every place where none is
 
