@@ -11,3 +11,6 @@ mod Examples
 pub mod TextCuts
 pub mod RunPlaces
 pub mod TurnPlaces
+pub mod WordPlaces
+pub mod UpToPlaces
+pub mod ClosingPlaces

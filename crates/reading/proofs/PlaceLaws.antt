@@ -1,12 +1,12 @@
 -- Where readers stop: the laws of `IsLocal` and `IsViable`.
-use Rattle.std.proofs.Common.{◌≡◌, inl, inr, ℕ, Bool, true, false, cond, eqb, List, [], ◌∷◌, ◌++◌, Some, None, Ok, Err, refl, sym, ap, subst, ◌∙◌, append_assoc}
+use Rattle.std.proofs.Common.{◌≡◌, inl, inr, ℕ, Bool, true, false, cond, eqb, List, [], ◌∷◌, ◌++◌, Some, None, refl, sym, ap, subst, ◌∙◌, append_assoc}
 use Rattle.std.proofs.lemmas.Bool.{eqb-true}
 use Rattle.std.proofs.lemmas.List.{append-nil, append_cancel_right}
 use Rattle.reading.specs.Readers.{Read, Reader, ◌>>=◌, give, follow, mapped, choice, optional, strip, one_of, next_is, after, between}
 use Rattle.reading.specs.Grammars.{Grammar, Given, Fixed, OneOf, Seq, Mapped, Either, Optional, After, Between}
 use Rattle.reading.specs.Spelling.{Spells}
 use Rattle.reading.specs.Places.{SameNext, SeesNext, IsLocal, GoesOnFrom, IsViable}
-use Rattle.reading.proofs.SpellLaws.{ok, stop, bind_ok, same_answer, strip_spells, strip_again, one_of_spells, to_optional}
+use Rattle.reading.proofs.SpellLaws.{ok, stop, bind_ok, Stopped, at_first, at_second, bind_err, same_answer, strip_spells, strip_again, one_of_spells, to_optional}
 
 -- ---- tools
 
@@ -14,17 +14,6 @@ use Rattle.reading.proofs.SpellLaws.{ok, stop, bind_ok, same_answer, strip_spell
 pub same_behind : (text rest other : List ℕ) → SameNext rest other → SameNext (text ++ rest) (text ++ other)
 same_behind [] rest other s = s
 same_behind (c ∷ text) rest other s = (c, text ++ rest, text ++ other, refl, refl)
-
--- a step that stopped, or the one behind it
-pub data Stopped {A B : Type 0} (r : Read A) (f : A × List ℕ → Read B) (left : List ℕ) : Type 0 where
-  at_first : r ≡ Err left → Stopped r f left
-  at_second : (x : A × List ℕ) → r ≡ Ok x → f x ≡ Err left → Stopped r f left
-
-pub bind_err : {A B : Type 0} (r : Read A) (f : A × List ℕ → Read B) (left : List ℕ) → (r >>= f) ≡ stop left → Stopped r f left
-bind_err (Ok x) f left e = at_second x refl e
-bind_err {A = A} (Err at) f left e =
-    let same : at ≡ left = cc in
-    at_first (ap (λ (l : List ℕ). stop {A = A} l) same)
 
 -- ---- what gives without reading
 

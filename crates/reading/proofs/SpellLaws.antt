@@ -19,6 +19,17 @@ pub bind_ok : {E A B : Type 0} (r : ReadOr E A) (f : A × List ℕ → ReadOr E 
 bind_ok (Ok x) f y e = (x, refl, e)
 bind_ok (Err left) f y e = absurd cc
 
+-- a step that stopped, or the one behind it
+pub data Stopped {E A B : Type 0} (r : ReadOr E A) (f : A × List ℕ → ReadOr E B) (told : E) : Type 0 where
+  at_first : r ≡ Err told → Stopped r f told
+  at_second : (x : A × List ℕ) → r ≡ Ok x → f x ≡ Err told → Stopped r f told
+
+pub bind_err : {E A B : Type 0} (r : ReadOr E A) (f : A × List ℕ → ReadOr E B) (told : E) → (r >>= f) ≡ stop told → Stopped r f told
+bind_err (Ok x) f told e = at_second x refl e
+bind_err {E = E} {A = A} (Err at) f told e =
+    let same : at ≡ told = cc in
+    at_first (ap (λ (l : E). stop {A = A} l) same)
+
 pub same_answer : {E A : Type 0} (x y : A) (a b : List ℕ) → ok {E = E} (x, a) ≡ ok (y, b) → (x ≡ y) × (a ≡ b)
 same_answer {E = E} {A = A} x y a b e =
     let pair : (x, a) ≡ (y, b) = cc in

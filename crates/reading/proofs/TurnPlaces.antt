@@ -6,10 +6,10 @@ use Rattle.reading.specs.Readers.{Read, Reader, ◌>>=◌, give, turns, repeat, 
 use Rattle.reading.specs.Grammars.{Grammar, Each, Joined}
 use Rattle.reading.specs.Spelling.{Spells, IsTestOf}
 use Rattle.reading.specs.Places.{SameNext, SeesNext, IsLocal, GoesOnFrom, IsViable}
-use Rattle.reading.proofs.SpellLaws.{ok, stop, bind_ok, same_answer}
-use Rattle.reading.proofs.Turns.{turn_once, turn_none}
+use Rattle.reading.proofs.SpellLaws.{ok, stop, bind_ok, Stopped, at_first, at_second, bind_err, same_answer}
+use Rattle.reading.proofs.Turns.{turn_once, turn_none, turns_stop_back}
 use Rattle.reading.proofs.ManyLaws.{push_one, Gathered, item_shortens, all_pushed, all_joined}
-use Rattle.reading.proofs.PlaceLaws.{same_behind, Stopped, at_first, at_second, bind_err, moved, mapped_local, viable_as}
+use Rattle.reading.proofs.PlaceLaws.{same_behind, moved, mapped_local, viable_as}
 
 -- ---- turns whose test sees the next byte, and of which each is local and takes a byte
 
@@ -20,6 +20,10 @@ pub record AreLocal {S : Type 0} (goes : S → List ℕ → Bool) (turn : S → 
 
 -- ---- what is left is an end of the bytes
 
+-- an end of an end is an end
+front_on : (bytes after rest : List ℕ) → ((text : List ℕ) × (bytes ≡ text ++ after)) → ((text : List ℕ) × (after ≡ text ++ rest)) → (text : List ℕ) × (bytes ≡ text ++ rest)
+front_on bytes after rest one two = (one.0 ++ two.0, one.1 ∙ ap (λ (b : List ℕ). one.0 ++ b) two.1 ∙ sym (append_assoc one.0 two.0 rest))
+
 front_by : {S : Type 0} (goes : S → List ℕ → Bool) (turn : S → Reader S) (fuel : ℕ) (s end_ : S) (bytes rest : List ℕ) (t : Bool) → goes s bytes ≡ t → AreLocal goes turn
     → ((s : S) (bytes : List ℕ) → turns goes turn fuel s bytes ≡ ok (end_, rest) → (text : List ℕ) × (bytes ≡ text ++ rest))
     → turns goes turn (suc fuel) s bytes ≡ ok (end_, rest) → (text : List ℕ) × (bytes ≡ text ++ rest)
@@ -28,7 +32,7 @@ front_by {S = S} goes turn fuel s end_ bytes rest true g p later e =
     let a = bind_ok (turn s bytes) (λ (x : S × List ℕ). turns goes turn fuel x.0 x.1) (end_, rest) here in
     let one = (p.local s).front bytes a.0.0 a.0.1 a.1 in
     let two = later a.0.0 a.0.1 a.2 in
-    (one.0 ++ two.0, one.1 ∙ ap (λ (b : List ℕ). one.0 ++ b) two.1 ∙ sym (append_assoc one.0 two.0 rest))
+    front_on bytes a.0.1 rest one two
 front_by goes turn fuel s end_ bytes rest false g p later e =
     let here = sym (turn_none goes turn fuel s bytes g) ∙ e in
     ([], (same_answer {E = List ℕ} s end_ bytes rest here).1)
@@ -38,35 +42,6 @@ turns_front : {S : Type 0} (goes : S → List ℕ → Bool) (turn : S → Reader
 unfolding turns
 turns_front goes turn end_ rest p zero s bytes e = ([], (same_answer {E = List ℕ} s end_ bytes rest e).1)
 turns_front goes turn end_ rest p (suc fuel) s bytes e = front_by goes turn fuel s end_ bytes rest (goes s bytes) refl p (turns_front goes turn end_ rest p fuel) e
-
--- a fact that holds where a turn stops and goes back over each turn holds at the start
-stop_back_stopped : {S : Type 0} (goes : S → List ℕ → Bool) (turn : S → Reader S) (P : S → List ℕ → Type 0) (fuel : ℕ) (s : S) (bytes left : List ℕ) → goes s bytes ≡ true
-    → ((s : S) (x : List ℕ) → goes s x ≡ true → turn s x ≡ stop left → P s x)
-    → ((s later : S) (x y : List ℕ) → goes s x ≡ true → turn s x ≡ ok (later, y) → P later y → P s x)
-    → ((s : S) (x : List ℕ) → turns goes turn fuel s x ≡ stop left → P s x)
-    → Stopped (turn s bytes) (λ (x : S × List ℕ). turns goes turn fuel x.0 x.1) left → P s bytes
-stop_back_stopped goes turn P fuel s bytes left g here back later (at_first e) = here s bytes g e
-stop_back_stopped goes turn P fuel s bytes left g here back later (at_second x e h) = back s x.0 bytes x.1 g e (later x.0 x.1 h)
-
-stop_back_by : {S : Type 0} (goes : S → List ℕ → Bool) (turn : S → Reader S) (P : S → List ℕ → Type 0) (fuel : ℕ) (s : S) (bytes left : List ℕ) (t : Bool) → goes s bytes ≡ t
-    → ((s : S) (x : List ℕ) → goes s x ≡ true → turn s x ≡ stop left → P s x)
-    → ((s later : S) (x y : List ℕ) → goes s x ≡ true → turn s x ≡ ok (later, y) → P later y → P s x)
-    → ((s : S) (x : List ℕ) → turns goes turn fuel s x ≡ stop left → P s x)
-    → turns goes turn (suc fuel) s bytes ≡ stop left → P s bytes
-stop_back_by {S = S} goes turn P fuel s bytes left true g here back later e =
-    stop_back_stopped goes turn P fuel s bytes left g here back later (bind_err (turn s bytes) (λ (x : S × List ℕ). turns goes turn fuel x.0 x.1) left (sym (turn_once goes turn fuel s bytes g) ∙ e))
-stop_back_by goes turn P fuel s bytes left false g here back later e =
-    let clash : ok (s, bytes) ≡ stop left = sym (turn_none goes turn fuel s bytes g) ∙ e in
-    absurd cc
-
-pub turns_stop_back : {S : Type 0} (goes : S → List ℕ → Bool) (turn : S → Reader S) (P : S → List ℕ → Type 0) (left : List ℕ)
-    → ((s : S) (x : List ℕ) → goes s x ≡ true → turn s x ≡ stop left → P s x)
-    → ((s later : S) (x y : List ℕ) → goes s x ≡ true → turn s x ≡ ok (later, y) → P later y → P s x)
-    → (fuel : ℕ) (s : S) (bytes : List ℕ) → turns goes turn fuel s bytes ≡ stop left → P s bytes
-unfolding turns
-turns_stop_back goes turn P left here back zero s bytes e = absurd cc
-turns_stop_back goes turn P left here back (suc fuel) s bytes e =
-    stop_back_by goes turn P fuel s bytes left (goes s bytes) refl here back (turns_stop_back goes turn P left here back fuel) e
 
 turns_stopped : {S : Type 0} (goes : S → List ℕ → Bool) (turn : S → Reader S) → AreLocal goes turn → (fuel : ℕ) (s : S) (bytes left : List ℕ) → turns goes turn fuel s bytes ≡ stop left → (text : List ℕ) × (bytes ≡ text ++ left)
 turns_stopped {S = S} goes turn p fuel s bytes left e =

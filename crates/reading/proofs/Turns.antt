@@ -1,7 +1,7 @@
 -- Turns from state to state: what a loop of the code keeps, and what is read by such turns.
 use Rattle.std.proofs.Common.{◌≡◌, ℕ, zero, suc, ◌<◌, Bool, true, false, List, length, Ok, Err, refl, sym, ap, ◌∙◌, arith}
 use Rattle.reading.specs.Readers.{ReadOr, ReaderOr, ◌>>=◌, follow, turns, repeat}
-use Rattle.reading.proofs.SpellLaws.{ok, stop, bind_ok, same_answer}
+use Rattle.reading.proofs.SpellLaws.{ok, stop, bind_ok, Stopped, at_first, at_second, bind_err, same_answer}
 
 -- ---- one turn
 
@@ -128,3 +128,33 @@ pub turns_back : {E S : Type 0} (goes : S → List ℕ → Bool) (turn : S → R
 turns_back goes turn P end_ rest at_end back shorter zero state bytes enough e = absurd (omega arith)
 turns_back goes turn P end_ rest at_end back shorter (suc fuel) state bytes enough e =
     back_by goes turn P fuel state end_ bytes rest (goes state bytes) refl at_end back shorter (turns_back goes turn P end_ rest at_end back shorter fuel) enough e
+
+-- ---- where turns stop: a fact that holds where a turn stops and goes back over each turn holds at the start
+
+stop_back_stopped : {E S : Type 0} (goes : S → List ℕ → Bool) (turn : S → ReaderOr E S) (P : S → List ℕ → Type 0) (fuel : ℕ) (s : S) (bytes : List ℕ) (told : E) → goes s bytes ≡ true
+    → ((s : S) (x : List ℕ) → goes s x ≡ true → turn s x ≡ stop told → P s x)
+    → ((s later : S) (x y : List ℕ) → goes s x ≡ true → turn s x ≡ ok (later, y) → P later y → P s x)
+    → ((s : S) (x : List ℕ) → turns goes turn fuel s x ≡ stop told → P s x)
+    → Stopped (turn s bytes) (λ (x : S × List ℕ). turns goes turn fuel x.0 x.1) told → P s bytes
+stop_back_stopped goes turn P fuel s bytes told g here back later (at_first e) = here s bytes g e
+stop_back_stopped goes turn P fuel s bytes told g here back later (at_second x e h) = back s x.0 bytes x.1 g e (later x.0 x.1 h)
+
+stop_back_by : {E S : Type 0} (goes : S → List ℕ → Bool) (turn : S → ReaderOr E S) (P : S → List ℕ → Type 0) (fuel : ℕ) (s : S) (bytes : List ℕ) (told : E) (t : Bool) → goes s bytes ≡ t
+    → ((s : S) (x : List ℕ) → goes s x ≡ true → turn s x ≡ stop told → P s x)
+    → ((s later : S) (x y : List ℕ) → goes s x ≡ true → turn s x ≡ ok (later, y) → P later y → P s x)
+    → ((s : S) (x : List ℕ) → turns goes turn fuel s x ≡ stop told → P s x)
+    → turns goes turn (suc fuel) s bytes ≡ stop told → P s bytes
+stop_back_by {E = E} {S = S} goes turn P fuel s bytes told true g here back later e =
+    stop_back_stopped goes turn P fuel s bytes told g here back later (bind_err (turn s bytes) (λ (x : S × List ℕ). turns goes turn fuel x.0 x.1) told (sym (turn_once goes turn fuel s bytes g) ∙ e))
+stop_back_by goes turn P fuel s bytes told false g here back later e =
+    let clash : ok (s, bytes) ≡ stop told = sym (turn_none goes turn fuel s bytes g) ∙ e in
+    absurd cc
+
+pub turns_stop_back : {E S : Type 0} (goes : S → List ℕ → Bool) (turn : S → ReaderOr E S) (P : S → List ℕ → Type 0) (told : E)
+    → ((s : S) (x : List ℕ) → goes s x ≡ true → turn s x ≡ stop told → P s x)
+    → ((s later : S) (x y : List ℕ) → goes s x ≡ true → turn s x ≡ ok (later, y) → P later y → P s x)
+    → (fuel : ℕ) (s : S) (bytes : List ℕ) → turns goes turn fuel s bytes ≡ stop told → P s bytes
+unfolding turns
+turns_stop_back goes turn P told here back zero s bytes e = absurd cc
+turns_stop_back goes turn P told here back (suc fuel) s bytes e =
+    stop_back_by goes turn P fuel s bytes told (goes s bytes) refl here back (turns_stop_back goes turn P told here back fuel) e

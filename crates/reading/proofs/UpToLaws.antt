@@ -47,7 +47,7 @@ until_again test [] rest nowhere here = until_here test rest here
 until_again test (byte ∷ run) rest nowhere here = rw (nowhere.0, until_again test run rest nowhere.1 here) refl
 
 -- other bytes behind, with the same answers at each place before them
-nowhere_as : (test : List ℕ → Bool) (run one other : List ℕ) → ((byte : ℕ) (before : List ℕ) → test ((byte ∷ before) ++ one) ≡ test ((byte ∷ before) ++ other))
+pub nowhere_as : (test : List ℕ → Bool) (run one other : List ℕ) → ((byte : ℕ) (before : List ℕ) → test ((byte ∷ before) ++ one) ≡ test ((byte ∷ before) ++ other))
     → NowhereIn test run one → NowhereIn test run other
 nowhere_as test [] one other same nowhere = tt
 nowhere_as test (byte ∷ run) one other same nowhere = (sym (same byte run) ∙ nowhere.0, nowhere_as test run one other same nowhere.1)
@@ -66,25 +66,38 @@ found_there f R Ends bytes run at left x p within first second =
     nowhere_as (can_read f) run (t.0 ++ left) t.0 (λ byte before. within.sees byte before t.0 left x t.1 read) before in
     (run ++ t.0, (x, t.0, t.1, nowhere, refl), u.0 ∙ ap (λ (s : List ℕ). run ++ s) t.2 ∙ sym (append_assoc run t.0 left))
 
+found_by : {A : Type 0} (f : Reader A) (R : Grammar A) (Ends : List ℕ → Type 0) (bytes run at rest inside : List ℕ) → Spells f R Ends → SeesWithin f R → until (can_read f) bytes ≡ ok (run, at)
+    → ((v : A × List ℕ) × (f at ≡ ok v) × (ok {E = List ℕ} (run, v.1) ≡ ok (inside, rest))) → (text : List ℕ) × UpTo f R text inside × (bytes ≡ text ++ rest)
+found_by f R Ends bytes run at rest inside p within first second =
+    let same = same_answer {E = List ℕ} run inside second.0.1 rest second.2 in
+    let there = found_there f R Ends bytes run at second.0.1 second.0.0 p within first second.1 in
+    (there.0, subst (λ (s : List ℕ). UpTo f R there.0 s) same.0 there.1, there.2 ∙ ap (λ (s : List ℕ). there.0 ++ s) same.1)
+
+found : {A : Type 0} (f : Reader A) (R : Grammar A) (Ends : List ℕ → Type 0) (bytes rest inside : List ℕ) → Spells f R Ends → SeesWithin f R
+    → ((x : List ℕ × List ℕ) × (until (can_read f) bytes ≡ ok x) × (mapped (λ (y : A). x.0) f x.1 ≡ ok (inside, rest))) → (text : List ℕ) × UpTo f R text inside × (bytes ≡ text ++ rest)
+found {A = A} f R Ends bytes rest inside p within a =
+    found_by f R Ends bytes a.0.0 a.0.1 rest inside p within a.1 (bind_ok (f a.0.1) (λ (v : A × List ℕ). give a.0.0 v.1) (inside, rest) a.2)
+
+-- it is read so, where nothing before it can be read
+pub read_up_to : {A : Type 0} (f : Reader A) (text run end_ rest : List ℕ) (x : A) → text ≡ run ++ end_ → NowhereIn (can_read f) run (end_ ++ rest) → f (end_ ++ rest) ≡ ok (x, rest) → up_to f (text ++ rest) ≡ ok (run, rest)
+unfolding up_to
+read_up_to {A = A} f text run end_ rest x parts nowhere read =
+    let whole : text ++ rest ≡ run ++ (end_ ++ rest) = ap (λ (s : List ℕ). s ++ rest) parts ∙ append_assoc run end_ rest in
+    let first : until (can_read f) (run ++ (end_ ++ rest)) ≡ ok (run, end_ ++ rest) = until_again (can_read f) run (end_ ++ rest) nowhere (ap (λ (s : Read A). is_ok s) read) in
+    let second : (f (end_ ++ rest) >>= λ (v : A × List ℕ). give run v.1) ≡ ok (run, rest) = ap (λ (s : Read A). s >>= λ (v : A × List ℕ). give run v.1) read in
+    ap (λ (s : List ℕ). until (can_read f) s >>= λ (v : List ℕ × List ℕ). mapped (λ (y : A). v.0) f v.1) whole
+    ∙ ap (λ (s : Read (List ℕ)). s >>= λ (v : List ℕ × List ℕ). mapped (λ (y : A). v.0) f v.1) first
+    ∙ second
+
 pub up_to_spells : {A : Type 0} {f : Reader A} {R : Grammar A} {Ends : List ℕ → Type 0} → Spells f R Ends → SeesWithin f R → Spells (up_to f) (UpTo f R) Ends
 unfolding up_to
 up_to_spells {A = A} {f = f} {R = R} {Ends = Ends} p within = record {
-  takes = λ bytes inside rest e.
-      let a = bind_ok (until (can_read f) bytes) (λ (x : List ℕ × List ℕ). mapped (λ (y : A). x.0) f x.1) (inside, rest) e in
-      let b = bind_ok (f a.0.1) (λ (v : A × List ℕ). give a.0.0 v.1) (inside, rest) a.2 in
-      let same = same_answer {E = List ℕ} a.0.0 inside b.0.1 rest b.2 in
-      let there = found_there f R Ends bytes a.0.0 a.0.1 b.0.1 b.0.0 p within a.1 b.1 in
-      (there.0, subst (λ (s : List ℕ). UpTo f R there.0 s) same.0 there.1, there.2 ∙ ap (λ (s : List ℕ). there.0 ++ s) same.1);
+  takes = λ bytes inside rest e. found f R Ends bytes rest inside p within (bind_ok (until (can_read f) bytes) (λ (x : List ℕ × List ℕ). mapped (λ (y : A). x.0) f x.1) (inside, rest) e);
   again = λ text inside rest r ends.
-      let x = r.0 in
-      let read : f (r.1 ++ rest) ≡ ok (x, rest) = p.again r.1 x rest r.2 ends in
+      let read : f (r.1 ++ rest) ≡ ok (r.0, rest) = p.again r.1 r.0 rest r.2 ends in
       let nowhere : NowhereIn (can_read f) inside (r.1 ++ rest) =
-      nowhere_as (can_read f) inside r.1 (r.1 ++ rest) (λ byte before. sym (within.sees byte before r.1 rest x r.2 read)) r.3 in
-      let whole : text ++ rest ≡ inside ++ (r.1 ++ rest) = ap (λ (s : List ℕ). s ++ rest) r.4 ∙ append_assoc inside r.1 rest in
-      let first = until_again (can_read f) inside (r.1 ++ rest) nowhere (ap (λ (s : Read A). is_ok s) read) in
-      ap (λ (s : List ℕ). until (can_read f) s >>= λ (v : List ℕ × List ℕ). mapped (λ (y : A). v.0) f v.1) whole
-      ∙ ap (λ (s : Read (List ℕ)). s >>= λ (v : List ℕ × List ℕ). mapped (λ (y : A). v.0) f v.1) first
-      ∙ ap (λ (s : Read A). s >>= λ (v : A × List ℕ). give inside v.1) read;
+      nowhere_as (can_read f) inside r.1 (r.1 ++ rest) (λ byte before. sym (within.sees byte before r.1 rest r.0 r.2 read)) r.3 in
+      read_up_to f text inside r.1 rest r.0 r.4 nowhere read;
 }
 
 -- ---- bytes that decide
