@@ -1,3 +1,4 @@
+mod Joining
 mod Miscellany
 mod Numbers
 mod Runs

@@ -1,5 +1,5 @@
 -- Loops that read a text by pieces of more than one turn: whatever the turns come to from here, they come to from there.
-use Rattle.std.specs.Prelude.{◌≡◌, ℕ, List, [], ◌∷◌, ◌++◌, ◌+◌, ◌*◌, Option, Some, None, Result, Ok, Err, Bool, false, ◌==◌, ⊤}
+use Rattle.std.specs.Prelude.{◌≡◌, ℕ, List, [], ◌∷◌, ◌++◌, ◌+◌, ◌*◌, Option, Some, None, Result, Ok, Err, Bool, true, false, ◌==◌}
 use Rattle.std.specs.Char.{digit_value}
 use denote.Bor.{Bor}
 use Rattle.reading.specs.Readers.{ReadOr, mapped, next_is}
@@ -39,10 +39,10 @@ abbrev pub IsLetterNext : List ℕ → Type 0
 IsLetterNext [] = ⊥
 IsLetterNext (byte ∷ bytes) = ((byte == 60) ≡ false) × ((byte == 38) ≡ false)
 
--- the end of the text, the quote or `&` comes next
-abbrev pub IsPlainEnd : (quote : ℕ) → List ℕ → Type 0
-IsPlainEnd quote [] = ⊤
-IsPlainEnd quote (byte ∷ bytes) = is_plain quote byte ≡ false
+-- a byte of a value that stands for itself comes next
+abbrev pub IsPlainNext : (quote : ℕ) → List ℕ → Type 0
+IsPlainNext quote [] = ⊥
+IsPlainNext quote (byte ∷ bytes) = is_plain quote byte ≡ true
 
 -- the next digit of a number was read, where one may follow
 abbrev pub GoesOnWith : (base left value : ℕ) → (text : List ℕ) → Option (ℕ × Bor (List ℕ)) → Type 0

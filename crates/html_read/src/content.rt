@@ -9,7 +9,7 @@ ghost use Rattle.html_read.specs.Values.{Node, nodes_of};
 ghost use Rattle.html_read.specs.Views.{start_of, opened_of};
 ghost use Rattle.html_read.specs.declared.error.Stop.TheVariants as Stops;
 
-use crate::error::Stop;
+use crate::error::{Refusal, Stop};
 use crate::node::{ReadKind, ReadNode};
 use crate::tags::{Start, end_tag, is_void, start_tag};
 use crate::text::gap;
@@ -93,7 +93,7 @@ fn ending<'a>(opened: &mut Vec<Open<'a>>, text: &'a str) -> Result<&'a str, Stop
 {
     match opened.pop() {
         Some(open) => end_tag(open.name, text),
-        None => Err(Stop::from(strip("<", text)?.as_bytes())),
+        None => Err(Stop::Refused(Refusal::Syntax, strip("<", text)?.as_bytes())),
     }
 }
 
