@@ -220,7 +220,7 @@ optional_spells {E = E} {A = A} test {f = f} {R = R} {Ends = Ends} p first secon
 
 -- ---- another word for where it stopped
 
-told_ok : {E A : Type 0} (told : List ℕ → E) (r : Read A) (x : A × List ℕ) → read_or told r ≡ ok x → r ≡ ok x
+pub told_ok : {E A : Type 0} (told : List ℕ → E) (r : Read A) (x : A × List ℕ) → read_or told r ≡ ok x → r ≡ ok x
 told_ok told (Ok y) x e =
     let same : y ≡ x = cc in
     rw same refl
