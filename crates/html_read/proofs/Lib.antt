@@ -1,3 +1,4 @@
 mod Runs
 mod Seeking
 mod Tables
+mod MiscLaws

@@ -1,0 +1,25 @@
+//! The laws between what is read and the grammar. These functions do nothing: their contracts are the laws.
+
+ghost use Rattle.std.specs.Prelude.{◌≡◌, ℕ, true, false, List, ◌++◌, codes};
+ghost use Rattle.reading.specs.Readers.{next_is, starts};
+ghost use Rattle.reading.specs.Spelling.{Anything, Spells};
+ghost use Rattle.html_read.specs.Characters.{is_white, is_name_byte};
+ghost use Rattle.html_read.specs.Grammar as grammar;
+ghost use Rattle.html_read.specs.Lexing as readers;
+ghost use Rattle.html_read.specs.declared.raw.RawEnd.{RawEnd};
+
+/// White space, names and end tags are read as they are spelled.
+pub fn names_spell()
+    ensures spaces { Spells readers.spaces grammar.IsSpaces (λ rest. next_is is_white rest ≡ false) }
+    ensures names { Spells readers.name grammar.IsName (λ rest. next_is is_name_byte rest ≡ false) }
+    ensures end_names { Spells readers.end_name grammar.IsEndName Anything }
+{}
+
+/// Comments, and what runs up to an end, are read as they are spelled.
+pub fn comments_spell()
+    ensures runs { (end_ : RawEnd) → Spells (readers.raw end_) (grammar.IsRaw end_) Anything }
+    ensures comments { Spells readers.comment grammar.IsComment Anything }
+    ensures misc { (mark : List ℕ) → ((more : List ℕ) → starts mark (codes "<!--" ++ more) ≡ true)
+        → Spells (readers.misc mark) grammar.IsMisc (λ rest. readers.in_misc mark rest ≡ false) }
+    ensures doctype { Spells readers.doctype grammar.IsDoctype Anything }
+{}
