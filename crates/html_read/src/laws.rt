@@ -1,7 +1,8 @@
 //! The laws between what is read and the grammar. These functions do nothing: their contracts are the laws.
 
-ghost use Rattle.std.specs.Prelude.{◌≡◌, ℕ, true, false, List, ◌++◌, codes};
-ghost use Rattle.reading.specs.Readers.{next_is, starts};
+ghost use Rattle.std.specs.Prelude.{◌≡◌, ℕ, true, false, List, ◌∷◌, ◌++◌, codes, ◌⊎◌};
+ghost use Rattle.reading.specs.Readers.{can_read, next_is, starts};
+ghost use Rattle.reading.specs.Placed.{SpellsPlaced};
 ghost use Rattle.reading.specs.Spelling.{Anything, Spells};
 ghost use Rattle.html_read.specs.Characters.{is_white, is_name_byte};
 ghost use Rattle.html_read.specs.Grammar as grammar;
@@ -22,4 +23,17 @@ pub fn comments_spell()
     ensures misc { (mark : List ℕ) → ((more : List ℕ) → starts mark (codes "<!--" ++ more) ≡ true)
         → Spells (readers.misc mark) grammar.IsMisc (λ rest. readers.in_misc mark rest ≡ false) }
     ensures doctype { Spells readers.doctype grammar.IsDoctype Anything }
+{}
+
+/// Characters and references are read as they are spelled.
+pub fn references_spell()
+    ensures characters { Spells readers.character grammar.IsCharacter Anything }
+    ensures references { Spells readers.reference grammar.IsReference Anything }
+{}
+
+/// Attributes are read as they are spelled, where the end of a tag comes behind them.
+pub fn attributes_spell()
+    ensures values { Spells readers.value grammar.IsValue (λ rest. can_read readers.equals rest ≡ false) }
+    ensures attributes { SpellsPlaced readers.attributes grammar.AreAttributes
+        (λ rest. (more : List ℕ) × ((rest ≡ 62 ∷ more) ⊎ (rest ≡ 47 ∷ more))) }
 {}

@@ -41,7 +41,7 @@ strip_by wanted byte text bytes rest x true test later e =
     rw (same, later e) refl
 strip_by wanted byte text bytes rest x false test later e = absurd cc
 
-strip_takes : (text bytes rest : List ℕ) (x : ⊤) → strip text bytes ≡ ok (x, rest) → bytes ≡ text ++ rest
+pub strip_takes : (text bytes rest : List ℕ) (x : ⊤) → strip text bytes ≡ ok (x, rest) → bytes ≡ text ++ rest
 unfolding strip
 strip_takes [] bytes rest x e = (same_answer tt x bytes rest e).1
 strip_takes (wanted ∷ text) [] rest x e = absurd cc
@@ -75,7 +75,7 @@ unfolding one_of
 one_takes test [] byte rest e = absurd cc
 one_takes test (b ∷ bytes) byte rest e = one_by test b byte bytes rest (test b) refl e
 
-one_again : (test : ℕ → Bool) (byte : ℕ) (rest : List ℕ) → test byte ≡ true → one_of test (byte ∷ rest) ≡ Ok (byte, rest)
+pub one_again : (test : ℕ → Bool) (byte : ℕ) (rest : List ℕ) → test byte ≡ true → one_of test (byte ∷ rest) ≡ Ok (byte, rest)
 unfolding one_of
 one_again test byte rest is = rw is refl
 
