@@ -61,7 +61,7 @@ value_test quote is = record {
   ends = λ rest more. more;
 }
 
-at_quote : (quote byte : ℕ) (text rest : List ℕ) → OneOf (λ byte. byte == quote) text byte → AtQuote quote (text ++ rest)
+at_quote : (quote byte : ℕ) (text rest : List ℕ) → OneOf (λ (byte : ℕ). eqb byte quote) text byte → AtQuote quote (text ++ rest)
 at_quote quote byte text rest r = rw (r.0, r.1) refl
 
 pub quoted_spells : Spells quoted IsQuoted Anything
@@ -69,7 +69,7 @@ unfolding quoted value_in
 quoted_spells =
     follow_spells_where (λ (quote : ℕ). is_quote quote ≡ true) (one_of_spells is_quote) (λ text quote r. r.1)
     (λ quote is. follow_spells (joined_spells (value_piece_spells quote) (value_test quote is))
-    (λ value. mapped_spells (λ (byte : ℕ). value) (one_of_spells (λ byte. byte == quote)))
+    (λ value. mapped_spells (λ (byte : ℕ). value) (one_of_spells (λ (byte : ℕ). eqb byte quote)))
     (λ x y back rest r any. at_quote quote r.0 back rest r.1))
     (λ x y back rest is r any. tt)
 
