@@ -6,3 +6,5 @@ mod CharacterLaws
 mod ReferenceLaws
 mod ValueLaws
 mod AttributeLaws
+mod TextLaws
+mod TagLaws

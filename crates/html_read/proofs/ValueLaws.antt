@@ -17,7 +17,7 @@ use Rattle.html_read.proofs.ReferenceLaws.{reference_spells}
 
 -- ---- what stands in a value
 
-reference_begins : (text rest : List ℕ) (c : ℕ) → IsReference text c → (more : List ℕ) × (text ++ rest ≡ 38 ∷ more)
+pub reference_begins : (text rest : List ℕ) (c : ℕ) → IsReference text c → (more : List ℕ) × (text ++ rest ≡ 38 ∷ more)
 reference_begins text rest c r = (r.2 ++ rest, rw (r.5, r.3) refl)
 
 not_true : (t : Bool) → not t ≡ true → t ≡ false
