@@ -4,3 +4,10 @@ mod Numbers
 mod Runs
 mod Seeking
 mod Tables
+mod MiscLaws
+mod CharacterLaws
+mod ReferenceLaws
+mod ValueLaws
+mod AttributeLaws
+mod TextLaws
+mod TagLaws

@@ -1,0 +1,53 @@
+//! The laws between what is read and the grammar. These functions do nothing: their contracts are the laws.
+
+ghost use Rattle.std.specs.Prelude.{◌≡◌, ℕ, Bool, true, false, List, ◌∷◌, ◌++◌, codes, ◌⊎◌};
+ghost use Rattle.reading.specs.Readers.{can_read, next_is, starts};
+ghost use Rattle.reading.specs.Placed.{SpellsPlaced};
+ghost use Rattle.reading.specs.Spelling.{Anything, Spells};
+ghost use Rattle.html_read.specs.Characters.{is_white, is_name_byte};
+ghost use Rattle.html_read.specs.Grammar as grammar;
+ghost use Rattle.html_read.specs.Lexing as readers;
+ghost use Rattle.html_read.specs.Reading as judging;
+ghost use Rattle.html_read.specs.declared.raw.RawEnd.{RawEnd};
+
+/// White space, names and end tags are read as they are spelled.
+pub fn names_spell()
+    ensures spaces { Spells readers.spaces grammar.IsSpaces (λ rest. next_is is_white rest ≡ false) }
+    ensures names { Spells readers.name grammar.IsName (λ rest. next_is is_name_byte rest ≡ false) }
+    ensures end_names { Spells readers.end_name grammar.IsEndName Anything }
+{}
+
+/// Comments, and what runs up to an end, are read as they are spelled.
+pub fn comments_spell()
+    ensures runs { (end_ : RawEnd) → Spells (readers.raw end_) (grammar.IsRaw end_) Anything }
+    ensures comments { Spells readers.comment grammar.IsComment Anything }
+    ensures misc { (mark : List ℕ) → ((more : List ℕ) → starts mark (codes "<!--" ++ more) ≡ true)
+        → Spells (readers.misc mark) grammar.IsMisc (λ rest. readers.in_misc mark rest ≡ false) }
+    ensures doctype { Spells readers.doctype grammar.IsDoctype Anything }
+{}
+
+/// Characters and references are read as they are spelled.
+pub fn references_spell()
+    ensures characters { Spells readers.character grammar.IsCharacter Anything }
+    ensures references { Spells readers.reference grammar.IsReference Anything }
+{}
+
+/// Attributes are read as they are spelled, where the end of a tag comes behind them.
+pub fn attributes_spell()
+    ensures values { Spells readers.value grammar.IsValue (λ rest. can_read readers.equals rest ≡ false) }
+    ensures attributes { SpellsPlaced readers.attributes grammar.AreAttributes
+        (λ rest. (more : List ℕ) × ((rest ≡ 62 ∷ more) ⊎ (rest ≡ 47 ∷ more))) }
+{}
+
+/// Text with comments in it is read as it is spelled.
+pub fn texts_spell()
+    ensures { Spells judging.gap grammar.IsGap (λ rest. judging.in_text rest ≡ false) }
+{}
+
+/// Tags are read as they are spelled, with what their attributes say in an input of a size.
+pub fn tags_spell()
+    ensures starts { (size : ℕ) (word : List ℕ) (slash : Bool)
+        → SpellsPlaced (judging.start_of size word slash) (grammar.IsStartOf size word slash) Anything }
+    ensures body_starts { (size : ℕ) → SpellsPlaced (judging.start_tag size) (grammar.IsStart size) Anything }
+    ensures ends { (name : List ℕ) → Spells (judging.end_tag name) (λ text u. grammar.IsEndName text name) Anything }
+{}
