@@ -1,6 +1,7 @@
 -- Texts read by pieces, of which the code takes several at once.
 use Rattle.std.proofs.Common.{◌≡◌, ℕ, ◌<◌, ◌≤◌, ◌+◌, true, false, cond, eqb, List, [], ◌∷◌, ◌++◌, length, drop, get_or, Ok, Err, refl, sym, ap, subst, ◌∙◌, append_assoc, length-append, length-drop, arith, add-one, drop-cons}
-use Rattle.std.specs.Prelude.{Bool, zero, suc, not, ◌&&◌, is_ok, ⊤}
+use Rattle.std.specs.Prelude.{Bool, zero, suc, not, ◌&&◌, ◌==◌, is_ok, IfOk, Result, ⊤}
+use denote.Bor.{Bor}
 use Rattle.std.specs.Char.{encode_utf8}
 use Rattle.std.specs.Str.{IsCharBoundary}
 use Rattle.std.proofs.lemmas.Bool.{eqb-true, eq-eqb}
@@ -14,7 +15,7 @@ use Rattle.html_read.specs.declared.error.Stop.{Stop}
 use Rattle.html_read.specs.declared.error.Stop.TheVariants as stops
 use Rattle.html_read.specs.Faults.{Fault, Judged, Stops, syntax, spelled}
 use Rattle.html_read.specs.Lexing.{in_value, value_piece, value_in, is_plain, is_quote, reference}
-use Rattle.html_read.specs.Pieces.{joining, IsJoining, JoinsRun, IsPlainNext}
+use Rattle.html_read.specs.Pieces.{joining, IsJoining, Joins, JoinsRun, PutsPiece, IsPlainNext}
 
 -- ---- any pieces
 
@@ -192,9 +193,11 @@ piece_nil : (quote : ℕ) → spelled (value_piece quote) [] ≡ Err (syntax [])
 unfolding value_piece starts strip one_of
 piece_nil quote = refl
 
-pub nothing_left : (quote : ℕ) (text : List ℕ) → length text ≡ 0 → spelled (value_piece quote) text ≡ Err (syntax text)
+nothing_left : (quote : ℕ) (text : List ℕ) → (length text == 0) ≡ true → spelled (value_piece quote) text ≡ Err (syntax text)
 nothing_left quote [] e = piece_nil quote
-nothing_left quote (byte ∷ after) e = absurd (omega arith)
+nothing_left quote (byte ∷ after) e =
+    let none : length (byte ∷ after) ≡ 0 = eqb-true (length (byte ∷ after)) 0 e in
+    absurd (omega arith)
 
 no_amp : (byte : ℕ) (after : List ℕ) (t : Bool) → eqb byte 38 ≡ t → starts (38 ∷ []) (byte ∷ after) ≡ false → t ≡ false
 unfolding starts strip
@@ -208,8 +211,8 @@ both true b x y = absurd cc
 both false true x y = absurd cc
 both false false x y = refl
 
-pub plain_next : (quote : ℕ) (text : List ℕ) → in_value quote text ≡ true → starts (38 ∷ []) text ≡ false → (length text ≡ 0 → ⊥) → IsPlainNext quote text
-plain_next quote [] goes none some = some refl
+pub plain_next : (quote : ℕ) (text : List ℕ) → in_value quote text ≡ true → starts (38 ∷ []) text ≡ false → (length text == 0) ≡ false → IsPlainNext quote text
+plain_next quote [] goes none some = absurd cc
 plain_next quote (byte ∷ after) goes none some = both (eqb byte quote) (eqb byte 38) goes (no_amp byte after (eqb byte 38) refl none)
 
 -- ---- what the code does with a piece
@@ -229,3 +232,31 @@ pub puts_run : (test : List ℕ → Bool) (f : Judged (List ℕ)) (old new text 
 puts_run test f old new text front rest run parts made total now =
     let same : run.0 ≡ front = append_cancel_right run.0 front rest (sym run.1 ∙ parts) in
     subst (λ (s : List ℕ). IsJoining test f total s rest) (ap (λ (x : List ℕ). old ++ x) same ∙ sym made) (run.2 total old now)
+
+-- ---- a piece of a value
+
+pub reference_put : (quote : ℕ) (old new text : List ℕ) (result : Result (Bor (List ℕ)) Stop) → in_value quote text ≡ true → starts (38 ∷ []) text ≡ true
+    → PutsPiece (spelled (mapped (λ c. encode_utf8 c) reference)) old new text result → IfOk result (λ rest. length rest.now < length text)
+    → Joins (in_value quote) (spelled (value_piece quote)) old new text result
+reference_put quote old new text (Ok rest) goes amp puts lt =
+    puts_ok (in_value quote) (spelled (value_piece quote)) old new text puts.0 rest.now goes (reference_piece quote text puts.0 rest.now amp puts.1) puts.2 lt
+reference_put quote old new text (Err (stops.Refused kind left)) goes amp e lt =
+    puts_err (in_value quote) (spelled (value_piece quote)) old text (stops.Refused kind left) goes (reference_stops quote text (kind, left.now) amp e)
+reference_put quote old new text (Err stops.Memory) goes amp e lt = λ total now. tt
+
+pub nothing_put : (quote : ℕ) (old text bytes : List ℕ) → in_value quote text ≡ true → (length text == 0) ≡ true → bytes ≡ text
+    → (total : ReadOr Fault (List ℕ)) → IsJoining (in_value quote) (spelled (value_piece quote)) total old text → total ≡ Err (syntax bytes)
+nothing_put quote old text bytes goes none same total now =
+    rw same (joining_stops (in_value quote) (spelled (value_piece quote)) total old text (syntax text) now goes (nothing_left quote text none))
+
+pub plain_goes_on_in : (quote : ℕ) (text bytes : List ℕ) (at : ℕ) → bytes ≡ text → IsPlainTo quote text at → at < length text → is_plain quote (get_or bytes at 0) ≡ true → IsPlainTo quote text (at + 1)
+plain_goes_on_in quote text bytes at same now lt e = plain_goes_on quote text at now lt (subst (λ (b : List ℕ). is_plain quote (get_or b at 0) ≡ true) same e)
+
+pub value_starts_with : (quote : ℕ) (text value : List ℕ) → value ≡ [] → IsValueSo quote text value text
+value_starts_with quote text value none = subst (λ (v : List ℕ). IsValueSo quote text v text) (sym none) (value_starts quote text)
+
+pub value_stops : (quote : ℕ) (text value rest : List ℕ) (stop_ : Stop) → IsValueSo quote text value rest
+    → ((total : ReadOr Fault (List ℕ)) → IsJoining (in_value quote) (spelled (value_piece quote)) total value rest → Stops stop_ total) → Stops stop_ (spelled (value_in quote) text)
+value_stops quote text value rest (stops.Refused kind left) now e =
+    value_err quote text (kind, left.now) (e (joined (in_value quote) (spelled (value_piece quote)) text) now)
+value_stops quote text value rest stops.Memory now e = tt

@@ -1,4 +1,6 @@
+mod Attributing
 mod Joining
+mod Letters
 mod Miscellany
 mod Numbers
 mod Runs

@@ -1,23 +1,17 @@
-use Rattle.std.proofs.Common.{rules, ◌≡◌, ◌≤◌, ◌<◌, ◌∷◌, true, false, length, IfOk, map, ℕ, ◌+◌, ◌-◌, ◌*◌, ◌/◌, ◌%◌, Bool, nat_eq, nat_lt, List, [], ◌++◌, slice_index_or, slice_set, bit_and, bit_or, Fits, w8, w32, w64, Bor, MutBor}
-use Rattle.std.specs.Char.{encode_utf8}
+use Rattle.std.proofs.Common.{sym, ◌∙◌}
 use Rattle.std.specs.String.{string_bytes}
-use Rattle.reading.specs.Readers as reading
-use Rattle.html_read.specs.Characters.{is_letter}
-use Rattle.html_read.specs.Faults.{Gives, spelled}
-use Rattle.html_read.specs.Lexing as readers
-use Rattle.html_read.specs.Lexing.{in_value, value_piece}
-use Rattle.html_read.specs.Pieces.{Joins, JoinsRun, PutsPiece, IsPlainNext}
-use Rattle.html_read.specs.Views.{attribute_of}
+use Rattle.html_read.proofs.Joining.{plain_next, reference_put, nothing_put}
 use Rattle.html_read.proofs.attributes.piece.Goals as goal
 
--- src/attributes.rt:153:9
 pub plain-requires-clause-next : goal.plain-requires-clause-next
-plain-requires-clause-next c = ?
+plain-requires-clause-next c =
+    plain_next c.args.quote c.args.text.now c.requires.next (sym c.starts.ensures ∙ c.if-starts.false) (sym c.is_empty.ensures ∙ c.if-is_empty.false)
 
--- src/attributes.rt:142:1
 pub returns-then-starts-clause-read : goal.returns-then-starts-clause-read
-returns-then-starts-clause-read c = ?
+returns-then-starts-clause-read c =
+    reference_put c.args.quote (string_bytes c.args.value.now) (string_bytes c.put_reference.new.value) c.args.text.now c.put_reference.result c.requires.next
+    (sym c.starts.ensures ∙ c.if-starts.true) c.put_reference.ensures.read c.put_reference.ensures.shorter
 
--- src/attributes.rt:142:1
 pub returns-then-is_empty-clause-read : goal.returns-then-is_empty-clause-read
-returns-then-is_empty-clause-read c = ?
+returns-then-is_empty-clause-read c =
+    nothing_put c.args.quote (string_bytes c.args.value.now) c.args.text.now c.as_bytes.result.now c.requires.next (sym c.is_empty.ensures ∙ c.if-is_empty.true) c.as_bytes.ensures.value
