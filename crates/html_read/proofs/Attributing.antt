@@ -1,10 +1,12 @@
 -- The attributes of a tag, one by one.
-use Rattle.std.proofs.Common.{◌≡◌, ℕ, ◌<◌, ◌≤◌, true, false, List, [], ◌∷◌, ◌++◌, length, Ok, Err, refl, sym, ap, subst, ◌∙◌, arith}
+use Rattle.std.proofs.Common.{◌≡◌, ℕ, ◌<◌, ◌≤◌, true, false, List, [], ◌∷◌, ◌++◌, length, Ok, Err, refl, sym, ap, subst, ◌∙◌, map, map-append, arith}
 use Rattle.reading.specs.Readers.{Read, ◌>>=◌, give, mapped, repeat, can_read, read_or}
 use Rattle.reading.proofs.Turns.{IsTurning, turning_starts, turning_goes_on, turning_stops, turning_ends}
 use Rattle.html_read.specs.declared.error.Stop.{Stop}
 use Rattle.html_read.specs.declared.error.Stop.TheVariants as stops
 use Rattle.html_read.specs.Faults.{Fault, Stops, syntax, spelled}
+use Rattle.html_read.specs.declared.attributes.WrittenAttribute.{WrittenAttribute}
+use Rattle.html_read.specs.Views.{attribute_of}
 use Rattle.html_read.specs.Judging.{Attribute}
 use Rattle.html_read.specs.Lexing.{spaces, attribute, attributes, next_attribute, name_ahead}
 
@@ -58,3 +60,9 @@ attributing_stops text rest here list stops.Memory now g e f = tt
 
 pub attributing_ends : (text rest after : List ℕ) (list : List Attribute) → IsAttributing text list rest → can_read name_ahead rest ≡ false → spaces rest ≡ Ok (tt, after) → spelled attributes text ≡ Ok (list, after)
 attributing_ends text rest after list now g e = all_ok text rest after list (turning_ends now g) e
+
+pub attributing_pushed : (text rest here after : List ℕ) (old new : List WrittenAttribute) (a : WrittenAttribute) → IsAttributing text (map attribute_of old) rest → can_read name_ahead rest ≡ true → spaces rest ≡ Ok (tt, here)
+    → spelled attribute here ≡ Ok (attribute_of a, after) → length here ≤ length rest → length after < length here → new ≡ old ++ a ∷ [] → IsAttributing text (map attribute_of new) after
+attributing_pushed text rest here after old new a now g e f le lt made =
+    let list : map attribute_of new ≡ map attribute_of old ++ attribute_of a ∷ [] = ap (map attribute_of) made ∙ map-append attribute_of old (a ∷ []) in
+    subst (λ (l : List Attribute). IsAttributing text l after) (sym list) (attributing_goes_on text rest here after (map attribute_of old) (attribute_of a) now g e f le lt)

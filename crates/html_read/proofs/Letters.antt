@@ -4,7 +4,7 @@ use Rattle.std.specs.Prelude.{Bool, not, ◌&&◌, ◌==◌, is_ok, IfOk, Result
 use denote.Bor.{Bor}
 use Rattle.std.specs.Char.{IsScalar, encode_utf8}
 use Rattle.std.proofs.lemmas.List.{append-nil}
-use Rattle.reading.specs.Readers.{ReadOr, ◌>>=◌, mapped, choice, starts, strip}
+use Rattle.reading.specs.Readers.{ReadOr, ◌>>=◌, mapped, joined, choice, starts, strip}
 use Rattle.reading.proofs.SpellLaws.{ok, stop, strip_again}
 use Rattle.std.proofs.lemmas.Str.{length-encode, len_utf8_bounds}
 use Rattle.html_read.specs.declared.error.Stop.{Stop}
@@ -14,9 +14,9 @@ use Rattle.html_read.specs.Characters.{in_repertoire, first_code}
 use Rattle.html_read.specs.Faults.{Fault, Judged, Stops, spelled}
 use Rattle.html_read.specs.Lexing.{comment, reference, character}
 use Rattle.html_read.specs.Pieces.{IsJoining, Joins, JoinsRun, RunsOrStops, PutsPiece, PutsLetter, is_letter_next}
-use Rattle.html_read.specs.Reading.{in_text, text_piece, checked}
+use Rattle.html_read.specs.Reading.{in_text, text_piece, checked, gap}
 use Rattle.html_read.proofs.CharacterLaws.{first_is}
-use Rattle.html_read.proofs.Joining.{puts_ok, puts_err, run_starts, run_goes_on, joining_stops}
+use Rattle.html_read.proofs.Joining.{puts_ok, puts_err, run_starts, run_goes_on, joining_starts, joining_ends, joining_stops}
 
 -- ---- comments and references
 
@@ -142,3 +142,12 @@ pub letters_stop : (text rest : List ℕ) (stop_ : Stop) → JoinsRun in_text te
 letters_stop text rest (stops.Refused kind left) run next e total so_far now =
     joining_stops in_text text_piece total (so_far ++ run.0) rest (kind, left.now) (run.2 total so_far now) (letter_goes rest next) e
 letters_stop text rest stops.Memory run next e total so_far now = tt
+
+-- ---- the whole gap
+
+pub gap_starts : (text letters : List ℕ) → letters ≡ [] → IsJoining in_text text_piece (joined in_text text_piece text) letters text
+gap_starts text letters none = subst (λ (l : List ℕ). IsJoining in_text text_piece (joined in_text text_piece text) l text) (sym none) (joining_starts in_text text_piece text)
+
+pub gap_ends : (text letters rest : List ℕ) → IsJoining in_text text_piece (joined in_text text_piece text) letters rest → in_text rest ≡ false → gap text ≡ Ok (letters, rest)
+unfolding gap
+gap_ends text letters rest now none = joining_ends in_text text_piece (joined in_text text_piece text) letters rest now none

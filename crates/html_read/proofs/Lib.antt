@@ -1,4 +1,5 @@
 mod Attributing
+mod Contents
 mod Joining
 mod Letters
 mod Miscellany

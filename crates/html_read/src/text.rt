@@ -31,12 +31,14 @@ pub(crate) fn gap(alloc: Global, text: &str) -> Result<(Letters, &str), Stop<'_>
 }
 
 // Text goes on here: the bytes are at no tag and not at their end.
+#[tactic(auto, unfolding(reading::specs::Readers::starts, reading::specs::Readers::strip))]
 fn in_text(text: &str) -> bool
     ensures { result ≡ readers.in_text text.now }
 {
     match text.as_bytes() {
         [] => false,
-        [b'<', next @ ..] => next.first() == Some(&b'!'),
+        [b'<', b'!', ..] => true,
+        [b'<', ..] => false,
         [_, ..] => true,
     }
 }
@@ -90,6 +92,7 @@ fn characters<'a>(letters: &mut Letters, text: &'a str) -> Result<&'a str, Stop<
 }
 
 // What stands behind characters of the repertoire other than `<` and `&`.
+#[tactic(auto, using(crate::proofs::Letters::letters_start, crate::proofs::Letters::letter_shorter, crate::proofs::Letters::letters_are_some))]
 fn characters_end(text: &str) -> Result<&str, Stop<'_>>
     requires { is_letter_next text.now ≡ true }
     ensures read { RunsOrStops readers.in_text readers.text_piece text.now result }

@@ -1,27 +1,24 @@
-use Rattle.std.proofs.Common.{rules, ◌≡◌, ◌≤◌, ◌<◌, ◌∷◌, true, false, length, IfOk, map, ℕ, ◌+◌, ◌-◌, ◌*◌, ◌/◌, ◌%◌, Bool, nat_eq, nat_lt, List, [], ◌++◌, slice_index_or, slice_set, bit_and, bit_or, Fits, w8, w32, w64, Bor, MutBor}
-use Rattle.std.specs.Char.{encode_utf8}
-use Rattle.std.specs.String.{string_bytes}
-use Rattle.reading.specs.Readers as reading
-use Rattle.html_read.specs.Characters.{is_letter}
-use Rattle.html_read.specs.Faults.{Gives, spelled}
-use Rattle.html_read.specs.Lexing as readers
-use Rattle.html_read.specs.Lexing.{in_value, value_piece}
-use Rattle.html_read.specs.Pieces.{Joins, JoinsRun, PutsPiece, IsPlainNext}
+use Rattle.std.proofs.Common.{rules, sym, ◌∙◌, map, ap}
+use Rattle.std.proofs.lemmas.Result.{err_from_is_err_and}
 use Rattle.html_read.specs.Views.{attribute_of}
+use Rattle.html_read.proofs.Attributing.{attributing_starts, attributing_pushed, attributing_stops, attributing_ends}
 use Rattle.html_read.proofs.attributes.attributes.Goals as goal
 
--- src/attributes.rt:36:5
 pub loop-alloc-init : goal.loop-alloc-init
-loop-alloc-init c = ?
+loop-alloc-init c = (c.utf8.text, attributing_starts c.args.text.now (map attribute_of c.new-all.result.items) (ap (map attribute_of) c.new-all.ensures.items))
 
--- src/attributes.rt:37:34
 pub returns-in_err-attribute : goal.returns-in_err-attribute
-returns-in_err-attribute c = ?
+returns-in_err-attribute c =
+    let p = err_from_is_err_and c.from_residual.result c.from_residual.ensures.1 in
+    rw (p.1, p.2) (attributing_stops c.args.text.now c.loop-alloc.rest.now c.spaces.result.now (map attribute_of c.loop-alloc.all.items) c.in_err-attribute.field-0.0 c.loop-alloc.invariant.1
+    (sym c.name_ahead.ensures ∙ c.loop-alloc-test.true) c.spaces.ensures.read c.in_err-attribute.ensures.read)
 
--- src/attributes.rt:36:5
 pub loop-alloc-preserved : goal.loop-alloc-preserved
-loop-alloc-preserved c = ?
+loop-alloc-preserved c =
+    (search rules, attributing_pushed c.args.text.now c.loop-alloc.rest.now c.spaces.result.now c.in_ok-attribute.after.now c.loop-alloc.all.items c.push.new.self.items c.in_ok-attribute.attribute c.loop-alloc.invariant.1
+    (sym c.name_ahead.ensures ∙ c.loop-alloc-test.true) c.spaces.ensures.read c.in_ok-attribute.ensures.read c.spaces.ensures.shorter c.in_ok-attribute.ensures.shorter (search rules))
 
--- src/attributes.rt:30:1
 pub returns : goal.returns
-returns c = ?
+returns c =
+    attributing_ends c.args.text.now c.loop-alloc.rest.now c.spaces-2.result.now (map attribute_of c.loop-alloc.all.items) c.loop-alloc.invariant.1
+    (sym c.name_ahead.ensures ∙ c.loop-alloc-test.false) c.spaces-2.ensures.read
