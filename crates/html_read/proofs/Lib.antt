@@ -7,6 +7,7 @@ mod Numbers
 mod Runs
 mod Seeking
 mod Tables
+mod Names
 mod MiscLaws
 mod CharacterLaws
 mod ReferenceLaws

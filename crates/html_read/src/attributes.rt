@@ -29,7 +29,8 @@ pub(crate) struct WrittenAttribute<'a> {
 /// The attributes of a tag, and white space behind them.
 #[tactic(auto, unfolding(crate::specs::Lexing::attributes))]
 pub(crate) fn attributes(alloc: Global, text: &str) -> Result<(Vec<WrittenAttribute<'_>>, &str), Stop<'_>>
-    ensures { Gives (λ r. (map attribute_of r.0.items, r.1.now)) result (spelled readers.attributes text.now) }
+    ensures read { Gives (λ r. (map attribute_of r.0.items, r.1.now)) result (spelled readers.attributes text.now) }
+    ensures shorter { IfOk result (λ r. length r.1.now ≤ length text.now) }
 {
     let mut all = Vec::new(alloc);
     let mut rest = text;

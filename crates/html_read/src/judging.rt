@@ -47,7 +47,7 @@ fn has_name(name: &str, seen: &[&str]) -> bool
 {
     seen.iter().any(
         |other| -> bool
-            ensures { result ≡ bytes_eq (lowered other.now.now) (lowered name.now) }
+            ensures { result ≡ bytes_eq (lowered other.entry.now.now) (lowered name.now) }
         { same_name(other, name) },
     )
 }
