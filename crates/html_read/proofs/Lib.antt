@@ -8,3 +8,4 @@ mod ValueLaws
 mod AttributeLaws
 mod TextLaws
 mod TagLaws
+mod ContentLaws

@@ -8,6 +8,8 @@ ghost use Rattle.html_read.specs.Characters.{is_white, is_name_byte};
 ghost use Rattle.html_read.specs.Grammar as grammar;
 ghost use Rattle.html_read.specs.Lexing as readers;
 ghost use Rattle.html_read.specs.Reading as judging;
+ghost use Rattle.html_read.specs.Values.{Node};
+ghost use Rattle.html_read.specs.declared.content.Base.{Base};
 ghost use Rattle.html_read.specs.declared.raw.RawEnd.{RawEnd};
 
 /// White space, names and end tags are read as they are spelled.
@@ -50,4 +52,10 @@ pub fn tags_spell()
         → SpellsPlaced (judging.start_of size word slash) (grammar.IsStartOf size word slash) Anything }
     ensures body_starts { (size : ℕ) → SpellsPlaced (judging.start_tag size) (grammar.IsStart size) Anything }
     ensures ends { (name : List ℕ) → Spells (judging.end_tag name) (λ text u. grammar.IsEndName text name) Anything }
+{}
+
+/// What stands in `body`, or in a fragment, is read as it is spelled, where its end comes behind it.
+pub fn contents_spell()
+    ensures { (size : ℕ) (base : Base) (nodes : List Node) → SpellsPlaced (judging.content size base nodes)
+        (grammar.IsContent size (judging.base_parent base) nodes) (λ rest. (judging.in_text rest ≡ false) × (judging.base_ends base rest ≡ true)) }
 {}
