@@ -51,7 +51,7 @@ tag_not_text : (byte : ℕ) (more : List ℕ) → is_letter byte ≡ true → No
 unfolding starts strip
 tag_not_text byte more is = rw (letter_not_bang byte is) refl
 
-end_here : (more : List ℕ) → starts (codes "</") (60 ∷ 47 ∷ more) ≡ true
+pub end_here : (more : List ℕ) → starts (codes "</") (60 ∷ 47 ∷ more) ≡ true
 unfolding starts strip
 end_here more = refl
 
@@ -59,10 +59,10 @@ end_not_text : (more : List ℕ) → NoText (60 ∷ 47 ∷ more)
 unfolding starts strip
 end_not_text more = refl
 
-end_first : (text n rest : List ℕ) → IsEndName text n → (more : List ℕ) × (text ++ rest ≡ 60 ∷ 47 ∷ more)
+pub end_first : (text n rest : List ℕ) → IsEndName text n → (more : List ℕ) × (text ++ rest ≡ 60 ∷ 47 ∷ more)
 end_first text n rest r = (r.2 ++ rest, rw (r.5, r.3) refl)
 
-end_no_text : (text n rest : List ℕ) → IsEndName text n → NoText (text ++ rest)
+pub end_no_text : (text n rest : List ℕ) → IsEndName text n → NoText (text ++ rest)
 end_no_text text n rest r =
     let f = end_first text n rest r in
     ap in_text f.1 ∙ end_not_text f.0

@@ -9,3 +9,5 @@ mod AttributeLaws
 mod TextLaws
 mod TagLaws
 mod ContentLaws
+mod HeadLaws
+mod DocumentLaws

@@ -1,6 +1,6 @@
 //! The laws between what is read and the grammar. These functions do nothing: their contracts are the laws.
 
-ghost use Rattle.std.specs.Prelude.{◌≡◌, ℕ, Bool, true, false, List, ◌∷◌, ◌++◌, codes, ◌⊎◌};
+ghost use Rattle.std.specs.Prelude.{◌≡◌, ◌↔◌, ℕ, Bool, true, false, List, [], ◌∷◌, ◌++◌, codes, Ok, ◌⊎◌};
 ghost use Rattle.reading.specs.Readers.{can_read, next_is, starts};
 ghost use Rattle.reading.specs.Placed.{SpellsPlaced};
 ghost use Rattle.reading.specs.Spelling.{Anything, Spells};
@@ -8,7 +8,7 @@ ghost use Rattle.html_read.specs.Characters.{is_white, is_name_byte};
 ghost use Rattle.html_read.specs.Grammar as grammar;
 ghost use Rattle.html_read.specs.Lexing as readers;
 ghost use Rattle.html_read.specs.Reading as judging;
-ghost use Rattle.html_read.specs.Values.{Node};
+ghost use Rattle.html_read.specs.Values.{Node, Whole};
 ghost use Rattle.html_read.specs.declared.content.Base.{Base};
 ghost use Rattle.html_read.specs.declared.raw.RawEnd.{RawEnd};
 
@@ -58,4 +58,22 @@ pub fn tags_spell()
 pub fn contents_spell()
     ensures { (size : ℕ) (base : Base) (nodes : List Node) → SpellsPlaced (judging.content size base nodes)
         (grammar.IsContent size (judging.base_parent base) nodes) (λ rest. (judging.in_text rest ≡ false) × (judging.base_ends base rest ≡ true)) }
+{}
+
+/// The head is read as it is spelled.
+pub fn heads_spell()
+    ensures { (size : ℕ) → SpellsPlaced (judging.head size) (grammar.IsHead size) Anything }
+{}
+
+/// Bytes are read as a document exactly where they begin with one, with the value and the rest that the grammar gives.
+pub fn documents_spell()
+    ensures { (bytes rest : List ℕ) (whole : Whole)
+        → (judging.input bytes ≡ Ok (whole, rest)) ↔ ((text : List ℕ) × grammar.IsDocument text rest whole × (bytes ≡ text ++ rest)) }
+{}
+
+/// A text is read as a fragment exactly where it is one, to its end.
+pub fn fragments_spell()
+    ensures spelled { (text : List ℕ) (nodes : List Node)
+        → ((rest : List ℕ) × (judging.fragment text ≡ Ok (nodes, rest))) ↔ grammar.IsFragment text nodes }
+    ensures whole { (text rest : List ℕ) (nodes : List Node) → judging.fragment text ≡ Ok (nodes, rest) → rest ≡ [] }
 {}
