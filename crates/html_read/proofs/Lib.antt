@@ -11,3 +11,4 @@ mod TagLaws
 mod ContentLaws
 mod HeadLaws
 mod DocumentLaws
+mod ShapeLaws

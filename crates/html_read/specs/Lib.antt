@@ -6,6 +6,7 @@ pub mod Judging
 pub mod Lexing
 pub mod Pieces
 pub mod Reading
+pub mod Shape
 pub mod Tree
 pub mod Values
 pub mod Views

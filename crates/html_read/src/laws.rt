@@ -8,6 +8,7 @@ ghost use Rattle.html_read.specs.Characters.{is_white, is_name_byte};
 ghost use Rattle.html_read.specs.Grammar as grammar;
 ghost use Rattle.html_read.specs.Lexing as readers;
 ghost use Rattle.html_read.specs.Reading as judging;
+ghost use Rattle.html_read.specs.Shape.{IsFragmentShaped, IsShaped};
 ghost use Rattle.html_read.specs.Values.{Node, Whole};
 ghost use Rattle.html_read.specs.declared.content.Base.{Base};
 ghost use Rattle.html_read.specs.declared.raw.RawEnd.{RawEnd};
@@ -76,4 +77,10 @@ pub fn fragments_spell()
     ensures spelled { (text : List ℕ) (nodes : List Node)
         → ((rest : List ℕ) × (judging.fragment text ≡ Ok (nodes, rest))) ↔ grammar.IsFragment text nodes }
     ensures whole { (text rest : List ℕ) (nodes : List Node) → judging.fragment text ≡ Ok (nodes, rest) → rest ≡ [] }
+{}
+
+/// Where the nodes of a document and of a fragment stand.
+pub fn nodes_stand_in_place()
+    ensures documents { (text behind : List ℕ) (whole : Whole) → grammar.IsDocument text behind whole → IsShaped whole.nodes }
+    ensures fragments { (text : List ℕ) (nodes : List Node) → grammar.IsFragment text nodes → IsFragmentShaped nodes }
 {}
