@@ -12,3 +12,4 @@ mod ContentLaws
 mod HeadLaws
 mod DocumentLaws
 mod ShapeLaws
+mod AnsweredLaws

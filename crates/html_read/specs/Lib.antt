@@ -1,3 +1,4 @@
+pub mod Answered
 pub mod Characters
 pub mod Cuts
 pub mod Faults
