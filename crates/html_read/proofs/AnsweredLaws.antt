@@ -1,7 +1,7 @@
 -- What the public calls say, of what the readers give. `input` and `fragment` are the readers; each lemma speaks of
 -- their answer, or of the call's by `Told`.
-use Rattle.std.proofs.Common.{◌≡◌, ℕ, List, [], ◌++◌, length, Result, Ok, Err, refl, sym, ap, subst, ◌∙◌}
-use Rattle.std.specs.Prelude.{⊤, IfOk, IfErr}
+use Rattle.std.proofs.Common.{◌≡◌, ℕ, List, [], ◌++◌, length, Result, Ok, Err, sym, ap, ◌∙◌}
+use Rattle.std.specs.Prelude.{IfOk, IfErr}
 use Rattle.std.proofs.lemmas.List.{append_cancel_right}
 use Rattle.reading.proofs.SpellLaws.{same_answer}
 use Rattle.html_read.specs.declared.error.HtmlError.{HtmlError}

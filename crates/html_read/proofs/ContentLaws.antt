@@ -1,12 +1,11 @@
 -- What stands in an element, read by a list of those that are open: what is spelled so is read, and what is read is spelled so.
-use Rattle.std.proofs.Common.{◌≡◌, ◌⊎◌, inl, inr, ℕ, suc, ◌<◌, Bool, true, false, not, cond, eqb, ◌&&◌, List, [], ◌∷◌, ◌++◌, length, codes, Option, Some, Ok, Err, refl, sym, ap, subst, ◌∙◌, append_assoc, length-append, arith}
+use Rattle.std.proofs.Common.{◌≡◌, ◌⊎◌, inl, inr, ℕ, suc, ◌<◌, Bool, true, false, not, cond, eqb, ◌&&◌, List, [], ◌∷◌, ◌++◌, length, codes, Some, Ok, Err, refl, sym, ap, subst, ◌∙◌, append_assoc, length-append, arith}
 use Rattle.std.specs.Prelude.{⊤}
-use Rattle.std.proofs.lemmas.Bool.{and_parts}
 use Rattle.std.proofs.lemmas.Slice.Eq.{bytes_eq-Decides}
 use Rattle.std.proofs.Math.Dec.{eqb-suc-zero}
-use Rattle.reading.specs.Readers.{Read, ReadOr, ◌>>=◌, give, refuse, follow, mapped, read_or, strip, starts, after, turns, repeat}
+use Rattle.reading.specs.Readers.{Read, ReadOr, ◌>>=◌, give, refuse, mapped, read_or, strip, starts, after, turns, repeat}
 use Rattle.reading.specs.Placed.{SpellsPlaced}
-use Rattle.reading.proofs.SpellLaws.{ok, bind_ok, same_answer, mapped_spells}
+use Rattle.reading.proofs.SpellLaws.{bind_ok, same_answer, mapped_spells}
 use Rattle.reading.proofs.PlacedLaws.{placed_mapped}
 use Rattle.reading.proofs.Turns.{Leads, leads_nowhere, leads_on, one_turn, leads_to_end, turns_back}
 use Rattle.html_read.specs.declared.tag.Tag.{Tag}
@@ -14,12 +13,12 @@ use Rattle.html_read.specs.declared.tag.Tag.TheVariants.{Br}
 use Rattle.html_read.specs.declared.content.Base.{Base}
 use Rattle.html_read.specs.declared.content.Base.TheVariants as bases
 use Rattle.html_read.specs.Characters.{is_letter, tag_named, is_void}
-use Rattle.html_read.specs.Faults.{Fault, Judged, syntax, spelled}
-use Rattle.html_read.specs.Reading.{Start, Open, Content, content_of, base_parent, parent_in, base_ends, goes_on, begun, ending, markup, with_letters, with_gap, turn, content, in_text, gap, start_tag, end_tag}
+use Rattle.html_read.specs.Faults.{Fault, syntax}
+use Rattle.html_read.specs.Reading.{Start, Open, Content, content_of, base_parent, parent_in, base_ends, goes_on, begun, ending, markup, with_letters, with_gap, turn, content, in_text, start_tag}
 use Rattle.html_read.specs.Tree.{Items, none, pair, line_break, with_text, with_element, listed}
-use Rattle.html_read.specs.Values.{Acting, Node}
-use Rattle.html_read.specs.Grammar.{IsName, IsStart, IsEndName, IsGap, AreItems, IsContent}
-use Rattle.html_read.proofs.AttributeLaws.{IsNamed, name_named}
+use Rattle.html_read.specs.Values.{Node}
+use Rattle.html_read.specs.Grammar.{IsStart, IsEndName, IsGap, AreItems, IsContent}
+use Rattle.html_read.proofs.AttributeLaws.{name_named}
 use Rattle.html_read.proofs.TextLaws.{good, NoText, gap_spells}
 use Rattle.html_read.proofs.TagLaws.{start_tag_spells, end_tag_spells}
 

@@ -1,5 +1,5 @@
 -- Documents and fragments: what is read is spelled so, and what is spelled so is read.
-use Rattle.std.proofs.Common.{◌≡◌, ◌↔◌, ◌⊎◌, inl, inr, ℕ, zero, suc, ◌+◌, ◌-◌, ◌<◌, ◌≤◌, Bool, true, false, cond, eqb, ltb, List, [], ◌∷◌, ◌++◌, length, take, drop, codes, Result, Some, None, Ok, Err, map, refl, sym, ap, subst, ◌∙◌, append_assoc, length-append, arith}
+use Rattle.std.proofs.Common.{◌≡◌, ◌↔◌, ◌⊎◌, inl, inr, ℕ, zero, suc, ◌-◌, ◌≤◌, Bool, true, false, cond, eqb, List, [], ◌∷◌, ◌++◌, length, take, drop, codes, None, Ok, Err, map, refl, sym, ap, subst, ◌∙◌, append_assoc, length-append, arith}
 use Rattle.std.specs.Prelude.{⊤}
 use Rattle.std.specs.Char.{to_ascii_lowercase}
 use Rattle.std.specs.Str.{IsUtf8, is_utf8}
@@ -7,25 +7,25 @@ use Rattle.std.specs.Str.Lossy.{utf8_valid_len, valid_len_up_to}
 use Rattle.std.proofs.lemmas.Str.{IsUtf8-nil, IsUtf8-from_is_utf8, utf8_valid_len-IsUtf8}
 use Rattle.std.proofs.lemmas.Bool.{eqb-true, eq-eqb}
 use Rattle.std.proofs.lemmas.List.{append-nil, take_all}
-use Rattle.reading.specs.Readers.{Read, ReadOr, ReaderOr, ◌>>=◌, give, follow, mapped, choice, strip, starts, next_is}
-use Rattle.reading.specs.Grammars.{Seq, Each, Mapped, Either, EitherCase, Given, Fixed}
+use Rattle.reading.specs.Readers.{ReadOr, ◌>>=◌, follow, mapped, strip, starts}
+use Rattle.reading.specs.Grammars.{Seq, Each, Mapped, Either, Given}
 use Rattle.reading.specs.Spelling.{Anything, Spells}
 use Rattle.reading.specs.Placed.{PlacedGrammar, Anywhere, PlacedSeq, SpellsPlaced}
-use Rattle.reading.proofs.SpellLaws.{ok, bind_ok, give_spells, strip_spells, follow_spells, mapped_spells, choice_spells, telling_spells, spells_as, spells_before}
+use Rattle.reading.proofs.SpellLaws.{bind_ok, give_spells, strip_spells, follow_spells, mapped_spells, choice_spells, telling_spells, spells_as, spells_before}
 use Rattle.reading.proofs.PlacedLaws.{anywhere_spells, placed_follow}
 use Rattle.html_read.specs.declared.content.Base.TheVariants as bases
 use Rattle.html_read.specs.declared.error.Refusal.TheVariants.{Utf8}
 use Rattle.html_read.specs.Characters.{is_white}
-use Rattle.html_read.specs.Faults.{Fault, Judged, syntax, spelled}
-use Rattle.html_read.specs.Lexing.{misc, in_misc, doctype, end_of}
-use Rattle.html_read.specs.Reading.{content, start_of, end_tag, mark, maybe_mark, maybe_doctype, prolog, roots, body, maybe_head, html, ended, document, input, fragment, ahead, in_text}
+use Rattle.html_read.specs.Faults.{Fault, syntax, spelled}
+use Rattle.html_read.specs.Lexing.{misc, in_misc, end_of}
+use Rattle.html_read.specs.Reading.{content, end_tag, mark, maybe_mark, maybe_doctype, prolog, roots, body, html, ended, document, input, fragment}
 use Rattle.html_read.specs.Values.{TextAt, Acting, Node, Whole}
-use Rattle.html_read.specs.Grammar.{IsMiscPiece, IsMisc, IsDoctype, IsEndOf, IsEndName, IsStartOf, IsContent, IsMaybeHead, IsBody, IsHtml, IsMark, IsProlog, IsDocument, IsFragment}
-use Rattle.html_read.proofs.MiscLaws.{IsOpening, opening_of, cased_first, NoMisc, misc_spells, doctype_spells, end_of_spells}
-use Rattle.html_read.proofs.TextLaws.{good, NoText}
+use Rattle.html_read.specs.Grammar.{IsMiscPiece, IsMisc, IsDoctype, IsEndOf, IsEndName, IsContent, IsMaybeHead, IsBody, IsHtml, IsMark, IsProlog, IsDocument, IsFragment}
+use Rattle.html_read.proofs.MiscLaws.{IsOpening, cased_first, NoMisc, misc_spells, doctype_spells, end_of_spells}
+use Rattle.html_read.proofs.TextLaws.{good}
 use Rattle.html_read.proofs.TagLaws.{start_of_spells, end_tag_spells}
 use Rattle.html_read.proofs.ContentLaws.{EndsContent, content_spells, content_takes, end_no_text, end_first, end_here}
-use Rattle.html_read.proofs.HeadLaws.{opening_start, opening_front, opening_starts, opening_not_ahead, opening_no_misc, end_no_misc, misc_here, EndsHead, head_opening, maybe_head_spells}
+use Rattle.html_read.proofs.HeadLaws.{opening_start, opening_front, opening_not_ahead, opening_no_misc, end_no_misc, misc_here, EndsHead, head_opening, maybe_head_spells}
 
 -- ---- body
 

@@ -1,21 +1,21 @@
 -- The head of a document: what is read is spelled so, and what is spelled so is read.
-use Rattle.std.proofs.Common.{◌≡◌, ◌⊎◌, inl, inr, ℕ, suc, ◌-◌, ◌<◌, Bool, true, false, not, cond, eqb, List, [], ◌∷◌, ◌++◌, length, codes, Ok, Err, is_ok, map, refl, sym, ap, subst, ◌∙◌, append_assoc, length-append, arith}
+use Rattle.std.proofs.Common.{◌≡◌, inl, inr, ℕ, suc, ◌-◌, ◌<◌, Bool, true, false, not, eqb, List, [], ◌∷◌, ◌++◌, length, codes, Ok, Err, refl, sym, ap, subst, ◌∙◌, append_assoc, length-append, arith}
 use Rattle.std.specs.Prelude.{⊤}
 use Rattle.std.specs.Char.{to_ascii_lowercase}
 use Rattle.std.proofs.lemmas.Bool.{eqb-true, eq-eqb}
 use Rattle.std.proofs.lemmas.List.{append-nil}
-use Rattle.reading.specs.Readers.{Read, ReadOr, ◌>>=◌, give, refuse, follow, mapped, read_or, choice, strip, strip_either_case, starts, next_is, after, turns, repeat}
-use Rattle.reading.specs.Grammars.{EitherCase, Mapped, Given}
+use Rattle.reading.specs.Readers.{Read, ◌>>=◌, refuse, mapped, read_or, choice, strip, strip_either_case, starts, next_is, after, repeat}
+use Rattle.reading.specs.Grammars.{Mapped}
 use Rattle.reading.specs.Spelling.{Anything, Spells}
-use Rattle.reading.specs.Placed.{PlacedGrammar, Anywhere, PlacedSeq, PlacedMapped, PlacedEither, SpellsPlaced}
-use Rattle.reading.proofs.SpellLaws.{ok, stop, give_spells, mapped_spells, telling_spells, spells_before}
-use Rattle.reading.proofs.PlacedLaws.{anywhere_spells, placed_as, placed_before, placed_follow, placed_mapped, placed_choice}
+use Rattle.reading.specs.Placed.{PlacedGrammar, Anywhere, PlacedMapped, PlacedEither, SpellsPlaced}
+use Rattle.reading.proofs.SpellLaws.{give_spells, mapped_spells, telling_spells, spells_before}
+use Rattle.reading.proofs.PlacedLaws.{anywhere_spells, placed_before, placed_follow, placed_mapped, placed_choice}
 use Rattle.reading.proofs.Turns.{Leads, leads_nowhere, leads_on, one_turn, leads_to_end, turns_back}
 use Rattle.html_read.specs.declared.raw.RawEnd.TheVariants as ends
 use Rattle.html_read.specs.Characters.{is_white}
-use Rattle.html_read.specs.Faults.{Fault, Judged, syntax, spelled}
-use Rattle.html_read.specs.Lexing.{white, raw, comment, in_misc, misc, end_of}
-use Rattle.html_read.specs.Reading.{start_of, ahead, title, meta, sheet, style, head_turn, head_items, head, maybe_head}
+use Rattle.html_read.specs.Faults.{syntax, spelled}
+use Rattle.html_read.specs.Lexing.{raw, in_misc, misc}
+use Rattle.html_read.specs.Reading.{ahead, title, meta, sheet, style, head_turn, head_items, head, maybe_head}
 use Rattle.html_read.specs.Values.{TextAt, Acting}
 use Rattle.html_read.specs.Grammar.{IsWhite, IsEndOf, IsRaw, IsComment, IsMisc, IsStartOf, IsTitle, IsMeta, IsSheet, IsStyle, IsHeadPiece, AreHeadPieces, all_of, IsHead, IsMaybeHead}
 use Rattle.html_read.proofs.MiscLaws.{IsOpening, opening_of, NoMisc, white_spells, raw_spells, comment_spells, misc_spells, end_of_spells}

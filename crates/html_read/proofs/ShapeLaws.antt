@@ -1,16 +1,14 @@
 -- The shape of the nodes that are read.
-use Rattle.std.proofs.Common.{◌≡◌, ◌⊎◌, inl, inr, ℕ, zero, suc, ◌<◌, ◌≤◌, Bool, true, false, not, cond, ◌&&◌, ◌||◌, List, [], ◌∷◌, ◌++◌, length, codes, map, Option, Some, None, refl, sym, ap, subst, ◌∙◌, append_assoc, length-append, arith}
+use Rattle.std.proofs.Common.{◌≡◌, ◌⊎◌, inl, inr, ℕ, zero, suc, ◌<◌, ◌≤◌, Bool, true, false, not, cond, ◌&&◌, ◌||◌, List, [], ◌∷◌, ◌++◌, length, codes, Option, Some, None, refl, sym, ap, subst, ◌∙◌, append_assoc, length-append, arith}
 use Rattle.std.specs.Prelude.{⊤, find, option_map, bytes_eq}
-use Rattle.std.specs.List.{slice_get}
 use Rattle.std.proofs.lemmas.Bool.{and_parts}
 use Rattle.std.proofs.lemmas.List.{append-nil}
 use Rattle.std.proofs.lemmas.Slice.Eq.{bytes_eq-Decides}
 use Rattle.html_read.specs.declared.tag.Tag.{Tag}
 use Rattle.html_read.specs.declared.tag.Tag.TheVariants.{Html, Body, Br}
 use Rattle.html_read.specs.Characters.{lowered, named, tags, tag_named, is_void}
-use Rattle.html_read.specs.Reading.{roots}
-use Rattle.html_read.specs.Tree.{Items, none, pair, line_break, with_text, with_element, listed}
-use Rattle.html_read.specs.Values.{TextAt, Acting, Node, Kind, element, text, Whole}
+use Rattle.html_read.specs.Tree.{Items, none, pair, line_break, with_text, listed}
+use Rattle.html_read.specs.Values.{TextAt, Acting, Node, element, text, Whole}
 use Rattle.html_read.specs.Grammar.{AreItems, IsContent, IsBody, IsHtml, IsDocument, IsFragment}
 use Rattle.html_read.specs.Shape.{IsNodeAt, IsHolder, StandsIn, IsShaped, IsFragmentShaped}
 
