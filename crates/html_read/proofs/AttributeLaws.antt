@@ -215,7 +215,7 @@ are_led (a ∷ others) so_far text behind r t =
       blank = later.blank;
       pass = later.pass;
       leads = subst (λ (b : List ℕ). LeadsTo so_far b (so_far ++ a ∷ others) (later.blank ++ behind)) (sym whole)
-      (subst (λ (l : List Attribute). LeadsTo so_far (blank ++ (here ++ (back ++ behind))) l (later.blank ++ behind)) (append_assoc so_far (a ∷ []) others) all);
+          (subst (λ (l : List Attribute). LeadsTo so_far (blank ++ (here ++ (back ++ behind))) l (later.blank ++ behind)) (append_assoc so_far (a ∷ []) others) all);
     }
 
 attributes_again : (list : List Attribute) (text behind : List ℕ) → AreAttributes text behind list → IsTagNext behind → attributes (text ++ behind) ≡ Ok (list, behind)
@@ -299,7 +299,7 @@ next_back all rest so_far later x y g n l =
       are = (n.blank, n.here, l.text, blank_some n.blank n.here y begins named, n.pass, subst (λ (s : List ℕ). IsAttribute n.here s n.one) l.parts n.is, l.are, refl);
       same = l.same ∙ ap (λ (s : List Attribute). s ++ l.more) n.then_ ∙ append_assoc so_far (n.one ∷ []) l.more;
       parts = n.parts ∙ ap (λ (s : List ℕ). n.blank ++ (n.here ++ s)) l.parts
-      ∙ ap (λ (s : List ℕ). n.blank ++ s) (sym (append_assoc n.here l.text rest)) ∙ sym (append_assoc n.blank (n.here ++ l.text) rest);
+          ∙ ap (λ (s : List ℕ). n.blank ++ s) (sym (append_assoc n.here l.text rest)) ∙ sym (append_assoc n.blank (n.here ++ l.text) rest);
     }
 
 attributes_takes : (bytes rest : List ℕ) (list : List Attribute) → attributes bytes ≡ ok (list, rest) → (text : List ℕ) × AreAttributes text rest list × (bytes ≡ text ++ rest)
