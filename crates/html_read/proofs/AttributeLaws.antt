@@ -1,18 +1,18 @@
 -- The attributes of a tag: what is read is spelled so, and what is spelled so is read.
-use Rattle.std.proofs.Common.{◌≡◌, ◌⊎◌, inl, inr, ℕ, suc, ◌<◌, ◌≤◌, Bool, true, false, cond, eqb, ◌&&◌, List, [], ◌∷◌, ◌++◌, length, codes, Ok, is_ok, refl, sym, ap, subst, ◌∙◌, append_assoc, length-append, arith}
+use Rattle.std.proofs.Common.{◌≡◌, ◌⊎◌, inl, inr, ℕ, suc, ◌<◌, Bool, true, false, cond, eqb, List, [], ◌∷◌, ◌++◌, length, Ok, is_ok, refl, sym, ap, subst, ◌∙◌, append_assoc, length-append, arith}
 use Rattle.std.specs.Prelude.{⊤}
 use Rattle.std.proofs.lemmas.List.{append-nil}
-use Rattle.reading.specs.Readers.{Read, Reader, ◌>>=◌, give, follow, mapped, strip, one_of, next_is, can_read, skip, turns, repeat}
-use Rattle.reading.specs.Grammars.{Grammar, AllPass, OneOf, Seq, Mapped}
-use Rattle.reading.specs.Spelling.{Anything, Spells}
+use Rattle.reading.specs.Readers.{Reader, ◌>>=◌, give, follow, mapped, one_of, next_is, can_read, turns, repeat}
+use Rattle.reading.specs.Grammars.{Grammar, AllPass, Seq, Mapped}
+use Rattle.reading.specs.Spelling.{Spells}
 use Rattle.reading.specs.Placed.{SpellsPlaced}
-use Rattle.reading.proofs.SpellLaws.{ok, stop, bind_ok, same_answer, one_again, follow_spells, mapped_spells, spells_before}
+use Rattle.reading.proofs.SpellLaws.{ok, stop, bind_ok, same_answer, follow_spells, mapped_spells, spells_before}
 use Rattle.reading.proofs.Turns.{Leads, leads_nowhere, leads_on, one_turn, leads_to_end, turns_back}
 use Rattle.reading.proofs.PlacedLaws.{skip_again}
 use Rattle.html_read.specs.Characters.{is_white, is_letter, is_name_byte}
 use Rattle.html_read.specs.Judging.{Attribute}
 use Rattle.html_read.specs.Lexing.{spaces, white, name, value, attribute, name_ahead, next_attribute, attributes}
-use Rattle.html_read.specs.Grammar.{IsSpaces, IsName, IsValue, IsAttribute, AreAttributes}
+use Rattle.html_read.specs.Grammar.{IsName, IsValue, IsAttribute, AreAttributes}
 use Rattle.html_read.proofs.MiscLaws.{NoWhite, NoNameByte, spaces_spells, name_spells, blank_ends_name, white_no_name}
 use Rattle.html_read.proofs.ValueLaws.{NoEquals, value_spells, value_ends_name, no_equals}
 
@@ -215,7 +215,7 @@ are_led (a ∷ others) so_far text behind r t =
       blank = later.blank;
       pass = later.pass;
       leads = subst (λ (b : List ℕ). LeadsTo so_far b (so_far ++ a ∷ others) (later.blank ++ behind)) (sym whole)
-      (subst (λ (l : List Attribute). LeadsTo so_far (blank ++ (here ++ (back ++ behind))) l (later.blank ++ behind)) (append_assoc so_far (a ∷ []) others) all);
+          (subst (λ (l : List Attribute). LeadsTo so_far (blank ++ (here ++ (back ++ behind))) l (later.blank ++ behind)) (append_assoc so_far (a ∷ []) others) all);
     }
 
 attributes_again : (list : List Attribute) (text behind : List ℕ) → AreAttributes text behind list → IsTagNext behind → attributes (text ++ behind) ≡ Ok (list, behind)
@@ -299,7 +299,7 @@ next_back all rest so_far later x y g n l =
       are = (n.blank, n.here, l.text, blank_some n.blank n.here y begins named, n.pass, subst (λ (s : List ℕ). IsAttribute n.here s n.one) l.parts n.is, l.are, refl);
       same = l.same ∙ ap (λ (s : List Attribute). s ++ l.more) n.then_ ∙ append_assoc so_far (n.one ∷ []) l.more;
       parts = n.parts ∙ ap (λ (s : List ℕ). n.blank ++ (n.here ++ s)) l.parts
-      ∙ ap (λ (s : List ℕ). n.blank ++ s) (sym (append_assoc n.here l.text rest)) ∙ sym (append_assoc n.blank (n.here ++ l.text) rest);
+          ∙ ap (λ (s : List ℕ). n.blank ++ s) (sym (append_assoc n.here l.text rest)) ∙ sym (append_assoc n.blank (n.here ++ l.text) rest);
     }
 
 attributes_takes : (bytes rest : List ℕ) (list : List Attribute) → attributes bytes ≡ ok (list, rest) → (text : List ℕ) × AreAttributes text rest list × (bytes ≡ text ++ rest)

@@ -1,14 +1,14 @@
 -- Characters by their bytes: what is read is one, and each is read.
-use Rattle.std.proofs.Common.{◌≡◌, ℕ, zero, suc, ◌+◌, ◌-◌, ◌*◌, ◌<◌, ◌&&◌, Bool, true, false, cond, eqb, List, [], ◌∷◌, ◌++◌, length, Ok, refl, sym, ap, subst, ◌∙◌, arith}
+use Rattle.std.proofs.Common.{◌≡◌, ℕ, zero, suc, ◌+◌, ◌-◌, ◌*◌, ◌<◌, ◌&&◌, Bool, true, false, cond, List, [], ◌∷◌, ◌++◌, Ok, refl, sym, ap, subst, ◌∙◌, arith}
 use Rattle.std.specs.Prelude.{⊤}
 use Rattle.std.specs.Char.{IsScalar, encode_utf8}
 use Rattle.std.specs.Str.{chars_after, chars, continuation_len, lead_bits}
-use Rattle.std.proofs.lemmas.Str.{chars-encodes, chars-nil}
+use Rattle.std.proofs.lemmas.Str.{chars-encodes}
 use Rattle.std.proofs.lemmas.List.{append-nil}
 use Rattle.std.proofs.Math.Utf8.{scalar}
-use Rattle.reading.specs.Readers.{Read, ◌>>=◌, give, refuse, mapped, strip}
+use Rattle.reading.specs.Readers.{give, refuse, mapped, strip}
 use Rattle.reading.specs.Spelling.{Anything, Spells}
-use Rattle.reading.proofs.SpellLaws.{ok, stop, bind_ok, same_answer, strip_takes, strip_again}
+use Rattle.reading.proofs.SpellLaws.{ok, bind_ok, same_answer, strip_takes, strip_again}
 use Rattle.html_read.specs.Characters.{code_from, first_code}
 use Rattle.html_read.specs.Lexing.{character}
 use Rattle.html_read.specs.Grammar.{IsCharacter}

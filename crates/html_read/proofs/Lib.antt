@@ -15,3 +15,8 @@ mod ValueLaws
 mod AttributeLaws
 mod TextLaws
 mod TagLaws
+mod ContentLaws
+mod HeadLaws
+mod DocumentLaws
+mod ShapeLaws
+mod AnsweredLaws

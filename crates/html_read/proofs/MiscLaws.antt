@@ -1,12 +1,12 @@
 -- White space, names, comments and the doctype: what is read stands in the grammar, and what stands in the grammar is read.
-use Rattle.std.proofs.Common.{◌≡◌, inl, inr, ℕ, ◌<◌, ◌≤◌, Bool, true, false, cond, ◌||◌, List, [], ◌∷◌, ◌++◌, length, codes, Ok, Err, is_ok, map, refl, sym, ap, subst, ◌∙◌, append_assoc, length-append, arith}
+use Rattle.std.proofs.Common.{◌≡◌, inl, inr, ℕ, ◌<◌, ◌≤◌, Bool, true, false, cond, List, [], ◌∷◌, ◌++◌, length, codes, Ok, Err, is_ok, map, refl, sym, ap, ◌∙◌, append_assoc, arith}
 use Rattle.std.specs.Prelude.{⊤}
 use Rattle.std.specs.Char.{to_ascii_lowercase}
-use Rattle.reading.specs.Readers.{Read, Reader, ◌>>=◌, follow, strip, strip_either_case, starts, next_is, with_byte, run_of, skip, can_read}
-use Rattle.reading.specs.Grammars.{Grammar, AllPass, EitherCase}
+use Rattle.reading.specs.Readers.{Read, Reader, ◌>>=◌, follow, strip, strip_either_case, starts, next_is, with_byte, run_of, skip}
+use Rattle.reading.specs.Grammars.{AllPass}
 use Rattle.reading.specs.Spelling.{Anything, Spells, IsTestOf, SeesWithin}
 use Rattle.reading.specs.Closings.{closing, Closing}
-use Rattle.reading.proofs.SpellLaws.{ok, stop, strip_spells, one_of_spells, follow_spells, mapped_spells, after_spells, choice_spells, spells_before}
+use Rattle.reading.proofs.SpellLaws.{ok, strip_spells, one_of_spells, follow_spells, mapped_spells, after_spells, choice_spells}
 use Rattle.reading.proofs.RunLaws.{run_of_spells, either_case_spells}
 use Rattle.reading.proofs.ManyLaws.{joined_spells}
 use Rattle.reading.proofs.UpToLaws.{strip_sees, closing_sees, up_to_spells}

@@ -1,19 +1,19 @@
 -- References: what is read is spelled so, and what is spelled so is read.
-use Rattle.std.proofs.Common.{◌≡◌, inl, inr, ℕ, zero, suc, ◌+◌, ◌*◌, ◌<◌, ◌≤◌, Bool, true, false, cond, eqb, ltb, leb, ◌&&◌, ◌||◌, List, [], ◌∷◌, ◌++◌, length, codes, Ok, refl, sym, ap, subst, ◌∙◌, append_assoc, length-append, arith}
+use Rattle.std.proofs.Common.{◌≡◌, inl, inr, ℕ, zero, suc, ◌+◌, ◌*◌, ◌<◌, ◌≤◌, Bool, true, false, cond, ltb, ◌&&◌, ◌||◌, List, [], ◌∷◌, ◌++◌, length, codes, Ok, refl, sym, ap, subst, ◌∙◌, append_assoc, arith}
 use Rattle.std.specs.Prelude.{⊤, nat_lt, nat_le, fold}
 use Rattle.std.specs.Char.{IsScalar, digit_value}
-use Rattle.std.proofs.lemmas.Bool.{ltb-true, lt-ltb, le-leb, and_parts}
+use Rattle.std.proofs.lemmas.Bool.{lt-ltb, le-leb, and_parts}
 use Rattle.std.proofs.Math.Nat.{mul-le-mul_right}
 use Rattle.std.proofs.Math.Utf8.{scalar, scalar_cases}
-use Rattle.reading.specs.Readers.{Read, ◌>>=◌, give, refuse, follow, choice, mapped, strip, starts, one_of, next_is}
-use Rattle.reading.specs.Grammars.{AllPass, OneWord}
+use Rattle.reading.specs.Readers.{◌>>=◌, give, refuse, mapped, strip, starts, one_of, next_is}
+use Rattle.reading.specs.Grammars.{AllPass}
 use Rattle.reading.specs.Spelling.{Anything, Spells}
 use Rattle.reading.specs.Words.{all_differ, differs_from}
-use Rattle.reading.proofs.SpellLaws.{ok, stop, bind_ok, same_answer, strip_takes, strip_again, strip_spells, one_of_spells, one_again, follow_spells, choice_spells}
+use Rattle.reading.proofs.SpellLaws.{ok, stop, bind_ok, same_answer, strip_takes, strip_again, strip_spells, one_of_spells, follow_spells, choice_spells}
 use Rattle.reading.proofs.WordLaws.{one_word_spells, differ_stops, differs_in}
 use Rattle.html_read.specs.Characters.{entities}
 use Rattle.html_read.specs.Lexing.{may_follow, number_end, number_from, scalar_number, is_x, number_reference, reference}
-use Rattle.html_read.specs.Grammar.{number_of, IsScalarNumber, IsNumberReference, IsReference}
+use Rattle.html_read.specs.Grammar.{IsScalarNumber, IsNumberReference, IsReference}
 
 -- ---- digits
 

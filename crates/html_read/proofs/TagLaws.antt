@@ -1,10 +1,10 @@
 -- Tags: what is read is spelled so, and what is spelled so is read.
-use Rattle.std.proofs.Common.{◌≡◌, ◌⊎◌, inl, inr, ℕ, Bool, true, false, cond, ◌&&◌, List, [], ◌∷◌, ◌++◌, codes, Option, Some, None, Result, Ok, Err, refl, sym, ap, subst, ◌∙◌, append_assoc}
+use Rattle.std.proofs.Common.{◌≡◌, inl, inr, ℕ, Bool, true, false, cond, ◌&&◌, List, ◌∷◌, ◌++◌, codes, Option, Some, None, Result, Ok, Err, refl, sym, ap, subst, ◌∙◌, append_assoc}
 use Rattle.std.specs.Prelude.{⊤, bytes_eq}
 use Rattle.std.proofs.lemmas.Bool.{and_parts}
 use Rattle.std.proofs.lemmas.Slice.Eq.{bytes_eq-Decides}
-use Rattle.reading.specs.Readers.{Read, ReadOr, ◌>>=◌, follow, choice, strip, starts, after}
-use Rattle.reading.specs.Grammars.{EitherCase, After}
+use Rattle.reading.specs.Readers.{ReadOr, ◌>>=◌, follow, strip, starts, after}
+use Rattle.reading.specs.Grammars.{After}
 use Rattle.reading.specs.Spelling.{Anything, Spells}
 use Rattle.reading.specs.Placed.{PlacedGrammar, Anywhere, PlacedSeq, SpellsPlaced}
 use Rattle.reading.proofs.SpellLaws.{ok, bind_ok, strip_takes, after_spells, telling_spells}

@@ -1,20 +1,20 @@
 -- Text with comments in it: what is read is spelled so, and what is spelled so is read.
-use Rattle.std.proofs.Common.{◌≡◌, ◌⊎◌, inl, inr, ℕ, ◌<◌, Bool, true, false, not, cond, eqb, ◌||◌, List, [], ◌∷◌, ◌++◌, length, codes, Ok, Err, refl, sym, ap, subst, ◌∙◌, append_assoc, arith}
+use Rattle.std.proofs.Common.{◌≡◌, ◌⊎◌, inl, inr, ℕ, ◌<◌, Bool, true, false, cond, eqb, List, [], ◌∷◌, ◌++◌, length, codes, Ok, Err, refl, sym, ap, subst, ◌∙◌, arith}
 use Rattle.std.specs.Prelude.{⊤}
-use Rattle.std.specs.Char.{IsScalar, encode_utf8}
+use Rattle.std.specs.Char.{encode_utf8}
 use Rattle.std.proofs.Math.Utf8.{encode}
 use Rattle.std.proofs.lemmas.Bool.{ne_eqb, eqb-true, eq-eqb}
-use Rattle.reading.specs.Readers.{ReadOr, Reader, ◌>>=◌, mapped, choice, strip, starts, joined}
+use Rattle.reading.specs.Readers.{ReadOr, Reader, ◌>>=◌, mapped, strip, starts}
 use Rattle.reading.specs.Grammars.{Grammar, Mapped}
 use Rattle.reading.specs.Spelling.{Anything, Spells, IsTestOf}
 use Rattle.reading.proofs.SpellLaws.{bind_ok, mapped_spells, telling_spells}
 use Rattle.reading.proofs.ManyLaws.{joined_spells}
 use Rattle.html_read.specs.declared.error.Refusal.TheVariants.{Character}
 use Rattle.html_read.specs.Characters.{in_repertoire}
-use Rattle.html_read.specs.Faults.{Fault, Judged, syntax, spelled}
+use Rattle.html_read.specs.Faults.{Fault, syntax, spelled}
 use Rattle.html_read.specs.Lexing.{comment, reference, character}
 use Rattle.html_read.specs.Reading.{in_text, checked, text_piece, gap}
-use Rattle.html_read.specs.Grammar.{IsComment, IsReference, IsCharacter, IsLetter, IsGap}
+use Rattle.html_read.specs.Grammar.{IsComment, IsCharacter, IsLetter, IsGap}
 use Rattle.html_read.proofs.MiscLaws.{comment_spells}
 use Rattle.html_read.proofs.CharacterLaws.{IsLed, led, character_spells}
 use Rattle.html_read.proofs.ReferenceLaws.{reference_spells}

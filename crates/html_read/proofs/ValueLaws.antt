@@ -1,16 +1,16 @@
 -- Values of attributes: what is read is spelled so, and what is spelled so is read.
-use Rattle.std.proofs.Common.{◌≡◌, inl, inr, ℕ, ◌<◌, ◌≤◌, Bool, true, false, not, cond, eqb, ◌&&◌, ◌||◌, List, [], ◌∷◌, ◌++◌, length, codes, Ok, is_ok, refl, sym, ap, subst, ◌∙◌, append_assoc, arith}
+use Rattle.std.proofs.Common.{◌≡◌, inl, inr, ℕ, ◌<◌, Bool, true, false, not, eqb, List, [], ◌∷◌, ◌++◌, length, codes, is_ok, refl, sym, ap, subst, ◌∙◌, append_assoc, arith}
 use Rattle.std.specs.Prelude.{⊤}
 use Rattle.std.specs.Char.{encode_utf8}
 use Rattle.std.proofs.lemmas.Bool.{and_parts}
-use Rattle.reading.specs.Readers.{Read, ◌>>=◌, give, follow, mapped, choice, strip, starts, one_of, next_is, can_read, skip}
-use Rattle.reading.specs.Grammars.{AllPass, OneOf, Seq, Given}
+use Rattle.reading.specs.Readers.{Read, strip, starts, can_read}
+use Rattle.reading.specs.Grammars.{AllPass, OneOf, Seq}
 use Rattle.reading.specs.Spelling.{Anything, Spells, IsTestOf}
-use Rattle.reading.proofs.SpellLaws.{ok, stop, give_spells, strip_spells, one_of_spells, follow_spells, mapped_spells, choice_spells, spells_before}
+use Rattle.reading.proofs.SpellLaws.{give_spells, strip_spells, one_of_spells, follow_spells, mapped_spells, choice_spells, spells_before}
 use Rattle.reading.proofs.ManyLaws.{joined_spells}
 use Rattle.reading.proofs.PlacedLaws.{follow_spells_where, skip_again}
-use Rattle.html_read.specs.Characters.{is_white, is_name_byte}
-use Rattle.html_read.specs.Lexing.{spaces, reference, is_quote, is_plain, in_value, value_piece, value_in, quoted, equals, value}
+use Rattle.html_read.specs.Characters.{is_white}
+use Rattle.html_read.specs.Lexing.{spaces, is_quote, is_plain, in_value, value_piece, value_in, quoted, equals, value}
 use Rattle.html_read.specs.Grammar.{IsSpaces, IsReference, IsValuePiece, IsQuoted, IsEquals, IsValue}
 use Rattle.html_read.proofs.MiscLaws.{NoWhite, NoNameByte, spaces_spells, blank_ends_name}
 use Rattle.html_read.proofs.ReferenceLaws.{reference_spells}
