@@ -1,5 +1,5 @@
 -- What stands in an element, tag by tag.
-use Rattle.std.proofs.Common.{◌≡◌, ℕ, ◌<◌, ◌≤◌, true, false, cond, List, [], ◌∷◌, ◌++◌, length, reverse, map, map-append, Some, None, Ok, Err, refl, sym, ap, subst, ◌∙◌, arith}
+use Rattle.std.proofs.Common.{◌≡◌, ℕ, ◌<◌, ◌≤◌, true, false, cond, List, [], ◌∷◌, ◌++◌, length, reverse, map, Some, None, Ok, Err, refl, sym, ap, subst, ◌∙◌, arith}
 use Rattle.std.specs.Prelude.{Bool, not, ◌&&◌, ◌==◌, Option, ⊤}
 use Rattle.std.specs.String.{string_bytes}
 use Rattle.reading.specs.Readers.{ReadOr, ◌>>=◌, give, mapped, follow, repeat, starts}
@@ -10,6 +10,8 @@ use Rattle.html_read.specs.declared.error.Stop.TheVariants as stops
 use Rattle.html_read.specs.Faults.{Fault, Stops}
 use Rattle.html_read.specs.Reading.{Content, content_of, content, turn, goes_on, with_gap}
 use Rattle.html_read.specs.Values.{Node}
+use Rattle.html_read.specs.Views.{opened_of}
+use Rattle.html_read.specs.declared.content.Open.{Open as CodeOpen}
 
 -- the turns of the content of a base, from this state on
 abbrev pub total_of : (size : ℕ) → Base → Content → (text : List ℕ) → ReadOr Fault Content
@@ -52,3 +54,21 @@ gap_stops size base nodes text stops.Memory e = tt
 pub reading_ends : (size : ℕ) (base : Base) (nodes all : List Node) (text rest : List ℕ) (now : Content) → IsReading size base nodes text now rest → goes_on base now rest ≡ false → now.nodes ≡ all
     → content size base nodes text ≡ Ok (all, rest)
 reading_ends size base nodes all text rest now is g same = rw (← same) (content_ok size base nodes text is.1 rest is.0 now is.2 (turning_ends is.3 g))
+
+-- ---- as the code has it
+
+pub content_begins : (size : ℕ) (base : Base) (old new : List Node) (text rest : List ℕ) (opened shown : List CodeOpen) → shown ≡ opened → opened ≡ []
+    → with_gap base (content_of (opened_of shown) old) text ≡ Ok (content_of (opened_of shown) new, rest) → IsReading size base old text (content_of (opened_of opened) new) rest
+content_begins size base old new text rest opened shown same none e =
+    let here : with_gap base (content_of [] old) text ≡ Ok (content_of [] new, rest) =
+    subst (λ (o : List CodeOpen). with_gap base (content_of (opened_of o) old) text ≡ Ok (content_of (opened_of o) new, rest)) (same ∙ none) e in
+    subst (λ (o : List CodeOpen). IsReading size base old text (content_of (opened_of o) new) rest) (sym none) (reading_starts size base old text rest (content_of [] new) here)
+
+pub begins_not : (size : ℕ) (base : Base) (old : List Node) (text : List ℕ) (opened shown : List CodeOpen) (stop_ : Stop) → shown ≡ opened → opened ≡ []
+    → Stops stop_ (with_gap base (content_of (opened_of shown) old) text) → Stops stop_ (content size base old text)
+begins_not size base old text opened shown stop_ same none e =
+    gap_stops size base old text stop_ (subst (λ (o : List CodeOpen). Stops stop_ (with_gap base (content_of (opened_of o) old) text)) (same ∙ none) e)
+
+pub still : (base : Base) (opened shown : List CodeOpen) (nodes : List Node) (rest : List ℕ) (r t : Bool) → shown ≡ opened → ((n : List Node) → r ≡ goes_on base (content_of (opened_of shown) n) rest) → r ≡ t
+    → goes_on base (content_of (opened_of opened) nodes) rest ≡ t
+still base opened shown nodes rest r t same e is = subst (λ (o : List CodeOpen). goes_on base (content_of (opened_of o) nodes) rest ≡ t) same (sym (e nodes) ∙ is)

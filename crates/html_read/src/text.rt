@@ -1,6 +1,6 @@
 //! Text, with comments in it.
 
-ghost use Rattle.std.specs.Prelude.{◌≡◌, ◌<◌, [], true, length, IfOk};
+ghost use Rattle.std.specs.Prelude.{◌≡◌, ◌<◌, ◌≤◌, [], true, length, IfOk};
 ghost use Rattle.std.specs.String.{string_bytes};
 ghost use Rattle.reading.specs.Readers as reading;
 ghost use Rattle.html_read.specs.Characters.{in_repertoire};
@@ -20,7 +20,8 @@ use wm_chars::bidi_class;
 /// The letters up to the next tag.
 #[tactic(auto, unfolding(crate::specs::Reading::gap))]
 pub(crate) fn gap(alloc: Global, text: &str) -> Result<(Letters, &str), Stop<'_>>
-    ensures { Gives (λ g. (string_bytes g.0, g.1.now)) result (readers.gap text.now) }
+    ensures read { Gives (λ g. (string_bytes g.0, g.1.now)) result (readers.gap text.now) }
+    ensures shorter { IfOk result (λ g. length g.1.now ≤ length text.now) }
 {
     let mut letters = Letters::new(alloc);
     let mut rest = text;

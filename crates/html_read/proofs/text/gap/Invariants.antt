@@ -1,4 +1,4 @@
-use Rattle.std.proofs.Common.{length}
+use Rattle.std.proofs.Common.{◌≤◌, length}
 use denote.Text.{Utf8}
 use denote.Shadow.{shadow}
 use Rattle.std.specs.String.{string_bytes}
@@ -8,7 +8,7 @@ use Rattle.html_read.specs.Reading.{in_text, text_piece}
 use Rattle.html_read.proofs.text.gap.Given as goal
 
 abbrev pub invariant-loop-letters : goal.invariant-loop-letters
-invariant-loop-letters l = shadow (Utf8 l.rest) × IsJoining in_text text_piece (joined in_text text_piece l.fn.text) (string_bytes l.letters) l.rest
+invariant-loop-letters l = shadow (Utf8 l.rest) × IsJoining in_text text_piece (joined in_text text_piece l.fn.text) (string_bytes l.letters) l.rest × (length l.rest ≤ length l.fn.text)
 
 abbrev pub decreases-loop-letters : goal.decreases-loop-letters
 decreases-loop-letters l = length l.rest
