@@ -7,6 +7,8 @@ mod Runs
 mod Seeking
 mod Tables
 mod Names
+mod Judges
+mod Words
 mod MiscLaws
 mod CharacterLaws
 mod ReferenceLaws
