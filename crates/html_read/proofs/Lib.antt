@@ -8,6 +8,8 @@ mod Runs
 mod Seeking
 mod Tables
 mod Names
+mod Judges
+mod Words
 mod MiscLaws
 mod CharacterLaws
 mod ReferenceLaws

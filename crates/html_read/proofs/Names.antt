@@ -1,8 +1,10 @@
 -- Tables of names, row by row.
-use Rattle.std.proofs.Common.{◌≡◌, ℕ, ◌<◌, ◌≤◌, ◌+◌, true, false, List, [], ◌∷◌, length, drop, get_or, map, bytes_eq, Some, None, refl, sym, ap, ◌∙◌, add-one, drop-cons}
-use Rattle.std.specs.Prelude.{Option}
+use Rattle.std.proofs.Common.{◌≡◌, ℕ, ◌<◌, ◌≤◌, ◌+◌, true, false, List, [], ◌∷◌, length, drop, get_or, map, bytes_eq, Some, None, Err, refl, sym, ap, ◌∙◌, add-one, drop-cons}
+use Rattle.std.specs.Prelude.{Option, Bool, cond, eqb, is_ok, ⊤}
+use Rattle.std.specs.Char.{to_ascii_lowercase}
 use denote.Bor.{Bor}
 use Rattle.std.proofs.lemmas.List.{drop_all}
+use Rattle.reading.specs.Readers.{Read, strip, strip_either_case, starts, can_read}
 use Rattle.html_read.specs.Characters.{lowered, named, words_of}
 
 name_step : {T : Type 0} (word : List ℕ) (x : T) (others : List (List ℕ × T)) (name : List ℕ) → bytes_eq (lowered word) name ≡ false → named ((word, x) ∷ others) name ≡ named others name
@@ -35,3 +37,17 @@ pub names_end : {T : Type 0} (table : List (Bor (List ℕ) × T)) (i : ℕ) (nam
 names_end table i name total le so_far =
     let none : drop i table ≡ [] = drop_all i table le in
     rw none at so_far
+
+-- ---- a name begins with a text
+
+same_by : (byte wanted : ℕ) (t : Bool) (one two : Read ⊤) → eqb (to_ascii_lowercase byte) wanted ≡ t → (low high : List ℕ) → is_ok one ≡ is_ok two
+    → is_ok (cond t one (Err low)) ≡ is_ok (cond t two (Err high))
+same_by byte wanted true one two e low high same = same
+same_by byte wanted false one two e low high same = refl
+
+pub lowered_starts : (word name : List ℕ) → starts word (lowered name) ≡ can_read (strip_either_case word) name
+unfolding starts strip strip_either_case
+lowered_starts [] name = refl
+lowered_starts (wanted ∷ word) [] = refl
+lowered_starts (wanted ∷ word) (byte ∷ name) =
+    same_by byte wanted (eqb (to_ascii_lowercase byte) wanted) (strip word (lowered name)) (strip_either_case word name) refl (lowered (byte ∷ name)) (byte ∷ name) (lowered_starts word name)
