@@ -1,4 +1,4 @@
-use Rattle.std.proofs.Common.{rules, [], sym, ◌∙◌, true, false, arith}
+use Rattle.std.proofs.Common.{rules, refl, [], sym, ◌∙◌, true, false, arith}
 use Rattle.std.proofs.lemmas.Result.{err_from_is_err_and}
 use Rattle.html_read.specs.Reading.{content_of}
 use Rattle.html_read.specs.Values.{nodes_of}
@@ -26,8 +26,15 @@ loop-alloc-preserved c = (
 
 pub returns-in_err-rest-2-clause-read : goal.returns-in_err-rest-2-clause-read
 returns-in_err-rest-2-clause-read c =
-    let p = err_from_is_err_and c.from_residual-2.result c.from_residual-2.ensures.1 in
+    let p = err_from_is_err_and c.from_residual-in_err-rest-2.result c.from_residual-in_err-rest-2.ensures.1 in
     rw (p.1, p.2) (reading_stops c.args.size c.args.base (nodes_of c.args.nodes.now.items) c.args.text.now c.loop-alloc.rest.now (content_of (opened_of c.loop-alloc.opened.items) (nodes_of c.loop-alloc.nodes.items))
     c.in_err-rest-2.field-0.0 c.loop-alloc.invariant.1
     (still c.args.base c.loop-alloc.opened.items c.deref-in-loop-alloc.result.now (nodes_of c.loop-alloc.nodes.items) c.loop-alloc.rest.now c.goes_on.result true c.deref-in-loop-alloc.ensures.value c.goes_on.ensures c.loop-alloc-test.true)
     c.in_err-rest-2.ensures.read)
+
+pub returns-clause-read : goal.returns-clause-read
+returns-clause-read c =
+    reading_ends c.args.size c.args.base (nodes_of c.args.nodes.now.items) (nodes_of c.loop-alloc.nodes.items) c.args.text.now c.loop-alloc.rest.now
+    (content_of (opened_of c.loop-alloc.opened.items) (nodes_of c.loop-alloc.nodes.items)) c.loop-alloc.invariant.1
+    (still c.args.base c.loop-alloc.opened.items c.deref-in-loop-alloc.result.now (nodes_of c.loop-alloc.nodes.items) c.loop-alloc.rest.now c.goes_on.result false c.deref-in-loop-alloc.ensures.value c.goes_on.ensures c.loop-alloc-test.false)
+    refl
