@@ -9,6 +9,7 @@ mod Seeking
 mod Tables
 mod Names
 mod Judges
+mod Shorter
 mod Words
 mod MiscLaws
 mod CharacterLaws
