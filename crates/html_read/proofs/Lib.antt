@@ -23,3 +23,4 @@ mod HeadLaws
 mod DocumentLaws
 mod ShapeLaws
 mod AnsweredLaws
+mod NodesLaws
