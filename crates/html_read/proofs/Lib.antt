@@ -9,6 +9,7 @@ mod Tables
 mod Names
 mod Judges
 mod Shorter
+mod Heads
 mod Words
 mod MiscLaws
 mod CharacterLaws
