@@ -10,6 +10,7 @@ mod Tables
 mod Names
 mod Judges
 mod Shorter
+mod Heads
 mod Words
 mod MiscLaws
 mod CharacterLaws
