@@ -34,3 +34,6 @@ pub use node::{Attributes, PlacedText, ReadDocument, ReadKind, ReadNode, ReadNod
 pub use raw::RawEnd;
 pub use tag::{TAGS, Tag};
 pub use tail::read_tail;
+
+#[cfg(test)]
+mod tests;
