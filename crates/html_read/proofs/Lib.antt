@@ -11,6 +11,7 @@ mod Names
 mod Judges
 mod Shorter
 mod Heads
+mod Inputs
 mod Words
 mod MiscLaws
 mod CharacterLaws
