@@ -30,7 +30,7 @@ next_here : (size : ℕ) (all : List WrittenAttribute) (at : ℕ) (d : WrittenAt
 next_here size all at d seen said r lt e now =
     let a = attribute_of (get_or all at d) in
     let here : judged_behind size seen said (map attribute_of (drop at all))
-        ≡ and_then (with_next size seen a said) (λ more. judged_behind size (seen ++ a.name ∷ []) more (map attribute_of (drop (at + 1) all))) =
+    ≡ and_then (with_next size seen a said) (λ more. judged_behind size (seen ++ a.name ∷ []) more (map attribute_of (drop (at + 1) all))) =
     ap (λ (l : List WrittenAttribute). judged_behind size seen said (map attribute_of l)) (front all at d lt) in
     ap (λ (x : Result Acting Fault). and_then x (λ more. judged_behind size (seen ++ a.name ∷ []) more (map attribute_of (drop (at + 1) all)))) (sym e) ∙ sym here ∙ now
 

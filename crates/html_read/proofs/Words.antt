@@ -112,7 +112,7 @@ word_goes_on text bytes at same now lt e =
     record {
       within = omega arith;
       same = now.same ∙ ap (words_behind (take at text)) (front text at lt) ∙ in_word (take at text) (get_or text at 0) (drop (at + 1) text) none
-      ∙ ap (λ (t : List ℕ). words_behind t (drop (at + 1) text)) (sym (one_more text at lt));
+          ∙ ap (λ (t : List ℕ). words_behind t (drop (at + 1) text)) (sym (one_more text at lt));
     }
 
 pub word_stops : (text bytes : List ℕ) (at : ℕ) → bytes ≡ text → IsWordTo text at → at < length text → is_white (get_or bytes at 0) ≡ true → EndsWord text (drop at text)
@@ -121,7 +121,7 @@ word_stops text bytes at same now lt e =
       take at text,
       sym (take-append-drop at text),
       now.same ∙ ap (words_behind (take at text)) (front text at lt) ∙ behind_word (take at text) (get_or text at 0) (drop (at + 1) text) white
-      ∙ ap (λ (t : List ℕ). word_before (take at text) (words t)) (sym (front text at lt)),
+          ∙ ap (λ (t : List ℕ). word_before (take at text) (words t)) (sym (front text at lt)),
     )
 
 at_end : (word : List ℕ) → words_behind word [] ≡ word_before word (words [])

@@ -28,7 +28,10 @@ pub(crate) struct WrittenAttribute<'a> {
 
 /// The attributes of a tag, and white space behind them.
 #[tactic(auto, unfolding(crate::specs::Lexing::attributes))]
-pub(crate) fn attributes(alloc: Global, text: &str) -> Result<(Vec<WrittenAttribute<'_>>, &str), Stop<'_>>
+pub(crate) fn attributes(
+    alloc: Global,
+    text: &str,
+) -> Result<(Vec<WrittenAttribute<'_>>, &str), Stop<'_>>
     ensures read { Gives (λ r. (map attribute_of r.0.items, r.1.now)) result (spelled readers.attributes text.now) }
     ensures shorter { IfOk result (λ r. length r.1.now ≤ length text.now) }
 {

@@ -33,7 +33,13 @@ struct Open<'a> {
 
 /// Puts the nodes of all that stands in the base behind those so far.
 #[tactic(auto, unfolding(crate::specs::Reading::content))]
-pub(crate) fn content<'a>(alloc: Global, size: usize, base: Base, nodes: &mut Vec<ReadNode>, text: &'a str) -> Result<&'a str, Stop<'a>>
+pub(crate) fn content<'a>(
+    alloc: Global,
+    size: usize,
+    base: Base,
+    nodes: &mut Vec<ReadNode>,
+    text: &'a str,
+) -> Result<&'a str, Stop<'a>>
     ensures read { Gives (λ rest. (nodes_of nodes.new.items, rest.now)) result (readers.content size base (nodes_of nodes.old.items) text.now) }
     ensures shorter { IfOk result (λ rest. length rest.now ≤ length text.now) }
 {
@@ -64,7 +70,14 @@ fn base_ends(base: Base, text: &str) -> bool
 
 // A tag, and the text behind it.
 #[tactic(auto, unfolding(crate::specs::Reading::turn))]
-fn turn<'a>(alloc: Global, size: usize, base: Base, opened: &mut Vec<Open<'a>>, nodes: &mut Vec<ReadNode>, text: &'a str) -> Result<&'a str, Stop<'a>>
+fn turn<'a>(
+    alloc: Global,
+    size: usize,
+    base: Base,
+    opened: &mut Vec<Open<'a>>,
+    nodes: &mut Vec<ReadNode>,
+    text: &'a str,
+) -> Result<&'a str, Stop<'a>>
     ensures read { Gives (λ rest. (readers.content_of (opened_of opened.new.items) (nodes_of nodes.new.items), rest.now)) result
         (readers.turn size base (readers.content_of (opened_of opened.old.items) (nodes_of nodes.old.items)) text.now) }
     ensures shorter { IfOk result (λ rest. length rest.now < length text.now) }
@@ -74,7 +87,14 @@ fn turn<'a>(alloc: Global, size: usize, base: Base, opened: &mut Vec<Open<'a>>, 
 }
 
 #[tactic(auto, unfolding(crate::specs::Reading::markup))]
-fn markup<'a>(alloc: Global, size: usize, base: Base, opened: &mut Vec<Open<'a>>, nodes: &mut Vec<ReadNode>, text: &'a str) -> Result<&'a str, Stop<'a>>
+fn markup<'a>(
+    alloc: Global,
+    size: usize,
+    base: Base,
+    opened: &mut Vec<Open<'a>>,
+    nodes: &mut Vec<ReadNode>,
+    text: &'a str,
+) -> Result<&'a str, Stop<'a>>
     ensures read { Gives (λ rest. (readers.content_of (opened_of opened.new.items) (nodes_of nodes.new.items), rest.now)) result
         (readers.markup size base (readers.content_of (opened_of opened.old.items) (nodes_of nodes.old.items)) text.now) }
     ensures shorter { IfOk result (λ rest. length rest.now < length text.now) }
@@ -103,7 +123,12 @@ fn ending<'a>(opened: &mut Vec<Open<'a>>, text: &'a str) -> Result<&'a str, Stop
 
 // An element begins; a `br` is whole at once.
 #[tactic(auto, unfolding(crate::specs::Reading::begun))]
-fn begin<'a>(base: Base, start: Start<'a>, opened: &mut Vec<Open<'a>>, nodes: &mut Vec<ReadNode>) -> Result<(), Stop<'a>>
+fn begin<'a>(
+    base: Base,
+    start: Start<'a>,
+    opened: &mut Vec<Open<'a>>,
+    nodes: &mut Vec<ReadNode>,
+) -> Result<(), Stop<'a>>
     ensures begun { OnOk result (readers.content_of (opened_of opened.new.items) (nodes_of nodes.new.items)
         ≡ readers.begun base (readers.content_of (opened_of opened.old.items) (nodes_of nodes.old.items)) (start_of start.entry)) }
     ensures memory { IfErr result (λ stop. stop ≡ Stops.Memory) }
@@ -147,7 +172,13 @@ fn base_parent(base: Base) -> Option<usize>
 
 // The text up to the next tag; an empty one is no node.
 #[tactic(auto, unfolding(crate::specs::Reading::with_gap))]
-fn with_gap<'a>(alloc: Global, base: Base, opened: &[Open<'a>], nodes: &mut Vec<ReadNode>, text: &'a str) -> Result<&'a str, Stop<'a>>
+fn with_gap<'a>(
+    alloc: Global,
+    base: Base,
+    opened: &[Open<'a>],
+    nodes: &mut Vec<ReadNode>,
+    text: &'a str,
+) -> Result<&'a str, Stop<'a>>
     ensures read { Gives (λ rest. (readers.content_of (opened_of opened.now) (nodes_of nodes.new.items), rest.now)) result
         (readers.with_gap base (readers.content_of (opened_of opened.now) (nodes_of nodes.old.items)) text.now) }
     ensures shorter { IfOk result (λ rest. length rest.now ≤ length text.now) }
@@ -157,7 +188,11 @@ fn with_gap<'a>(alloc: Global, base: Base, opened: &[Open<'a>], nodes: &mut Vec<
     Ok(rest)
 }
 
-fn with_text(parent: Option<usize>, text: Letters, nodes: &mut Vec<ReadNode>) -> Result<(), Stop<'static>>
+fn with_text(
+    parent: Option<usize>,
+    text: Letters,
+    nodes: &mut Vec<ReadNode>,
+) -> Result<(), Stop<'static>>
     ensures put { OnOk result (nodes_of nodes.new.items ≡ with_text parent (string_bytes text) (nodes_of nodes.old.items)) }
     ensures memory { IfErr result (λ stop. stop ≡ Stops.Memory) }
 {

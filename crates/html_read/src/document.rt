@@ -148,7 +148,11 @@ fn maybe_doctype(text: &str) -> Result<&str, &[u8]>
 
 // From the start tag of `html` to its end tag.
 #[tactic(auto, unfolding(crate::specs::Reading::html))]
-fn html(alloc: Global, size: usize, text: &str) -> Result<(Vec<ReadNode>, Vec<PlacedText>, &str), Stop<'_>>
+fn html(
+    alloc: Global,
+    size: usize,
+    text: &str,
+) -> Result<(Vec<ReadNode>, Vec<PlacedText>, &str), Stop<'_>>
     ensures { Gives (λ h. ((nodes_of h.0.items, sheets_of h.1.items), h.2.now)) result (readers.html size text.now) }
 {
     let (attributes, rest) = start_of(alloc, size, "<html", false, text)?;
@@ -161,7 +165,12 @@ fn html(alloc: Global, size: usize, text: &str) -> Result<(Vec<ReadNode>, Vec<Pl
 
 // `body` with all that stands in it, and the nodes of the document.
 #[tactic(auto, unfolding(crate::specs::Reading::body))]
-fn body(alloc: Global, size: usize, html: Attributes, text: &str) -> Result<(Vec<ReadNode>, &str), Stop<'_>>
+fn body(
+    alloc: Global,
+    size: usize,
+    html: Attributes,
+    text: &str,
+) -> Result<(Vec<ReadNode>, &str), Stop<'_>>
     ensures { Gives (λ b. (nodes_of b.0.items, b.1.now)) result (readers.body size (acting_of html) text.now) }
 {
     let (attributes, rest) = start_of(alloc, size, "<body", false, text)?;

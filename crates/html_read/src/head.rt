@@ -16,7 +16,11 @@ use style_types::Letters;
 
 /// The style sheets of the head and what stands behind it, if there is one.
 #[tactic(auto, unfolding(crate::specs::Reading::maybe_head))]
-pub(crate) fn maybe_head(alloc: Global, size: usize, text: &str) -> Result<(Vec<PlacedText>, &str), Stop<'_>>
+pub(crate) fn maybe_head(
+    alloc: Global,
+    size: usize,
+    text: &str,
+) -> Result<(Vec<PlacedText>, &str), Stop<'_>>
     ensures { Gives (λ h. (sheets_of h.0.items, h.1.now)) result (readers.maybe_head size text.now) }
 {
     if !ahead("<h", text) {
@@ -49,7 +53,12 @@ fn head_items(alloc: Global, size: usize, text: &str) -> Result<(Vec<PlacedText>
 
 // What comes next in the head.
 #[tactic(auto, unfolding(crate::specs::Reading::head_turn, crate::specs::Reading::meta, reading::specs::Readers::after))]
-fn head_turn<'a>(alloc: Global, size: usize, sheets: &mut Vec<PlacedText>, text: &'a str) -> Result<&'a str, Stop<'a>>
+fn head_turn<'a>(
+    alloc: Global,
+    size: usize,
+    sheets: &mut Vec<PlacedText>,
+    text: &'a str,
+) -> Result<&'a str, Stop<'a>>
     ensures read { Gives (λ rest. (sheets_of sheets.new.items, rest.now)) result (readers.head_turn size (sheets_of sheets.old.items) text.now) }
     ensures shorter { IfOk result (λ rest. length rest.now < length text.now) }
 {

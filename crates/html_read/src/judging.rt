@@ -23,7 +23,11 @@ use wm_modes::Direction;
 
 /// What the attributes say, from left to right. Places are counted in an input of `size` bytes.
 #[tactic(auto, unfolding(crate::specs::Judging::judged))]
-pub(crate) fn judged<'a>(alloc: Global, size: usize, attributes: Vec<WrittenAttribute<'a>>) -> Result<Attributes, Stop<'a>>
+pub(crate) fn judged<'a>(
+    alloc: Global,
+    size: usize,
+    attributes: Vec<WrittenAttribute<'a>>,
+) -> Result<Attributes, Stop<'a>>
     ensures { Gives acting_of result (judging.judged size (map attribute_of attributes.entry.items)) }
 {
     let mut said = Attributes {
@@ -57,7 +61,12 @@ fn has_name(name: &str, seen: &[&str]) -> bool
 }
 
 // What this attribute says, too.
-fn with_attribute<'a>(alloc: Global, size: usize, attribute: WrittenAttribute<'a>, said: &mut Attributes) -> Result<(), Stop<'a>>
+fn with_attribute<'a>(
+    alloc: Global,
+    size: usize,
+    attribute: WrittenAttribute<'a>,
+    said: &mut Attributes,
+) -> Result<(), Stop<'a>>
     ensures { Gives (λ u. acting_of said.new) result (judging.with_attribute size (role_of (attribute_of attribute.entry).name) (attribute_of attribute.entry) (acting_of said.old)) }
 {
     match role_of(attribute.name) {

@@ -7,8 +7,7 @@ ghost use Rattle.html_read.specs.Characters.{lowered, is_white, is_name_byte};
 ghost use Rattle.html_read.specs.Cuts.{EndsWith, ReadsFront};
 ghost use Rattle.html_read.specs.Lexing as readers;
 
-use crate::raw::raw;
-use crate::raw::RawEnd;
+use crate::raw::{RawEnd, raw};
 use reading::{first, starts, strip, strip_either_case};
 
 // The front of the text that `rest` leaves.

@@ -27,7 +27,13 @@ pub(crate) struct Start<'a> {
 
 /// The start tag of this word, which begins with `<`: wholly read, and then judged.
 #[tactic(auto, unfolding(crate::specs::Reading::start_of, crate::specs::Reading::tag_behind))]
-pub(crate) fn start_of<'a>(alloc: Global, size: usize, word: &str, slash: bool, text: &'a str) -> Result<(Attributes, &'a str), Stop<'a>>
+pub(crate) fn start_of<'a>(
+    alloc: Global,
+    size: usize,
+    word: &str,
+    slash: bool,
+    text: &'a str,
+) -> Result<(Attributes, &'a str), Stop<'a>>
     ensures read { Gives (λ r. (acting_of r.0, r.1.now)) result (readers.start_of size word.now slash text.now) }
     ensures shorter { IfOk result (λ r. length r.1.now < length text.now) }
 {
@@ -39,7 +45,11 @@ pub(crate) fn start_of<'a>(alloc: Global, size: usize, word: &str, slash: bool, 
 
 /// A start tag in `body`: wholly read, and then its name and its attributes judged.
 #[tactic(auto, unfolding(crate::specs::Reading::start_tag, reading::specs::Readers::after))]
-pub(crate) fn start_tag(alloc: Global, size: usize, text: &str) -> Result<(Start<'_>, &str), Stop<'_>>
+pub(crate) fn start_tag(
+    alloc: Global,
+    size: usize,
+    text: &str,
+) -> Result<(Start<'_>, &str), Stop<'_>>
     ensures read { Gives (λ r. (start_of r.0, r.1.now)) result (readers.start_tag size text.now) }
     ensures shorter { IfOk result (λ r. length r.1.now < length text.now) }
 {

@@ -67,5 +67,9 @@ fn line_end(text: &str) -> Result<&str, &[u8]>
 fn nothing(text: &str) -> Result<&str, &[u8]>
     ensures { Answers (λ rest. (tt, rest.now)) result (readers.nothing text.now) }
 {
-    if text.is_empty() { Ok(text) } else { Err(text.as_bytes()) }
+    if text.is_empty() {
+        Ok(text)
+    } else {
+        Err(text.as_bytes())
+    }
 }

@@ -10,7 +10,7 @@ returns-in_err-rest-clause-read c =
 
 pub loop-rest-preserved : goal.loop-rest-preserved
 loop-rest-preserved c = (
-    search rules,
-    letters_go_on c.args.text.now c.loop-rest.rest.now c.in_ok-rest.rest.now c.loop-rest.invariant.1 (sym c.letter_ahead.ensures ∙ c.loop-rest-test.true) c.in_ok-rest.ensures,
-    inr (letters_shorten c.args.text.now c.loop-rest.rest.now c.in_ok-rest.rest.now c.loop-rest.invariant.2 c.in_ok-rest.ensures),
+  search rules,
+  letters_go_on c.args.text.now c.loop-rest.rest.now c.in_ok-rest.rest.now c.loop-rest.invariant.1 (sym c.letter_ahead.ensures ∙ c.loop-rest-test.true) c.in_ok-rest.ensures,
+  inr (letters_shorten c.args.text.now c.loop-rest.rest.now c.in_ok-rest.rest.now c.loop-rest.invariant.2 c.in_ok-rest.ensures),
 )
