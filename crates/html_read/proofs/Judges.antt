@@ -1,38 +1,77 @@
 -- Attributes, judged one by one.
-use Rattle.std.proofs.Common.{◌≡◌, ℕ, ◌<◌, ◌≤◌, ◌+◌, true, false, List, [], ◌∷◌, ◌++◌, length, drop, get_or, map, Ok, Err, refl, sym, ap, subst, ◌∙◌, add-one, drop-cons}
-use Rattle.std.specs.Prelude.{Bool, Result, bytes_eq}
-use denote.Bor.{Bor}
-use Rattle.std.proofs.lemmas.List.{drop_all}
+use Rattle.std.proofs.Common.{◌≡◌, ℕ, ◌+◌, true, false, List, [], ◌∷◌, ◌++◌, length, map, Ok, Err, refl, sym, ap, subst, ◌∙◌, arith}
+use Rattle.std.specs.Prelude.{Bool, cond, not, ◌||◌, Result, bytes_eq}
+use Rattle.std.specs.List.{list_any}
+use Rattle.std.specs.Ordering.{is_eq, nat_cmp}
+use Rattle.std.specs.Cmp.Lexicographic.{slice_cmp}
+use Rattle.std.specs.String.{string_bytes, string_cmp}
+use Rattle.std.specs.declared.string.String.{String}
+use Rattle.std.specs.BTreeSet.{BTreeSet, contains, Updates}
+use Rattle.std.proofs.lemmas.Map.Text.{btree_set_updates_text}
+use Rattle.std.proofs.lemmas.List.Folds.{list_any-append}
 use Rattle.html_read.specs.declared.attributes.WrittenAttribute.{WrittenAttribute}
 use Rattle.html_read.specs.declared.error.Stop.{Stop}
 use Rattle.html_read.specs.declared.error.Stop.TheVariants as stops
 use Rattle.html_read.specs.declared.error.Refusal.TheVariants.{Syntax}
-use Rattle.html_read.specs.Characters.{lowered, role_of}
+use Rattle.html_read.specs.Characters.{role_of}
 use Rattle.html_read.specs.Faults.{Fault, Stops}
 use Rattle.html_read.specs.Judging.{Attribute, no_attributes, has_name, with_attribute, with_next, and_then, judged_behind, judged}
 use Rattle.html_read.specs.Values.{Acting}
-use Rattle.html_read.specs.Views.{attribute_of, names_of}
+use Rattle.html_read.specs.Views.{attribute_of, AreSeen, TellsNew}
 
--- what is said so far, and what the attributes from this place on say with it, is what all say
-abbrev pub IsJudging : (size : ℕ) → List WrittenAttribute → (at : ℕ) → (seen : List (List ℕ)) → Acting → Type 0
-IsJudging size all at seen said = judged_behind size seen said (map attribute_of (drop at all)) ≡ judged size (map attribute_of all)
+-- ---- the names seen
 
-pub judging_starts : (size : ℕ) (all : List WrittenAttribute) (seen : List (List ℕ)) (said : Acting) → seen ≡ [] → said ≡ no_attributes → IsJudging size all 0 seen said
+or_last : (a b : Bool) → (a || (b || false)) ≡ cond b true a
+or_last true true = refl
+or_last true false = refl
+or_last false true = refl
+or_last false false = refl
+
+one_more : (names : List (List ℕ)) (name other : List ℕ) → cond (bytes_eq name other) true (has_name other names) ≡ has_name other (names ++ name ∷ [])
+one_more names name other =
+    sym (list_any-append (λ (n : List ℕ). bytes_eq n other) names (name ∷ []) ∙ or_last (has_name other names) (bytes_eq name other))
+
+none_seen : {Y : Type 0} (seen : BTreeSet (String Y)) → seen.keys ≡ [] → AreSeen [] seen
+none_seen seen none name = ap (λ (keys : List (String _)). list_any (λ k. is_eq (slice_cmp nat_cmp name (string_bytes k))) keys) none
+
+seen_now : {Y : Type 0} (names : List (List ℕ)) (old new : BTreeSet (String Y)) (key : String Y) → Updates string_cmp old new key true → AreSeen names old → AreSeen (names ++ string_bytes key ∷ []) new
+seen_now names old new key updates are other =
+    btree_set_updates_text (string_bytes key) old new true updates other ∙ ap (cond (bytes_eq (string_bytes key) other) true) (are other) ∙ one_more names (string_bytes key) other
+
+pub new_told : {Y : Type 0} (name : List ℕ) (old new : BTreeSet (String Y)) (key : String Y) (added : Bool) → string_bytes key ≡ name → added ≡ not (contains string_cmp old key)
+    → Updates string_cmp old new key true → (names : List (List ℕ)) → AreSeen names old → (added ≡ not (has_name name names)) × AreSeen (names ++ name ∷ []) new
+new_told name old new key added is told updates names are = (
+  told ∙ ap not (are (string_bytes key)) ∙ ap (λ (n : List ℕ). not (has_name n names)) is,
+  subst (λ (n : List ℕ). AreSeen (names ++ n ∷ []) new) is (seen_now names old new key updates are),
+)
+
+-- ---- attribute by attribute
+
+-- what the attributes that are left say with what is said so far is what all say
+pub record IsJudging {Y : Type 0} (size : ℕ) (all left : List WrittenAttribute) (count : ℕ) (seen : BTreeSet (String Y)) (said : Acting) : Type 0 where
+  pub names : List (List ℕ)
+  pub are : AreSeen names seen
+  pub same : judged_behind size names said (map attribute_of left) ≡ judged size (map attribute_of all)
+  pub counted : count ≡ length left
+
+pub judging_starts : {Y : Type 0} (size : ℕ) (all left : List WrittenAttribute) (count : ℕ) (seen : BTreeSet (String Y)) (said : Acting) → left ≡ all → count ≡ length all → seen.keys ≡ [] → said ≡ no_attributes
+    → IsJudging size all left count seen said
 unfolding judged
-judging_starts size all seen said none nothing = rw (none, nothing) refl
+judging_starts size all left count seen said whole counted none nothing = record {
+  names = [];
+  are = none_seen seen none;
+  same = rw (whole, nothing) refl;
+  counted = counted ∙ ap length (sym whole);
+}
 
-front : {X : Type 0} (xs : List X) (i : ℕ) (d : X) → i < length xs → drop i xs ≡ get_or xs i d ∷ drop (i + 1) xs
-front xs i d lt = rw add-one (drop-cons xs i d lt)
-
-next_here : (size : ℕ) (all : List WrittenAttribute) (at : ℕ) (d : WrittenAttribute) (seen : List (List ℕ)) (said : Acting) (r : Result Acting Fault) → at < length all
-    → with_next size seen (attribute_of (get_or all at d)) said ≡ r → IsJudging size all at seen said
-    → and_then r (λ more. judged_behind size (seen ++ (attribute_of (get_or all at d)).name ∷ []) more (map attribute_of (drop (at + 1) all))) ≡ judged size (map attribute_of all)
-next_here size all at d seen said r lt e now =
-    let a = attribute_of (get_or all at d) in
-    let here : judged_behind size seen said (map attribute_of (drop at all))
-    ≡ and_then (with_next size seen a said) (λ more. judged_behind size (seen ++ a.name ∷ []) more (map attribute_of (drop (at + 1) all))) =
-    ap (λ (l : List WrittenAttribute). judged_behind size seen said (map attribute_of l)) (front all at d lt) in
-    ap (λ (x : Result Acting Fault). and_then x (λ more. judged_behind size (seen ++ a.name ∷ []) more (map attribute_of (drop (at + 1) all)))) (sym e) ∙ sym here ∙ now
+next_here : {Y : Type 0} (size : ℕ) (all left others : List WrittenAttribute) (a : WrittenAttribute) (count : ℕ) (seen : BTreeSet (String Y)) (said : Acting) (r : Result Acting Fault) (now : IsJudging size all left count seen said)
+    → left ≡ a ∷ others → with_next size now.names (attribute_of a) said ≡ r
+    → and_then r (λ more. judged_behind size (now.names ++ (attribute_of a).name ∷ []) more (map attribute_of others)) ≡ judged size (map attribute_of all)
+next_here size all left others a count seen said r now first e =
+    let here : judged_behind size now.names said (map attribute_of left)
+        ≡ and_then (with_next size now.names (attribute_of a) said) (λ more. judged_behind size (now.names ++ (attribute_of a).name ∷ []) more (map attribute_of others)) =
+    ap (λ (l : List WrittenAttribute). judged_behind size now.names said (map attribute_of l)) first in
+    ap (λ (x : Result Acting Fault). and_then x (λ more. judged_behind size (now.names ++ (attribute_of a).name ∷ []) more (map attribute_of others))) (sym e) ∙ sym here ∙ now.same
 
 seen_twice : (size : ℕ) (seen : List (List ℕ)) (a : Attribute) (said : Acting) → has_name a.name seen ≡ true → with_next size seen a said ≡ Err (Syntax, a.left)
 seen_twice size seen a said e = rw e refl
@@ -40,56 +79,46 @@ seen_twice size seen a said e = rw e refl
 not_seen : (size : ℕ) (seen : List (List ℕ)) (a : Attribute) (said : Acting) → has_name a.name seen ≡ false → with_next size seen a said ≡ with_attribute size (role_of a.name) a said
 not_seen size seen a said e = rw e refl
 
-pub judging_twice : (size : ℕ) (all : List WrittenAttribute) (at : ℕ) (d : WrittenAttribute) (seen : List (List ℕ)) (said : Acting) → at < length all
-    → IsJudging size all at seen said → has_name (attribute_of (get_or all at d)).name seen ≡ true → judged size (map attribute_of all) ≡ Err (Syntax, (get_or all at d).left.now)
-judging_twice size all at d seen said lt now twice =
-    let a = attribute_of (get_or all at d) in
-    sym (next_here size all at d seen said (Err (Syntax, a.left)) lt (seen_twice size seen a said twice) now)
+is_old : (has is : Bool) → is ≡ not has → is ≡ false → has ≡ true
+is_old true is e f = refl
+is_old false is e f = absurd (cc (sym e ∙ f))
 
-pub judging_goes_on : (size : ℕ) (all : List WrittenAttribute) (at : ℕ) (d : WrittenAttribute) (seen later : List (List ℕ)) (said more : Acting) → at < length all
-    → IsJudging size all at seen said → has_name (attribute_of (get_or all at d)).name seen ≡ false
-    → with_attribute size (role_of (attribute_of (get_or all at d)).name) (attribute_of (get_or all at d)) said ≡ Ok more → later ≡ seen ++ (attribute_of (get_or all at d)).name ∷ []
-    → IsJudging size all (at + 1) later more
-judging_goes_on size all at d seen later said more lt now new e put =
-    let a = attribute_of (get_or all at d) in
-    rw put (next_here size all at d seen said (Ok more) lt (not_seen size seen a said new ∙ e) now)
+is_new : (has is : Bool) → is ≡ not has → is ≡ true → has ≡ false
+is_new true is e f = absurd (cc (sym e ∙ f))
+is_new false is e f = refl
 
-refused : (size : ℕ) (all : List WrittenAttribute) (at : ℕ) (d : WrittenAttribute) (seen : List (List ℕ)) (said : Acting) (fault : Fault) → at < length all
-    → IsJudging size all at seen said → has_name (attribute_of (get_or all at d)).name seen ≡ false
-    → with_attribute size (role_of (attribute_of (get_or all at d)).name) (attribute_of (get_or all at d)) said ≡ Err fault → judged size (map attribute_of all) ≡ Err fault
-refused size all at d seen said fault lt now new e =
-    sym (next_here size all at d seen said (Err fault) lt (not_seen size seen (attribute_of (get_or all at d)) said new ∙ e) now)
+pub judging_twice : {Y : Type 0} (size : ℕ) (all left others : List WrittenAttribute) (a : WrittenAttribute) (count : ℕ) (old new : BTreeSet (String Y)) (said : Acting) (is : Bool) → IsJudging size all left count old said
+    → left ≡ a ∷ others → TellsNew (attribute_of a).name old new (Ok is) → is ≡ false → judged size (map attribute_of all) ≡ Err (Syntax, a.left.now)
+judging_twice size all left others a count old new said is now first told e =
+    let twice = is_old (has_name (attribute_of a).name now.names) is (told now.names now.are).0 e in
+    sym (next_here size all left others a count old said (Err (Syntax, a.left.now)) now first (seen_twice size now.names (attribute_of a) said twice))
 
-pub judging_stops : (size : ℕ) (all : List WrittenAttribute) (at : ℕ) (d : WrittenAttribute) (seen : List (List ℕ)) (said : Acting) (stop_ : Stop) → at < length all
-    → IsJudging size all at seen said → has_name (attribute_of (get_or all at d)).name seen ≡ false
-    → Stops stop_ (with_attribute size (role_of (attribute_of (get_or all at d)).name) (attribute_of (get_or all at d)) said) → Stops stop_ (judged size (map attribute_of all))
-judging_stops size all at d seen said (stops.Refused kind left) lt now new e = refused size all at d seen said (kind, left.now) lt now new e
-judging_stops size all at d seen said stops.Memory lt now new e = tt
+pub judging_goes_on : {Y : Type 0} (size : ℕ) (all left others : List WrittenAttribute) (a : WrittenAttribute) (count less : ℕ) (old new : BTreeSet (String Y)) (said more : Acting) (is : Bool)
+    → IsJudging size all left count old said → left ≡ a ∷ others → less + 1 ≡ count → TellsNew (attribute_of a).name old new (Ok is) → is ≡ true
+    → with_attribute size (role_of (attribute_of a).name) (attribute_of a) said ≡ Ok more → IsJudging size all others less new more
+judging_goes_on size all left others a count less old new said more is now first fewer told e with_it =
+    let knows = told now.names now.are in
+    let none = is_new (has_name (attribute_of a).name now.names) is knows.0 e in
+    record {
+      names = now.names ++ (attribute_of a).name ∷ [];
+      are = knows.1;
+      same = next_here size all left others a count old said (Ok more) now first (not_seen size now.names (attribute_of a) said none ∙ with_it);
+      counted = omega (arith, fewer, now.counted, ap length first);
+    }
 
-pub judging_ends : (size : ℕ) (all : List WrittenAttribute) (at : ℕ) (seen : List (List ℕ)) (said : Acting) → length all ≤ at → IsJudging size all at seen said → judged size (map attribute_of all) ≡ Ok said
-judging_ends size all at seen said le now =
-    let none : drop at all ≡ [] = drop_all at all le in
-    sym now ∙ ap (λ (l : List WrittenAttribute). judged_behind size seen said (map attribute_of l)) none
+pub judging_stops : {Y : Type 0} (size : ℕ) (all left others : List WrittenAttribute) (a : WrittenAttribute) (count : ℕ) (old new : BTreeSet (String Y)) (said : Acting) (is : Bool) (stop_ : Stop)
+    → IsJudging size all left count old said → left ≡ a ∷ others → TellsNew (attribute_of a).name old new (Ok is) → is ≡ true
+    → Stops stop_ (with_attribute size (role_of (attribute_of a).name) (attribute_of a) said) → Stops stop_ (judged size (map attribute_of all))
+judging_stops size all left others a count old new said is (stops.Refused kind rest) now first told e with_it =
+    let none = is_new (has_name (attribute_of a).name now.names) is (told now.names now.are).0 e in
+    sym (next_here size all left others a count old said (Err (kind, rest.now)) now first (not_seen size now.names (attribute_of a) said none ∙ with_it))
+judging_stops size all left others a count old new said is stops.Memory now first told e with_it = tt
 
--- ---- a name among others
+none_left : (left : List WrittenAttribute) → length left ≡ 0 → left ≡ []
+none_left [] e = refl
+none_left (a ∷ left) e = absurd (omega (arith, e))
 
-name_first : (name : List ℕ) (other : Bor (List ℕ)) (others : List (Bor (List ℕ))) → bytes_eq (lowered other.now) name ≡ true → has_name name (names_of (other ∷ others)) ≡ true
-name_first name other others e = rw e refl
-
-not_first : (name : List ℕ) (other : Bor (List ℕ)) (others : List (Bor (List ℕ))) → bytes_eq (lowered other.now) name ≡ false → has_name name (names_of (other ∷ others)) ≡ has_name name (names_of others)
-not_first name other others e = rw e refl
-
-pub seen_here : (name : List ℕ) (seen : List (Bor (List ℕ))) (at : ℕ) (d : Bor (List ℕ)) (total : Bool) → at < length seen → bytes_eq (lowered (get_or seen at d).now) name ≡ true
-    → has_name name (names_of (drop at seen)) ≡ total → true ≡ total
-seen_here name seen at d total lt e now =
-    sym (name_first name (get_or seen at d) (drop (at + 1) seen) e) ∙ ap (λ (l : List (Bor (List ℕ))). has_name name (names_of l)) (sym (front seen at d lt)) ∙ now
-
-pub seen_further : (name : List ℕ) (seen : List (Bor (List ℕ))) (at : ℕ) (d : Bor (List ℕ)) (total : Bool) → at < length seen → bytes_eq (lowered (get_or seen at d).now) name ≡ false
-    → has_name name (names_of (drop at seen)) ≡ total → has_name name (names_of (drop (at + 1) seen)) ≡ total
-seen_further name seen at d total lt e now =
-    sym (not_first name (get_or seen at d) (drop (at + 1) seen) e) ∙ ap (λ (l : List (Bor (List ℕ))). has_name name (names_of l)) (sym (front seen at d lt)) ∙ now
-
-pub seen_nowhere : (name : List ℕ) (seen : List (Bor (List ℕ))) (at : ℕ) (total : Bool) → length seen ≤ at → has_name name (names_of (drop at seen)) ≡ total → false ≡ total
-seen_nowhere name seen at total le now =
-    let none : drop at seen ≡ [] = drop_all at seen le in
-    ap (λ (l : List (Bor (List ℕ))). has_name name (names_of l)) (sym none) ∙ now
+pub judging_ends : {Y : Type 0} (size : ℕ) (all left : List WrittenAttribute) (count : ℕ) (seen : BTreeSet (String Y)) (said : Acting) → IsJudging size all left count seen said → count ≡ 0
+    → judged size (map attribute_of all) ≡ Ok said
+judging_ends size all left count seen said now none =
+    sym now.same ∙ ap (λ (l : List WrittenAttribute). judged_behind size now.names said (map attribute_of l)) (none_left left (sym now.counted ∙ none))

@@ -1,6 +1,6 @@
 //! What the attributes of a tag say.
 
-ghost use Rattle.std.specs.Prelude.{◌≡◌, ◌<◌, IfOk, IfErr, IfSome, length, map, bytes_eq};
+ghost use Rattle.std.specs.Prelude.{◌≡◌, ◌<◌, IfOk, IfErr, IfSome, length, map};
 ghost use Rattle.std.specs.String.{string_bytes};
 ghost use Rattle.reading.specs.Readers.{starts};
 ghost use Rattle.html_read.specs.Characters.{lowered, role_of};
@@ -8,7 +8,7 @@ ghost use Rattle.html_read.specs.Cuts.{EndsWord, IsNextWord, IsWordNext};
 ghost use Rattle.html_read.specs.Faults.{Gives};
 ghost use Rattle.html_read.specs.Judging as judging;
 ghost use Rattle.html_read.specs.Values.{acting_of};
-ghost use Rattle.html_read.specs.Views.{attribute_of, names_of};
+ghost use Rattle.html_read.specs.Views.{attribute_of, TellsNew};
 ghost use Rattle.html_read.specs.declared.error.Stop.TheVariants as Stops;
 
 use crate::attribute::{ATTRIBUTES, Role};
@@ -18,6 +18,7 @@ use crate::lexing::{front_of, spaces};
 use crate::node::{Attributes, PlacedText};
 use crate::table::{named, same_name};
 use std::alloc::Global;
+use std::collections::BTreeSet;
 use style_types::{LetterList, Letters};
 use wm_modes::Direction;
 
@@ -36,28 +37,23 @@ pub(crate) fn judged<'a>(
         dir: None,
         style: None,
     };
-    let mut seen = Vec::new(alloc);
+    let mut seen = BTreeSet::new(alloc);
     for attribute in attributes {
-        let name = attribute.name;
-        if has_name(name, &seen) {
+        if !is_new(alloc, attribute.name, &mut seen)? {
             return Err(Stop::Refused(Refusal::Syntax, attribute.left.as_bytes()));
         }
         with_attribute(alloc, size, attribute, &mut said)?;
-        seen.push(name)?;
     }
     Ok(said)
 }
 
-#[tactic(auto, using(crate::proofs::Judges::seen_here, crate::proofs::Judges::seen_further, crate::proofs::Judges::seen_nowhere))]
-fn has_name(name: &str, seen: &[&str]) -> bool
-    ensures { result ≡ judging.has_name (lowered name.now) (names_of seen.now) }
+// Isn't the name among those seen, in either case? From here on it is.
+fn is_new(alloc: Global, name: &str, seen: &mut BTreeSet<Letters>) -> Result<bool, Stop<'static>>
+    ensures { TellsNew (lowered name.now) seen.old seen.new result }
 {
-    for other in seen {
-        if same_name(other, name) {
-            return true;
-        }
-    }
-    false
+    let mut letters = Letters::from_str(alloc, name)?;
+    letters.make_ascii_lowercase();
+    Ok(seen.insert(letters)?)
 }
 
 // What this attribute says, too.
