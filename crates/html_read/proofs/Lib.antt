@@ -1,3 +1,28 @@
-pub mod Rules
-pub mod Machine
-pub mod Whole
+mod Attributing
+mod Contents
+mod Joining
+mod Letters
+mod Miscellany
+mod Numbers
+mod Runs
+mod Seeking
+mod Tables
+mod Names
+mod Judges
+mod Shorter
+mod Heads
+mod Inputs
+mod Words
+mod MiscLaws
+mod CharacterLaws
+mod ReferenceLaws
+mod ValueLaws
+mod AttributeLaws
+mod TextLaws
+mod TagLaws
+mod ContentLaws
+mod HeadLaws
+mod DocumentLaws
+mod ShapeLaws
+mod AnsweredLaws
+mod NodesLaws

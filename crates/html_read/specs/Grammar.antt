@@ -1,84 +1,236 @@
--- Which bytes are an early document, and of which boxes.
+-- Which bytes are a document, and what stands in it (docs/PROFILE/html.md).
 --
---   document    = "<html><body" body-style? ">" divs "</body></html>" LF?
---   body-style  = ` style="writing-mode:` mode `"`
---   divs        = div*
---   div         = start-tag divs "</div>"
---   start-tag   = "<div" sizes? ">"
---   sizes       = ` style="` declaration (";" declaration)? `"`      two declarations are of different properties
---   declaration = ("inline-size:" | "block-size:") number "px"
---   number      = one to five decimal digits
-use Rattle.std.specs.Prelude.{◌≡◌, ◌⊎◌, ℕ, ◌+◌, ◌*◌, ◌≤◌, List, [], ◌++◌, codes, ℤ, pos, Option, Some, None}
-use Rattle.wm_units.specs.Numbers.{fixed}
-use Rattle.wm_modes.specs.declared.mode.WritingMode.{WritingMode}
-use Rattle.wm_modes.specs.declared.mode.WritingMode.TheVariants.{HorizontalTb}
-use Rattle.wm_modes.specs.Words.{mode_word}
-use Rattle.reading.specs.Grammars.{Grammar, Given, Seq, Mapped, Either, Optional, After, Between}
-use Rattle.reading.specs.Decimals.{IsDecimal}
-use Rattle.html_read.specs.Boxes.{Boxes, none, box, count, depth}
+--   document   = mark? misc (doctype misc)? html
+--   html       = "<html" attributes ">" misc (head misc)? body misc "</html" s* ">"
+--   head       = "<head" attributes ">" (s | comment | title | meta | style)* "</head" s* ">"
+--   title      = "<title" attributes ">" characters "</title" s* ">"
+--   meta       = "<meta" attributes "/"? ">"
+--   style      = "<style" attributes ">" characters "</style" s* ">"
+--   body       = "<body" attributes ">" gap items "</body" s* ">"
+--   items      = (element gap | br gap)*
+--   element    = "<" name attributes ">" gap items "</" name s* ">"
+--   br         = "<br" attributes "/"? ">"
+--   gap        = (character | reference | comment)*
+--   misc       = (s | comment)*
+--   comment    = "<!--" characters "-->"
+--   doctype    = "<!doctype" s+ "html" s* ">"
+--   attributes = (s+ attribute)* s*
+--   attribute  = name (s* "=" s* quoted)?
+--   quoted     = `"` (character | reference)* `"` | "'" (character | reference)* "'"
+--   reference  = "&" (word | "#" number | "#x" number) ";"
+--   s          = one white space character
+use Rattle.std.specs.Prelude.{◌≡◌, ◌⊎◌, ℕ, ◌+◌, ◌-◌, ◌*◌, ◌<◌, ◌≤◌, nat_lt, Bool, true, false, ◌==◌, List, [], ◌∷◌, ◌++◌, length, fold, codes, Option, Some, None, Ok, ⊤}
+use Rattle.std.specs.Char.{IsScalar, encode_utf8, digit_value}
+use Rattle.std.specs.Str.{IsUtf8}
+use Rattle.reading.specs.Grammars.{Grammar, Given, Fixed, OneOf, AllPass, RunOf, EitherCase, OneWord, UpTo, Seq, Mapped, Either, After, Each, Joined}
+use Rattle.reading.specs.Placed.{PlacedGrammar, Anywhere, PlacedSeq, PlacedMapped, PlacedEither}
+use Rattle.html_read.specs.declared.raw.RawEnd.{RawEnd}
+use Rattle.html_read.specs.declared.raw.RawEnd.TheVariants as ends
+use Rattle.html_read.specs.declared.tag.Tag.TheVariants.{Br}
+use Rattle.html_read.specs.Characters.{is_white, is_letter, is_name_byte, lowered, entities, tag_named, is_void, in_repertoire}
+use Rattle.html_read.specs.Judging.{Attribute, judged}
+use Rattle.html_read.specs.Lexing.{raw_end, is_x, is_quote, is_plain}
+use Rattle.html_read.specs.Reading.{Start, mark}
+use Rattle.html_read.specs.Tree.{Items, none, pair, line_break, with_text, listed, roots}
+use Rattle.html_read.specs.Values.{TextAt, Acting, Node, Whole}
 
--- what a div declares: its inline size and its block size, None where it declares none
-abbrev pub Sizes : Type 0
-Sizes = Option ℤ × Option ℤ
+-- ---- white space, names, comments
 
--- the declaration of a size in whole pixels, and the size in units of 1/64 px
-abbrev pub IsSize : List ℕ → Grammar ℤ
-IsSize property = Mapped (λ number. fixed (pos (100 * number))) (Between property (IsDecimal 5) (codes "px"))
+abbrev pub IsSpaces : Grammar ⊤
+IsSpaces text u = AllPass is_white text
 
-abbrev pub IsInlineSize : Grammar ℤ
-IsInlineSize = IsSize (codes "inline-size:")
+abbrev pub IsWhite : Grammar ⊤
+IsWhite = Mapped (λ byte. tt) (OneOf is_white)
 
-abbrev pub IsBlockSize : Grammar ℤ
-IsBlockSize = IsSize (codes "block-size:")
+-- a name, in small letters
+abbrev pub IsName : Grammar (List ℕ)
+IsName = Seq (OneOf is_letter) (λ first. Mapped (λ more. lowered (first ∷ more)) (RunOf is_name_byte))
 
--- an inline size, and maybe a block size behind it
-abbrev pub IsInlineFirst : Grammar Sizes
-IsInlineFirst = Seq IsInlineSize (λ inline. Mapped (λ block. (Some inline, block)) (Optional (After (codes ";") IsBlockSize)))
+-- the end tag of this name
+abbrev pub IsEndOf : List ℕ → Grammar ⊤
+IsEndOf word = Seq (Fixed (codes "</")) (λ u. Seq (EitherCase word) (λ u. Seq IsSpaces (λ u. Fixed (codes ">"))))
 
--- a block size, and maybe an inline size behind it
-abbrev pub IsBlockFirst : Grammar Sizes
-IsBlockFirst = Seq IsBlockSize (λ block. Mapped (λ inline. (inline, Some block)) (Optional (After (codes ";") IsInlineSize)))
+abbrev pub IsRawEnd : RawEnd → Grammar ⊤
+IsRawEnd ends.Comment = Fixed (codes "-->")
+IsRawEnd ends.Title = IsEndOf (codes "title")
+IsRawEnd ends.Style = IsEndOf (codes "style")
 
--- the attribute of a div, if it has one
-abbrev pub IsSizes : Grammar Sizes
-IsSizes = Either (Between (codes " style=\"") (Either IsInlineFirst IsBlockFirst) (codes "\"")) (Given (None, None))
+-- characters up to the first place where their end can be read, and their end
+abbrev pub IsRaw : RawEnd → Grammar (List ℕ)
+IsRaw end_ = UpTo (raw_end end_) (IsRawEnd end_)
 
-abbrev pub IsStartTag : Grammar Sizes
-IsStartTag = Between (codes "<div") IsSizes (codes ">")
+abbrev pub IsComment : Grammar ⊤
+IsComment = After (codes "<!--") (Mapped (λ inside. tt) (IsRaw ends.Comment))
 
-unfoldable pub end_tag : List ℕ
-end_tag = codes "</div>"
+abbrev pub IsMiscPiece : Grammar (List ℕ)
+IsMiscPiece = Either (Mapped (λ u. []) IsWhite) (Mapped (λ u. []) IsComment)
 
--- divs that stand one after the other
-abbrev pub IsDivs : Grammar Boxes
-IsDivs text none = text ≡ []
-IsDivs text (box inline block inner next) = (start_tag inside after : List ℕ) × IsStartTag start_tag (inline, block) × IsDivs inside inner × IsDivs after next
-    × (text ≡ start_tag ++ inside ++ end_tag ++ after)
+abbrev pub IsMisc : Grammar ⊤
+IsMisc = Mapped (λ text. tt) (Joined IsMiscPiece)
 
--- the word of a mode (CSS Writing Modes 4, 3.2)
-abbrev pub IsModeWord : Grammar WritingMode
-IsModeWord text mode = text ≡ mode_word mode
+abbrev pub IsDoctype : Grammar ⊤
+IsDoctype = Seq (EitherCase (codes "<!doctype")) (λ u. Seq IsWhite (λ u. Seq IsSpaces (λ u.
+    Seq (EitherCase (codes "html")) (λ u. Seq IsSpaces (λ u. Fixed (codes ">"))))))
 
--- the attribute of body, if it has one: without it the mode is horizontal-tb, the initial value
-abbrev pub IsBodyStyle : Grammar WritingMode
-IsBodyStyle = Either (Between (codes " style=\"writing-mode:") IsModeWord (codes "\"")) (Given HorizontalTb)
+-- ---- references and characters
 
--- the start of a document, up to the divs
-abbrev pub IsHead : Grammar WritingMode
-IsHead = Between (codes "<html><body") IsBodyStyle (codes ">")
+-- the number that digits of a base stand for
+abbrev pub number_of : (base : ℕ) → List ℕ → ℕ
+number_of base digits = fold (λ value digit. base * value + digit_value digit) 0 digits
 
--- the end of a document; one LF may stand behind it
-abbrev pub IsEnd : List ℕ → Type 0
-IsEnd text = (text ≡ codes "</body></html>") ⊎ (text ≡ codes "</body></html>\n")
+-- one to `most` digits of a Unicode scalar value, and `;`
+pub record IsScalarNumber (base most : ℕ) (text : List ℕ) (c : ℕ) : Type 0 where
+  pub digits : List ℕ
+  pub some : 0 < length digits
+  pub few : length digits ≤ most
+  pub each : AllPass (λ byte. nat_lt (digit_value byte) base) digits
+  pub value : c ≡ number_of base digits
+  pub is_scalar : IsScalar c
+  pub whole : text ≡ digits ++ codes ";"
 
--- an early document with this mode on body and these boxes in it; html and body are nodes 0 and 1, at depths 1 and 2
-pub record IsEarly (text : List ℕ) (mode : WritingMode) (boxes : Boxes) : Type 0 where
-  pub head : List ℕ
-  pub inside : List ℕ
-  pub tail : List ℕ
-  pub headed : IsHead head mode
-  pub divs : IsDivs inside boxes
-  pub ended : IsEnd tail
-  pub whole : text ≡ head ++ inside ++ tail
-  pub shallow : 2 + depth boxes ≤ 64
-  pub few_nodes : 2 + count boxes ≤ 65536
+abbrev pub IsNumberReference : Grammar ℕ
+IsNumberReference = Seq (Fixed (codes "#")) (λ u. Either (Seq (OneOf is_x) (λ byte. IsScalarNumber 16 6)) (IsScalarNumber 10 7))
+
+abbrev pub IsReference : Grammar ℕ
+IsReference = Seq (Fixed (codes "&")) (λ u. Either IsNumberReference (OneWord entities))
+
+abbrev pub IsCharacter : Grammar ℕ
+IsCharacter text c = (text ≡ encode_utf8 c) × IsScalar c
+
+-- ---- attributes
+
+-- a byte other than the quote and `&` stands for itself
+abbrev pub IsValuePiece : (quote : ℕ) → Grammar (List ℕ)
+IsValuePiece quote = Either (Mapped (λ c. encode_utf8 c) IsReference) (Mapped (λ byte. byte ∷ []) (OneOf (is_plain quote)))
+
+abbrev pub IsQuoted : Grammar (List ℕ)
+IsQuoted = Seq (OneOf is_quote) (λ quote. Seq (Joined (IsValuePiece quote)) (λ value. Mapped (λ byte. value) (OneOf (λ byte. byte == quote))))
+
+abbrev pub IsEquals : Grammar ⊤
+IsEquals = Seq IsSpaces (λ u. Fixed (codes "="))
+
+abbrev pub IsValue : Grammar (List ℕ)
+IsValue = Either (Seq IsEquals (λ u. Seq IsSpaces (λ u. IsQuoted))) (Given [])
+
+abbrev pub IsAttribute : PlacedGrammar Attribute
+IsAttribute text behind a = Seq IsName (λ n. Mapped (λ v. record { name = n; value = v; left = text ++ behind }) IsValue) text a
+
+abbrev pub AreAttributes : PlacedGrammar (List Attribute)
+AreAttributes text behind [] = IsSpaces text tt
+AreAttributes text behind (a ∷ others) = (blank here back : List ℕ) × (0 < length blank) × IsSpaces blank tt × IsAttribute here (back ++ behind) a
+    × AreAttributes back behind others × (text ≡ blank ++ (here ++ back))
+
+-- ---- tags
+
+abbrev pub IsTagEnd : (slash : Bool) → Grammar ⊤
+IsTagEnd slash text u = (text ≡ codes ">") ⊎ ((slash ≡ true) × (text ≡ codes "/>"))
+
+-- attributes and the end of a start tag; judged from left to right the attributes say this
+abbrev pub IsTagBehind : (size : ℕ) (slash : Bool) → PlacedGrammar Acting
+IsTagBehind size slash = PlacedSeq AreAttributes (λ list text behind acting. IsTagEnd slash text tt × (judged size list ≡ Ok acting))
+
+-- the start tag of this word, which begins with `<`
+abbrev pub IsStartOf : (size : ℕ) (word : List ℕ) (slash : Bool) → PlacedGrammar Acting
+IsStartOf size word slash = PlacedSeq (Anywhere (EitherCase word)) (λ u. IsTagBehind size slash)
+
+-- a start tag in the body
+abbrev pub IsStart : (size : ℕ) → PlacedGrammar Start
+IsStart size text behind start = (named back : List ℕ) × IsName named start.name × (tag_named start.name ≡ Some start.tag)
+    × IsTagBehind size (is_void start.name) back behind start.acting × (text ≡ codes "<" ++ (named ++ back))
+
+-- an end tag, as its name
+abbrev pub IsEndName : Grammar (List ℕ)
+IsEndName = Seq (Fixed (codes "</")) (λ u. Seq IsName (λ n. Seq IsSpaces (λ u. Mapped (λ u. n) (Fixed (codes ">")))))
+
+-- ---- what stands in an element
+
+-- a character of the repertoire, by itself or by a reference
+abbrev pub IsLetter : Grammar (List ℕ)
+IsLetter text letters = (c : ℕ) × (IsReference text c ⊎ (IsCharacter text c × ((c == 60) ≡ false) × ((c == 38) ≡ false)))
+    × (in_repertoire c ≡ true) × (letters ≡ encode_utf8 c)
+
+abbrev pub IsGap : Grammar (List ℕ)
+IsGap = Joined (Either (Mapped (λ u. []) IsComment) IsLetter)
+
+abbrev pub AreItems : (size : ℕ) → PlacedGrammar Items
+AreItems size text behind none = text ≡ []
+AreItems size text behind (pair tag acting first inner after next) = (name start gap inside ending later more : List ℕ)
+    × IsStart size start (gap ++ (inside ++ (ending ++ (later ++ (more ++ behind))))) (record { name = name; tag = tag; acting = acting })
+    × (is_void name ≡ false) × IsGap gap first × AreItems size inside (ending ++ (later ++ (more ++ behind))) inner
+    × IsEndName ending name × IsGap later after × AreItems size more behind next
+    × (text ≡ start ++ (gap ++ (inside ++ (ending ++ (later ++ more)))))
+AreItems size text behind (line_break acting after next) = (name start gap more : List ℕ)
+    × IsStart size start (gap ++ (more ++ behind)) (record { name = name; tag = Br; acting = acting })
+    × (is_void name ≡ true) × IsGap gap after × AreItems size more behind next × (text ≡ start ++ (gap ++ more))
+
+-- a text and items behind it, of which these nodes are made, behind those so far
+pub record IsContent (size : ℕ) (parent : Option ℕ) (nodes : List Node) (text behind : List ℕ) (all : List Node) : Type 0 where
+  pub letters : List ℕ
+  pub items : Items
+  pub gap : List ℕ
+  pub back : List ℕ
+  pub is_gap : IsGap gap letters
+  pub are_items : AreItems size back behind items
+  pub whole : text ≡ gap ++ back
+  pub made : all ≡ listed items parent (with_text parent letters nodes)
+
+-- ---- documents
+
+-- the style sheets of a part of the head
+abbrev pub IsTitle : (size : ℕ) → PlacedGrammar ⊤
+IsTitle size = PlacedSeq (IsStartOf size (codes "<title") false) (λ acting. Anywhere (Mapped (λ inside. tt) (IsRaw ends.Title)))
+
+abbrev pub IsMeta : (size : ℕ) → PlacedGrammar ⊤
+IsMeta size = PlacedMapped (λ acting. tt) (IsStartOf size (codes "<meta") true)
+
+-- the text of a style sheet, and the place at which it begins
+abbrev pub IsSheet : (size : ℕ) → PlacedGrammar TextAt
+IsSheet size text behind sheet = Mapped (λ inside. record { text = inside; place = size - length (text ++ behind) }) (IsRaw ends.Style) text sheet
+
+abbrev pub IsStyle : (size : ℕ) → PlacedGrammar TextAt
+IsStyle size = PlacedSeq (IsStartOf size (codes "<style") false) (λ acting. IsSheet size)
+
+abbrev pub IsHeadPiece : (size : ℕ) → PlacedGrammar (List TextAt)
+IsHeadPiece size = PlacedEither (Anywhere (Mapped (λ u. []) IsWhite)) (PlacedEither (Anywhere (Mapped (λ u. []) IsComment))
+    (PlacedEither (PlacedMapped (λ u. []) (IsTitle size)) (PlacedEither (PlacedMapped (λ u. []) (IsMeta size)) (PlacedMapped (λ sheet. sheet ∷ []) (IsStyle size)))))
+
+abbrev pub AreHeadPieces : (size : ℕ) → PlacedGrammar (List (List TextAt))
+AreHeadPieces size text behind [] = text ≡ []
+AreHeadPieces size text behind (sheets ∷ others) = (here back : List ℕ) × IsHeadPiece size here (back ++ behind) sheets × AreHeadPieces size back behind others × (text ≡ here ++ back)
+
+-- the style sheets of all parts
+abbrev pub all_of : List (List TextAt) → List TextAt
+all_of [] = []
+all_of (sheets ∷ others) = sheets ++ all_of others
+
+abbrev pub IsHead : (size : ℕ) → PlacedGrammar (List TextAt)
+IsHead size = PlacedSeq (IsStartOf size (codes "<head") false) (λ acting. PlacedSeq (PlacedMapped all_of (AreHeadPieces size))
+    (λ sheets. Anywhere (Mapped (λ u. sheets) (IsEndOf (codes "head")))))
+
+abbrev pub IsMaybeHead : (size : ℕ) → PlacedGrammar (List TextAt)
+IsMaybeHead size = PlacedEither (PlacedSeq (IsHead size) (λ sheets. Anywhere (Mapped (λ u. sheets) IsMisc))) (Anywhere (Given []))
+
+-- `body`, and the nodes of the document
+abbrev pub IsBody : (size : ℕ) → (html : Acting) → PlacedGrammar (List Node)
+IsBody size html = PlacedSeq (IsStartOf size (codes "<body") false) (λ acting. PlacedSeq (IsContent size (Some 1) (roots html acting))
+    (λ nodes. Anywhere (λ text all. IsEndName text (codes "body") × (all ≡ nodes))))
+
+abbrev pub IsHtml : (size : ℕ) → PlacedGrammar (List Node × List TextAt)
+IsHtml size = PlacedSeq (IsStartOf size (codes "<html") false) (λ acting. PlacedSeq (Anywhere IsMisc) (λ u. PlacedSeq (IsMaybeHead size) (λ sheets.
+    PlacedSeq (IsBody size acting) (λ nodes. Anywhere (Seq IsMisc (λ u. Mapped (λ u. (nodes, sheets)) (IsEndOf (codes "html"))))))))
+
+abbrev pub IsMark : Grammar ⊤
+IsMark = Either (Fixed mark) (Given tt)
+
+abbrev pub IsProlog : Grammar ⊤
+IsProlog = Seq IsMark (λ u. Seq IsMisc (λ u. Either (Seq IsDoctype (λ u. IsMisc)) (Given tt)))
+
+-- a document, where these bytes stand behind it
+pub record IsDocument (text behind : List ℕ) (whole : Whole) : Type 0 where
+  pub utf8 : IsUtf8 (text ++ behind)
+  pub parts : PlacedSeq (Anywhere IsProlog) (λ u. IsHtml (length (text ++ behind))) text behind (whole.nodes, whole.sheets)
+  pub ends : whole.length ≡ length text
+
+-- a fragment: what may stand in an element, with nothing round it
+abbrev pub IsFragment : List ℕ → List Node → Type 0
+IsFragment text nodes = IsContent (length text) None [] text [] nodes

@@ -1,3 +1,13 @@
-pub mod Boxes
+pub mod Answered
+pub mod Characters
+pub mod Cuts
+pub mod Faults
 pub mod Grammar
+pub mod Judging
+pub mod Lexing
+pub mod Pieces
 pub mod Reading
+pub mod Shape
+pub mod Tree
+pub mod Values
+pub mod Views

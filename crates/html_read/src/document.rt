@@ -1,143 +1,203 @@
-//! The early document as a whole.
+//! Documents and fragments.
 
-ghost use Rattle.std.specs.Prelude.{◌≡◌, ◌≤◌, [], length, IfOk, IsErrOf};
+ghost use Rattle.std.specs.Prelude.{◌≡◌, length, IfOk, IfErr};
 ghost use Rattle.reading.specs.Readers.{Answers};
-ghost use Rattle.wm_modes.specs.declared.mode.WritingMode.{WritingMode};
-ghost use Rattle.html_read.specs.Boxes.{Boxes, in_order};
-ghost use Rattle.html_read.specs.Grammar.{IsEarly};
+ghost use Rattle.html_read.specs.Faults.{Gives, GivesFront, Tells, Told};
+ghost use Rattle.html_read.specs.Answered.{IsTheDocument, IsTheFragment, RefusesDocument, RefusesFragment};
 ghost use Rattle.html_read.specs.Reading as readers;
-ghost use Rattle.html_read.specs.Reading.{Reads};
-ghost use Rattle.html_read.specs.declared.error.EarlyError.TheVariants as EarlyErrors;
+ghost use Rattle.html_read.specs.Shape.{IsShaped, IsFragmentShaped};
+ghost use Rattle.html_read.specs.Tree.{AreNodes, roots};
+ghost use Rattle.html_read.specs.Values.{acting_of, nodes_of, sheets_of, whole_of};
+ghost use Rattle.html_read.specs.declared.error.Stop.TheVariants as Stops;
 
-use crate::divs::divs;
-use crate::early::{Early, EarlyBoxes};
-use crate::error::EarlyError;
+use crate::content::{Base, content};
+use crate::error::{HtmlError, Refusal, Stop};
+use crate::head::maybe_head;
+use crate::lexing::{doctype, end_of, misc};
+use crate::node::{Attributes, PlacedText, ReadDocument, ReadKind, ReadNode, ReadNodes};
+use crate::tag::Tag;
+use crate::tags::{end_tag, start_of};
 use reading::{starts, strip};
 use std::alloc::Global;
-use wm_modes::WritingMode;
 
-/// Reads an early document, the whole of the bytes. `NotYet` says that they are none.
-pub fn read_early(alloc: Global, bytes: &[u8]) -> Result<Early, EarlyError>
-    // What is read stands in the bytes.
-    ensures found { IfOk result (λ e. (boxes : Boxes) × IsEarly bytes.now e.mode boxes × (e.boxes ≡ in_order boxes 1 2)) }
-    // With `html` and `body` there are at most 65,536 nodes.
-    ensures few { IfOk result (λ e. length e.boxes ≤ 65534) }
-    // The bytes are no other document.
-    ensures only { IfOk result (λ e. (mode : WritingMode) (boxes : Boxes) → IsEarly bytes.now mode boxes
-        → (mode ≡ e.mode) × (in_order boxes 1 2 ≡ e.boxes)) }
-    // Bytes that are refused are no document.
-    ensures not_yet { IsErrOf result EarlyErrors.NotYet → (mode : WritingMode) (boxes : Boxes) → IsEarly bytes.now mode boxes → ⊥ }
+/// Reads a document, from the first byte to past `</html>`. Bytes may stand behind it.
+#[tactic(auto, using(crate::proofs::AnsweredLaws::told_document, crate::proofs::AnsweredLaws::told_no_document, crate::proofs::AnsweredLaws::told_shape, crate::proofs::NodesLaws::told_nodes))]
+pub fn read_document(alloc: Global, bytes: &[u8]) -> Result<ReadDocument, HtmlError>
+    // The answer is that of the reading: the document, or the refusal with its place.
+    ensures read { Told (length bytes.now) whole_of result (readers.input bytes.now) }
+    // The bytes begin with this document and no other; where they are refused they begin with none.
+    ensures found { IfOk result (λ d. IsTheDocument bytes.now (whole_of d)) }
+    ensures refused { IfErr result (λ error. RefusesDocument bytes.now error) }
+    // `html` stands first, `body` second, and each other node within `body`; they are made of tags and texts in it.
+    ensures shaped { IfOk result (λ d. IsShaped (nodes_of d.nodes.items)) }
+    ensures nodes { IfOk result (λ d. AreNodes (nodes_of d.nodes.items)) }
 {
-    early(alloc, bytes)
+    answer_document(alloc, bytes)
 }
 
-#[tactic(auto, unfolding(crate::specs::Reading::early))]
-fn early(alloc: Global, bytes: &[u8]) -> Result<Early, EarlyError>
-    ensures { Reads (λ e. ((e.mode, e.boxes), [])) result (readers.early bytes.now) }
+fn answer_document(alloc: Global, bytes: &[u8]) -> Result<ReadDocument, HtmlError>
+    ensures { Told (length bytes.now) whole_of result (readers.input bytes.now) }
 {
-    let (mode, rest) = head(bytes)?;
-    let (boxes, rest) = divs(alloc, rest)?;
-    tail(rest)?;
-    Ok(Early {
-        mode,
-        boxes: EarlyBoxes::from_vec(boxes),
-    })
-}
-
-// The start of a document, up to the divs.
-#[tactic(auto, unfolding(crate::specs::Reading::head, reading::specs::Readers::after, reading::specs::Readers::between))]
-fn head(bytes: &[u8]) -> Result<(WritingMode, &[u8]), &[u8]>
-    ensures { Answers (λ m. (m.0, m.1.now)) result (readers.head bytes.now) }
-{
-    let rest = strip(b"<html><body", bytes)?;
-    let (mode, rest) = body_style(rest)?;
-    let rest = strip(b">", rest)?;
-    Ok((mode, rest))
-}
-
-#[tactic(auto, unfolding(crate::specs::Reading::body_style, reading::specs::Readers::after, reading::specs::Readers::between))]
-fn body_style(bytes: &[u8]) -> Result<(WritingMode, &[u8]), &[u8]>
-    ensures { Answers (λ m. (m.0, m.1.now)) result (readers.body_style bytes.now) }
-{
-    if !starts(b" ", bytes) {
-        return Ok((WritingMode::HorizontalTb, bytes));
+    match input(alloc, bytes) {
+        Ok(document) => Ok(document),
+        Err(stop) => Err(told(bytes.len(), stop)),
     }
-    let rest = strip(b" style=\"writing-mode:", bytes)?;
-    let (mode, rest) = mode_word(rest)?;
-    let rest = strip(b"\"", rest)?;
-    Ok((mode, rest))
 }
 
-// The word of a mode.
-#[tactic(auto, unfolding(crate::specs::Reading::mode))]
-fn mode_word(bytes: &[u8]) -> Result<(WritingMode, &[u8]), &[u8]>
-    ensures { Answers (λ m. (m.0, m.1.now)) result (readers.mode bytes.now) }
+/// Reads what may stand in an element, to the end of the text.
+#[tactic(auto, using(crate::proofs::AnsweredLaws::told_fragment, crate::proofs::AnsweredLaws::told_no_fragment, crate::proofs::AnsweredLaws::told_fragment_shape))]
+pub fn read_fragment(alloc: Global, text: &str) -> Result<ReadNodes, HtmlError>
+    // The answer is that of the reading: the nodes, or the refusal with its place.
+    ensures read { Told (length text.now) (λ nodes. nodes_of nodes.items) result (readers.fragment text.now) }
+    // The text is this fragment and no other; where it is refused it is none.
+    ensures found { IfOk result (λ nodes. IsTheFragment text.now (nodes_of nodes.items)) }
+    ensures refused { IfErr result (λ error. RefusesFragment text.now error) }
+    // Each node stands in nothing, or in an element before it.
+    ensures shaped { IfOk result (λ nodes. IsFragmentShaped (nodes_of nodes.items)) }
 {
-    if starts(b"h", bytes) {
-        Ok((WritingMode::HorizontalTb, strip(b"horizontal-tb", bytes)?))
-    } else if starts(b"v", bytes) {
-        flow(
-            b"vertical-",
-            WritingMode::VerticalRl,
-            WritingMode::VerticalLr,
-            bytes,
-        )
+    answer_fragment(alloc, text)
+}
+
+fn answer_fragment(alloc: Global, text: &str) -> Result<ReadNodes, HtmlError>
+    ensures { Told (length text.now) (λ nodes. nodes_of nodes.items) result (readers.fragment text.now) }
+{
+    match fragment(alloc, text) {
+        Ok(nodes) => Ok(nodes),
+        Err(stop) => Err(told(text.len(), stop)),
+    }
+}
+
+// The refusal with its place in an input of this size.
+fn told(size: usize, stop: Stop<'_>) -> HtmlError
+    ensures { Tells size stop.entry result }
+{
+    match stop {
+        Stop::Refused(kind, left) => HtmlError::Refused {
+            kind,
+            place: size.saturating_sub(left.len()),
+        },
+        Stop::Memory => HtmlError::Memory,
+    }
+}
+
+#[tactic(auto, unfolding(crate::specs::Reading::fragment))]
+fn fragment(alloc: Global, text: &str) -> Result<ReadNodes, Stop<'_>>
+    ensures { GivesFront (λ nodes. nodes_of nodes.items) result (readers.fragment text.now) }
+{
+    let mut nodes = Vec::new(alloc);
+    content(alloc, text.len(), Base::Fragment, &mut nodes, text)?;
+    Ok(nodes)
+}
+
+#[tactic(auto, unfolding(crate::specs::Reading::input))]
+fn input(alloc: Global, bytes: &[u8]) -> Result<ReadDocument, Stop<'_>>
+    ensures { GivesFront whole_of result (readers.input bytes.now) }
+{
+    match str::from_utf8(bytes) {
+        Ok(text) => Ok(document(alloc, text)?.0),
+        Err(error) => Err(Stop::Refused(Refusal::Utf8, bytes.split_at(error.valid_up_to()).1)),
+    }
+}
+
+#[tactic(auto, unfolding(crate::specs::Reading::document, crate::specs::Reading::ended))]
+fn document(alloc: Global, text: &str) -> Result<(ReadDocument, &str), Stop<'_>>
+    ensures { Gives (λ d. (whole_of d.0, d.1.now)) result (readers.document (length text.now) text.now) }
+{
+    let size = text.len();
+    let rest = prolog(text)?;
+    let (nodes, sheets, rest) = html(alloc, size, rest)?;
+    let document = ReadDocument {
+        nodes,
+        sheets,
+        end: size.saturating_sub(rest.len()),
+    };
+    Ok((document, rest))
+}
+
+// What stands before the start tag of `html`.
+#[tactic(auto, unfolding(crate::specs::Reading::prolog))]
+fn prolog(text: &str) -> Result<&str, &[u8]>
+    ensures { Answers (λ rest. (tt, rest.now)) result (readers.prolog text.now) }
+{
+    let rest = maybe_mark(text)?;
+    let rest = misc("<!-", rest)?;
+    maybe_doctype(rest)
+}
+
+#[tactic(auto, unfolding(crate::specs::Reading::maybe_mark, crate::specs::Reading::mark))]
+fn maybe_mark(text: &str) -> Result<&str, &[u8]>
+    ensures { Answers (λ rest. (tt, rest.now)) result (readers.maybe_mark text.now) }
+{
+    if starts("\u{FEFF}", text) {
+        strip("\u{FEFF}", text)
     } else {
-        flow(
-            b"sideways-",
-            WritingMode::SidewaysRl,
-            WritingMode::SidewaysLr,
-            bytes,
-        )
+        Ok(text)
     }
 }
 
-// The words of two modes that begin alike, and end in `rl` or `lr`.
-#[tactic(auto, unfolding(crate::specs::Reading::flow, reading::specs::Readers::after))]
-fn flow<'a>(
-    front: &[u8],
-    rl: WritingMode,
-    lr: WritingMode,
-    bytes: &'a [u8],
-) -> Result<(WritingMode, &'a [u8]), &'a [u8]>
-    ensures { Answers (λ m. (m.0, m.1.now)) result (readers.flow front.now rl lr bytes.now) }
+#[tactic(auto, unfolding(crate::specs::Reading::maybe_doctype))]
+fn maybe_doctype(text: &str) -> Result<&str, &[u8]>
+    ensures { Answers (λ rest. (tt, rest.now)) result (readers.maybe_doctype text.now) }
 {
-    let rest = strip(front, bytes)?;
-    flow_end(rl, lr, rest)
-}
-
-// `rl` or `lr`, for the one mode or the other.
-#[tactic(auto, unfolding(crate::specs::Reading::flow_end))]
-fn flow_end(rl: WritingMode, lr: WritingMode, bytes: &[u8]) -> Result<(WritingMode, &[u8]), &[u8]>
-    ensures { Answers (λ m. (m.0, m.1.now)) result (readers.flow_end rl lr bytes.now) }
-{
-    if starts(b"r", bytes) {
-        Ok((rl, strip(b"rl", bytes)?))
+    if starts("<!", text) {
+        misc("<!", doctype(text)?)
     } else {
-        Ok((lr, strip(b"lr", bytes)?))
+        Ok(text)
     }
 }
 
-// The end of a document, and nothing behind it but maybe one LF.
-#[tactic(auto, unfolding(crate::specs::Reading::tail, crate::specs::Reading::line_end, crate::specs::Reading::nothing, reading::specs::Readers::after))]
-fn tail(bytes: &[u8]) -> Result<(), &[u8]>
-    ensures { Answers (λ u. (tt, [])) result (readers.tail bytes.now) }
+// From the start tag of `html` to its end tag.
+#[tactic(auto, unfolding(crate::specs::Reading::html))]
+fn html(
+    alloc: Global,
+    size: usize,
+    text: &str,
+) -> Result<(Vec<ReadNode>, Vec<PlacedText>, &str), Stop<'_>>
+    ensures { Gives (λ h. ((nodes_of h.0.items, sheets_of h.1.items), h.2.now)) result (readers.html size text.now) }
 {
-    let rest = strip(b"</body></html>", bytes)?;
-    if starts(b"\n", rest) {
-        nothing(strip(b"\n", rest)?)
-    } else {
-        nothing(rest)
-    }
+    let (attributes, rest) = start_of(alloc, size, "<html", false, text)?;
+    let rest = misc("<!", rest)?;
+    let (sheets, rest) = maybe_head(alloc, size, rest)?;
+    let (nodes, rest) = body(alloc, size, attributes, rest)?;
+    let rest = misc("<!", rest)?;
+    Ok((nodes, sheets, end_of("html", rest)?))
 }
 
-// There are no bytes here.
-#[tactic(auto, unfolding(crate::specs::Reading::nothing))]
-fn nothing(bytes: &[u8]) -> Result<(), &[u8]>
-    ensures { Answers (λ u. (tt, [])) result (readers.nothing bytes.now) }
+// `body` with all that stands in it, and the nodes of the document.
+#[tactic(auto, unfolding(crate::specs::Reading::body))]
+fn body(
+    alloc: Global,
+    size: usize,
+    html: Attributes,
+    text: &str,
+) -> Result<(Vec<ReadNode>, &str), Stop<'_>>
+    ensures { Gives (λ b. (nodes_of b.0.items, b.1.now)) result (readers.body size (acting_of html) text.now) }
 {
-    match bytes {
-        [] => Ok(()),
-        [_, ..] => Err(bytes),
-    }
+    let (attributes, rest) = start_of(alloc, size, "<body", false, text)?;
+    let mut nodes = roots(alloc, html, attributes)?;
+    let rest = content(alloc, size, Base::Body, &mut nodes, rest)?;
+    Ok((nodes, end_tag("body", rest)?))
+}
+
+// The nodes of `html` and `body`.
+fn roots(alloc: Global, html: Attributes, body: Attributes) -> Result<Vec<ReadNode>, Stop<'static>>
+    ensures roots { IfOk result (λ nodes. nodes_of nodes.items ≡ roots (acting_of html) (acting_of body)) }
+    ensures memory { IfErr result (λ stop. stop ≡ Stops.Memory) }
+{
+    let mut nodes = Vec::new(alloc);
+    nodes.push(ReadNode {
+        parent: None,
+        kind: ReadKind::Element {
+            tag: Tag::Html,
+            attributes: html,
+        },
+    })?;
+    nodes.push(ReadNode {
+        parent: Some(0),
+        kind: ReadKind::Element {
+            tag: Tag::Body,
+            attributes: body,
+        },
+    })?;
+    Ok(nodes)
 }

@@ -1,43 +1,70 @@
-//! Why an early document could not be read.
+//! Why a document could not be read.
 
 ghost use Rattle.std.specs.Prelude.{◌≡◌};
-ghost use Rattle.html_read.specs.declared.error.EarlyError.TheVariants.{NotYet, Memory};
+ghost use Rattle.html_read.specs.Faults.{IsStopAt};
+ghost use Rattle.html_read.specs.declared.error.Stop.TheVariants.{Memory};
 
 use std::alloc::{AllocError, AllocFailed};
 use thiserror::Error;
 
-/// Why an early document could not be read.
+/// What is wrong with a document (docs/PROFILE/html.md).
+#[derive(Clone, Copy, Debug, Drop, PartialEq, Eq)]
+pub enum Refusal {
+    /// The bytes are not UTF-8.
+    Utf8,
+    /// A character of a text is not in the repertoire.
+    Character,
+    /// The bytes don't go on as a document does.
+    Syntax,
+    /// A tag that the profile doesn't have.
+    UnknownTag,
+    /// An attribute that the profile doesn't have.
+    UnknownAttribute,
+    /// An end tag of another name than the open element's.
+    Nesting,
+    /// A value of `dir` other than `ltr` and `rtl`.
+    Unsupported,
+}
+
+/// Why a document or a fragment was not read.
 #[derive(Clone, Copy, Debug, Drop, Error, PartialEq, Eq)]
-pub enum EarlyError {
-    /// The bytes are not an early document.
-    #[error("not an early document")]
-    NotYet,
+pub enum HtmlError {
+    /// It is refused at a place in bytes.
+    #[error("{kind:?} at byte {place}")]
+    Refused { kind: Refusal, place: usize },
     /// No memory was left.
     #[error("out of memory")]
     Memory,
 }
 
-// What is left where the grammar doesn't go on: such bytes are no early document.
-impl<'a> From<&'a [u8]> for EarlyError {
-    ghost from_gives = { λ _ e. e ≡ NotYet };
+// Where reading stopped: by a refusal, with the bytes from its place on, or without memory.
+#[derive(Clone, Copy, Debug, Drop)]
+pub(crate) enum Stop<'a> {
+    Refused(Refusal, &'a [u8]),
+    Memory,
+}
 
-    fn from(_left: &'a [u8]) -> EarlyError {
-        EarlyError::NotYet
+// What is left where the grammar doesn't go on.
+impl<'a> From<&'a [u8]> for Stop<'a> {
+    ghost from_gives = { λ left stop. IsStopAt left.now stop };
+
+    fn from(left: &'a [u8]) -> Stop<'a> {
+        Stop::Refused(Refusal::Syntax, left)
     }
 }
 
-impl From<AllocError> for EarlyError {
-    ghost from_gives = { λ _ e. e ≡ Memory };
+impl<'a> From<AllocError> for Stop<'a> {
+    ghost from_gives = { λ _ stop. stop ≡ Memory };
 
-    fn from(_e: AllocError) -> EarlyError {
-        EarlyError::Memory
+    fn from(_e: AllocError) -> Stop<'a> {
+        Stop::Memory
     }
 }
 
-impl<T: Drop> From<AllocFailed<T>> for EarlyError {
-    ghost from_gives = { λ _ e. e ≡ Memory };
+impl<'a, T: Drop> From<AllocFailed<T>> for Stop<'a> {
+    ghost from_gives = { λ _ stop. stop ≡ Memory };
 
-    fn from(_e: AllocFailed<T>) -> EarlyError {
-        EarlyError::Memory
+    fn from(_e: AllocFailed<T>) -> Stop<'a> {
+        Stop::Memory
     }
 }

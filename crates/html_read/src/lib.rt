@@ -1,17 +1,39 @@
-//! The reader of documents.
+//! The reader of documents (docs/PROFILE/html.md).
 #![tactic(auto)]
 
-mod divs;
+mod attribute;
+mod attributes;
+mod content;
 mod document;
-mod early;
+mod entity;
 mod error;
+mod head;
+mod judging;
 mod laws;
-mod start_tag;
+mod lexing;
+mod node;
+mod raw;
+mod reference;
+mod table;
+mod tag;
+mod tags;
+mod tail;
+mod text;
 
-pub use document::read_early;
-pub use early::{Early, EarlyBox, EarlyBoxes};
-pub use error::EarlyError;
-pub use laws::boxes_are_counted;
+pub use attribute::{ATTRIBUTES, Role};
+pub use document::{read_document, read_fragment};
+pub use entity::ENTITIES;
+pub use error::{HtmlError, Refusal};
+pub use laws::{
+    attributes_spell, calls_answer_by_the_grammar, comments_spell, contents_spell,
+    documents_are_found_or_refused, documents_spell, fragments_are_found_or_refused,
+    fragments_spell, heads_spell, names_spell, nodes_stand_in_place, references_spell, tags_spell,
+    texts_spell,
+};
+pub use node::{Attributes, PlacedText, ReadDocument, ReadKind, ReadNode, ReadNodes, Sheets};
+pub use raw::RawEnd;
+pub use tag::{TAGS, Tag};
+pub use tail::read_tail;
 
 #[cfg(test)]
 mod tests;

@@ -4,3 +4,14 @@ pub mod DecimalLaws
 pub mod Turns
 pub mod ManyLaws
 pub mod PlaceLaws
+pub mod RunLaws
+pub mod WordLaws
+pub mod UpToLaws
+pub mod PlacedLaws
+mod Examples
+pub mod TextCuts
+pub mod RunPlaces
+pub mod TurnPlaces
+pub mod WordPlaces
+pub mod UpToPlaces
+pub mod ClosingPlaces

@@ -1,30 +1,19 @@
 -- Where readers stop: the laws of `IsLocal` and `IsViable`.
-use Rattle.std.proofs.Common.{◌≡◌, inl, inr, ℕ, Bool, true, false, cond, eqb, List, [], ◌∷◌, ◌++◌, Ok, Err, refl, sym, ap, subst, ◌∙◌, append_assoc}
+use Rattle.std.proofs.Common.{◌≡◌, inl, inr, ℕ, Bool, true, false, cond, eqb, List, [], ◌∷◌, ◌++◌, Some, None, refl, sym, ap, subst, ◌∙◌, append_assoc}
 use Rattle.std.proofs.lemmas.Bool.{eqb-true}
-use Rattle.std.proofs.lemmas.List.{append_cancel_right}
-use Rattle.reading.specs.Readers.{Read, Reader, ◌>>=◌, give, follow, mapped, choice, strip, one_of, after, between}
-use Rattle.reading.specs.Grammars.{Grammar, Given, Fixed, OneOf, Seq, Mapped, Either}
+use Rattle.std.proofs.lemmas.List.{append-nil, append_cancel_right}
+use Rattle.reading.specs.Readers.{Read, Reader, ◌>>=◌, give, follow, mapped, choice, optional, strip, one_of, next_is, after, between}
+use Rattle.reading.specs.Grammars.{Grammar, Given, Fixed, OneOf, Seq, Mapped, Either, Optional, After, Between}
 use Rattle.reading.specs.Spelling.{Spells}
-use Rattle.reading.specs.Places.{SameNext, IsLocal, GoesOnFrom, IsViable}
-use Rattle.reading.proofs.SpellLaws.{ok, stop, bind_ok, same_answer, strip_spells, strip_again, one_of_spells}
+use Rattle.reading.specs.Places.{SameNext, SeesNext, IsLocal, GoesOnFrom, IsViable}
+use Rattle.reading.proofs.SpellLaws.{ok, stop, bind_ok, Stopped, at_first, at_second, bind_err, same_answer, strip_spells, strip_again, one_of_spells, to_optional}
 
 -- ---- tools
 
 -- the same byte comes next behind a text that both begin with
-same_behind : (text rest other : List ℕ) → SameNext rest other → SameNext (text ++ rest) (text ++ other)
+pub same_behind : (text rest other : List ℕ) → SameNext rest other → SameNext (text ++ rest) (text ++ other)
 same_behind [] rest other s = s
 same_behind (c ∷ text) rest other s = (c, text ++ rest, text ++ other, refl, refl)
-
--- a step that stopped, or the one behind it
-pub data Stopped {A B : Type 0} (r : Read A) (f : A × List ℕ → Read B) (left : List ℕ) : Type 0 where
-  at_first : r ≡ Err left → Stopped r f left
-  at_second : (x : A × List ℕ) → r ≡ Ok x → f x ≡ Err left → Stopped r f left
-
-bind_err : {A B : Type 0} (r : Read A) (f : A × List ℕ → Read B) (left : List ℕ) → (r >>= f) ≡ stop left → Stopped r f left
-bind_err (Ok x) f left e = at_second x refl e
-bind_err {A = A} (Err at) f left e =
-    let same : at ≡ left = cc in
-    at_first (ap (λ (l : List ℕ). stop {A = A} l) same)
 
 -- ---- what gives without reading
 
@@ -177,7 +166,7 @@ follow_stopped f g bytes left p q (at_second x e h) =
     (one.0 ++ two.0, one.1 ∙ ap (λ (s : List ℕ). one.0 ++ s) two.1 ∙ sym (append_assoc one.0 two.0 left))
 
 -- the first reader of two, and where the second begins
-moved : {A : Type 0} (f : Reader A) (x : A) (text one two rest other mid : List ℕ) → IsLocal f → SameNext rest other → f (text ++ rest) ≡ ok (x, mid) → text ++ rest ≡ one ++ mid → mid ≡ two ++ rest
+pub moved : {A : Type 0} (f : Reader A) (x : A) (text one two rest other mid : List ℕ) → IsLocal f → SameNext rest other → f (text ++ rest) ≡ ok (x, mid) → text ++ rest ≡ one ++ mid → mid ≡ two ++ rest
     → (text ≡ one ++ two) × (f (text ++ other) ≡ ok (x, two ++ other))
 moved f x text one two rest other mid p s e first second =
     let whole : text ++ rest ≡ (one ++ two) ++ rest = first ∙ ap (λ (m : List ℕ). one ++ m) second ∙ sym (append_assoc one two rest) in
@@ -278,10 +267,6 @@ pub between_local : {A : Type 0} (open_ close : List ℕ) {f : Reader A} → IsL
 unfolding between
 between_local open_ close p = after_local open_ (follow_local p (λ x. follow_local (strip_local close) (λ u. give_local x)))
 
--- a test that looks at the next byte alone
-pub record SeesNext (test : List ℕ → Bool) : Type 0 where
-  pub sees : (rest other : List ℕ) → SameNext rest other → test rest ≡ test other
-
 choice_front : {A : Type 0} (f g : Reader A) (bytes : List ℕ) (x : A) (rest : List ℕ) → IsLocal f → IsLocal g → (b : Bool) → cond b (f bytes) (g bytes) ≡ ok (x, rest) → (text : List ℕ) × (bytes ≡ text ++ rest)
 choice_front f g bytes x rest p q true e = p.front bytes x rest e
 choice_front f g bytes x rest p q false e = q.front bytes x rest e
@@ -329,3 +314,45 @@ choice_viable {A = A} test {f = f} {g = g} {R = R} {S = S} p q = record {
   viable = λ bytes left e.
       choice_goes_on f g R S bytes left (viable_as p (λ text x r. inl r)) (viable_as q (λ text x s. inr s)) (test bytes) e;
 }
+
+-- the next byte alone is seen by a test of it
+pub next_is_sees : (test : ℕ → Bool) → SeesNext (next_is test)
+next_is_sees test = record { sees = λ rest other s. rw (s.3, s.4) refl }
+
+-- ---- nothing, or what a reader reads
+
+pub optional_local : {A : Type 0} {test : List ℕ → Bool} {f : Reader A} → SeesNext test → IsLocal f → IsLocal (optional test f)
+optional_local t p = choice_local t (mapped_local Some p) (give_local None)
+
+pub optional_viable : {A : Type 0} (test : List ℕ → Bool) {f : Reader A} {R : Grammar A} → IsViable f R → IsViable (optional test f) (Optional R)
+optional_viable {A = A} test {f = f} {R = R} p = viable_as (choice_viable test (mapped_viable Some p) (give_viable None)) (to_optional R)
+
+-- ---- behind a text, and between two texts
+
+pub after_viable : {A : Type 0} (word : List ℕ) {f : Reader A} {R : Grammar A} → IsViable f R → GoesOnFrom R [] → IsViable (after word f) (After word R)
+unfolding after
+after_viable word p some =
+    viable_as (follow_viable (strip_spells word) (strip_viable word) (λ u. p) (λ u. some))
+    (λ text x r. (r.2, r.4, r.5 ∙ ap (λ (s : List ℕ). s ++ r.2) r.3))
+
+-- the text that closes, and the value that is given then
+closes_viable : {A : Type 0} (close : List ℕ) (x : A) → IsViable (follow (strip close) (λ _. give x)) (Seq (Fixed close) (λ _. Given x))
+closes_viable close x = follow_viable (strip_spells close) (strip_viable close) (λ u. give_viable x) (λ u. record { more = []; value = x; is = (refl, refl) })
+
+closes_some : {A : Type 0} (close : List ℕ) (x : A) → GoesOnFrom (Seq (Fixed close) (λ _. Given x)) []
+closes_some close x = record { more = close; value = x; is = (tt, close, [], refl, (refl, refl), sym (append-nil close)) }
+
+-- so it is in the grammar of what is closed
+closed_as : {A : Type 0} (close : List ℕ) (R : Grammar A) (text : List ℕ) (x : A) → Seq R (λ y. Seq (Fixed close) (λ _. Given y)) text x → (inside : List ℕ) × R inside x × (text ≡ inside ++ close)
+closed_as {A = A} close R text x r =
+    let last = r.4 in
+    let whole : last.1 ++ last.2 ≡ close = ap (λ (s : List ℕ). last.1 ++ s) last.4.0 ∙ append-nil last.1 ∙ last.3 in
+    (r.1, subst (λ (y : A). R r.1 y) (sym last.4.1) r.3, r.5 ∙ ap (λ (s : List ℕ). r.1 ++ s) (last.5 ∙ whole))
+
+pub between_viable : {A : Type 0} (open_ close : List ℕ) {f : Reader A} {R : Grammar A} {Ends : List ℕ → Type 0} → Spells f R Ends → IsViable f R → GoesOnFrom R [] → IsViable (between open_ f close) (Between open_ R close)
+unfolding between
+between_viable open_ close {R = R} spells p some =
+    viable_as
+    (after_viable open_ (viable_as (follow_viable spells p (closes_viable close) (closes_some close)) (closed_as close R))
+    (record { more = some.more ++ close; value = some.value; is = (some.more, some.is, refl) }))
+    (λ text x r. (r.1.0, r.1.1, r.2 ∙ ap (λ (s : List ℕ). open_ ++ s) r.1.2 ∙ sym (append_assoc open_ r.1.0 close)))

@@ -1,10 +1,10 @@
 -- The readers one step at a time, as the loops of the code take them.
 use Rattle.std.proofs.Common.{◌≡◌, ℕ, zero, suc, ◌+◌, ◌-◌, ◌*◌, ◌<◌, ◌≤◌, ◌^◌, Bool, true, false, cond, List, [], ◌∷◌, length, get_or, drop, Ok, Err, refl, sym, ap, ◌∙◌, arith, add-one, drop-cons}
-use Rattle.std.specs.Char.{is_ascii_digit}
+use Rattle.std.specs.Char.{is_ascii_digit, to_ascii_lowercase}
 use Rattle.std.proofs.lemmas.Bool.{eq-eqb, ne_eqb}
 use Rattle.std.proofs.lemmas.List.{drop_all}
 use Rattle.std.proofs.Math.Nat.{pow-le-pow_right, pow-suc}
-use Rattle.reading.specs.Readers.{Read, strip, one_of}
+use Rattle.reading.specs.Readers.{Read, strip, strip_either_case, one_of}
 use Rattle.reading.specs.Decimals.{more_digits}
 
 -- ---- a fixed text
@@ -53,6 +53,49 @@ pub strip_is_done : (text bytes rest : List ℕ) (i : ℕ) → length text ≤ i
 strip_is_done text bytes rest i le so_far =
     let none : drop i text ≡ [] = drop_all i text le in
     sym so_far ∙ ap (λ (t : List ℕ). strip t rest) none ∙ strip_nothing rest
+
+-- ---- a text in either case
+
+cased_same : (wanted byte : ℕ) (text after : List ℕ) → to_ascii_lowercase byte ≡ wanted → strip_either_case (wanted ∷ text) (byte ∷ after) ≡ strip_either_case text after
+unfolding strip_either_case
+cased_same wanted byte text after e = rw (eq-eqb (to_ascii_lowercase byte) wanted e) refl
+
+cased_other : (wanted byte : ℕ) (text after : List ℕ) → (to_ascii_lowercase byte ≡ wanted → ⊥) → strip_either_case (wanted ∷ text) (byte ∷ after) ≡ Err (byte ∷ after)
+unfolding strip_either_case
+cased_other wanted byte text after n = rw (ne_eqb (to_ascii_lowercase byte) wanted n) refl
+
+cased_none : (wanted : ℕ) (text : List ℕ) → strip_either_case (wanted ∷ text) [] ≡ Err []
+unfolding strip_either_case
+cased_none wanted text = refl
+
+pub cased_goes_on : (text bytes rest after : List ℕ) (i byte : ℕ) → i < length text → rest ≡ byte ∷ after → to_ascii_lowercase byte ≡ get_or text i 0
+    → strip_either_case (drop i text) rest ≡ strip_either_case text bytes → strip_either_case (drop (i + 1) text) after ≡ strip_either_case text bytes
+cased_goes_on text bytes rest after i byte lt first e so_far =
+    let here : strip_either_case (drop i text) rest ≡ strip_either_case (drop (i + 1) text) after =
+    rw (front text i lt, first) (cased_same (get_or text i 0) byte (drop (i + 1) text) after e) in
+    sym here ∙ so_far
+
+pub cased_differs : (text bytes rest after : List ℕ) (i byte : ℕ) → i < length text → rest ≡ byte ∷ after → (to_ascii_lowercase byte ≡ get_or text i 0 → ⊥)
+    → strip_either_case (drop i text) rest ≡ strip_either_case text bytes → strip_either_case text bytes ≡ Err rest
+cased_differs text bytes rest after i byte lt first n so_far =
+    let here : strip_either_case (drop i text) rest ≡ Err rest =
+    rw (front text i lt, first) (cased_other (get_or text i 0) byte (drop (i + 1) text) after n) in
+    sym so_far ∙ here
+
+pub cased_ends : (text bytes rest : List ℕ) (i : ℕ) → i < length text → rest ≡ [] → strip_either_case (drop i text) rest ≡ strip_either_case text bytes → strip_either_case text bytes ≡ Err rest
+cased_ends text bytes rest i lt none so_far =
+    let here : strip_either_case (drop i text) rest ≡ Err rest =
+    rw (front text i lt, none) (cased_none (get_or text i 0) (drop (i + 1) text)) in
+    sym so_far ∙ here
+
+cased_nothing : (rest : List ℕ) → strip_either_case [] rest ≡ Ok (tt, rest)
+unfolding strip_either_case
+cased_nothing rest = refl
+
+pub cased_is_done : (text bytes rest : List ℕ) (i : ℕ) → length text ≤ i → strip_either_case (drop i text) rest ≡ strip_either_case text bytes → strip_either_case text bytes ≡ Ok (tt, rest)
+cased_is_done text bytes rest i le so_far =
+    let none : drop i text ≡ [] = drop_all i text le in
+    sym so_far ∙ ap (λ (t : List ℕ). strip_either_case t rest) none ∙ cased_nothing rest
 
 -- ---- digits
 

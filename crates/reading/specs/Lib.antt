@@ -3,3 +3,6 @@ pub mod Grammars
 pub mod Decimals
 pub mod Spelling
 pub mod Places
+pub mod Placed
+pub mod Words
+pub mod Closings

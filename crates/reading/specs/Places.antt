@@ -1,13 +1,17 @@
 -- Where a reader stops: at the first byte with which no text of its grammar goes on. That is two facts, each kept by
 -- the ways to build readers: the answer hangs on the bytes up to the next one alone, and what was read is the front of
 -- a text of the grammar.
-use Rattle.std.specs.Prelude.{◌≡◌, ℕ, List, ◌∷◌, ◌++◌, Ok, Err}
+use Rattle.std.specs.Prelude.{◌≡◌, ℕ, Bool, List, ◌∷◌, ◌++◌, Ok, Err}
 use Rattle.reading.specs.Readers.{Reader}
 use Rattle.reading.specs.Grammars.{Grammar}
 
 -- the same byte comes next in both
 abbrev pub SameNext : List ℕ → List ℕ → Type 0
 SameNext rest other = (next : ℕ) × (later more : List ℕ) × (rest ≡ next ∷ later) × (other ≡ next ∷ more)
+
+-- a test that looks at the next byte alone
+pub record SeesNext (test : List ℕ → Bool) : Type 0 where
+  pub sees : (rest other : List ℕ) → SameNext rest other → test rest ≡ test other
 
 -- What is left is an end of the bytes. With other bytes behind the next one the answer stays.
 pub record IsLocal {A : Type 0} (f : Reader A) : Type 0 where

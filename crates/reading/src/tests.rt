@@ -3,30 +3,56 @@ use std::test::*;
 
 #[test]
 fn texts(rt: HostRuntime) {
-    assert_eq!(rt; strip(b"<div", b"<div>"), Ok(b">".as_slice()));
-    assert_eq!(rt; strip(b"", b"ab"), Ok(b"ab".as_slice()));
-    // What is left begins with the byte that differs.
-    assert_eq!(rt; strip(b"<div", b"<dog>"), Err(b"og>".as_slice()));
-    assert_eq!(rt; strip(b"<div", b"<d"), Err(b"".as_slice()));
-    assert!(rt; starts(b"<d", b"<div"));
-    assert!(rt; !starts(b"<d", b"</div"));
-    assert!(rt; !starts(b"<d", b"<"));
+    assert_eq!(rt; strip("<div", "<div>"), Ok(">"));
+    assert_eq!(rt; strip("", "ab"), Ok("ab"));
+    assert_eq!(rt; strip("\u{e9}", "\u{e9}\u{e8}"), Ok("\u{e8}"));
+    // What is left begins with the byte that differs, even within a character.
+    assert_eq!(rt; strip("<div", "<dog>"), Err(b"og>".as_slice()));
+    assert_eq!(rt; strip("<div", "<d"), Err(b"".as_slice()));
+    assert_eq!(rt; strip("\u{e9}", "\u{e8}"), Err(b"\xa8".as_slice()));
+    assert!(rt; starts("<d", "<div"));
+    assert!(rt; !starts("<d", "</div"));
+    assert!(rt; !starts("<d", "<"));
+}
+
+#[test]
+fn texts_in_either_case(rt: HostRuntime) {
+    assert_eq!(rt;
+        strip_either_case("<!doctype", "<!DocType html"),
+        Ok(" html")
+    );
+    assert_eq!(rt; strip_either_case("div", "DOG"), Err(b"OG".as_slice()));
+    // Capital letters of the word are never read.
+    assert_eq!(rt; strip_either_case("Div", "Div"), Err(b"Div".as_slice()));
+    // Letters beyond ASCII have one case here.
+    assert_eq!(rt;
+        strip_either_case("\u{e9}", "\u{c9}"),
+        Err(b"\x89".as_slice())
+    );
+}
+
+#[test]
+fn first_bytes(rt: HostRuntime) {
+    assert_eq!(rt; first("<a"), Some((b'<', "a")));
+    assert_eq!(rt; first("<\u{e9}"), Some((b'<', "\u{e9}")));
+    assert_eq!(rt; first("\u{e9}<"), None);
+    assert_eq!(rt; first(""), None);
 }
 
 #[test]
 fn digits(rt: HostRuntime) {
-    assert_eq!(rt; digit(b"07"), Ok((b'0', b"7".as_slice())));
-    assert_eq!(rt; digit(b"/"), Err(b"/".as_slice()));
-    assert_eq!(rt; digit(b":"), Err(b":".as_slice()));
-    assert_eq!(rt; digit(b""), Err(b"".as_slice()));
+    assert_eq!(rt; digit("07"), Ok((b'0', "7")));
+    assert_eq!(rt; digit("/"), Err(b"/".as_slice()));
+    assert_eq!(rt; digit(":"), Err(b":".as_slice()));
+    assert_eq!(rt; digit(""), Err(b"".as_slice()));
 }
 
 #[test]
 fn numbers(rt: HostRuntime) {
-    assert_eq!(rt; decimal(5, b"0"), Ok((0, b"".as_slice())));
-    assert_eq!(rt; decimal(5, b"00420px"), Ok((420, b"px".as_slice())));
-    assert_eq!(rt; decimal(5, b"123456"), Ok((12_345, b"6".as_slice())));
-    assert_eq!(rt; decimal(1, b"98"), Ok((9, b"8".as_slice())));
-    assert_eq!(rt; decimal(9, b"999999999"), Ok((999_999_999, b"".as_slice())));
-    assert_eq!(rt; decimal(5, b"px"), Err(b"px".as_slice()));
+    assert_eq!(rt; decimal(5, "0"), Ok((0, "")));
+    assert_eq!(rt; decimal(5, "00420px"), Ok((420, "px")));
+    assert_eq!(rt; decimal(5, "123456"), Ok((12_345, "6")));
+    assert_eq!(rt; decimal(1, "98"), Ok((9, "8")));
+    assert_eq!(rt; decimal(9, "999999999"), Ok((999_999_999, "")));
+    assert_eq!(rt; decimal(5, "px"), Err(b"px".as_slice()));
 }

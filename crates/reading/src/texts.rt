@@ -1,17 +1,42 @@
 //! Fixed texts and single bytes.
 
-ghost use Rattle.std.specs.Prelude.{◌≡◌, ◌<◌, length, IfOk};
+ghost use Rattle.std.specs.Prelude.{◌≡◌, ◌<◌, ◌≤◌, length, IfOk};
 ghost use Rattle.std.specs.Char.{IsAsciiDigit, is_ascii_digit};
 ghost use Rattle.reading.specs.Readers as readers;
-ghost use Rattle.reading.specs.Readers.{Answers, IsFirst};
+ghost use Rattle.reading.specs.Readers.{Answers, IsAsciiFirst, IsFirst};
 
-/// The bytes behind `text`, or what is left where they differ from it.
-pub fn strip<'a>(text: &[u8], bytes: &'a [u8]) -> Result<&'a [u8], &'a [u8]>
-    ensures { Answers (λ rest. (tt, rest.now)) result (readers.strip text.now bytes.now) }
+/// The first byte of the text where it is ASCII, and the text behind it.
+pub fn first(text: &str) -> Option<(u8, &str)>
+    ensures { IsAsciiFirst result text.now }
+{
+    match text.as_bytes() {
+        [] => None,
+        [byte, ..] => {
+            if byte.is_ascii() {
+                Some((*byte, &text[1..]))
+            } else {
+                None
+            }
+        }
+    }
+}
+
+/// The text behind `word`, or the bytes that are left where they differ from it.
+pub fn strip<'a>(word: &str, text: &'a str) -> Result<&'a str, &'a [u8]>
+    ensures read { Answers (λ rest. (tt, rest.now)) result (readers.strip word.now text.now) }
+    ensures shorter { IfOk result (λ rest. length rest.now ≤ length text.now) }
+{
+    strip_bytes(word.as_bytes(), text.as_bytes())?;
+    Ok(&text[word.len()..])
+}
+
+// The same over bytes.
+fn strip_bytes<'a>(word: &[u8], bytes: &'a [u8]) -> Result<&'a [u8], &'a [u8]>
+    ensures { Answers (λ rest. (tt, rest.now)) result (readers.strip word.now bytes.now) }
 {
     let mut rest = bytes;
-    for wanted in text {
-        let Some((byte, after)) = first(rest) else {
+    for wanted in word {
+        let Some((byte, after)) = next(rest) else {
             return Err(rest);
         };
         if byte != *wanted {
@@ -22,8 +47,35 @@ pub fn strip<'a>(text: &[u8], bytes: &'a [u8]) -> Result<&'a [u8], &'a [u8]>
     Ok(rest)
 }
 
+/// The text behind `word`, in which ASCII letters may stand in either case, or the bytes that are left where they
+/// differ from it. The letters of `word` are small.
+pub fn strip_either_case<'a>(word: &str, text: &'a str) -> Result<&'a str, &'a [u8]>
+    ensures read { Answers (λ rest. (tt, rest.now)) result (readers.strip_either_case word.now text.now) }
+    ensures shorter { IfOk result (λ rest. length rest.now ≤ length text.now) }
+{
+    strip_cased_bytes(word.as_bytes(), text.as_bytes())?;
+    Ok(&text[word.len()..])
+}
+
+// The same over bytes.
+fn strip_cased_bytes<'a>(word: &[u8], bytes: &'a [u8]) -> Result<&'a [u8], &'a [u8]>
+    ensures { Answers (λ rest. (tt, rest.now)) result (readers.strip_either_case word.now bytes.now) }
+{
+    let mut rest = bytes;
+    for wanted in word {
+        let Some((byte, after)) = next(rest) else {
+            return Err(rest);
+        };
+        if byte.to_ascii_lowercase() != *wanted {
+            return Err(rest);
+        }
+        rest = after;
+    }
+    Ok(rest)
+}
+
 // The first byte, and the bytes behind it.
-fn first(bytes: &[u8]) -> Option<(u8, &[u8])>
+fn next(bytes: &[u8]) -> Option<(u8, &[u8])>
     ensures { IsFirst result bytes.now }
 {
     match bytes {
@@ -32,29 +84,27 @@ fn first(bytes: &[u8]) -> Option<(u8, &[u8])>
     }
 }
 
-/// Do the bytes begin with `text`?
+/// Does the text begin with `word`?
 #[tactic(auto, unfolding(crate::specs::Readers::starts))]
-pub fn starts(text: &[u8], bytes: &[u8]) -> bool
-    ensures { result ≡ readers.starts text.now bytes.now }
+pub fn starts(word: &str, text: &str) -> bool
+    ensures { result ≡ readers.starts word.now text.now }
 {
-    strip(text, bytes).is_ok()
+    strip_bytes(word.as_bytes(), text.as_bytes()).is_ok()
 }
 
-/// One decimal digit, as its byte, and the bytes behind it.
+/// One decimal digit, as its byte, and the text behind it.
 #[tactic(auto, unfolding(crate::specs::Readers::one_of))]
-pub fn digit(bytes: &[u8]) -> Result<(u8, &[u8]), &[u8]>
-    ensures read { Answers (λ d. (d.0, d.1.now)) result (readers.one_of is_ascii_digit bytes.now) }
+pub fn digit(text: &str) -> Result<(u8, &str), &[u8]>
+    ensures read { Answers (λ d. (d.0, d.1.now)) result (readers.one_of is_ascii_digit text.now) }
     ensures digit { IfOk result (λ d. IsAsciiDigit d.0) }
-    ensures shorter { IfOk result (λ d. length d.1.now < length bytes.now) }
+    ensures shorter { IfOk result (λ d. length d.1.now < length text.now) }
 {
-    match bytes {
-        [] => Err(bytes),
-        [byte, after @ ..] => {
-            if byte.is_ascii_digit() {
-                Ok((*byte, after))
-            } else {
-                Err(bytes)
-            }
-        }
+    let Some((byte, rest)) = first(text) else {
+        return Err(text.as_bytes());
+    };
+    if byte.is_ascii_digit() {
+        Ok((byte, rest))
+    } else {
+        Err(text.as_bytes())
     }
 }

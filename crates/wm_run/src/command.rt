@@ -64,13 +64,13 @@ fn long_view(
 fn sizes(inline: &str, block: &str) -> Option<View>
     ensures { result ≡ readings.sizes_of inline.now block.now }
 {
-    let inline = view_size(inline.as_bytes())?;
-    let block = view_size(block.as_bytes())?;
+    let inline = view_size(inline)?;
+    let block = view_size(block)?;
     Some(View { inline, block })
 }
 
 // A size of the view, of 1 to 16,384 whole pixels.
-fn view_size(text: &[u8]) -> Option<i64>
+fn view_size(text: &str) -> Option<i64>
     ensures { result ≡ readings.size_of text.now }
 {
     match decimal(5, text) {
@@ -79,18 +79,13 @@ fn view_size(text: &[u8]) -> Option<i64>
     }
 }
 
-fn whole_size(size: u32, rest: &[u8]) -> Option<i64>
+fn whole_size(size: u32, rest: &str) -> Option<i64>
     ensures { result ≡ readings.size_within size rest.now }
 {
-    match rest {
-        [] => {
-            if 1 <= size && size <= MOST_PIXELS {
-                Some(pixels(size))
-            } else {
-                None
-            }
-        }
-        [_, ..] => None,
+    if rest.is_empty() && 1 <= size && size <= MOST_PIXELS {
+        Some(pixels(size))
+    } else {
+        None
     }
 }
 

@@ -1,14 +1,14 @@
-use Rattle.reading.proofs.Stepping.{strip_goes_on, strip_differs, strip_ends, strip_is_done}
+use Rattle.reading.specs.Readers.{strip}
+use Rattle.reading.proofs.SpellLaws.{ok}
+use Rattle.reading.proofs.TextCuts.{strip_cut, strip_sliced, on_texts}
 use Rattle.reading.proofs.texts.strip.Goals as goal
 
-pub returns-in_default : goal.returns-in_default
-returns-in_default c = strip_ends c.args.text.now c.args.bytes.now c.loop-wanted.rest.now c.loop-wanted.wanted-index c.loop-wanted-test.true c.in_default.ensures c.loop-wanted.invariant
+pub range_from-requires : goal.range_from-requires
+range_from-requires c = λ some.
+    let read = on_texts strip c.as_bytes.result.now c.as_bytes-2.result.now c.args.word.now c.args.text.now (ok (tt, c.in_ok-strip_bytes.field-0.now)) c.as_bytes.ensures.value c.as_bytes-2.ensures.value c.in_ok-strip_bytes.ensures in
+    strip_cut c.args.word.now c.args.text.now c.in_ok-strip_bytes.field-0.now c.utf8.word c.utf8.text read
 
-pub returns-then-byte-wanted : goal.returns-then-byte-wanted
-returns-then-byte-wanted c = strip_differs c.args.text.now c.args.bytes.now c.loop-wanted.rest.now c.in-Some.after.now c.loop-wanted.wanted-index c.in-Some.byte c.loop-wanted-test.true c.in-Some.ensures c.if-byte-wanted.true c.loop-wanted.invariant
-
-pub loop-wanted-preserved : goal.loop-wanted-preserved
-loop-wanted-preserved c = strip_goes_on c.args.text.now c.args.bytes.now c.loop-wanted.rest.now c.in-Some.after.now c.loop-wanted.wanted-index c.in-Some.byte c.loop-wanted-test.true c.in-Some.ensures c.if-byte-wanted.false c.loop-wanted.invariant
-
-pub returns : goal.returns
-returns c = strip_is_done c.args.text.now c.args.bytes.now c.loop-wanted.rest.now c.loop-wanted.wanted-index c.loop-wanted-test.false c.loop-wanted.invariant
+pub returns-clause-read : goal.returns-clause-read
+returns-clause-read c =
+    let read = on_texts strip c.as_bytes.result.now c.as_bytes-2.result.now c.args.word.now c.args.text.now (ok (tt, c.in_ok-strip_bytes.field-0.now)) c.as_bytes.ensures.value c.as_bytes-2.ensures.value c.in_ok-strip_bytes.ensures in
+    strip_sliced c.args.word.now c.args.text.now c.in_ok-strip_bytes.field-0.now c.range_from.result.now read c.range_from.ensures.value
