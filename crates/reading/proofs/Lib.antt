@@ -12,3 +12,5 @@ mod Examples
 pub mod TextCuts
 pub mod RunPlaces
 pub mod TurnPlaces
+pub mod UpToPlaces
+pub mod WordPlaces

@@ -47,7 +47,7 @@ until_again test [] rest nowhere here = until_here test rest here
 until_again test (byte ∷ run) rest nowhere here = rw (nowhere.0, until_again test run rest nowhere.1 here) refl
 
 -- other bytes behind, with the same answers at each place before them
-nowhere_as : (test : List ℕ → Bool) (run one other : List ℕ) → ((byte : ℕ) (before : List ℕ) → test ((byte ∷ before) ++ one) ≡ test ((byte ∷ before) ++ other))
+pub nowhere_as : (test : List ℕ → Bool) (run one other : List ℕ) → ((byte : ℕ) (before : List ℕ) → test ((byte ∷ before) ++ one) ≡ test ((byte ∷ before) ++ other))
     → NowhereIn test run one → NowhereIn test run other
 nowhere_as test [] one other same nowhere = tt
 nowhere_as test (byte ∷ run) one other same nowhere = (sym (same byte run) ∙ nowhere.0, nowhere_as test run one other same nowhere.1)

@@ -230,6 +230,25 @@ pub fn decimals_stop_in_place()
     ensures viable { (more : ℕ) → IsViable (decimals.number (suc more)) (IsDecimal (suc more)) }
 {}
 
+/// A run stops nowhere, also one that is skipped.
+pub fn runs_stop_nowhere()
+    ensures local { (test : ℕ → Bool) → IsLocal (readers.skip test) }
+    ensures viable { (test : ℕ → Bool) → IsViable (readers.skip test) (λ text u. AllPass test text) }
+{}
+
+/// A text up to where a reader can read stops at the end of the bytes alone.
+pub fn texts_up_to_stop_in_place<A, R: Rule<A>>()
+    ensures local { ((rest : List ℕ) → R.ends rest) → SeesWithin R.reads R.spelled → IsLocal (readers.up_to R.reads) }
+    ensures viable { ((rest : List ℕ) → R.ends rest) → SeesWithin R.reads R.spelled → GoesOnFrom R.spelled []
+        → IsViable (readers.up_to R.reads) (UpTo R.reads R.spelled) }
+{}
+
+/// A text of a table stops behind the longest front that the bytes share with one.
+pub fn words_stop_in_place<A>()
+    ensures local { (word : List ℕ × A) (words : List (List ℕ × A)) → all_differ (word ∷ words) ≡ true → IsLocal (readers.one_word (word ∷ words)) }
+    ensures viable { (word : List ℕ × A) (words : List (List ℕ × A)) → IsViable (readers.one_word (word ∷ words)) (OneWord (word ∷ words)) }
+{}
+
 /// One after the other stops where the first stops, or behind it where the second stops.
 pub fn sequences_stop_in_place<A, B, R: PlacedRule<A>, S: PlacedRuleBehind<A, B>>()
     ensures local { IsLocal (readers.follow R.reads S.reads) }
