@@ -13,3 +13,4 @@ mod HeadLaws
 mod DocumentLaws
 mod ShapeLaws
 mod AnsweredLaws
+mod PlaceLaws

@@ -143,12 +143,12 @@ end_of_sees word = record {
       ∙ sym (ap (λ (s : Read ⊤). is_ok s) (end_as_closing word ((byte ∷ before) ++ end_)));
 }
 
-raw_end_spells : (end_ : RawEnd) → Spells (raw_end end_) (IsRawEnd end_) Anything
+pub raw_end_spells : (end_ : RawEnd) → Spells (raw_end end_) (IsRawEnd end_) Anything
 raw_end_spells ends.Comment = strip_spells (codes "-->")
 raw_end_spells ends.Title = end_of_spells (codes "title")
 raw_end_spells ends.Style = end_of_spells (codes "style")
 
-raw_end_sees : (end_ : RawEnd) → SeesWithin (raw_end end_) (IsRawEnd end_)
+pub raw_end_sees : (end_ : RawEnd) → SeesWithin (raw_end end_) (IsRawEnd end_)
 raw_end_sees ends.Comment = strip_sees (codes "-->")
 raw_end_sees ends.Title = end_of_sees (codes "title")
 raw_end_sees ends.Style = end_of_sees (codes "style")

@@ -3,6 +3,7 @@
 ghost use Rattle.std.specs.Prelude.{◌≡◌, ◌↔◌, ℕ, Bool, true, false, List, [], ◌∷◌, ◌++◌, codes, length, Result, Ok, Err, IfOk, IfErr, ◌⊎◌};
 ghost use Rattle.reading.specs.Readers.{can_read, next_is, starts};
 ghost use Rattle.reading.specs.Placed.{SpellsPlaced};
+ghost use Rattle.reading.specs.Places.{IsLocal, IsViable};
 ghost use Rattle.reading.specs.Spelling.{Anything, Spells};
 ghost use Rattle.html_read.specs.Answered.{HaveNoDocument, IsTheDocument, IsTheFragment, RefusesDocument, RefusesFragment};
 ghost use Rattle.html_read.specs.Characters.{is_white, is_name_byte};
@@ -109,4 +110,12 @@ pub fn calls_answer_by_the_grammar<X>()
         → IfOk answer (λ x. IsTheDocument bytes (view x) × IsShaped (view x).nodes) × IfErr answer (λ error. RefusesDocument bytes error) }
     ensures fragments { (view : X → List Node) (text : List ℕ) (answer : Result X HtmlError) → Told (length text) view answer (judging.fragment text)
         → IfOk answer (λ x. IsTheFragment text (view x) × IsFragmentShaped (view x)) × IfErr answer (λ error. RefusesFragment text error) }
+{}
+
+/// Names, end tags, comments, the doctype and references stop at the first byte with which none of them goes on.
+pub fn pieces_stop_in_place()
+    ensures end_names { IsLocal readers.end_name × IsViable readers.end_name grammar.IsEndName }
+    ensures comments { IsLocal readers.comment × IsViable readers.comment grammar.IsComment }
+    ensures doctype { IsLocal readers.doctype × IsViable readers.doctype grammar.IsDoctype }
+    ensures references { IsLocal readers.reference × IsViable readers.reference grammar.IsReference }
 {}
