@@ -14,3 +14,4 @@ pub mod RunPlaces
 pub mod TurnPlaces
 pub mod UpToPlaces
 pub mod WordPlaces
+pub mod StopPlaces

@@ -10,7 +10,7 @@ ghost use Rattle.reading.specs.Decimals.{IsDecimal, NoDigit};
 ghost use Rattle.reading.specs.Closings.{closing, Closing};
 ghost use Rattle.reading.specs.Grammars.{Grammar, Fixed, OneOf, RunOf, EitherCase, OneWord, UpTo, Given, Seq, Mapped, Either, Optional, After, Between, Each, Joined, AllPass};
 ghost use Rattle.reading.specs.Placed.{PlacedGrammar, Anywhere, PlacedSeq, PlacedMapped, PlacedEither, SpellsPlaced};
-ghost use Rattle.reading.specs.Places.{IsLocal, IsViable, GoesOnFrom};
+ghost use Rattle.reading.specs.Places.{IsLocal, IsViable, GoesOnFrom, StopsInPlace};
 ghost use Rattle.reading.specs.Spelling.{Anything, Spells, IsTestOf, SeesWithin};
 ghost use Rattle.reading.specs.Words.{all_differ, longest_first, all_of};
 
@@ -59,6 +59,11 @@ pub trait PlacedRule<A>: Rule<A> {
     ghost local: { IsLocal Self.reads };
 
     ghost viable: { IsViable Self.reads Self.spelled };
+}
+
+/// A rule whose reader stops in place, while it may look further where it reads on.
+pub trait StoppingRule<A>: Rule<A> {
+    ghost stops: { StopsInPlace Self.reads };
 }
 
 /// Such rules for each value that was read before. Each has a text.
@@ -257,6 +262,12 @@ pub fn sequences_stop_in_place<A, B, R: PlacedRule<A>, S: PlacedRuleBehind<A, B>
 
 /// No text of the grammar begins with what was read and the byte where the reader stopped.
 pub fn none_goes_further<A, R: PlacedRule<A>>()
+    ensures { (text later more rest : List ℕ) (next : ℕ) (x : A) → R.reads (text ++ next ∷ later) ≡ Err (next ∷ later)
+        → R.spelled (text ++ next ∷ more) x → R.ends rest → ⊥ }
+{}
+
+/// The same of readers that may look further where they read on.
+pub fn none_goes_further_where_it_stops<A, R: StoppingRule<A>>()
     ensures { (text later more rest : List ℕ) (next : ℕ) (x : A) → R.reads (text ++ next ∷ later) ≡ Err (next ∷ later)
         → R.spelled (text ++ next ∷ more) x → R.ends rest → ⊥ }
 {}
