@@ -14,3 +14,4 @@ mod DocumentLaws
 mod ShapeLaws
 mod AnsweredLaws
 mod PlaceLaws
+mod StopLaws

@@ -189,11 +189,11 @@ misc_some : (text x : List ℕ) → IsMiscPiece text x → 0 < length text
 misc_some text x (inl r) = rw r.1.1.0 (omega arith)
 misc_some text x (inr r) = rw r.1.2 (omega arith)
 
-misc_begins : (mark text x rest : List ℕ) → BeginsComments mark → IsMiscPiece text x → in_misc mark (text ++ rest) ≡ true
+pub misc_begins : (mark text x rest : List ℕ) → BeginsComments mark → IsMiscPiece text x → in_misc mark (text ++ rest) ≡ true
 misc_begins mark text x rest begins (inl r) = white_begins mark text rest tt r.1
 misc_begins mark text x rest begins (inr r) = comment_begins mark text rest tt begins r.1
 
-misc_test : (mark : List ℕ) → BeginsComments mark → IsTestOf (in_misc mark) IsMiscPiece Anything (NoMisc mark)
+pub misc_test : (mark : List ℕ) → BeginsComments mark → IsTestOf (in_misc mark) IsMiscPiece Anything (NoMisc mark)
 misc_test mark begins = record {
   some = λ text x r. misc_some text x r;
   begins = λ text x rest r any. misc_begins mark text x rest begins r;

@@ -3,7 +3,7 @@
 ghost use Rattle.std.specs.Prelude.{◌≡◌, ◌↔◌, ℕ, Bool, true, false, List, [], ◌∷◌, ◌++◌, codes, length, Result, Ok, Err, IfOk, IfErr, ◌⊎◌};
 ghost use Rattle.reading.specs.Readers.{can_read, next_is, starts};
 ghost use Rattle.reading.specs.Placed.{SpellsPlaced};
-ghost use Rattle.reading.specs.Places.{IsLocal, IsViable};
+ghost use Rattle.reading.specs.Places.{IsLocal, IsViable, StopsInPlace};
 ghost use Rattle.reading.specs.Spelling.{Anything, Spells};
 ghost use Rattle.html_read.specs.Answered.{HaveNoDocument, IsTheDocument, IsTheFragment, RefusesDocument, RefusesFragment};
 ghost use Rattle.html_read.specs.Characters.{is_white, is_name_byte};
@@ -118,4 +118,10 @@ pub fn pieces_stop_in_place()
     ensures comments { IsLocal readers.comment × IsViable readers.comment grammar.IsComment }
     ensures doctype { IsLocal readers.doctype × IsViable readers.doctype grammar.IsDoctype }
     ensures references { IsLocal readers.reference × IsViable readers.reference grammar.IsReference }
+{}
+
+/// White space with comments, and what stands before `html`, stop at the first byte with which they don't go on.
+pub fn fronts_stop_in_place()
+    ensures misc { StopsInPlace (readers.misc (codes "<!")) × IsViable (readers.misc (codes "<!")) grammar.IsMisc }
+    ensures prologs { StopsInPlace judging.prolog × IsViable judging.prolog grammar.IsProlog }
 {}

@@ -33,7 +33,7 @@ goes_no_further {A = A} {f = f} spells stops text later more rest next x e r end
 abbrev pub Stays : {A B : Type 0} → Reader A → (A → Reader B) → Type 0
 Stays {A} f g = (text two rest other : List ℕ) (x : A) → SameNext rest other → f (text ++ (two ++ rest)) ≡ Ok (x, two ++ rest) → g x (two ++ rest) ≡ Err rest → f (text ++ (two ++ other)) ≡ Ok (x, two ++ other)
 
-follow_stopped : {A B : Type 0} (f : Reader A) (g : A → Reader B) (bytes left : List ℕ) → StopsInPlace f → ((x : A) → StopsInPlace (g x)) → Stopped (f bytes) (λ (x : A × List ℕ). g x.0 x.1) left → (text : List ℕ) × (bytes ≡ text ++ left)
+pub follow_stopped : {A B : Type 0} (f : Reader A) (g : A → Reader B) (bytes left : List ℕ) → StopsInPlace f → ((x : A) → StopsInPlace (g x)) → Stopped (f bytes) (λ (x : A × List ℕ). g x.0 x.1) left → (text : List ℕ) × (bytes ≡ text ++ left)
 follow_stopped f g bytes left p q (at_first e) = p.stopped bytes left e
 follow_stopped f g bytes left p q (at_second x e h) =
     let one = p.front bytes x.0 x.1 e in
