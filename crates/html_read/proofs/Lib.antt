@@ -15,3 +15,4 @@ mod ShapeLaws
 mod AnsweredLaws
 mod PlaceLaws
 mod StopLaws
+mod AttributePlaces

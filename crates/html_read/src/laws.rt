@@ -125,3 +125,8 @@ pub fn fronts_stop_in_place()
     ensures misc { StopsInPlace (readers.misc (codes "<!")) × IsViable (readers.misc (codes "<!")) grammar.IsMisc }
     ensures prologs { StopsInPlace judging.prolog × IsViable judging.prolog grammar.IsProlog }
 {}
+
+/// Attributes stop at the first byte with which they don't go on.
+pub fn attributes_stop_in_place()
+    ensures { StopsInPlace readers.attributes }
+{}
