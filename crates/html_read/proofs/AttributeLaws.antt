@@ -1,6 +1,7 @@
 -- The attributes of a tag: what is read is spelled so, and what is spelled so is read.
-use Rattle.std.proofs.Common.{◌≡◌, ◌⊎◌, inl, inr, ℕ, suc, ◌<◌, Bool, true, false, cond, eqb, List, [], ◌∷◌, ◌++◌, length, Ok, is_ok, refl, sym, ap, subst, ◌∙◌, append_assoc, length-append, arith}
+use Rattle.std.proofs.Common.{◌≡◌, ◌⊎◌, inl, inr, ℕ, suc, ◌<◌, Bool, true, false, cond, eqb, ◌||◌, List, [], ◌∷◌, ◌++◌, length, Ok, is_ok, refl, sym, ap, subst, ◌∙◌, append_assoc, length-append, arith}
 use Rattle.std.specs.Prelude.{⊤}
+use Rattle.std.proofs.lemmas.Bool.{eqb-true}
 use Rattle.std.proofs.lemmas.List.{append-nil}
 use Rattle.reading.specs.Readers.{Reader, ◌>>=◌, give, follow, mapped, one_of, next_is, can_read, turns, repeat}
 use Rattle.reading.specs.Grammars.{Grammar, AllPass, Seq, Mapped}
@@ -325,3 +326,11 @@ attributes_spells = record {
 pub is_tag_next : (rest more : List ℕ) → (rest ≡ 62 ∷ more) ⊎ (rest ≡ 47 ∷ more) → IsTagNext rest
 is_tag_next rest more (inl e) = record { byte = 62; more = more; is = e; which = inl refl }
 is_tag_next rest more (inr e) = record { byte = 47; more = more; is = e; which = inr refl }
+
+tag_byte_by : (byte : ℕ) (rest : List ℕ) (t : Bool) → eqb byte 62 ≡ t → (t || eqb byte 47) ≡ true → IsTagNext (byte ∷ rest)
+tag_byte_by byte rest true is e = record { byte = byte; more = rest; is = refl; which = inl (eqb-true byte 62 is) }
+tag_byte_by byte rest false is e = record { byte = byte; more = rest; is = refl; which = inr (eqb-true byte 47 e) }
+
+pub tag_byte_next : (rest : List ℕ) → next_is (λ (byte : ℕ). eqb byte 62 || eqb byte 47) rest ≡ true → IsTagNext rest
+tag_byte_next [] e = absurd cc
+tag_byte_next (byte ∷ rest) e = tag_byte_by byte rest (eqb byte 62) refl e

@@ -224,7 +224,7 @@ lettered text rest blank here back g pass n whole =
 
 -- ---- where a turn stops
 
-skip_ends : (test : ℕ → Bool) (bytes rest : List ℕ) (u : ⊤) → skip test bytes ≡ ok (u, rest) → next_is test rest ≡ false
+pub skip_ends : (test : ℕ → Bool) (bytes rest : List ℕ) (u : ⊤) → skip test bytes ≡ ok (u, rest) → next_is test rest ≡ false
 skip_ends test bytes rest u e =
     let here : mapped (λ (run : List ℕ). tt) (run_of test) bytes ≡ ok (u, rest) = sym (skip_as_run test bytes) ∙ e in
     let a = bind_ok (run_of test bytes) (λ (x : List ℕ × List ℕ). give tt x.1) (u, rest) here in
@@ -245,7 +245,7 @@ unfolding name_ahead white spaces
 behind_blank byte blank bytes is pass none = rw (one_again is_white byte (blank ++ bytes) is, skip_again is_white blank bytes pass none) refl
 
 -- a letter stands where the name is to come
-letter_there : (blank bytes : List ℕ) → AllPass is_white blank → NoWhite bytes → can_read name_ahead (blank ++ bytes) ≡ true → next_is is_letter bytes ≡ true
+pub letter_there : (blank bytes : List ℕ) → AllPass is_white blank → NoWhite bytes → can_read name_ahead (blank ++ bytes) ≡ true → next_is is_letter bytes ≡ true
 letter_there [] bytes pass none g =
     let clash : true ≡ false = sym (white_next bytes g) ∙ none in
     absurd cc
@@ -260,12 +260,12 @@ name_never_by : (byte : ℕ) (bytes left : List ℕ) (t : Bool) → t ≡ true
 name_never_by byte bytes left true is e = name_goes byte bytes left (run_of is_name_byte bytes) (λ l. run_never is_name_byte bytes l) e
 name_never_by byte bytes left false is e = absurd cc
 
-name_never : (bytes left : List ℕ) → next_is is_letter bytes ≡ true → name bytes ≡ stop left → ⊥
+pub name_never : (bytes left : List ℕ) → next_is is_letter bytes ≡ true → name bytes ≡ stop left → ⊥
 unfolding name one_of
 name_never [] left is e = absurd cc
 name_never (byte ∷ bytes) left is e = name_never_by byte bytes left (is_letter byte) is e
 
-view_back : {A B : Type 0} (view : A → B) (r : Read A) (left : List ℕ) → (r >>= λ (x : A × List ℕ). give (view x.0) x.1) ≡ stop left → r ≡ stop left
+pub view_back : {A B : Type 0} (view : A → B) (r : Read A) (left : List ℕ) → (r >>= λ (x : A × List ℕ). give (view x.0) x.1) ≡ stop left → r ≡ stop left
 view_back view (Ok x) left e = absurd cc
 view_back {A = A} view (Err l) left e =
     let same : l ≡ left = cc in
@@ -324,7 +324,7 @@ later_lettered zero two rest e = absurd cc
 later_lettered (suc fuel) two rest e = later_by fuel two rest (can_read name_ahead (two ++ rest)) refl e
 
 -- the same attribute with other bytes behind it
-moved : (here rest other : List ℕ) (a : Attribute) → IsAttribute here rest a → (b : Attribute) × IsAttribute here other b
+pub moved : (here rest other : List ℕ) (a : Attribute) → IsAttribute here rest a → (b : Attribute) × IsAttribute here other b
 moved here rest other a r = (attribute_of (here ++ other) r.0 r.4.0, (r.0, r.1, r.2, r.3, (r.4.0, r.4.1, refl), r.5))
 
 bare_again : (later : ⊤) (text two rest other : List ℕ) (fuel : ℕ) → can_read name_ahead (text ++ (two ++ rest)) ≡ true → bare tt (text ++ (two ++ rest)) ≡ ok (later, two ++ rest) → turns bare_goes bare fuel later (two ++ rest) ≡ stop rest
@@ -375,7 +375,7 @@ all_bare : (bytes : List ℕ) → forget (repeat goes next_attribute [] bytes) �
 unfolding repeat
 all_bare bytes = turns_bare (suc (length bytes)) [] bytes
 
-last_never : (all : List Attribute) (bytes left : List ℕ) → mapped (λ u. all) spaces bytes ≡ stop left → ⊥
+pub last_never : (all : List Attribute) (bytes left : List ℕ) → mapped (λ u. all) spaces bytes ≡ stop left → ⊥
 unfolding spaces
 last_never all bytes left e = skip_never is_white bytes left (view_back (λ (u : ⊤). all) (spaces bytes) left e)
 

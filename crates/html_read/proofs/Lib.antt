@@ -16,3 +16,4 @@ mod AnsweredLaws
 mod PlaceLaws
 mod StopLaws
 mod AttributePlaces
+mod AttributeFronts

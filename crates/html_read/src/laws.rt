@@ -1,14 +1,15 @@
 //! The laws between what is read and the grammar. These functions do nothing: their contracts are the laws.
 
-ghost use Rattle.std.specs.Prelude.{◌≡◌, ◌↔◌, ℕ, Bool, true, false, List, [], ◌∷◌, ◌++◌, codes, length, Result, Ok, Err, IfOk, IfErr, ◌⊎◌};
+ghost use Rattle.std.specs.Prelude.{◌≡◌, ◌↔◌, ℕ, Bool, true, false, List, [], ◌∷◌, ◌++◌, codes, length, Result, Ok, Err, IfOk, IfErr, ◌⊎◌, ◌==◌, ◌||◌};
 ghost use Rattle.reading.specs.Readers.{can_read, next_is, starts};
-ghost use Rattle.reading.specs.Placed.{SpellsPlaced};
+ghost use Rattle.reading.specs.Placed.{IsViableInPlace, SpellsPlaced};
 ghost use Rattle.reading.specs.Places.{IsLocal, IsViable, StopsInPlace};
 ghost use Rattle.reading.specs.Spelling.{Anything, Spells};
 ghost use Rattle.html_read.specs.Answered.{HaveNoDocument, IsTheDocument, IsTheFragment, RefusesDocument, RefusesFragment};
 ghost use Rattle.html_read.specs.Characters.{is_white, is_name_byte};
 ghost use Rattle.html_read.specs.Faults.{Fault, Told};
 ghost use Rattle.html_read.specs.Grammar as grammar;
+ghost use Rattle.html_read.specs.Judging.{Attribute};
 ghost use Rattle.html_read.specs.Lexing as readers;
 ghost use Rattle.html_read.specs.Reading as judging;
 ghost use Rattle.html_read.specs.Shape.{IsFragmentShaped, IsShaped};
@@ -128,5 +129,8 @@ pub fn fronts_stop_in_place()
 
 /// Attributes stop at the first byte with which they don't go on.
 pub fn attributes_stop_in_place()
-    ensures { StopsInPlace readers.attributes }
+    ensures stops { StopsInPlace readers.attributes }
+    ensures viable { IsViableInPlace readers.attributes grammar.AreAttributes }
+    ensures no_further { (text later more rest : List ℕ) (next : ℕ) (list : List Attribute) → readers.attributes (text ++ next ∷ later) ≡ Err (next ∷ later)
+        → grammar.AreAttributes (text ++ next ∷ more) rest list → (next_is (λ byte. byte == 62 || byte == 47) rest ≡ true) → ⊥ }
 {}

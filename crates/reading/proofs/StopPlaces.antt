@@ -4,6 +4,7 @@ use Rattle.std.proofs.lemmas.List.{append_cancel_right}
 use Rattle.reading.specs.Readers.{Read, Reader, ◌>>=◌, give, follow, mapped, choice, turns, repeat}
 use Rattle.reading.specs.Grammars.{Grammar}
 use Rattle.reading.specs.Spelling.{Spells}
+use Rattle.reading.specs.Placed.{PlacedGrammar, SpellsPlaced}
 use Rattle.reading.specs.Places.{SameNext, IsLocal, StopsInPlace}
 use Rattle.reading.proofs.SpellLaws.{ok, stop, bind_ok}
 use Rattle.reading.proofs.PlaceLaws.{give_local, Stopped, at_first, at_second, bind_err}
@@ -21,6 +22,16 @@ local_stops p = record {
 pub goes_no_further : {A : Type 0} {f : Reader A} {R : Grammar A} {Ends : List ℕ → Type 0} → Spells f R Ends → StopsInPlace f
     → (text later more rest : List ℕ) (next : ℕ) (x : A) → f (text ++ next ∷ later) ≡ stop (next ∷ later) → R (text ++ next ∷ more) x → Ends rest → ⊥
 goes_no_further {A = A} {f = f} spells stops text later more rest next x e r ends =
+    let read : f ((text ++ next ∷ more) ++ rest) ≡ ok (x, rest) = spells.again (text ++ next ∷ more) x rest r ends in
+    let stopped : f (text ++ next ∷ (more ++ rest)) ≡ stop (next ∷ (more ++ rest)) =
+    stops.err text (next ∷ later) (next ∷ (more ++ rest)) (next, later, more ++ rest, refl, refl) e in
+    let clash : ok (x, rest) ≡ stop (next ∷ (more ++ rest)) = sym read ∙ ap f (append_assoc text (next ∷ more) rest) ∙ stopped in
+    absurd cc
+
+-- the same of a grammar whose values may speak of what stands behind
+pub goes_no_further_in_place : {A : Type 0} {f : Reader A} {R : PlacedGrammar A} {Ends : List ℕ → Type 0} → SpellsPlaced f R Ends → StopsInPlace f
+    → (text later more rest : List ℕ) (next : ℕ) (x : A) → f (text ++ next ∷ later) ≡ stop (next ∷ later) → R (text ++ next ∷ more) rest x → Ends rest → ⊥
+goes_no_further_in_place {A = A} {f = f} spells stops text later more rest next x e r ends =
     let read : f ((text ++ next ∷ more) ++ rest) ≡ ok (x, rest) = spells.again (text ++ next ∷ more) x rest r ends in
     let stopped : f (text ++ next ∷ (more ++ rest)) ≡ stop (next ∷ (more ++ rest)) =
     stops.err text (next ∷ later) (next ∷ (more ++ rest)) (next, later, more ++ rest, refl, refl) e in
