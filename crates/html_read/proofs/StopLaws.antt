@@ -13,14 +13,14 @@ use Rattle.reading.proofs.PlaceLaws.{same_behind, Stopped, at_first, at_second, 
 use Rattle.reading.proofs.TurnPlaces.{joined_viable}
 use Rattle.reading.proofs.RunPlaces.{either_case_local}
 use Rattle.reading.proofs.UpToPlaces.{up_to_local, split}
-use Rattle.reading.proofs.StopPlaces.{Stays, local_stops, follow_stopped, follow_stops, mapped_stops, choice_stops, TurnsStop, repeat_stops, repeat_ends}
+use Rattle.reading.proofs.StopPlaces.{goes_no_further, Stays, local_stops, follow_stopped, follow_stops, mapped_stops, choice_stops, TurnsStop, repeat_stops, repeat_ends}
 use Rattle.html_read.specs.declared.raw.RawEnd.TheVariants as ends
 use Rattle.html_read.specs.Characters.{is_white}
 use Rattle.html_read.specs.Lexing.{spaces, white, raw, comment, in_misc, misc_piece, misc, doctype}
 use Rattle.html_read.specs.Reading.{mark, maybe_mark, maybe_doctype, prolog}
 use Rattle.html_read.specs.Grammar.{IsWhite, IsComment, IsMiscPiece, IsMisc, IsDoctype, IsMark, IsProlog}
-use Rattle.html_read.proofs.MiscLaws.{NoMisc, BeginsComments, misc_begins, misc_test, misc_piece_spells, doctype_spells, raw_end_spells, raw_end_sees}
-use Rattle.html_read.proofs.DocumentLaws.{NoMark, mark_spells, misc_in_prolog}
+use Rattle.html_read.proofs.MiscLaws.{NoMisc, BeginsComments, misc_begins, misc_test, misc_piece_spells, misc_spells, doctype_spells, raw_end_spells, raw_end_sees}
+use Rattle.html_read.proofs.DocumentLaws.{EndsProlog, NoMark, mark_spells, misc_in_prolog, prolog_spells}
 use Rattle.html_read.proofs.PlaceLaws.{seq_some, starts_sees, spaces_local, white_local, white_viable, comment_local, comment_viable, doctype_local, doctype_viable}
 
 -- ---- comments
@@ -340,3 +340,12 @@ prolog_viable =
     follow_viable mark_spells mark_viable
     (λ u. follow_viable misc_in_prolog (misc_viable (codes "<!-")) (λ u. maybe_doctype_viable) (λ u. maybe_doctype_some))
     (λ u. seq_some misc_some (λ v. maybe_doctype_some))
+
+-- ---- none goes further
+
+pub prolog_no_further : (text later more rest behind : List ℕ) (next byte : ℕ) → prolog (text ++ next ∷ later) ≡ stop (next ∷ later) → IsProlog (text ++ next ∷ more) tt → rest ≡ 60 ∷ byte ∷ behind → eqb byte 33 ≡ false → ⊥
+prolog_no_further text later more rest behind next byte e is parts other =
+    goes_no_further prolog_spells prolog_stops text later more rest next tt e is (record { byte = byte; more = behind; other = other; is = parts })
+
+pub misc_no_further : (text later more rest : List ℕ) (next : ℕ) → misc (codes "<!") (text ++ next ∷ later) ≡ stop (next ∷ later) → IsMisc (text ++ next ∷ more) tt → NoMisc (codes "<!") rest → ⊥
+misc_no_further text later more rest next e is ends = goes_no_further (misc_spells (codes "<!") bang_begins) bang_stops text later more rest next tt e is ends

@@ -125,12 +125,18 @@ pub fn pieces_stop_in_place()
 pub fn fronts_stop_in_place()
     ensures misc { StopsInPlace (readers.misc (codes "<!")) × IsViable (readers.misc (codes "<!")) grammar.IsMisc }
     ensures prologs { StopsInPlace judging.prolog × IsViable judging.prolog grammar.IsProlog }
+    // No such text begins with what was read and the next byte.
+    ensures no_misc { (text later more rest : List ℕ) (next : ℕ) → readers.misc (codes "<!") (text ++ next ∷ later) ≡ Err (next ∷ later)
+        → grammar.IsMisc (text ++ next ∷ more) tt → readers.in_misc (codes "<!") rest ≡ false → ⊥ }
+    ensures no_prolog { (text later more rest behind : List ℕ) (next byte : ℕ) → judging.prolog (text ++ next ∷ later) ≡ Err (next ∷ later)
+        → grammar.IsProlog (text ++ next ∷ more) tt → rest ≡ 60 ∷ byte ∷ behind → (byte == 33) ≡ false → ⊥ }
 {}
 
 /// Attributes stop at the first byte with which they don't go on.
 pub fn attributes_stop_in_place()
     ensures stops { StopsInPlace readers.attributes }
     ensures viable { IsViableInPlace readers.attributes grammar.AreAttributes }
+    // No attributes begin with what was read and the next byte.
     ensures no_further { (text later more rest : List ℕ) (next : ℕ) (list : List Attribute) → readers.attributes (text ++ next ∷ later) ≡ Err (next ∷ later)
         → grammar.AreAttributes (text ++ next ∷ more) rest list → (next_is (λ byte. byte == 62 || byte == 47) rest ≡ true) → ⊥ }
 {}
