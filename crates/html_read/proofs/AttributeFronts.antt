@@ -1,14 +1,14 @@
 -- Where attributes stop, what was read is the front of attributes.
-use Rattle.std.proofs.Common.{◌≡◌, inl, inr, ℕ, suc, ◌<◌, Bool, true, false, eqb, List, [], ◌∷◌, ◌++◌, length, codes, Ok, Err, refl, sym, ap, subst, ◌∙◌, append_assoc, arith}
+use Rattle.std.proofs.Common.{◌≡◌, ℕ, suc, ◌<◌, true, eqb, List, [], ◌∷◌, ◌++◌, length, codes, refl, sym, ap, subst, ◌∙◌, append_assoc, arith}
 use Rattle.std.specs.Prelude.{⊤}
 use Rattle.std.specs.Char.{encode_utf8}
 use Rattle.std.proofs.lemmas.Bool.{eq-eqb}
 use Rattle.std.proofs.lemmas.List.{append-nil}
-use Rattle.reading.specs.Readers.{Read, Reader, ◌>>=◌, give, follow, mapped, choice, starts, one_of, next_is, can_read, turns, repeat}
+use Rattle.reading.specs.Readers.{mapped, starts, one_of, next_is, can_read, repeat}
 use Rattle.reading.specs.Grammars.{Grammar, AllPass, OneOf, Joined, Mapped, Seq}
 use Rattle.reading.specs.Places.{GoesOnFrom, IsViable}
 use Rattle.reading.specs.Placed.{GoesOnInPlace, IsViableInPlace}
-use Rattle.reading.proofs.SpellLaws.{ok, stop, strip_spells, one_of_spells}
+use Rattle.reading.proofs.SpellLaws.{stop, one_of_spells}
 use Rattle.reading.proofs.ManyLaws.{joined_spells}
 use Rattle.reading.proofs.PlaceLaws.{Stopped, at_first, at_second, bind_err, strip_viable, one_of_viable, follow_viable, mapped_viable, choice_viable, give_viable}
 use Rattle.reading.proofs.TurnPlaces.{joined_viable, turns_stop_back}
@@ -16,7 +16,7 @@ use Rattle.reading.proofs.UpToPlaces.{skip_never}
 use Rattle.html_read.specs.Characters.{is_white}
 use Rattle.html_read.specs.Judging.{Attribute}
 use Rattle.html_read.specs.Lexing.{spaces, name, is_quote, is_plain, in_value, value_piece, value_in, quoted, equals, value, attribute, name_ahead, next_attribute, attributes}
-use Rattle.html_read.specs.Grammar.{IsSpaces, IsName, IsValuePiece, IsQuoted, IsEquals, IsValue, IsAttribute, AreAttributes}
+use Rattle.html_read.specs.Grammar.{IsName, IsValuePiece, IsQuoted, IsEquals, IsValue, IsAttribute, AreAttributes}
 use Rattle.html_read.proofs.MiscLaws.{NoWhite, spaces_spells, name_spells}
 use Rattle.html_read.proofs.ValueLaws.{value_piece_spells, value_test, equals_spells}
 use Rattle.html_read.proofs.AttributeLaws.{attribute_from, attribute_of, name_named, attribute_named, goes, white_next, blank_some, IsNext, next_makes}
@@ -55,8 +55,7 @@ quoted_by bytes left (at_first e) =
     (v.0, record { more = v.1.more ++ s.more; value = s.value; is = (v.1.value, v.0 ++ v.1.more, s.more, v.1.is, s.is, sym (append_assoc v.0 v.1.more s.more)) }, v.2)
 quoted_by bytes left (at_second x e h) =
     let t = (one_of_spells is_quote).takes bytes x.0 x.1 e in
-    let v = (in_viable x.0 t.1.1).viable x.1 left h in
-    (
+    let v = (in_viable x.0 t.1.1).viable x.1 left h in (
       t.0 ++ v.0,
       record { more = v.1.more; value = v.1.value; is = (x.0, t.0, v.0 ++ v.1.more, t.1, v.1.is, append_assoc t.0 v.0 v.1.more) },
       t.2 ∙ ap (λ (b : List ℕ). t.0 ++ b) v.2 ∙ sym (append_assoc t.0 v.0 left),

@@ -1,15 +1,15 @@
 -- Where attributes stop.
-use Rattle.std.proofs.Common.{◌≡◌, ◌⊎◌, inl, inr, ℕ, zero, suc, ◌<◌, ◌≤◌, Bool, true, false, not, cond, eqb, List, [], ◌∷◌, ◌++◌, length, codes, Ok, Err, is_ok, refl, sym, ap, subst, ◌∙◌, append_assoc, length-append, arith}
+use Rattle.std.proofs.Common.{◌≡◌, ℕ, zero, suc, ◌<◌, Bool, true, false, cond, eqb, List, [], ◌∷◌, ◌++◌, length, codes, Ok, Err, is_ok, refl, sym, ap, subst, ◌∙◌, append_assoc, length-append, arith}
 use Rattle.std.specs.Prelude.{⊤}
 use Rattle.std.specs.Char.{encode_utf8}
-use Rattle.std.proofs.lemmas.List.{append_cancel_right, append-nil}
-use Rattle.reading.specs.Readers.{Read, Reader, ◌>>=◌, give, follow, mapped, choice, strip, starts, one_of, next_is, can_read, run_of, skip, joined, turns, repeat}
+use Rattle.std.proofs.lemmas.List.{append_cancel_right}
+use Rattle.reading.specs.Readers.{Read, Reader, ◌>>=◌, give, follow, mapped, one_of, next_is, can_read, run_of, skip, joined, turns, repeat}
 use Rattle.reading.specs.Grammars.{AllPass}
-use Rattle.reading.specs.Places.{SameNext, SeesNext, IsLocal, StopsInPlace}
+use Rattle.reading.specs.Places.{SeesNext, IsLocal, StopsInPlace}
 use Rattle.reading.proofs.SpellLaws.{ok, stop, bind_ok, same_answer, one_again}
 use Rattle.reading.proofs.ManyLaws.{push_one}
 use Rattle.reading.proofs.PlaceLaws.{same_behind, Stopped, at_first, at_second, bind_err, strip_local, one_of_local, follow_local, mapped_local, choice_local, give_local}
-use Rattle.reading.proofs.TurnPlaces.{AreLocal, repeat_local, turns_stop_back}
+use Rattle.reading.proofs.TurnPlaces.{repeat_local, turns_stop_back}
 use Rattle.reading.proofs.UpToPlaces.{skip_as_run, skip_never}
 use Rattle.reading.proofs.RunPlaces.{run_never}
 use Rattle.reading.proofs.RunLaws.{run_is}
@@ -18,11 +18,11 @@ use Rattle.reading.proofs.StopPlaces.{Stays, local_stops, follow_stops, mapped_s
 use Rattle.reading.proofs.PlacedLaws.{skip_again}
 use Rattle.html_read.specs.Characters.{is_white, is_letter, is_name_byte, lowered}
 use Rattle.html_read.specs.Judging.{Attribute}
-use Rattle.html_read.specs.Lexing.{spaces, white, name, reference, is_quote, is_plain, in_value, value_piece, value_in, quoted, equals, value, attribute, name_ahead, next_attribute, attributes}
-use Rattle.html_read.specs.Grammar.{IsName, IsValue, IsAttribute, AreAttributes}
+use Rattle.html_read.specs.Lexing.{spaces, white, name, is_quote, is_plain, in_value, value_piece, value_in, quoted, equals, value, attribute, name_ahead, next_attribute, attributes}
+use Rattle.html_read.specs.Grammar.{IsAttribute}
 use Rattle.html_read.proofs.MiscLaws.{NoWhite, NoNameByte, spaces_spells, name_spells}
 use Rattle.html_read.proofs.ValueLaws.{NoEquals, value_piece_spells, piece_some, equals_spells, no_equals}
-use Rattle.html_read.proofs.AttributeLaws.{EndsAttribute, attribute_from, IsAttributeFrom, attribute_of, from_spells, attribute_spells, IsNamed, name_named, attribute_named, letter_not_white, letter_not_equals, named_no_white, some_blank, goes, ahead, next_again, white_next, blank_some, IsNext, next_makes, next_shortens, attributes_takes}
+use Rattle.html_read.proofs.AttributeLaws.{EndsAttribute, attribute_from, attribute_of, IsNamed, name_named, attribute_named, letter_not_white, letter_not_equals, some_blank, goes, ahead, next_again, white_next, blank_some, next_makes, next_shortens, attributes_takes}
 use Rattle.html_read.proofs.PlaceLaws.{spaces_local, name_local, reference_local, starts_sees}
 
 -- ---- values

@@ -1,25 +1,24 @@
 -- Where comments, the doctype, end tags and references stop: at the first byte with which none of them goes on.
-use Rattle.std.proofs.Common.{◌≡◌, ◌⊎◌, inl, inr, ℕ, zero, suc, ◌+◌, ◌*◌, ◌<◌, ◌≤◌, Bool, true, false, cond, eqb, is_ok, ◌&&◌, ◌||◌, List, [], ◌∷◌, ◌++◌, length, codes, map, Ok, Err, refl, sym, ap, subst, ◌∙◌, append_assoc, arith}
+use Rattle.std.proofs.Common.{◌≡◌, inl, inr, ℕ, zero, suc, ◌+◌, ◌*◌, ◌<◌, ◌≤◌, Bool, true, false, cond, eqb, is_ok, ◌&&◌, ◌||◌, List, [], ◌∷◌, ◌++◌, length, codes, map, refl, sym, ap, subst, ◌∙◌, arith}
 use Rattle.std.specs.Prelude.{⊤, nat_lt, nat_le}
 use Rattle.std.specs.Char.{IsScalar, digit_value, to_ascii_lowercase}
 use Rattle.std.proofs.lemmas.Bool.{and_parts, ltb-true, leb-true}
 use Rattle.std.proofs.lemmas.List.{append_cancel_right, append-nil}
 use Rattle.std.proofs.Math.Utf8.{scalar, low_scalar}
-use Rattle.reading.specs.Readers.{Read, Reader, ◌>>=◌, give, refuse, follow, choice, mapped, strip, starts, one_of, next_is, one_word}
+use Rattle.reading.specs.Readers.{◌>>=◌, give, refuse, mapped, strip, starts, one_of, next_is, one_word}
 use Rattle.reading.specs.Grammars.{Grammar, Fixed, EitherCase, Seq, Mapped, Either, OneWord}
-use Rattle.reading.specs.Spelling.{Anything, Spells}
 use Rattle.reading.specs.Words.{all_differ}
-use Rattle.reading.specs.Places.{SameNext, SeesNext, IsLocal, GoesOnFrom, IsViable}
-use Rattle.reading.proofs.SpellLaws.{ok, stop, strip_spells, one_of_spells, bind_ok}
+use Rattle.reading.specs.Places.{SeesNext, IsLocal, GoesOnFrom, IsViable}
+use Rattle.reading.proofs.SpellLaws.{ok, stop, strip_spells, one_of_spells}
 use Rattle.reading.proofs.RunLaws.{either_case_spells}
-use Rattle.reading.proofs.PlaceLaws.{Stopped, at_first, at_second, bind_err, strip_local, strip_viable, one_of_local, one_of_viable, follow_local, follow_viable, mapped_local, mapped_viable, after_local, after_viable, choice_local, choice_viable, viable_as, next_is_sees}
+use Rattle.reading.proofs.PlaceLaws.{strip_local, strip_viable, one_of_local, one_of_viable, follow_local, follow_viable, mapped_local, mapped_viable, after_local, after_viable, choice_local, choice_viable, next_is_sees}
 use Rattle.reading.proofs.RunPlaces.{run_of_local, run_of_viable, either_case_local, either_case_viable}
 use Rattle.reading.proofs.UpToPlaces.{skip_local, skip_viable, up_to_local, up_to_viable}
 use Rattle.reading.proofs.WordPlaces.{one_word_local, one_word_viable}
 use Rattle.html_read.specs.declared.raw.RawEnd.TheVariants as ends
 use Rattle.html_read.specs.Characters.{is_white, is_letter, is_name_byte, lowered, entities}
-use Rattle.html_read.specs.Lexing.{spaces, white, name, end_of, raw, comment, doctype, end_name, may_follow, number_end, number_from, scalar_number, is_x, number_reference, reference}
-use Rattle.html_read.specs.Grammar.{IsSpaces, IsWhite, IsName, IsEndOf, IsRaw, IsComment, IsDoctype, IsEndName, IsScalarNumber, IsNumberReference, IsReference}
+use Rattle.html_read.specs.Lexing.{spaces, white, name, raw, comment, doctype, end_name, may_follow, number_end, number_from, scalar_number, is_x, number_reference, reference}
+use Rattle.html_read.specs.Grammar.{IsSpaces, IsWhite, IsName, IsRaw, IsComment, IsDoctype, IsEndName, IsScalarNumber, IsNumberReference, IsReference}
 use Rattle.html_read.proofs.MiscLaws.{white_spells, spaces_spells, name_spells, raw_end_spells, raw_end_sees}
 use Rattle.html_read.proofs.ReferenceLaws.{IsRest, is_digit, more_digits, to_number, names_differ}
 

@@ -1,12 +1,12 @@
 -- Where white space with comments, and what stands before `html`, stop.
-use Rattle.std.proofs.Common.{◌≡◌, ◌⊎◌, inl, inr, ℕ, suc, ◌<◌, ◌≤◌, Bool, true, false, cond, eqb, ◌||◌, List, [], ◌∷◌, ◌++◌, length, codes, map, Ok, Err, is_ok, refl, sym, ap, subst, ◌∙◌, append_assoc, length-append, arith}
+use Rattle.std.proofs.Common.{◌≡◌, ◌⊎◌, inl, inr, ℕ, ◌≤◌, Bool, true, false, cond, eqb, ◌||◌, List, [], ◌∷◌, ◌++◌, length, codes, Ok, Err, is_ok, refl, sym, ap, subst, ◌∙◌, append_assoc, length-append, arith}
 use Rattle.std.specs.Prelude.{⊤}
 use Rattle.std.proofs.lemmas.Bool.{eqb-true, eq-eqb, or_right}
 use Rattle.std.proofs.lemmas.List.{append_cancel_right, append-nil}
-use Rattle.reading.specs.Readers.{Read, Reader, ◌>>=◌, give, follow, mapped, choice, strip, strip_either_case, starts, one_of, next_is, after, turns, repeat, joined}
+use Rattle.reading.specs.Readers.{Read, Reader, ◌>>=◌, give, follow, mapped, strip, strip_either_case, starts, one_of, next_is, after, turns, repeat, joined}
 use Rattle.reading.specs.Grammars.{Grammar, Given, Seq, Mapped, Either}
 use Rattle.reading.specs.Spelling.{Anything, Spells}
-use Rattle.reading.specs.Places.{SameNext, IsLocal, StopsInPlace, GoesOnFrom, IsViable}
+use Rattle.reading.specs.Places.{IsLocal, StopsInPlace, GoesOnFrom, IsViable}
 use Rattle.reading.proofs.SpellLaws.{ok, stop, bind_ok, same_answer, strip_takes, strip_again, starts_so, mapped_spells}
 use Rattle.reading.proofs.ManyLaws.{push_one, item_shortens}
 use Rattle.reading.proofs.PlaceLaws.{same_behind, Stopped, at_first, at_second, bind_err, give_local, give_viable, strip_local, strip_viable, follow_local, follow_viable, mapped_local, mapped_viable, after_local, choice_local, choice_viable, next_is_sees}
@@ -18,9 +18,9 @@ use Rattle.html_read.specs.declared.raw.RawEnd.TheVariants as ends
 use Rattle.html_read.specs.Characters.{is_white}
 use Rattle.html_read.specs.Lexing.{spaces, white, raw, comment, in_misc, misc_piece, misc, doctype}
 use Rattle.html_read.specs.Reading.{mark, maybe_mark, maybe_doctype, prolog}
-use Rattle.html_read.specs.Grammar.{IsWhite, IsComment, IsMiscPiece, IsMisc, IsDoctype, IsMark, IsProlog}
+use Rattle.html_read.specs.Grammar.{IsMiscPiece, IsMisc, IsDoctype, IsMark, IsProlog}
 use Rattle.html_read.proofs.MiscLaws.{NoMisc, BeginsComments, misc_begins, misc_test, misc_piece_spells, misc_spells, doctype_spells, raw_end_spells, raw_end_sees}
-use Rattle.html_read.proofs.DocumentLaws.{EndsProlog, NoMark, mark_spells, misc_in_prolog, prolog_spells}
+use Rattle.html_read.proofs.DocumentLaws.{NoMark, mark_spells, misc_in_prolog, prolog_spells}
 use Rattle.html_read.proofs.PlaceLaws.{seq_some, starts_sees, spaces_local, white_local, white_viable, comment_local, comment_viable, doctype_local, doctype_viable}
 
 -- ---- comments

@@ -1,5 +1,5 @@
 -- Readers that look further than the next byte where they read on: the laws of `StopsInPlace`.
-use Rattle.std.proofs.Common.{◌≡◌, ℕ, zero, suc, ◌<◌, Bool, true, false, cond, List, [], ◌∷◌, ◌++◌, length, Ok, Err, refl, sym, ap, subst, ◌∙◌, append_assoc, length-append, arith}
+use Rattle.std.proofs.Common.{◌≡◌, ℕ, zero, suc, ◌<◌, Bool, true, false, cond, List, [], ◌∷◌, ◌++◌, length, Ok, Err, refl, sym, ap, ◌∙◌, append_assoc, arith}
 use Rattle.std.proofs.lemmas.List.{append_cancel_right}
 use Rattle.reading.specs.Readers.{Read, Reader, ◌>>=◌, give, follow, mapped, choice, turns, repeat}
 use Rattle.reading.specs.Grammars.{Grammar}
@@ -119,7 +119,7 @@ pub record TurnsStop {S : Type 0} (goes : S → List ℕ → Bool) (turn : S →
   pub shorter : (s later : S) (x y : List ℕ) → turn s x ≡ ok (later, y) → length y < length x
   pub here : (s : S) (text rest other : List ℕ) → SameNext rest other → goes s (text ++ rest) ≡ true → turn s (text ++ rest) ≡ stop rest → goes s (text ++ other) ≡ true
   pub again : (s later : S) (text two rest other : List ℕ) (fuel : ℕ) → SameNext rest other → goes s (text ++ (two ++ rest)) ≡ true → turn s (text ++ (two ++ rest)) ≡ ok (later, two ++ rest)
-    → turns goes turn fuel later (two ++ rest) ≡ stop rest → (goes s (text ++ (two ++ other)) ≡ true) × (turn s (text ++ (two ++ other)) ≡ ok (later, two ++ other))
+      → turns goes turn fuel later (two ++ rest) ≡ stop rest → (goes s (text ++ (two ++ other)) ≡ true) × (turn s (text ++ (two ++ other)) ≡ ok (later, two ++ other))
 
 turns_stopped : {S : Type 0} (goes : S → List ℕ → Bool) (turn : S → Reader S) → TurnsStop goes turn → (fuel : ℕ) (s : S) (bytes left : List ℕ) → turns goes turn fuel s bytes ≡ stop left → (text : List ℕ) × (bytes ≡ text ++ left)
 turns_stopped {S = S} goes turn p fuel s bytes left e =

@@ -7,14 +7,14 @@ mod texts;
 
 pub use decimals::decimal;
 pub use laws::{
-    Behind, PlacedRule, PlacedRuleBehind, Rule, RuleBehind, RuleInPlace, RuleInPlaceBehind, StoppingRule,
-    TextRule, cased_texts_spell, choices_spell, choices_spell_in_place, closings_spell,
-    decimals_spell, decimals_stop_in_place, enclosed_spells, ends_see_within, joined_pieces_spell,
-    longest_words_spell, none_goes_further, none_goes_further_where_it_stops, repetitions_spell, rules_spell_anywhere, runs_spell,
-    runs_stop_nowhere, sequences_spell, sequences_spell_in_place, sequences_stop_in_place,
-    single_bytes_spell, skipped_runs_spell, tellings_spell, texts_spell, texts_stop_in_place,
-    texts_up_to_spell, texts_up_to_stop_in_place, views_spell, views_spell_in_place, words_spell,
-    words_stop_in_place,
+    Behind, PlacedRule, PlacedRuleBehind, Rule, RuleBehind, RuleInPlace, RuleInPlaceBehind,
+    StoppingRule, TextRule, cased_texts_spell, choices_spell, choices_spell_in_place,
+    closings_spell, decimals_spell, decimals_stop_in_place, enclosed_spells, ends_see_within,
+    joined_pieces_spell, longest_words_spell, none_goes_further, none_goes_further_where_it_stops,
+    repetitions_spell, rules_spell_anywhere, runs_spell, runs_stop_nowhere, sequences_spell,
+    sequences_spell_in_place, sequences_stop_in_place, single_bytes_spell, skipped_runs_spell,
+    tellings_spell, texts_spell, texts_stop_in_place, texts_up_to_spell, texts_up_to_stop_in_place,
+    views_spell, views_spell_in_place, words_spell, words_stop_in_place,
 };
 pub use texts::{digit, first, starts, strip, strip_either_case};
 
