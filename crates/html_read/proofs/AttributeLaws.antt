@@ -1,6 +1,7 @@
 -- The attributes of a tag: what is read is spelled so, and what is spelled so is read.
-use Rattle.std.proofs.Common.{◌≡◌, ◌⊎◌, inl, inr, ℕ, suc, ◌<◌, Bool, true, false, cond, eqb, List, [], ◌∷◌, ◌++◌, length, Ok, is_ok, refl, sym, ap, subst, ◌∙◌, append_assoc, length-append, arith}
+use Rattle.std.proofs.Common.{◌≡◌, ◌⊎◌, inl, inr, ℕ, suc, ◌<◌, Bool, true, false, cond, eqb, ◌||◌, List, [], ◌∷◌, ◌++◌, length, Ok, is_ok, refl, sym, ap, subst, ◌∙◌, append_assoc, length-append, arith}
 use Rattle.std.specs.Prelude.{⊤}
+use Rattle.std.proofs.lemmas.Bool.{eqb-true}
 use Rattle.std.proofs.lemmas.List.{append-nil}
 use Rattle.reading.specs.Readers.{Reader, ◌>>=◌, give, follow, mapped, one_of, next_is, can_read, turns, repeat}
 use Rattle.reading.specs.Grammars.{Grammar, AllPass, Seq, Mapped}
@@ -19,23 +20,23 @@ use Rattle.html_read.proofs.ValueLaws.{NoEquals, value_spells, value_ends_name, 
 -- ---- one attribute
 
 -- where an attribute may end
-abbrev EndsAttribute : List ℕ → Type 0
+abbrev pub EndsAttribute : List ℕ → Type 0
 EndsAttribute rest = NoNameByte rest × NoEquals rest
 
-abbrev attribute_of : (left n v : List ℕ) → Attribute
+abbrev pub attribute_of : (left n v : List ℕ) → Attribute
 attribute_of left n v = record { name = n; value = v; left = left }
 
-abbrev attribute_from : (left : List ℕ) → Reader Attribute
+abbrev pub attribute_from : (left : List ℕ) → Reader Attribute
 attribute_from left = follow name (λ n. mapped (λ v. attribute_of left n v) value)
 
-abbrev IsAttributeFrom : (left : List ℕ) → Grammar Attribute
+abbrev pub IsAttributeFrom : (left : List ℕ) → Grammar Attribute
 IsAttributeFrom left = Seq IsName (λ n. Mapped (λ v. attribute_of left n v) IsValue)
 
-from_spells : (left : List ℕ) → Spells (attribute_from left) (IsAttributeFrom left) EndsAttribute
+pub from_spells : (left : List ℕ) → Spells (attribute_from left) (IsAttributeFrom left) EndsAttribute
 from_spells left =
     follow_spells name_spells (λ n. spells_before (mapped_spells (λ v. attribute_of left n v) value_spells) (λ rest ends. ends.1)) (λ x y back rest r ends. value_ends_name back r.0 rest r.1 ends.0)
 
-attribute_spells : SpellsPlaced attribute IsAttribute EndsAttribute
+pub attribute_spells : SpellsPlaced attribute IsAttribute EndsAttribute
 unfolding attribute
 attribute_spells = record {
   takes = λ bytes a rest e.
@@ -56,18 +57,18 @@ pub record IsNamed (text : List ℕ) : Type 0 where
 pub name_named : (text n : List ℕ) → IsName text n → IsNamed text
 name_named text n r = record { byte = r.0; more = r.2; letter = r.3.1; is = rw (r.5, r.3.0) refl }
 
-attribute_named : (text left : List ℕ) (a : Attribute) → IsAttributeFrom left text a → IsNamed text
+pub attribute_named : (text left : List ℕ) (a : Attribute) → IsAttributeFrom left text a → IsNamed text
 attribute_named text left a r =
     let n = name_named r.1 r.0 r.3 in
     record { byte = n.byte; more = n.more ++ r.2; letter = n.letter; is = r.5 ∙ ap (λ (t : List ℕ). t ++ r.2) n.is }
 
-letter_not_white : (byte : ℕ) → is_letter byte ≡ true → is_white byte ≡ false
+pub letter_not_white : (byte : ℕ) → is_letter byte ≡ true → is_white byte ≡ false
 letter_not_white byte is = grind arith
 
-letter_not_equals : (byte : ℕ) → is_letter byte ≡ true → eqb byte 61 ≡ false
+pub letter_not_equals : (byte : ℕ) → is_letter byte ≡ true → eqb byte 61 ≡ false
 letter_not_equals byte is = grind arith
 
-named_no_white : (text rest : List ℕ) → IsNamed text → NoWhite (text ++ rest)
+pub named_no_white : (text rest : List ℕ) → IsNamed text → NoWhite (text ++ rest)
 named_no_white text rest n = rw n.is (letter_not_white n.byte n.letter)
 
 -- ---- what stands behind the attributes: the end of the tag
@@ -111,7 +112,7 @@ tag_no_white rest t = rw t.is (tag_white t.byte t.which)
 tag_no_name : (rest : List ℕ) → IsTagNext rest → NoNameByte rest
 tag_no_name rest t = rw t.is (tag_ends_name t.byte t.which)
 
-some_blank : (blank rest : List ℕ) → 0 < length blank → AllPass is_white blank → NoNameByte (blank ++ rest)
+pub some_blank : (blank rest : List ℕ) → 0 < length blank → AllPass is_white blank → NoNameByte (blank ++ rest)
 some_blank [] rest some pass = absurd (omega (arith, some))
 some_blank (byte ∷ blank) rest some pass = white_no_name byte pass.0
 
@@ -152,7 +153,7 @@ attributes_end_name list text behind r t = (blank_before list text behind r t).e
 
 -- ---- what is spelled so is read
 
-abbrev goes : List Attribute → List ℕ → Bool
+abbrev pub goes : List Attribute → List ℕ → Bool
 goes so_far bytes = can_read name_ahead bytes
 
 abbrev LeadsTo : List Attribute → List ℕ → List Attribute → List ℕ → Type 0
@@ -162,7 +163,7 @@ ahead_by : (byte : ℕ) (blank more : List ℕ) (letter : ℕ) → is_white byte
 unfolding name_ahead white spaces one_of
 ahead_by byte blank more letter is pass l = rw (is, skip_again is_white blank (letter ∷ more) pass (letter_not_white letter l), l) refl
 
-ahead : (blank more : List ℕ) (letter : ℕ) → 0 < length blank → AllPass is_white blank → is_letter letter ≡ true → can_read name_ahead (blank ++ letter ∷ more) ≡ true
+pub ahead : (blank more : List ℕ) (letter : ℕ) → 0 < length blank → AllPass is_white blank → is_letter letter ≡ true → can_read name_ahead (blank ++ letter ∷ more) ≡ true
 ahead [] more letter some pass l = absurd (omega (arith, some))
 ahead (byte ∷ blank) more letter some pass l = ahead_by byte blank more letter pass.0 pass.1 l
 
@@ -178,7 +179,7 @@ none_ahead : (blank more : List ℕ) (other : ℕ) → AllPass is_white blank �
 none_ahead [] more other pass w l = none_here more other w
 none_ahead (byte ∷ blank) more other pass w l = none_by byte blank more other pass.0 pass.1 w l
 
-next_again : (so_far : List Attribute) (blank here rest : List ℕ) (a : Attribute) → AllPass is_white blank → IsAttribute here rest a → EndsAttribute rest
+pub next_again : (so_far : List Attribute) (blank here rest : List ℕ) (a : Attribute) → AllPass is_white blank → IsAttribute here rest a → EndsAttribute rest
     → next_attribute so_far (blank ++ (here ++ rest)) ≡ Ok (so_far ++ a ∷ [], rest)
 unfolding next_attribute spaces
 next_again so_far blank here rest a pass r ends =
@@ -234,29 +235,29 @@ white_next_by : (byte : ℕ) (more : List ℕ) (t : Bool) → is_white byte ≡ 
 white_next_by byte more true is e = is
 white_next_by byte more false is e = absurd cc
 
-white_next : (x : List ℕ) → can_read name_ahead x ≡ true → next_is is_white x ≡ true
+pub white_next : (x : List ℕ) → can_read name_ahead x ≡ true → next_is is_white x ≡ true
 unfolding name_ahead white one_of
 white_next [] e = absurd cc
 white_next (byte ∷ more) e = white_next_by byte more (is_white byte) refl e
 
 -- something of white space was read
-blank_some : (blank here rest : List ℕ) → next_is is_white (blank ++ (here ++ rest)) ≡ true → IsNamed here → 0 < length blank
+pub blank_some : (blank here rest : List ℕ) → next_is is_white (blank ++ (here ++ rest)) ≡ true → IsNamed here → 0 < length blank
 blank_some [] here rest e n =
     let clash : true ≡ false = sym e ∙ named_no_white here rest n in
     absurd cc
 blank_some (byte ∷ blank) here rest e n = omega arith
 
 -- what a turn reads
-record IsNext (so_far later : List Attribute) (x y : List ℕ) : Type 0 where
-  blank : List ℕ
-  here : List ℕ
-  one : Attribute
-  pass : AllPass is_white blank
-  is : IsAttribute here y one
-  then_ : later ≡ so_far ++ one ∷ []
-  parts : x ≡ blank ++ (here ++ y)
+pub record IsNext (so_far later : List Attribute) (x y : List ℕ) : Type 0 where
+  pub blank : List ℕ
+  pub here : List ℕ
+  pub one : Attribute
+  pub pass : AllPass is_white blank
+  pub is : IsAttribute here y one
+  pub then_ : later ≡ so_far ++ one ∷ []
+  pub parts : x ≡ blank ++ (here ++ y)
 
-next_makes : (so_far later : List Attribute) (x y : List ℕ) → next_attribute so_far x ≡ ok (later, y) → IsNext so_far later x y
+pub next_makes : (so_far later : List Attribute) (x y : List ℕ) → next_attribute so_far x ≡ ok (later, y) → IsNext so_far later x y
 unfolding next_attribute
 next_makes so_far later x y e =
     let a = bind_ok (spaces x) (λ (v : ⊤ × List ℕ). attribute v.1 >>= λ (w : Attribute × List ℕ). give (so_far ++ w.0 ∷ []) w.1) (later, y) e in
@@ -274,7 +275,7 @@ next_makes so_far later x y e =
       parts = first.2 ∙ ap (λ (s : List ℕ). first.0 ++ s) (second.2 ∙ ap (λ (s : List ℕ). second.0 ++ s) same.1);
     }
 
-next_shortens : (so_far later : List Attribute) (x y : List ℕ) → IsNext so_far later x y → length y < length x
+pub next_shortens : (so_far later : List Attribute) (x y : List ℕ) → IsNext so_far later x y → length y < length x
 next_shortens so_far later x y n =
     let named = attribute_named n.here (n.here ++ y) n.one n.is in
     let size : 0 < length n.here = subst (λ (s : List ℕ). 0 < length s) (sym named.is) (omega arith) in
@@ -302,7 +303,7 @@ next_back all rest so_far later x y g n l =
           ∙ ap (λ (s : List ℕ). n.blank ++ s) (sym (append_assoc n.here l.text rest)) ∙ sym (append_assoc n.blank (n.here ++ l.text) rest);
     }
 
-attributes_takes : (bytes rest : List ℕ) (list : List Attribute) → attributes bytes ≡ ok (list, rest) → (text : List ℕ) × AreAttributes text rest list × (bytes ≡ text ++ rest)
+pub attributes_takes : (bytes rest : List ℕ) (list : List Attribute) → attributes bytes ≡ ok (list, rest) → (text : List ℕ) × AreAttributes text rest list × (bytes ≡ text ++ rest)
 unfolding attributes repeat
 attributes_takes bytes rest list e =
     let a = bind_ok (turns goes next_attribute (suc (length bytes)) [] bytes) (λ (v : List Attribute × List ℕ). spaces v.1 >>= λ (w : ⊤ × List ℕ). give v.0 w.1) (list, rest) e in
@@ -325,3 +326,11 @@ attributes_spells = record {
 pub is_tag_next : (rest more : List ℕ) → (rest ≡ 62 ∷ more) ⊎ (rest ≡ 47 ∷ more) → IsTagNext rest
 is_tag_next rest more (inl e) = record { byte = 62; more = more; is = e; which = inl refl }
 is_tag_next rest more (inr e) = record { byte = 47; more = more; is = e; which = inr refl }
+
+tag_byte_by : (byte : ℕ) (rest : List ℕ) (t : Bool) → eqb byte 62 ≡ t → (t || eqb byte 47) ≡ true → IsTagNext (byte ∷ rest)
+tag_byte_by byte rest true is e = record { byte = byte; more = rest; is = refl; which = inl (eqb-true byte 62 is) }
+tag_byte_by byte rest false is e = record { byte = byte; more = rest; is = refl; which = inr (eqb-true byte 47 e) }
+
+pub tag_byte_next : (rest : List ℕ) → next_is (λ (byte : ℕ). eqb byte 62 || eqb byte 47) rest ≡ true → IsTagNext rest
+tag_byte_next [] e = absurd cc
+tag_byte_next (byte ∷ rest) e = tag_byte_by byte rest (eqb byte 62) refl e

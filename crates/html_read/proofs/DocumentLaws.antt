@@ -162,7 +162,7 @@ doctype_bang : (byte : ℕ) (more : List ℕ) → eqb byte 45 ≡ false → (sta
 unfolding starts strip
 doctype_bang byte more e = (refl, rw e refl)
 
-maybe_doctype_spells : Spells maybe_doctype (Either (Seq IsDoctype (λ u. IsMisc)) (Given tt)) EndsProlog
+pub maybe_doctype_spells : Spells maybe_doctype (Either (Seq IsDoctype (λ u. IsMisc)) (Given tt)) EndsProlog
 unfolding maybe_doctype
 maybe_doctype_spells =
     choice_spells (starts (codes "<!"))
@@ -179,7 +179,7 @@ doctype_no_comment text rest u (inl r) ends =
     ap (λ (s : List ℕ). in_misc (codes "<!-") (s ++ rest)) f.is ∙ (doctype_bang f.byte (f.more ++ rest) f.other).1
 doctype_no_comment text rest u (inr r) ends = ap (λ (s : List ℕ). in_misc (codes "<!-") (s ++ rest)) r.0 ∙ prolog_no_comment rest ends
 
-misc_in_prolog : Spells (misc (codes "<!-")) IsMisc (NoMisc (codes "<!-"))
+pub misc_in_prolog : Spells (misc (codes "<!-")) IsMisc (NoMisc (codes "<!-"))
 unfolding starts strip
 misc_in_prolog = misc_spells (codes "<!-") (λ more. refl)
 
@@ -216,7 +216,7 @@ after_low text rest u r ends =
     subst (λ (s : List ℕ). IsLow s) (sym (ap (λ (s : List ℕ). s ++ rest) r.5 ∙ append_assoc r.1 r.2 rest))
     (pieces_low r.3.1.0 r.1 (r.2 ++ rest) r.3.1.1 (doctype_low r.2 rest u r.4 ends))
 
-abbrev NoMark : List ℕ → Type 0
+abbrev pub NoMark : List ℕ → Type 0
 NoMark rest = starts mark rest ≡ false
 
 low_other : (byte : ℕ) → byte ≤ 60 → eqb byte 239 ≡ false
@@ -230,7 +230,7 @@ mark_starts : (rest : List ℕ) → starts mark (mark ++ rest) ≡ true
 unfolding starts strip mark
 mark_starts rest = refl
 
-mark_spells : Spells maybe_mark IsMark NoMark
+pub mark_spells : Spells maybe_mark IsMark NoMark
 unfolding maybe_mark
 mark_spells =
     choice_spells (starts mark) (spells_before (strip_spells mark) (λ rest ends. tt)) (spells_before (give_spells tt) (λ rest ends. tt))

@@ -26,3 +26,7 @@ mod DocumentLaws
 mod ShapeLaws
 mod AnsweredLaws
 mod NodesLaws
+mod PlaceLaws
+mod StopLaws
+mod AttributePlaces
+mod AttributeFronts

@@ -143,12 +143,12 @@ end_of_sees word = record {
       ∙ sym (ap (λ (s : Read ⊤). is_ok s) (end_as_closing word ((byte ∷ before) ++ end_)));
 }
 
-raw_end_spells : (end_ : RawEnd) → Spells (raw_end end_) (IsRawEnd end_) Anything
+pub raw_end_spells : (end_ : RawEnd) → Spells (raw_end end_) (IsRawEnd end_) Anything
 raw_end_spells ends.Comment = strip_spells (codes "-->")
 raw_end_spells ends.Title = end_of_spells (codes "title")
 raw_end_spells ends.Style = end_of_spells (codes "style")
 
-raw_end_sees : (end_ : RawEnd) → SeesWithin (raw_end end_) (IsRawEnd end_)
+pub raw_end_sees : (end_ : RawEnd) → SeesWithin (raw_end end_) (IsRawEnd end_)
 raw_end_sees ends.Comment = strip_sees (codes "-->")
 raw_end_sees ends.Title = end_of_sees (codes "title")
 raw_end_sees ends.Style = end_of_sees (codes "style")
@@ -189,11 +189,11 @@ misc_some : (text x : List ℕ) → IsMiscPiece text x → 0 < length text
 misc_some text x (inl r) = rw r.1.1.0 (omega arith)
 misc_some text x (inr r) = rw r.1.2 (omega arith)
 
-misc_begins : (mark text x rest : List ℕ) → BeginsComments mark → IsMiscPiece text x → in_misc mark (text ++ rest) ≡ true
+pub misc_begins : (mark text x rest : List ℕ) → BeginsComments mark → IsMiscPiece text x → in_misc mark (text ++ rest) ≡ true
 misc_begins mark text x rest begins (inl r) = white_begins mark text rest tt r.1
 misc_begins mark text x rest begins (inr r) = comment_begins mark text rest tt begins r.1
 
-misc_test : (mark : List ℕ) → BeginsComments mark → IsTestOf (in_misc mark) IsMiscPiece Anything (NoMisc mark)
+pub misc_test : (mark : List ℕ) → BeginsComments mark → IsTestOf (in_misc mark) IsMiscPiece Anything (NoMisc mark)
 misc_test mark begins = record {
   some = λ text x r. misc_some text x r;
   begins = λ text x rest r any. misc_begins mark text x rest begins r;

@@ -17,20 +17,20 @@ use Rattle.html_read.specs.Grammar.{IsScalarNumber, IsNumberReference, IsReferen
 
 -- ---- digits
 
-abbrev step : ℕ → ℕ → ℕ → ℕ
+abbrev pub step : ℕ → ℕ → ℕ → ℕ
 step base value digit = base * value + digit_value digit
 
-abbrev is_digit : ℕ → ℕ → Bool
+abbrev pub is_digit : ℕ → ℕ → Bool
 is_digit base byte = nat_lt (digit_value byte) base
 
 -- digits, `;`, and the number
-record IsRest (base left value : ℕ) (bytes rest : List ℕ) (c : ℕ) : Type 0 where
-  digits : List ℕ
-  few : length digits ≤ left
-  each : AllPass (is_digit base) digits
-  number : c ≡ fold (step base) value digits
-  scalar_is : IsScalar c
-  parts : bytes ≡ digits ++ (codes ";" ++ rest)
+pub record IsRest (base left value : ℕ) (bytes rest : List ℕ) (c : ℕ) : Type 0 where
+  pub digits : List ℕ
+  pub few : length digits ≤ left
+  pub each : AllPass (is_digit base) digits
+  pub number : c ≡ fold (step base) value digits
+  pub scalar_is : IsScalar c
+  pub parts : bytes ≡ digits ++ (codes ";" ++ rest)
 
 end_by : (value c : ℕ) (bytes rest : List ℕ) (t : Bool) → scalar value ≡ t → cond t (mapped (λ u. value) (strip (codes ";")) bytes) (refuse bytes) ≡ ok (c, rest)
     → (c ≡ value) × IsScalar c × (bytes ≡ codes ";" ++ rest)
@@ -46,7 +46,7 @@ end_takes base left value c bytes rest e =
     let r = end_by value c bytes rest (scalar value) refl e in
     record { digits = []; few = omega arith; each = tt; number = r.0; scalar_is = r.1; parts = r.2 }
 
-more_digits : (base left value c byte : ℕ) (bytes rest : List ℕ) → is_digit base byte ≡ true → IsRest base left (base * value + digit_value byte) bytes rest c → IsRest base (suc left) value (byte ∷ bytes) rest c
+pub more_digits : (base left value c byte : ℕ) (bytes rest : List ℕ) → is_digit base byte ≡ true → IsRest base left (base * value + digit_value byte) bytes rest c → IsRest base (suc left) value (byte ∷ bytes) rest c
 more_digits base left value c byte bytes rest is r = record {
   digits = byte ∷ r.digits;
   few = omega (arith, r.few);
@@ -134,7 +134,7 @@ from_again base (suc left) value c (digit ∷ digits) rest one most le each numb
 zero_times : (base digit : ℕ) → base * 0 + digit ≡ digit
 zero_times base digit = grind arith
 
-to_number : (base most left c byte : ℕ) (bytes rest : List ℕ) → most ≡ suc left → is_digit base byte ≡ true → IsRest base left (digit_value byte) bytes rest c
+pub to_number : (base most left c byte : ℕ) (bytes rest : List ℕ) → most ≡ suc left → is_digit base byte ≡ true → IsRest base left (digit_value byte) bytes rest c
     → (text : List ℕ) × IsScalarNumber base most text c × (byte ∷ bytes ≡ text ++ rest)
 to_number base most left c byte bytes rest room is r = (
   (byte ∷ r.digits) ++ codes ";",
@@ -198,11 +198,11 @@ number_reference_spells =
     (λ text c rest r any. no_x_in r.digits text rest r.some r.each r.whole))
     (λ x y back rest s any. tt)
 
-names_differ : all_differ entities ≡ true
+pub names_differ : all_differ entities ≡ true
 unfolding entities
 names_differ = refl
 
-no_number : differs_from (codes "#") entities ≡ true
+pub no_number : differs_from (codes "#") entities ≡ true
 unfolding entities
 no_number = refl
 

@@ -39,7 +39,7 @@ value_piece_spells quote =
 quote_not_and : (quote : ℕ) → is_quote quote ≡ true → eqb 38 quote ≡ false
 quote_not_and quote is = grind arith
 
-piece_some : (quote : ℕ) (text x : List ℕ) → IsValuePiece quote text x → 0 < length text
+pub piece_some : (quote : ℕ) (text x : List ℕ) → IsValuePiece quote text x → 0 < length text
 piece_some quote text x (inl r) =
     let b = reference_begins text [] r.0 r.1 in
     rw (r.1.5, r.1.3) (omega arith)
@@ -49,10 +49,10 @@ piece_begins : (quote : ℕ) (text x rest : List ℕ) → is_quote quote ≡ tru
 piece_begins quote text x rest is (inl r) = ap (in_value quote) (reference_begins text rest r.0 r.1).1 ∙ ap not (quote_not_and quote is)
 piece_begins quote text x rest is (inr r) = rw (r.1.0, (plain_parts quote r.0 r.1.1).0) refl
 
-abbrev AtQuote : ℕ → List ℕ → Type 0
+abbrev pub AtQuote : ℕ → List ℕ → Type 0
 AtQuote quote rest = in_value quote rest ≡ false
 
-value_test : (quote : ℕ) → is_quote quote ≡ true → IsTestOf (in_value quote) (IsValuePiece quote) Anything (AtQuote quote)
+pub value_test : (quote : ℕ) → is_quote quote ≡ true → IsTestOf (in_value quote) (IsValuePiece quote) Anything (AtQuote quote)
 value_test quote is = record {
   some = λ text x r. piece_some quote text x r;
   begins = λ text x rest r any. piece_begins quote text x rest is r;

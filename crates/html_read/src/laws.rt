@@ -1,13 +1,15 @@
 //! The laws between what is read and the grammar. These functions do nothing: their contracts are the laws.
 
-ghost use Rattle.std.specs.Prelude.{◌≡◌, ◌↔◌, ℕ, Bool, true, false, List, [], ◌∷◌, ◌++◌, codes, length, Result, Ok, Err, IfOk, IfErr, ◌⊎◌};
+ghost use Rattle.std.specs.Prelude.{◌≡◌, ◌↔◌, ℕ, Bool, true, false, List, [], ◌∷◌, ◌++◌, codes, length, Result, Ok, Err, IfOk, IfErr, ◌⊎◌, ◌==◌, ◌||◌};
 ghost use Rattle.reading.specs.Readers.{can_read, next_is, starts};
-ghost use Rattle.reading.specs.Placed.{SpellsPlaced};
+ghost use Rattle.reading.specs.Placed.{IsViableInPlace, SpellsPlaced};
+ghost use Rattle.reading.specs.Places.{IsLocal, IsViable, StopsInPlace};
 ghost use Rattle.reading.specs.Spelling.{Anything, Spells};
 ghost use Rattle.html_read.specs.Answered.{HaveNoDocument, IsTheDocument, IsTheFragment, RefusesDocument, RefusesFragment};
 ghost use Rattle.html_read.specs.Characters.{is_white, is_name_byte};
 ghost use Rattle.html_read.specs.Faults.{Fault, Told};
 ghost use Rattle.html_read.specs.Grammar as grammar;
+ghost use Rattle.html_read.specs.Judging.{Attribute};
 ghost use Rattle.html_read.specs.Lexing as readers;
 ghost use Rattle.html_read.specs.Reading as judging;
 ghost use Rattle.html_read.specs.Shape.{IsFragmentShaped, IsShaped};
@@ -109,4 +111,32 @@ pub fn calls_answer_by_the_grammar<X>()
         → IfOk answer (λ x. IsTheDocument bytes (view x) × IsShaped (view x).nodes) × IfErr answer (λ error. RefusesDocument bytes error) }
     ensures fragments { (view : X → List Node) (text : List ℕ) (answer : Result X HtmlError) → Told (length text) view answer (judging.fragment text)
         → IfOk answer (λ x. IsTheFragment text (view x) × IsFragmentShaped (view x)) × IfErr answer (λ error. RefusesFragment text error) }
+{}
+
+/// Names, end tags, comments, the doctype and references stop at the first byte with which none of them goes on.
+pub fn pieces_stop_in_place()
+    ensures end_names { IsLocal readers.end_name × IsViable readers.end_name grammar.IsEndName }
+    ensures comments { IsLocal readers.comment × IsViable readers.comment grammar.IsComment }
+    ensures doctype { IsLocal readers.doctype × IsViable readers.doctype grammar.IsDoctype }
+    ensures references { IsLocal readers.reference × IsViable readers.reference grammar.IsReference }
+{}
+
+/// White space with comments, and what stands before `html`, stop at the first byte with which they don't go on.
+pub fn fronts_stop_in_place()
+    ensures misc { StopsInPlace (readers.misc (codes "<!")) × IsViable (readers.misc (codes "<!")) grammar.IsMisc }
+    ensures prologs { StopsInPlace judging.prolog × IsViable judging.prolog grammar.IsProlog }
+    // No such text begins with what was read and the next byte.
+    ensures no_misc { (text later more rest : List ℕ) (next : ℕ) → readers.misc (codes "<!") (text ++ next ∷ later) ≡ Err (next ∷ later)
+        → grammar.IsMisc (text ++ next ∷ more) tt → readers.in_misc (codes "<!") rest ≡ false → ⊥ }
+    ensures no_prolog { (text later more rest behind : List ℕ) (next byte : ℕ) → judging.prolog (text ++ next ∷ later) ≡ Err (next ∷ later)
+        → grammar.IsProlog (text ++ next ∷ more) tt → rest ≡ 60 ∷ byte ∷ behind → (byte == 33) ≡ false → ⊥ }
+{}
+
+/// Attributes stop at the first byte with which they don't go on.
+pub fn attributes_stop_in_place()
+    ensures stops { StopsInPlace readers.attributes }
+    ensures viable { IsViableInPlace readers.attributes grammar.AreAttributes }
+    // No attributes begin with what was read and the next byte.
+    ensures no_further { (text later more rest : List ℕ) (next : ℕ) (list : List Attribute) → readers.attributes (text ++ next ∷ later) ≡ Err (next ∷ later)
+        → grammar.AreAttributes (text ++ next ∷ more) rest list → (next_is (λ byte. byte == 62 || byte == 47) rest ≡ true) → ⊥ }
 {}

@@ -12,6 +12,7 @@ mod Examples
 pub mod TextCuts
 pub mod RunPlaces
 pub mod TurnPlaces
-pub mod WordPlaces
 pub mod UpToPlaces
+pub mod WordPlaces
 pub mod ClosingPlaces
+pub mod StopPlaces

@@ -1,173 +1,157 @@
--- Where one text of a table stops: behind the longest front that the bytes share with a text of the table.
-use Rattle.std.proofs.Common.{◌≡◌, inl, inr, ℕ, ◌+◌, ◌<◌, ◌≤◌, Bool, true, false, cond, nat_lt, List, [], ◌∷◌, ◌++◌, length, Ok, Err, refl, sym, ap, subst, ◌∙◌, append_assoc, length-append, arith}
+-- Where texts of a table stop: behind the longest front that the bytes share with one.
+use Rattle.std.proofs.Common.{◌≡◌, ◌⊎◌, inl, inr, ℕ, ◌≤◌, Bool, true, false, cond, ltb, List, [], ◌∷◌, ◌++◌, length, Ok, Err, refl, sym, ap, subst, ◌∙◌, append_assoc, length-append, arith}
 use Rattle.std.specs.Prelude.{⊤}
+use Rattle.std.proofs.lemmas.List.{append-nil, append_cancel_right}
 use Rattle.std.proofs.lemmas.Bool.{ltb-true, ltb-false, lt-ltb, le-ltb}
-use Rattle.std.proofs.lemmas.List.{append_cancel_right}
 use Rattle.reading.specs.Readers.{Read, strip, shorter_of, word_or, word_from, one_word}
 use Rattle.reading.specs.Grammars.{OneWord}
-use Rattle.reading.specs.Places.{SameNext, IsLocal, GoesOnFrom, IsViable}
 use Rattle.reading.specs.Words.{all_differ}
+use Rattle.reading.specs.Places.{SameNext, IsLocal, GoesOnFrom, IsViable}
 use Rattle.reading.proofs.SpellLaws.{stop}
-use Rattle.reading.proofs.WordLaws.{one_word_spells}
 use Rattle.reading.proofs.PlaceLaws.{same_behind, strip_local, strip_viable}
+use Rattle.reading.proofs.UpToPlaces.{local_of_spells, split}
+use Rattle.reading.proofs.WordLaws.{one_word_spells}
 
--- ---- what is left
+-- ---- what was read is the front of a text
 
--- a fact of the best so far and of what each text leaves is one of what is left in the end
-left_by : {A : Type 0} (P : List ℕ → Type 0) (word : List ℕ × A) (words : List (List ℕ × A)) (best bytes left : List ℕ) (r : Read ⊤) → strip word.0 bytes ≡ r
-    → ((there : List ℕ) → strip word.0 bytes ≡ stop there → P (shorter_of best there))
-    → ((best : List ℕ) → P best → word_from words best bytes ≡ stop left → P left)
-    → word_or word.1 (λ there. word_from words (shorter_of best there) bytes) r ≡ stop left → P left
-left_by P word words best bytes left (Ok x) is next later e = absurd cc
-left_by P word words best bytes left (Err there) is next later e = later (shorter_of best there) (next there is) e
+-- a front of one of the texts
+record IsFront {A : Type 0} (all : List (List ℕ × A)) (bytes left : List ℕ) : Type 0 where
+  text : List ℕ
+  goes_on : GoesOnFrom (OneWord all) text
+  parts : bytes ≡ text ++ left
 
--- the shorter of two is one of them
-one_of_two : (P : List ℕ → Type 0) (best there : List ℕ) → P best → P there → P (shorter_of best there)
-one_of_two P best there p q = elim (nat_lt (length there) (length best)) as (λ (t : Bool). P (cond t there best)) [
-  | true ↦ q
-  | false ↦ p
-]
+shorter_is : (P : List ℕ → Type 0) (best left : List ℕ) (t : Bool) → P best → P left → P (cond t left best)
+shorter_is P best left true p q = q
+shorter_is P best left false p q = p
 
--- ---- what was read goes on to a text of the table
+stopped_front : {A : Type 0} (word : List ℕ × A) (all : List (List ℕ × A)) (bytes left : List ℕ) → ((text : List ℕ) (x : A) → (text ≡ word.0) × (x ≡ word.1) → OneWord all text x) → strip word.0 bytes ≡ stop left → IsFront all bytes left
+stopped_front word all bytes left within e =
+    let v = (strip_viable word.0).viable bytes left e in
+    record { text = v.0; goes_on = record { more = v.1.more; value = word.1; is = within (v.0 ++ v.1.more) word.1 (v.1.is, refl) }; parts = v.2 }
 
-abbrev pub Reached : {A : Type 0} → List (List ℕ × A) → (bytes left : List ℕ) → Type 0
-Reached words bytes left = (text : List ℕ) × GoesOnFrom (OneWord words) text × (bytes ≡ text ++ left)
+front_by : {A : Type 0} (word : List ℕ × A) (words all : List (List ℕ × A)) (best bytes left : List ℕ) (r : Read ⊤) → strip word.0 bytes ≡ r → ((text : List ℕ) (x : A) → OneWord (word ∷ words) text x → OneWord all text x) → IsFront all bytes best
+    → ((there : List ℕ) → IsFront all bytes there → word_from words there bytes ≡ stop left → IsFront all bytes left)
+    → word_or word.1 (λ there. word_from words (shorter_of best there) bytes) r ≡ stop left → IsFront all bytes left
+front_by word words all best bytes left (Ok there) is within front later e = absurd cc
+front_by word words all best bytes left (Err there) is within front later e =
+    later (shorter_of best there)
+    (shorter_is (λ (l : List ℕ). IsFront all bytes l) best there (ltb (length there) (length best)) front (stopped_front word all bytes there (λ text x o. within text x (inl o)) is)) e
 
-reached_by : {A : Type 0} (all : List (List ℕ × A)) (bytes left : List ℕ) (words : List (List ℕ × A)) (best : List ℕ)
-    → ((text : List ℕ) (x : A) → OneWord words text x → OneWord all text x) → Reached all bytes best → word_from words best bytes ≡ stop left → Reached all bytes left
+front_of : {A : Type 0} (words all : List (List ℕ × A)) (best bytes left : List ℕ) → ((text : List ℕ) (x : A) → OneWord words text x → OneWord all text x) → IsFront all bytes best → word_from words best bytes ≡ stop left → IsFront all bytes left
 unfolding word_from
-reached_by all bytes left [] best among p e =
+front_of [] all best bytes left within front e =
     let same : best ≡ left = cc in
-    subst (λ (l : List ℕ). Reached all bytes l) same p
-reached_by all bytes left (word ∷ words) best among p e =
-    left_by (Reached all bytes) word words best bytes left (strip word.0 bytes) refl
-    (λ there stopped.
-    let v = (strip_viable word.0).viable bytes there stopped in
-    one_of_two (Reached all bytes) best there p
-    (v.0, record { more = v.1.more; value = word.1; is = among (v.0 ++ v.1.more) word.1 (inl (v.1.is, refl)) }, v.2))
-    (λ best p later. reached_by all bytes left words best (λ text x is. among text x (inr is)) p later)
-    e
+    subst (λ (l : List ℕ). IsFront all bytes l) same front
+front_of (word ∷ words) all best bytes left within front e =
+    front_by word words all best bytes left (strip word.0 bytes) refl within front
+    (λ there f e. front_of words all there bytes left (λ text x o. within text x (inr o)) f e) e
 
--- a table with a text in it
-pub one_word_viable : {A : Type 0} (words : List (List ℕ × A)) → 0 < length words → IsViable (one_word words) (OneWord words)
+one_word_front : {A : Type 0} (word : List ℕ × A) (words : List (List ℕ × A)) (bytes left : List ℕ) → one_word (word ∷ words) bytes ≡ stop left → IsFront (word ∷ words) bytes left
 unfolding one_word
-one_word_viable [] some = absurd (omega (arith, some))
-one_word_viable (word ∷ words) some = record {
+one_word_front word words bytes left e =
+    front_of (word ∷ words) (word ∷ words) bytes bytes left (λ text x o. o)
+    (record { text = []; goes_on = record { more = word.0; value = word.1; is = inl (refl, refl) }; parts = refl }) e
+
+pub one_word_viable : {A : Type 0} (word : List ℕ × A) (words : List (List ℕ × A)) → IsViable (one_word (word ∷ words)) (OneWord (word ∷ words))
+one_word_viable word words = record {
   viable = λ bytes left e.
-      reached_by (word ∷ words) bytes left (word ∷ words) bytes (λ text x is. is) ([], record { more = word.0; value = word.1; is = inl (refl, refl) }, refl) e;
+      let f = one_word_front word words bytes left e in
+      (f.text, f.goes_on, f.parts);
 }
-
--- ---- the end of the bytes
-
-abbrev pub IsEnd : (bytes left : List ℕ) → Type 0
-IsEnd bytes left = (text : List ℕ) × (bytes ≡ text ++ left)
-
-ends_by : {A : Type 0} (bytes left : List ℕ) (words : List (List ℕ × A)) (best : List ℕ) → IsEnd bytes best → word_from words best bytes ≡ stop left → IsEnd bytes left
-unfolding word_from
-ends_by bytes left [] best p e =
-    let same : best ≡ left = cc in
-    subst (λ (l : List ℕ). IsEnd bytes l) same p
-ends_by bytes left (word ∷ words) best p e =
-    left_by (IsEnd bytes) word words best bytes left (strip word.0 bytes) refl
-    (λ there stopped. one_of_two (IsEnd bytes) best there p ((strip_local word.0).stopped bytes there stopped))
-    (λ best p later. ends_by bytes left words best p later)
-    e
 
 -- ---- with other bytes behind the next one
 
--- the first is the shorter, or the second is
-shorter_cases : (best there : List ℕ) (t : Bool) → nat_lt (length there) (length best) ≡ t → (length (cond t there best) ≤ length best) × (length (cond t there best) ≤ length there)
-shorter_cases best there true is = (omega (arith, ltb-true (length there) (length best) is), omega arith)
-shorter_cases best there false is = (omega arith, ltb-false (length there) (length best) is)
+shorter_le : (best left : List ℕ) (t : Bool) → ltb (length left) (length best) ≡ t → (length (cond t left best) ≤ length best) × (length (cond t left best) ≤ length left)
+shorter_le best left true is = (omega (arith, ltb-true (length left) (length best) is), omega arith)
+shorter_le best left false is = (omega arith, ltb-false (length left) (length best) is)
 
-shorter_is : (best there : List ℕ) → (length (shorter_of best there) ≤ length best) × (length (shorter_of best there) ≤ length there)
-shorter_is best there = shorter_cases best there (nat_lt (length there) (length best)) refl
+least_by : {A : Type 0} (x : A) (words : List (List ℕ × A)) (best bytes left : List ℕ) (r : Read ⊤) → ((there : List ℕ) → word_from words there bytes ≡ stop left → length left ≤ length there)
+    → word_or x (λ there. word_from words (shorter_of best there) bytes) r ≡ stop left → length left ≤ length best
+least_by x words best bytes left (Ok there) later e = absurd cc
+least_by x words best bytes left (Err there) later e =
+    omega (arith, later (shorter_of best there) e, (shorter_le best there (ltb (length there) (length best)) refl).0)
 
--- what is left is no longer than the best so far
-bound_by : {A : Type 0} (bytes left : List ℕ) (limit : ℕ) (words : List (List ℕ × A)) (best : List ℕ) → length best ≤ limit → word_from words best bytes ≡ stop left → length left ≤ limit
+least : {A : Type 0} (words : List (List ℕ × A)) (best bytes left : List ℕ) → word_from words best bytes ≡ stop left → length left ≤ length best
 unfolding word_from
-bound_by bytes left limit [] best le e =
+least [] best bytes left e =
     let same : best ≡ left = cc in
-    subst (λ (l : List ℕ). length l ≤ limit) same le
-bound_by bytes left limit (word ∷ words) best le e =
-    left_by (λ (l : List ℕ). length l ≤ limit) word words best bytes left (strip word.0 bytes) refl
-    (λ there stopped. omega (arith, le, (shorter_is best there).0))
-    (λ best le later. bound_by bytes left limit words best le later)
-    e
+    omega (arith, ap (λ (r : List ℕ). length r) same)
+least (word ∷ words) best bytes left e = least_by word.1 words best bytes left (strip word.0 bytes) (λ there. least words there bytes left) e
 
--- an end that is no shorter has the shorter one at its end
-longer_end : (front there text rest : List ℕ) → front ++ there ≡ text ++ rest → length rest ≤ length there → (between : List ℕ) × (text ≡ front ++ between) × (there ≡ between ++ rest)
-longer_end [] there text rest e le = (text, refl, e)
-longer_end (b ∷ front) there [] rest e le =
-    let size : length (b ∷ front ++ there) ≡ length rest = ap (λ (l : List ℕ). length l) e in
-    absurd (omega (arith, size, le, length-append front there))
-longer_end (b ∷ front) there (c ∷ text) rest e le =
-    let first : b ≡ c = cc in
-    let behind : front ++ there ≡ text ++ rest = cc in
-    let r = longer_end front there text rest behind le in
-    (r.0, sym (ap (λ (z : ℕ). z ∷ text) first) ∙ ap (λ (s : List ℕ). b ∷ s) r.1, r.2)
+-- what is left ends in the rest
+record EndsIn (text rest left : List ℕ) : Type 0 where
+  front : List ℕ
+  back : List ℕ
+  parts : text ≡ front ++ back
+  is : left ≡ back ++ rest
 
-lt_with : (m n k : ℕ) (t : Bool) → nat_lt m n ≡ t → nat_lt (m + k) (n + k) ≡ t
-lt_with m n k true is = lt-ltb (m + k) (n + k) (omega (arith, ltb-true m n is))
-lt_with m n k false is = le-ltb (m + k) (n + k) (omega (arith, ltb-false m n is))
+cancel_front : (a b c : List ℕ) → a ++ b ≡ a ++ c → b ≡ c
+cancel_front [] b c e = e
+cancel_front (x ∷ a) b c e = cancel_front a b c cc
 
-shorter_by : (best there x : List ℕ) (t : Bool) → nat_lt (length there) (length best) ≡ t → shorter_of (best ++ x) (there ++ x) ≡ cond t there best ++ x
-shorter_by best there x true is =
-    let longer : nat_lt (length (there ++ x)) (length (best ++ x)) ≡ true = rw (length-append there x, length-append best x) (lt_with (length there) (length best) (length x) true is) in
-    rw longer refl
-shorter_by best there x false is =
-    let longer : nat_lt (length (there ++ x)) (length (best ++ x)) ≡ false = rw (length-append there x, length-append best x) (lt_with (length there) (length best) (length x) false is) in
-    rw longer refl
+nothing : (a : List ℕ) → length a ≤ 0 → a ≡ []
+nothing [] le = refl
+nothing (x ∷ a) le = absurd (omega (arith, le))
 
-shorter_with : (best there x : List ℕ) → shorter_of (best ++ x) (there ++ x) ≡ shorter_of best there ++ x
-shorter_with best there x = shorter_by best there x (nat_lt (length there) (length best)) refl
+ends_in_by : (text rest front left : List ℕ) → text ++ rest ≡ front ++ left → length rest ≤ length left → ((w : List ℕ) × (text ≡ front ++ w)) ⊎ ((m : List ℕ) × (front ≡ text ++ m)) → EndsIn text rest left
+ends_in_by text rest front left whole le (inl r) =
+    let same : front ++ (r.0 ++ rest) ≡ front ++ left = sym (append_assoc front r.0 rest) ∙ ap (λ (t : List ℕ). t ++ rest) (sym r.1) ∙ whole in
+    record { front = front; back = r.0; parts = r.1; is = sym (cancel_front front (r.0 ++ rest) left same) }
+ends_in_by text rest front left whole le (inr r) =
+    let same : text ++ rest ≡ text ++ (r.0 ++ left) = whole ∙ ap (λ (t : List ℕ). t ++ left) r.1 ∙ append_assoc text r.0 left in
+    let tail : rest ≡ r.0 ++ left = cancel_front text rest (r.0 ++ left) same in
+    let none : r.0 ≡ [] = nothing r.0 (omega (arith, ap (λ (t : List ℕ). length t) tail, length-append r.0 left, le)) in
+    record { front = text; back = []; parts = sym (append-nil text); is = sym (tail ∙ ap (λ (t : List ℕ). t ++ left) none) }
 
--- a text of the table that stopped, with other bytes behind
-pub record StopsBoth {A : Type 0} (word : List ℕ × A) (words : List (List ℕ × A)) (best text rest other : List ℕ) : Type 0 where
-  pub there : List ℕ
-  pub first : strip word.0 (text ++ other) ≡ stop (there ++ other)
-  pub later : word_from words (shorter_of best there ++ rest) (text ++ rest) ≡ stop rest
+shorter_moves : (rest other u b : List ℕ) (t : Bool) → ltb (length (u ++ rest)) (length (b ++ rest)) ≡ t → ltb (length (u ++ other)) (length (b ++ other)) ≡ t
+shorter_moves rest other u b true is =
+    lt-ltb (length (u ++ other)) (length (b ++ other)) (omega (arith, ltb-true (length (u ++ rest)) (length (b ++ rest)) is, length-append u rest, length-append b rest, length-append u other, length-append b other))
+shorter_moves rest other u b false is =
+    le-ltb (length (u ++ other)) (length (b ++ other)) (omega (arith, ltb-false (length (u ++ rest)) (length (b ++ rest)) is, length-append u rest, length-append b rest, length-append u other, length-append b other))
 
-both_by : {A : Type 0} (word : List ℕ × A) (words : List (List ℕ × A)) (best text rest other : List ℕ) (r : Read ⊤) → strip word.0 (text ++ rest) ≡ r → SameNext rest other
-    → word_or word.1 (λ there. word_from words (shorter_of (best ++ rest) there) (text ++ rest)) r ≡ stop rest → StopsBoth word words best text rest other
-both_by word words best text rest other (Ok x) is n e = absurd cc
-both_by {A = A} word words best text rest other (Err there) is n e =
-    let bound = bound_by (text ++ rest) rest (length there) words (shorter_of (best ++ rest) there) (shorter_is (best ++ rest) there).1 e in
-    let front = (strip_local word.0).stopped (text ++ rest) there is in
-    let l = longer_end front.0 there text rest (sym front.1) bound in
-    let here : strip word.0 (front.0 ++ (l.0 ++ rest)) ≡ stop (l.0 ++ rest) =
-    subst (λ (t : List ℕ). strip word.0 (front.0 ++ t) ≡ stop t) l.2 (subst (λ (b : List ℕ). strip word.0 b ≡ stop there) front.1 is) in
-    let both = (strip_local word.0).err front.0 (l.0 ++ rest) (l.0 ++ other) (same_behind l.0 rest other n) here in
-    record {
-      there = l.0;
-      first = ap (strip word.0) (ap (λ (t : List ℕ). t ++ other) l.1 ∙ append_assoc front.0 l.0 other) ∙ both;
-      later = subst (λ (b : List ℕ). word_from words b (text ++ rest) ≡ stop rest) (ap (shorter_of (best ++ rest)) l.2 ∙ shorter_with best l.0 rest) e;
-    }
+-- what the shorter is, with either rest
+record IsShorter (rest other u b : List ℕ) : Type 0 where
+  best : List ℕ
+  here : shorter_of (b ++ rest) (u ++ rest) ≡ best ++ rest
+  there : shorter_of (b ++ other) (u ++ other) ≡ best ++ other
 
-from_err : {A : Type 0} (words : List (List ℕ × A)) (best text rest other : List ℕ) → SameNext rest other → word_from words (best ++ rest) (text ++ rest) ≡ stop rest
-    → word_from words (best ++ other) (text ++ other) ≡ stop other
+shorter_by : (rest other u b : List ℕ) (t : Bool) → ltb (length (u ++ rest)) (length (b ++ rest)) ≡ t → IsShorter rest other u b
+shorter_by rest other u b true is = record { best = u; here = rw is refl; there = rw (shorter_moves rest other u b true is) refl }
+shorter_by rest other u b false is = record { best = b; here = rw is refl; there = rw (shorter_moves rest other u b false is) refl }
+
+moved_by : {A : Type 0} (word : List ℕ × A) (words : List (List ℕ × A)) (b text rest other : List ℕ) (r : Read ⊤) → strip word.0 (text ++ rest) ≡ r → SameNext rest other
+    → ((best : List ℕ) → word_from words (best ++ rest) (text ++ rest) ≡ stop rest → word_from words (best ++ other) (text ++ other) ≡ stop other)
+    → word_or word.1 (λ there. word_from words (shorter_of (b ++ rest) there) (text ++ rest)) r ≡ stop rest
+    → word_or word.1 (λ there. word_from words (shorter_of (b ++ other) there) (text ++ other)) (strip word.0 (text ++ other)) ≡ stop other
+moved_by word words b text rest other (Ok there) is n later e = absurd cc
+moved_by word words b text rest other (Err left) is n later e =
+    let first = (strip_local word.0).stopped (text ++ rest) left is in
+    let low : length rest ≤ length left = omega (arith, least words (shorter_of (b ++ rest) left) (text ++ rest) rest e, (shorter_le (b ++ rest) left (ltb (length left) (length (b ++ rest))) refl).1) in
+    let i = ends_in_by text rest first.0 left first.1 low (split text rest first.0 left first.1) in
+    let whole : text ++ rest ≡ i.front ++ (i.back ++ rest) = ap (λ (t : List ℕ). t ++ rest) i.parts ∙ append_assoc i.front i.back rest in
+    let whole2 : text ++ other ≡ i.front ++ (i.back ++ other) = ap (λ (t : List ℕ). t ++ other) i.parts ∙ append_assoc i.front i.back other in
+    let here : strip word.0 (i.front ++ (i.back ++ rest)) ≡ stop (i.back ++ rest) = ap (strip word.0) (sym whole) ∙ is ∙ ap (λ (l : List ℕ). stop l) i.is in
+    let there : strip word.0 (text ++ other) ≡ stop (i.back ++ other) = ap (strip word.0) whole2 ∙ (strip_local word.0).err i.front (i.back ++ rest) (i.back ++ other) (same_behind i.back rest other n) here in
+    let s = shorter_by rest other i.back b (ltb (length (i.back ++ rest)) (length (b ++ rest))) refl in
+    let so_far : word_from words (s.best ++ rest) (text ++ rest) ≡ stop rest =
+    ap (λ (l : List ℕ). word_from words l (text ++ rest)) (sym s.here ∙ ap (λ (l : List ℕ). shorter_of (b ++ rest) l) (sym i.is)) ∙ e in
+    ap (λ (x : Read ⊤). word_or word.1 (λ there. word_from words (shorter_of (b ++ other) there) (text ++ other)) x) there
+    ∙ ap (λ (l : List ℕ). word_from words l (text ++ other)) s.there ∙ later s.best so_far
+
+moved_words : {A : Type 0} (words : List (List ℕ × A)) (b text rest other : List ℕ) → SameNext rest other → word_from words (b ++ rest) (text ++ rest) ≡ stop rest → word_from words (b ++ other) (text ++ other) ≡ stop other
 unfolding word_from
-from_err {A = A} [] best text rest other n e =
-    let same : best ++ rest ≡ [] ++ rest = cc in
-    let none : best ≡ [] = append_cancel_right best [] rest same in
-    ap (λ (b : List ℕ). stop {A = A} (b ++ other)) none
-from_err {A = A} (word ∷ words) best text rest other n e =
-    let both = both_by word words best text rest other (strip word.0 (text ++ rest)) refl n e in
-    let next = from_err words (shorter_of best both.there) text rest other n both.later in
-    ap (λ (r : Read ⊤). word_or word.1 (λ there. word_from words (shorter_of (best ++ other) there) (text ++ other)) r) both.first
-    ∙ ap (λ (b : List ℕ). word_from words b (text ++ other)) (shorter_with best both.there other) ∙ next
+moved_words [] b text rest other n e =
+    let same : b ++ rest ≡ [] ++ rest = cc in
+    let none : b ≡ [] = append_cancel_right b [] rest same in
+    rw none refl
+moved_words (word ∷ words) b text rest other n e =
+    moved_by word words b text rest other (strip word.0 (text ++ rest)) refl n (λ best. moved_words words best text rest other n) e
 
--- a table of which each two texts differ
-pub one_word_local : {A : Type 0} (words : List (List ℕ × A)) → all_differ words ≡ true → IsLocal (one_word words)
+pub one_word_local : {A : Type 0} (word : List ℕ × A) (words : List (List ℕ × A)) → all_differ (word ∷ words) ≡ true → IsLocal (one_word (word ∷ words))
 unfolding one_word
-one_word_local words d = record {
-  front = λ bytes x rest e.
-      let t = (one_word_spells words d).takes bytes x rest e in
-      (t.0, t.2);
-  stopped = λ bytes left e. ends_by bytes left words bytes ([], refl) e;
-  ok = λ text rest other x n e.
-      let t = (one_word_spells words d).takes (text ++ rest) x rest e in
-      let same : text ≡ t.0 = append_cancel_right text t.0 rest t.2 in
-      ap (λ (w : List ℕ). one_word words (w ++ other)) same ∙ (one_word_spells words d).again t.0 x other t.1 tt;
-  err = λ text rest other n e. from_err words text text rest other n e;
-}
+one_word_local word words d =
+    local_of_spells (one_word_spells (word ∷ words) d)
+    (λ bytes left e.
+    let f = one_word_front word words bytes left e in
+    (f.text, f.parts))
+    (λ text rest other n e. moved_words (word ∷ words) text text rest other n e)

@@ -1,6 +1,6 @@
 -- Grammars whose values may speak of what stands behind a text: by it the place of a text in an input is told.
-use Rattle.std.specs.Prelude.{◌≡◌, ◌⊎◌, ℕ, List, ◌++◌, Ok}
-use Rattle.reading.specs.Readers.{ReaderOr}
+use Rattle.std.specs.Prelude.{◌≡◌, ◌⊎◌, ℕ, List, ◌++◌, Ok, Err}
+use Rattle.reading.specs.Readers.{Reader, ReaderOr}
 use Rattle.reading.specs.Grammars.{Grammar}
 
 -- which texts stand for which values where these bytes stand behind them
@@ -27,3 +27,12 @@ PlacedEither R S text behind x = R text behind x ⊎ S text behind x
 pub record SpellsPlaced {E A : Type 0} (f : ReaderOr E A) (R : PlacedGrammar A) (Ends : List ℕ → Type 0) : Type 0 where
   pub takes : (bytes : List ℕ) (x : A) (rest : List ℕ) → f bytes ≡ Ok (x, rest) → (text : List ℕ) × R text rest x × (bytes ≡ text ++ rest)
   pub again : (text : List ℕ) (x : A) (rest : List ℕ) → R text rest x → Ends rest → f (text ++ rest) ≡ Ok (x, rest)
+
+-- whatever stands behind, a text of the grammar goes on so from this front
+pub record GoesOnInPlace {A : Type 0} (R : PlacedGrammar A) (front : List ℕ) : Type 0 where
+  pub more : List ℕ
+  pub is : (behind : List ℕ) → (x : A) × R (front ++ more) behind x
+
+-- where the reader stops, what was read is the front of a text of the grammar
+pub record IsViableInPlace {A : Type 0} (f : Reader A) (R : PlacedGrammar A) : Type 0 where
+  pub viable : (bytes left : List ℕ) → f bytes ≡ Err left → (text : List ℕ) × GoesOnInPlace R text × (bytes ≡ text ++ left)

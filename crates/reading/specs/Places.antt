@@ -29,3 +29,10 @@ pub record GoesOnFrom {A : Type 0} (R : Grammar A) (front : List ℕ) : Type 0 w
 -- where the reader stops, what was read is the front of a text of the grammar
 pub record IsViable {A : Type 0} (f : Reader A) (R : Grammar A) : Type 0 where
   pub viable : (bytes left : List ℕ) → f bytes ≡ Err left → (text : List ℕ) × GoesOnFrom R text × (bytes ≡ text ++ left)
+
+-- What is left is an end of the bytes. Where it stops, it stops there with other bytes behind the next one, too. Unlike
+-- a local reader it may look further than the next byte where it reads on.
+pub record StopsInPlace {A : Type 0} (f : Reader A) : Type 0 where
+  pub front : (bytes : List ℕ) (x : A) (rest : List ℕ) → f bytes ≡ Ok (x, rest) → (text : List ℕ) × (bytes ≡ text ++ rest)
+  pub stopped : (bytes left : List ℕ) → f bytes ≡ Err left → (text : List ℕ) × (bytes ≡ text ++ left)
+  pub err : (text rest other : List ℕ) → SameNext rest other → f (text ++ rest) ≡ Err rest → f (text ++ other) ≡ Err other

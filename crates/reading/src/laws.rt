@@ -10,7 +10,7 @@ ghost use Rattle.reading.specs.Decimals.{IsDecimal, NoDigit};
 ghost use Rattle.reading.specs.Closings.{closing, Closing};
 ghost use Rattle.reading.specs.Grammars.{Grammar, Fixed, OneOf, RunOf, EitherCase, OneWord, UpTo, Given, Seq, Mapped, Either, Optional, After, Between, Each, Joined, AllPass};
 ghost use Rattle.reading.specs.Placed.{PlacedGrammar, Anywhere, PlacedSeq, PlacedMapped, PlacedEither, SpellsPlaced};
-ghost use Rattle.reading.specs.Places.{SeesNext, IsLocal, IsViable, GoesOnFrom};
+ghost use Rattle.reading.specs.Places.{SeesNext, IsLocal, IsViable, GoesOnFrom, StopsInPlace};
 ghost use Rattle.reading.specs.Spelling.{Anything, Spells, IsTestOf, SeesWithin};
 ghost use Rattle.reading.specs.Words.{all_differ, longest_first, all_of};
 
@@ -66,6 +66,11 @@ pub trait PlacedTextRule: TextRule {
     ghost local: { IsLocal Self.reads };
 
     ghost viable: { IsViable Self.reads Self.spelled };
+}
+
+/// A rule whose reader stops in place, while it may look further where it reads on.
+pub trait StoppingRule<A>: Rule<A> {
+    ghost stops: { StopsInPlace Self.reads };
 }
 
 /// Such rules for each value that was read before. Each has a text.
@@ -256,12 +261,6 @@ pub fn cased_texts_stop_in_place()
     ensures viable { (word : List ℕ) → map to_ascii_lowercase word ≡ word → IsViable (readers.strip_either_case word) (EitherCase word) }
 {}
 
-/// One text of a table stops behind the longest front that the bytes share with a text of the table.
-pub fn words_stop_in_place<A>()
-    ensures local { (words : List (List ℕ × A)) → all_differ words ≡ true → IsLocal (readers.one_word words) }
-    ensures viable { (words : List (List ℕ × A)) → 0 < length words → IsViable (readers.one_word words) (OneWord words) }
-{}
-
 /// A closing stops at the first byte that differs, where the letters of its word are small.
 pub fn closings_stop_in_place()
     ensures local { (opening word : List ℕ) (test : ℕ → Bool) (last : List ℕ) → IsLocal (closing opening word test last) }
@@ -273,6 +272,25 @@ pub fn closings_stop_in_place()
 pub fn decimals_stop_in_place()
     ensures local { (more : ℕ) → IsLocal (decimals.number (suc more)) }
     ensures viable { (more : ℕ) → IsViable (decimals.number (suc more)) (IsDecimal (suc more)) }
+{}
+
+/// A run stops nowhere, also one that is skipped.
+pub fn runs_stop_nowhere()
+    ensures local { (test : ℕ → Bool) → IsLocal (readers.skip test) }
+    ensures viable { (test : ℕ → Bool) → IsViable (readers.skip test) (λ text u. AllPass test text) }
+{}
+
+/// A text up to where a reader can read stops at the end of the bytes alone.
+pub fn texts_up_to_stop_in_place<A, R: Rule<A>>()
+    ensures local { ((rest : List ℕ) → R.ends rest) → SeesWithin R.reads R.spelled → IsLocal (readers.up_to R.reads) }
+    ensures viable { ((rest : List ℕ) → R.ends rest) → SeesWithin R.reads R.spelled → GoesOnFrom R.spelled []
+        → IsViable (readers.up_to R.reads) (UpTo R.reads R.spelled) }
+{}
+
+/// A text of a table stops behind the longest front that the bytes share with one.
+pub fn words_stop_in_place<A>()
+    ensures local { (word : List ℕ × A) (words : List (List ℕ × A)) → all_differ (word ∷ words) ≡ true → IsLocal (readers.one_word (word ∷ words)) }
+    ensures viable { (word : List ℕ × A) (words : List (List ℕ × A)) → IsViable (readers.one_word (word ∷ words)) (OneWord (word ∷ words)) }
 {}
 
 /// One after the other stops where the first stops, or behind it where the second stops.
@@ -324,15 +342,14 @@ pub fn joined_pieces_stop_in_place<R: PlacedTextRule, M: Behind>()
     ensures viable { (test : List ℕ → Bool) → IsViable (readers.joined test R.reads) (Joined R.spelled) }
 {}
 
-/// A text up to the first place where a reader can read stops at the end of the bytes alone.
-pub fn texts_up_to_stop_in_place<A, R: PlacedRule<A>>()
-    ensures local { SeesWithin R.reads R.spelled → IsLocal (readers.up_to R.reads) }
-    ensures viable { ((rest : List ℕ) → R.ends rest) → SeesWithin R.reads R.spelled → GoesOnFrom R.spelled []
-        → IsViable (readers.up_to R.reads) (UpTo R.reads R.spelled) }
-{}
-
 /// No text of the grammar begins with what was read and the byte where the reader stopped.
 pub fn none_goes_further<A, R: PlacedRule<A>>()
+    ensures { (text later more rest : List ℕ) (next : ℕ) (x : A) → R.reads (text ++ next ∷ later) ≡ Err (next ∷ later)
+        → R.spelled (text ++ next ∷ more) x → R.ends rest → ⊥ }
+{}
+
+/// The same of readers that may look further where they read on.
+pub fn none_goes_further_where_it_stops<A, R: StoppingRule<A>>()
     ensures { (text later more rest : List ℕ) (next : ℕ) (x : A) → R.reads (text ++ next ∷ later) ≡ Err (next ∷ later)
         → R.spelled (text ++ next ∷ more) x → R.ends rest → ⊥ }
 {}

@@ -4,6 +4,6 @@ use Rattle.reading.proofs.laws.texts_up_to_stop_in_place.Goals as goal
 
 pub returns : goal.returns
 returns g c = record {
-  local = λ within. up_to_local g.R.Rule.spells within g.met.R.PlacedRule.local;
-  viable = λ any within some. up_to_viable (spells_before g.R.Rule.spells (λ rest all. any rest)) within some;
+  local = λ lets within. up_to_local (spells_before g.R.Rule.spells (λ rest any. lets rest)) within;
+  viable = λ lets within end_. up_to_viable (spells_before g.R.Rule.spells (λ rest any. lets rest)) within end_.more end_.value end_.is;
 }
