@@ -8,10 +8,11 @@ use Rattle.reading.specs.Readers.{mapped, starts, one_of, next_is, can_read, rep
 use Rattle.reading.specs.Grammars.{Grammar, AllPass, OneOf, Joined, Mapped, Seq}
 use Rattle.reading.specs.Places.{GoesOnFrom, IsViable}
 use Rattle.reading.specs.Placed.{GoesOnInPlace, IsViableInPlace}
-use Rattle.reading.proofs.SpellLaws.{stop, one_of_spells}
+use Rattle.reading.proofs.SpellLaws.{stop, one_of_spells, Stopped, at_first, at_second, bind_err}
 use Rattle.reading.proofs.ManyLaws.{joined_spells}
-use Rattle.reading.proofs.PlaceLaws.{Stopped, at_first, at_second, bind_err, strip_viable, one_of_viable, follow_viable, mapped_viable, choice_viable, give_viable}
-use Rattle.reading.proofs.TurnPlaces.{joined_viable, turns_stop_back}
+use Rattle.reading.proofs.PlaceLaws.{strip_viable, one_of_viable, follow_viable, mapped_viable, choice_viable, give_viable}
+use Rattle.reading.proofs.Turns.{turns_stop_back}
+use Rattle.reading.proofs.TurnPlaces.{joined_viable}
 use Rattle.reading.proofs.UpToPlaces.{skip_never}
 use Rattle.html_read.specs.Characters.{is_white}
 use Rattle.html_read.specs.Judging.{Attribute}

@@ -6,14 +6,14 @@ use Rattle.std.proofs.lemmas.List.{append_cancel_right}
 use Rattle.reading.specs.Readers.{Read, Reader, ◌>>=◌, give, follow, mapped, one_of, next_is, can_read, run_of, skip, joined, turns, repeat}
 use Rattle.reading.specs.Grammars.{AllPass}
 use Rattle.reading.specs.Places.{SeesNext, IsLocal, StopsInPlace}
-use Rattle.reading.proofs.SpellLaws.{ok, stop, bind_ok, same_answer, one_again}
+use Rattle.reading.proofs.SpellLaws.{ok, stop, bind_ok, same_answer, one_again, Stopped, at_first, at_second, bind_err}
 use Rattle.reading.proofs.ManyLaws.{push_one}
-use Rattle.reading.proofs.PlaceLaws.{same_behind, Stopped, at_first, at_second, bind_err, strip_local, one_of_local, follow_local, mapped_local, choice_local, give_local}
-use Rattle.reading.proofs.TurnPlaces.{repeat_local, turns_stop_back}
+use Rattle.reading.proofs.PlaceLaws.{same_behind, strip_local, one_of_local, follow_local, mapped_local, choice_local, give_local}
+use Rattle.reading.proofs.TurnPlaces.{repeat_local}
 use Rattle.reading.proofs.UpToPlaces.{skip_as_run, skip_never}
 use Rattle.reading.proofs.RunPlaces.{run_never}
 use Rattle.reading.proofs.RunLaws.{run_is}
-use Rattle.reading.proofs.Turns.{turn_once, turn_none}
+use Rattle.reading.proofs.Turns.{turn_once, turn_none, turns_stop_back}
 use Rattle.reading.proofs.StopPlaces.{Stays, local_stops, follow_stops, mapped_stops, choice_stops, TurnsStop, repeat_stops}
 use Rattle.reading.proofs.PlacedLaws.{skip_again}
 use Rattle.html_read.specs.Characters.{is_white, is_letter, is_name_byte, lowered}

@@ -7,9 +7,9 @@ use Rattle.reading.specs.Readers.{Read, Reader, ◌>>=◌, give, follow, mapped,
 use Rattle.reading.specs.Grammars.{Grammar, Given, Seq, Mapped, Either}
 use Rattle.reading.specs.Spelling.{Anything, Spells}
 use Rattle.reading.specs.Places.{IsLocal, StopsInPlace, GoesOnFrom, IsViable}
-use Rattle.reading.proofs.SpellLaws.{ok, stop, bind_ok, same_answer, strip_takes, strip_again, starts_so, mapped_spells}
+use Rattle.reading.proofs.SpellLaws.{ok, stop, bind_ok, same_answer, strip_takes, strip_again, starts_so, mapped_spells, Stopped, at_first, at_second, bind_err}
 use Rattle.reading.proofs.ManyLaws.{push_one, item_shortens}
-use Rattle.reading.proofs.PlaceLaws.{same_behind, Stopped, at_first, at_second, bind_err, give_local, give_viable, strip_local, strip_viable, follow_local, follow_viable, mapped_local, mapped_viable, after_local, choice_local, choice_viable, next_is_sees}
+use Rattle.reading.proofs.PlaceLaws.{same_behind, give_local, give_viable, strip_local, strip_viable, follow_local, follow_viable, mapped_local, mapped_viable, after_local, choice_local, choice_viable, next_is_sees}
 use Rattle.reading.proofs.TurnPlaces.{joined_viable}
 use Rattle.reading.proofs.RunPlaces.{either_case_local}
 use Rattle.reading.proofs.UpToPlaces.{up_to_local, split}

@@ -6,10 +6,9 @@ use Rattle.reading.specs.Grammars.{Grammar}
 use Rattle.reading.specs.Spelling.{Spells}
 use Rattle.reading.specs.Placed.{PlacedGrammar, SpellsPlaced}
 use Rattle.reading.specs.Places.{SameNext, IsLocal, StopsInPlace}
-use Rattle.reading.proofs.SpellLaws.{ok, stop, bind_ok}
-use Rattle.reading.proofs.PlaceLaws.{give_local, Stopped, at_first, at_second, bind_err}
-use Rattle.reading.proofs.Turns.{turn_once, turn_none, turns_back}
-use Rattle.reading.proofs.TurnPlaces.{turns_stop_back}
+use Rattle.reading.proofs.SpellLaws.{ok, stop, bind_ok, Stopped, at_first, at_second, bind_err}
+use Rattle.reading.proofs.PlaceLaws.{give_local}
+use Rattle.reading.proofs.Turns.{turn_once, turn_none, turns_back, turns_stop_back}
 
 pub local_stops : {A : Type 0} {f : Reader A} → IsLocal f → StopsInPlace f
 local_stops p = record {

@@ -6,8 +6,8 @@ use Rattle.reading.specs.Readers.{Read, Reader, ◌>>=◌, give, mapped, with_by
 use Rattle.reading.specs.Grammars.{Grammar, AllPass, NowhereIn, UpTo}
 use Rattle.reading.specs.Spelling.{Anything, Spells, SeesWithin}
 use Rattle.reading.specs.Places.{SameNext, IsLocal, GoesOnFrom, IsViable}
-use Rattle.reading.proofs.SpellLaws.{ok, stop}
-use Rattle.reading.proofs.PlaceLaws.{Stopped, at_first, at_second, bind_err, mapped_local}
+use Rattle.reading.proofs.SpellLaws.{ok, stop, Stopped, at_first, at_second, bind_err}
+use Rattle.reading.proofs.PlaceLaws.{mapped_local}
 use Rattle.reading.proofs.RunPlaces.{run_of_local}
 use Rattle.reading.proofs.UpToLaws.{nowhere_as, up_to_spells}
 
