@@ -1,5 +1,5 @@
 use super::*;
-use html_read::read_early;
+use early_tree::read_early;
 use std::alloc::Global;
 use std::test::*;
 use wm_modes::{Direction, Rect, WritingMode};

@@ -1,13 +1,12 @@
 -- The tests of the walk, and what the definition asks.
-use Rattle.std.proofs.Common.{◌≡◌, refl, sym, ap, subst, ◌∙◌, arith, ℕ, zero, suc, ◌+◌, ◌<◌, ◌≤◌, max, ltb, Bool, true, false, cond, ◌&&◌, List, [], ◌∷◌, Option, Some, None}
+use Rattle.std.proofs.Common.{◌≡◌, refl, sym, ap, ◌∙◌, arith, ℕ, ◌+◌, ◌<◌, ◌≤◌, ltb, Bool, true, false, cond, ◌&&◌, List, [], ◌∷◌, Option, Some, None}
 use Rattle.std.proofs.lemmas.Bool.{ltb-true, lt-ltb, and_parts}
-use Rattle.std.specs.Prelude.{is_none, is_some, unwrap_or, ⊤}
+use Rattle.std.specs.Prelude.{is_none, is_some, unwrap_or}
 use Rattle.std.specs.List.{list_all}
 use Rattle.std.specs.Char.{is_ascii_whitespace}
 use Rattle.wm_modes.specs.declared.mode.WritingMode.{WritingMode}
 use Rattle.wm_modes.specs.declared.mode.WritingMode.TheVariants.{HorizontalTb}
-use Rattle.wm_modes.specs.declared.mode.Direction.{Direction}
-use Rattle.reading.specs.Grammars.{Grammar, AllPass}
+use Rattle.reading.specs.Grammars.{Grammar}
 use Rattle.html_types.specs.declared.tag.Tag.{Tag}
 use Rattle.html_types.specs.declared.tag.Tag.TheVariants.{Html, Body, Div, Section, Article, Header, Footer, Main, Nav, Aside, Address, P, H1, H2, H3, H4, H5, H6, Blockquote, Figure, Figcaption, Ul, Ol, Li, Span, A, B, Strong, I, Em, U, S, Small, Code, Abbr, Cite, Mark, Bdo, Br}
 use Rattle.html_types.specs.Values.{TextAt, Acting}

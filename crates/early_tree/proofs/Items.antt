@@ -1,11 +1,11 @@
 -- What the walk finds among the nodes of items.
-use Rattle.std.proofs.Common.{◌≡◌, refl, sym, ap, subst, ◌∙◌, arith, ℕ, zero, suc, ◌+◌, ◌<◌, ltb, Bool, true, false, cond, ◌&&◌, List, [], ◌∷◌, ◌++◌, length, append_assoc, append-nil, length-append, Option, Some, None}
+use Rattle.std.proofs.Common.{◌≡◌, refl, sym, ap, subst, ◌∙◌, arith, ℕ, zero, suc, ◌+◌, ltb, Bool, true, false, cond, ◌&&◌, List, [], ◌∷◌, ◌++◌, length, append_assoc, append-nil, length-append, Option, Some, None}
 use Rattle.std.specs.Prelude.{option_and_then, option_map, is_some, unwrap_or}
 use Rattle.std.specs.List.{list_all, slice_get}
 use Rattle.std.specs.Char.{is_ascii_whitespace}
 use Rattle.html_types.specs.declared.tag.Tag.{Tag}
 use Rattle.html_types.specs.declared.tag.Tag.TheVariants.{Br}
-use Rattle.html_types.specs.Values.{Acting, Kind, element, text, Node}
+use Rattle.html_types.specs.Values.{Acting, element, text, Node}
 use Rattle.html_types.specs.Tree.{Items, none, pair, line_break, with_text, with_element, listed}
 use Rattle.html_types.specs.Reading.{roots}
 use Rattle.early_tree.specs.declared.boxes.EarlyBox.{EarlyBox}
@@ -14,7 +14,7 @@ use Rattle.early_tree.specs.Boxes as boxes
 use Rattle.early_tree.specs.Boxes.{Boxes, count, in_order}
 use Rattle.early_tree.specs.Styles.{Sizes}
 use Rattle.early_tree.specs.Early.{is_element, elements_from}
-use Rattle.early_tree.specs.Walking.{div_sizes, Walk, full, or_full, stand_at, with_stand, with_box, with_kind, step, walked, start}
+use Rattle.early_tree.specs.Walking.{div_sizes, Walk, or_full, stand_at, with_stand, with_box, with_kind, step, walked, start}
 
 -- ---- lists
 

@@ -1,11 +1,11 @@
 -- Each rule of the styles: what is read is spelled so, and what is spelled so is read.
-use Rattle.std.proofs.Common.{◌≡◌, inl, inr, ℕ, ◌*◌, Bool, true, false, List, [], ◌∷◌, ◌++◌, codes, pos, Option, Some, None, Ok, Err, refl, sym, ap, subst, ◌∙◌}
+use Rattle.std.proofs.Common.{◌≡◌, inl, inr, ℕ, ◌*◌, false, List, [], ◌∷◌, ◌++◌, codes, pos, Some, Ok, Err, refl, sym, ap, subst, ◌∙◌}
 use Rattle.std.specs.Prelude.{⊤}
 use Rattle.std.proofs.lemmas.List.{append-nil}
 use Rattle.wm_units.specs.Numbers.{fixed}
 use Rattle.wm_modes.specs.declared.mode.WritingMode.{WritingMode}
 use Rattle.wm_modes.specs.declared.mode.WritingMode.TheVariants.{HorizontalTb, VerticalRl, VerticalLr, SidewaysRl, SidewaysLr}
-use Rattle.reading.specs.Readers.{Read, Reader, strip, starts, after}
+use Rattle.reading.specs.Readers.{Read, Reader, strip, starts}
 use Rattle.reading.specs.Grammars.{Grammar, Fixed, Mapped, Either, Optional, After}
 use Rattle.reading.specs.Spelling.{Anything, Spells}
 use Rattle.reading.proofs.SpellLaws.{ok, strip_spells, spells_as, spells_before, follow_spells, mapped_spells, after_spells, between_spells, choice_spells, optional_spells}

@@ -1,5 +1,5 @@
 -- The texts of styles read from left to right: one function here for each of the code.
-use Rattle.std.specs.Prelude.{ℕ, ◌*◌, List, [], ◌∷◌, codes, ℤ, pos, Option, Some, None, Ok, Err, ⊤}
+use Rattle.std.specs.Prelude.{ℕ, ◌*◌, List, [], ◌∷◌, codes, ℤ, pos, Option, Some, None, Ok, Err}
 use Rattle.wm_units.specs.Numbers.{fixed}
 use Rattle.wm_modes.specs.declared.mode.WritingMode.{WritingMode}
 use Rattle.wm_modes.specs.declared.mode.WritingMode.TheVariants.{HorizontalTb, VerticalRl, VerticalLr, SidewaysRl, SidewaysLr}

@@ -1,8 +1,9 @@
 //! Early documents: nested empty `div` elements (docs/PROFILE/html.md).
 
-ghost use Rattle.std.specs.Prelude.{◌≡◌, ℕ, List};
+ghost use Rattle.std.specs.Prelude.{◌≡◌, ℕ, List, IfOk};
 ghost use Rattle.early_tree.specs.declared.boxes.EarlyBox.{EarlyBox};
 
+use std::alloc::{AllocError, Global};
 use std::marker::Model;
 use wm_modes::WritingMode;
 
@@ -60,6 +61,14 @@ impl NodeNumbers {
         ensures { result ≡ numbers.items }
     {
         NodeNumbers { numbers }
+    }
+
+    /// The same numbers once more.
+    pub fn copied(&self, alloc: Global) -> Result<NodeNumbers, AllocError>
+        ensures { IfOk result (λ n. n ≡ self.now) }
+    {
+        let numbers = self.numbers.iter().copied().collect(alloc)?;
+        Ok(NodeNumbers { numbers })
     }
 
     pub fn as_slice(&self) -> &[usize]

@@ -13,13 +13,7 @@ pub(crate) fn mode_in(text: &str) -> Option<WritingMode>
     ensures { result ≡ readers.mode_in text.now }
 {
     match mode(text) {
-        Ok((mode, rest)) => {
-            if rest.is_empty() {
-                Some(mode)
-            } else {
-                None
-            }
-        }
+        Ok((mode, rest)) => { if rest.is_empty() { Some(mode) } else { None } }
         Err(_) => None,
     }
 }

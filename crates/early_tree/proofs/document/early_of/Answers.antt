@@ -1,8 +1,7 @@
-use Rattle.std.proofs.Common.{◌≡◌, ◌∙◌, ap, subst, sym, List, ℕ, ◌≤◌, length, Err}
+use Rattle.std.proofs.Common.{◌∙◌, ap, subst, sym, List, ℕ, ◌≤◌, length, Err}
 use Rattle.std.proofs.lemmas.Result.{err_from_is_err_and}
 use Rattle.html_types.specs.Values.{whole_of}
 use Rattle.early_tree.specs.declared.boxes.EarlyBox.{EarlyBox}
-use Rattle.early_tree.specs.Boxes.{Boxes, in_order}
 use Rattle.early_tree.specs.Early.{IsEarly}
 use Rattle.early_tree.specs.Walking.{walk_of}
 use Rattle.early_tree.proofs.Whole.{document_is, early_only, early_not_yet}
