@@ -1,8 +1,10 @@
 -- Numbers of references, digit by digit.
-use Rattle.std.proofs.Common.{◌≡◌, ℕ, zero, suc, ◌+◌, ◌-◌, ◌*◌, ◌<◌, ◌≤◌, true, false, List, [], ◌∷◌, Some, None, Ok, refl, sym, ap, ◌∙◌, arith}
+use Rattle.std.proofs.Common.{◌≡◌, ℕ, zero, suc, ◌+◌, ◌-◌, ◌*◌, ◌<◌, ◌≤◌, true, false, List, [], ◌∷◌, None, Ok, refl, sym, ap, ◌∙◌, arith}
+use Rattle.std.specs.Prelude.{nat_lt, nat_le, ◌&&◌, ◌||◌}
+use lib.Utf8.{scalar}
 use denote.Bor.{Bor}
 use Rattle.std.specs.Char.{digit_value}
-use Rattle.reading.specs.Readers.{Read, next_is, one_of}
+use Rattle.reading.specs.Readers.{Read, next_is, one_of, IsAsciiFirst}
 use Rattle.html_read.specs.Lexing.{number_from, number_end, may_follow}
 use Rattle.html_read.specs.Pieces.{GoesOnWith}
 
@@ -40,3 +42,21 @@ pub number_ends : (base most read value : ℕ) (rest : List ℕ) (total : Read �
 number_ends base most read value rest total le so_far =
     let none : most - read ≡ zero = omega arith in
     sym (rw none (digits_none base value rest)) ∙ so_far
+
+-- ---- the next digit
+
+none_wide : (base left value byte : ℕ) → base ≤ 16 → 128 ≤ byte → may_follow base left value byte ≡ false
+none_wide base left value byte le wide =
+    let high : digit_value byte ≡ 36 = grind arith in
+    let no : nat_lt (digit_value byte) base ≡ false = rw high (grind arith) in
+    rw no refl
+
+pub digit_none : (base left value : ℕ) (text : List ℕ) → base ≤ 16 → IsAsciiFirst None text → next_is (may_follow base left value) text ≡ false
+digit_none base left value [] le none = refl
+digit_none base left value (byte ∷ after) le none = none_wide base left value byte le none
+
+pub digit_other : (base left value byte digit next : ℕ) (text after : List ℕ) → text ≡ byte ∷ after → digit ≡ digit_value byte → next ≡ base * value + digit
+    → (nat_lt digit base && nat_le next 0x10FFFF && (scalar next || nat_lt 0 left)) ≡ false → next_is (may_follow base left value) text ≡ false
+digit_other base left value byte digit next text after first is made e =
+    let here : may_follow base left value byte ≡ false = rw (← is) (rw (← made) e) in
+    rw first here

@@ -136,3 +136,8 @@ pub comment_shorter : (text inside rest : List ℕ) → strip (codes "<!--") tex
 comment_shorter text inside rest e le =
     let long : length text ≡ 4 + length inside = strip_shortens (codes "<!--") text inside e in
     omega arith
+
+pub amp_shorter : (text inside rest : List ℕ) → strip (codes "&") text ≡ Ok (tt, inside) → length rest ≤ length inside → length rest < length text
+amp_shorter text inside rest e le =
+    let long : length text ≡ 1 + length inside = strip_shortens (codes "&") text inside e in
+    omega arith

@@ -1,7 +1,9 @@
 -- A text cut in two.
-use Rattle.std.specs.Prelude.{◌≡◌, ℕ, Bool, false, List, ◌++◌, take, drop, Option, Some, None, Result, Ok, ⊤}
+use Rattle.std.specs.Prelude.{◌≡◌, ℕ, Bool, false, List, [], ◌∷◌, ◌++◌, take, drop, Option, Some, None, Result, Ok, ⊤}
 use denote.Bor.{Bor}
 use Rattle.reading.specs.Readers.{Read, Reader, can_read}
+use Rattle.html_read.specs.Characters.{is_white}
+use Rattle.html_read.specs.Judging.{word_before, words}
 
 -- the text ends so
 abbrev pub EndsWith : (text rest : List ℕ) → Type 0
@@ -15,3 +17,16 @@ ReadsFront read text rest = (front : List ℕ) × (read ≡ Ok (front, rest)) ×
 abbrev pub EndsHere : Reader ⊤ → (text : List ℕ) → (at : ℕ) → Option (Bor (List ℕ) × Bor (List ℕ)) → Type 0
 EndsHere f text at None = can_read f (drop at text) ≡ false
 EndsHere f text at (Some r) = (f (drop at text) ≡ Ok (tt, r.1.now)) × (r.0.now ≡ take at text)
+
+-- a word begins here
+abbrev pub IsWordNext : List ℕ → Type 0
+IsWordNext [] = ⊥
+IsWordNext (byte ∷ bytes) = is_white byte ≡ false
+
+-- the first word ends there; the words of the text are it and those behind it
+abbrev pub EndsWord : (text rest : List ℕ) → Type 0
+EndsWord text rest = (front : List ℕ) × (text ≡ front ++ rest) × (words text ≡ word_before front (words rest))
+
+abbrev pub IsNextWord : (text : List ℕ) → Option (Bor (List ℕ) × Bor (List ℕ)) → Type 0
+IsNextWord text None = words text ≡ []
+IsNextWord text (Some w) = words text ≡ w.0.now ∷ words w.1.now

@@ -1,3 +1,4 @@
+pub mod Answered
 pub mod Characters
 pub mod Cuts
 pub mod Faults
@@ -6,6 +7,7 @@ pub mod Judging
 pub mod Lexing
 pub mod Pieces
 pub mod Reading
+pub mod Shape
 pub mod Tree
 pub mod Values
 pub mod Views

@@ -1,6 +1,6 @@
 -- Loops that read a text by pieces of more than one turn: whatever the turns come to from here, they come to from there.
-use Rattle.std.specs.Prelude.{◌≡◌, ℕ, List, [], ◌∷◌, ◌++◌, ◌+◌, ◌*◌, Option, Some, None, Result, Ok, Err, Bool, false, ◌==◌, ⊤}
-use Rattle.std.specs.Char.{digit_value}
+use Rattle.std.specs.Prelude.{◌≡◌, ℕ, List, [], ◌∷◌, ◌++◌, ◌+◌, ◌*◌, Option, Some, None, Result, Ok, Err, Bool, true, false, ◌==◌, not, ◌&&◌, ◌<◌, length}
+use Rattle.std.specs.Char.{IsScalar, digit_value, encode_utf8}
 use denote.Bor.{Bor}
 use Rattle.reading.specs.Readers.{ReadOr, mapped, next_is}
 use Rattle.reading.proofs.Turns.{IsTurning}
@@ -35,14 +35,24 @@ PutsPiece f old new text (Ok rest) = (piece : List ℕ) × (f text ≡ Ok (piece
 PutsPiece f old new text (Err stop) = Stops stop (f text)
 
 -- a byte comes next that is neither `<` nor `&`
-abbrev pub IsLetterNext : List ℕ → Type 0
-IsLetterNext [] = ⊥
-IsLetterNext (byte ∷ bytes) = ((byte == 60) ≡ false) × ((byte == 38) ≡ false)
+abbrev pub is_letter_next : List ℕ → Bool
+is_letter_next [] = false
+is_letter_next (byte ∷ bytes) = not (byte == 60) && not (byte == 38)
 
--- the end of the text, the quote or `&` comes next
-abbrev pub IsPlainEnd : (quote : ℕ) → List ℕ → Type 0
-IsPlainEnd quote [] = ⊤
-IsPlainEnd quote (byte ∷ bytes) = is_plain quote byte ≡ false
+-- a character stands first, as the reader's piece
+abbrev pub PutsLetter : Judged (List ℕ) → (text : List ℕ) → Result (Bor (List ℕ)) Stop → Type 0
+PutsLetter f text (Ok rest) = (piece : List ℕ) × (f text ≡ Ok (piece, rest.now)) × (text ≡ piece ++ rest.now) × (0 < length piece)
+PutsLetter f text (Err stop) = Stops stop (f text)
+
+-- the first character, and what stands behind it
+abbrev pub IsFirstChar : Option (ℕ × Bor (List ℕ)) → List ℕ → Type 0
+IsFirstChar None text = text ≡ []
+IsFirstChar (Some first) text = (text ≡ encode_utf8 first.0 ++ first.1.now) × IsScalar first.0
+
+-- a byte of a value that stands for itself comes next
+abbrev pub IsPlainNext : (quote : ℕ) → List ℕ → Type 0
+IsPlainNext quote [] = ⊥
+IsPlainNext quote (byte ∷ bytes) = is_plain quote byte ≡ true
 
 -- the next digit of a number was read, where one may follow
 abbrev pub GoesOnWith : (base left value : ℕ) → (text : List ℕ) → Option (ℕ × Bor (List ℕ)) → Type 0

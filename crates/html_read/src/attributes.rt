@@ -1,16 +1,17 @@
 //! The attributes of a tag as they stand in it.
 
-ghost use Rattle.std.specs.Prelude.{◌≡◌, ◌≤◌, ◌<◌, length, IfOk, map};
+ghost use Rattle.std.specs.Prelude.{◌≡◌, ◌≤◌, ◌<◌, ◌∷◌, true, false, length, IfOk, map};
+ghost use Rattle.std.specs.Char.{encode_utf8};
 ghost use Rattle.std.specs.String.{string_bytes};
 ghost use Rattle.reading.specs.Readers as reading;
 ghost use Rattle.html_read.specs.Characters.{is_letter};
 ghost use Rattle.html_read.specs.Faults.{Gives, spelled};
 ghost use Rattle.html_read.specs.Lexing as readers;
 ghost use Rattle.html_read.specs.Lexing.{in_value, value_piece};
-ghost use Rattle.html_read.specs.Pieces.{Joins, JoinsRun, IsPlainEnd};
+ghost use Rattle.html_read.specs.Pieces.{Joins, JoinsRun, PutsPiece, IsPlainNext};
 ghost use Rattle.html_read.specs.Views.{attribute_of};
 
-use crate::error::Stop;
+use crate::error::{Refusal, Stop};
 use crate::lexing::{front_of, name, spaces, white};
 use crate::reference::reference;
 use reading::{first, starts, strip};
@@ -28,7 +29,8 @@ pub(crate) struct WrittenAttribute<'a> {
 /// The attributes of a tag, and white space behind them.
 #[tactic(auto, unfolding(crate::specs::Lexing::attributes))]
 pub(crate) fn attributes(alloc: Global, text: &str) -> Result<(Vec<WrittenAttribute<'_>>, &str), Stop<'_>>
-    ensures { Gives (λ r. (map attribute_of r.0.items, r.1.now)) result (spelled readers.attributes text.now) }
+    ensures read { Gives (λ r. (map attribute_of r.0.items, r.1.now)) result (spelled readers.attributes text.now) }
+    ensures shorter { IfOk result (λ r. length r.1.now ≤ length text.now) }
 {
     let mut all = Vec::new(alloc);
     let mut rest = text;
@@ -96,51 +98,103 @@ fn quoted(alloc: Global, text: &str) -> Result<(Letters, &str), Stop<'_>>
 {
     match first(text) {
         Some((quote @ (b'"' | b'\''), inside)) => value_in(alloc, quote, inside),
-        _ => Err(Stop::from(text.as_bytes())),
+        _ => Err(Stop::Refused(Refusal::Syntax, text.as_bytes())),
     }
 }
 
 // A value up to its quote.
 fn value_in(alloc: Global, quote: u8, text: &str) -> Result<(Letters, &str), Stop<'_>>
-    requires { quote < 128 }
+    requires { readers.is_quote quote ≡ true }
     ensures read { Gives (λ v. (string_bytes v.0, v.1.now)) result (spelled (readers.value_in quote) text.now) }
     ensures shorter { IfOk result (λ v. length v.1.now ≤ length text.now) }
 {
     let mut value = Letters::new(alloc);
-    let mut rest = plain(&mut value, quote, text)?;
-    while starts("&", rest) {
-        let (c, after) = reference(rest)?;
-        value.push(c)?;
-        rest = plain(&mut value, quote, after)?;
+    let mut rest = text;
+    while in_value(quote, rest) {
+        rest = piece(&mut value, quote, rest)?;
     }
-    match first(rest) {
-        Some((_, after)) => Ok((value, after)),
-        None => Err(Stop::from(rest.as_bytes())),
+    Ok((value, behind_quote(quote, rest)))
+}
+
+// The quote isn't next.
+fn in_value(quote: u8, text: &str) -> bool
+    requires { readers.is_quote quote ≡ true }
+    ensures { result ≡ in_value quote text.now }
+{
+    match first(text) {
+        Some((byte, _)) => byte != quote,
+        None => true,
     }
+}
+
+// What stands behind the quote.
+fn behind_quote(quote: u8, text: &str) -> &str
+    requires quote { readers.is_quote quote ≡ true }
+    requires next { in_value quote text.now ≡ false }
+    ensures { text.now ≡ quote ∷ result.now }
+{
+    match first(text) {
+        Some((_, after)) => after,
+        None => text,
+    }
+}
+
+// A reference, or characters up to one or to the quote, put behind the value.
+fn piece<'a>(value: &mut Letters, quote: u8, text: &'a str) -> Result<&'a str, Stop<'a>>
+    requires quote { readers.is_quote quote ≡ true }
+    requires next { in_value quote text.now ≡ true }
+    ensures read { Joins (in_value quote) (spelled (value_piece quote)) (string_bytes value.old) (string_bytes value.new) text.now result }
+    ensures shorter { IfOk result (λ rest. length rest.now < length text.now) }
+{
+    if starts("&", text) {
+        put_reference(value, text)
+    } else if text.is_empty() {
+        Err(Stop::Refused(Refusal::Syntax, text.as_bytes()))
+    } else {
+        plain(value, quote, text)
+    }
+}
+
+// A reference, put behind the value.
+fn put_reference<'a>(value: &mut Letters, text: &'a str) -> Result<&'a str, Stop<'a>>
+    ensures read { PutsPiece (spelled (reading.mapped (λ c. encode_utf8 c) readers.reference)) (string_bytes value.old) (string_bytes value.new) text.now result }
+    ensures shorter { IfOk result (λ rest. length rest.now < length text.now) }
+{
+    let (c, rest) = reference(text)?;
+    value.push(c)?;
+    Ok(rest)
 }
 
 // The characters up to the next quote or `&`, put behind the value.
 fn plain<'a>(value: &mut Letters, quote: u8, text: &'a str) -> Result<&'a str, Stop<'a>>
-    requires { quote < 128 }
+    requires quote { readers.is_quote quote ≡ true }
+    requires next { IsPlainNext quote text.now }
     ensures read { Joins (in_value quote) (spelled (value_piece quote)) (string_bytes value.old) (string_bytes value.new) text.now result }
-    ensures next { IfOk result (λ rest. IsPlainEnd quote rest.now) }
-    ensures shorter { IfOk result (λ rest. length rest.now ≤ length text.now) }
+    ensures shorter { IfOk result (λ rest. length rest.now < length text.now) }
 {
     let rest = plain_end(quote, text);
     value.push_str(front_of(text, rest))?;
     Ok(rest)
 }
 
+#[tactic(auto, using(crate::proofs::Joining::plain_starts, crate::proofs::Joining::plain_goes_on, crate::proofs::Joining::plain_cut, crate::proofs::Joining::plain_shorter, crate::proofs::Joining::plain_to_end))]
 fn plain_end(quote: u8, text: &str) -> &str
-    requires { quote < 128 }
+    requires quote { readers.is_quote quote ≡ true }
+    requires next { IsPlainNext quote text.now }
     ensures read { JoinsRun (in_value quote) (spelled (value_piece quote)) text.now result.now }
-    ensures next { IsPlainEnd quote result.now }
-    ensures shorter { length result.now ≤ length text.now }
+    ensures shorter { length result.now < length text.now }
 {
-    let bytes = text.as_bytes();
-    let mut at = 0;
-    while at < bytes.len() && bytes[at] != quote && bytes[at] != b'&' {
-        at += 1;
+    for at in 0..text.len() {
+        if !is_plain(quote, text.as_bytes()[at]) {
+            return text.split_at(at).1;
+        }
     }
-    text.split_at(at).1
+    text.split_at(text.len()).1
+}
+
+// A byte of a value that stands for itself.
+fn is_plain(quote: u8, byte: u8) -> bool
+    ensures { result ≡ readers.is_plain quote byte }
+{
+    byte != quote && byte != b'&'
 }

@@ -1,6 +1,6 @@
 //! What stands in an element, by a list of those that are open.
 
-ghost use Rattle.std.specs.Prelude.{◌≡◌, List, IfErr, OnOk};
+ghost use Rattle.std.specs.Prelude.{◌≡◌, ◌≤◌, ◌<◌, List, length, IfOk, IfErr, OnOk};
 ghost use Rattle.std.specs.String.{string_bytes};
 ghost use Rattle.html_read.specs.Faults.{Gives};
 ghost use Rattle.html_read.specs.Reading as readers;
@@ -9,7 +9,7 @@ ghost use Rattle.html_read.specs.Values.{Node, nodes_of};
 ghost use Rattle.html_read.specs.Views.{start_of, opened_of};
 ghost use Rattle.html_read.specs.declared.error.Stop.TheVariants as Stops;
 
-use crate::error::Stop;
+use crate::error::{Refusal, Stop};
 use crate::node::{ReadKind, ReadNode};
 use crate::tags::{Start, end_tag, is_void, start_tag};
 use crate::text::gap;
@@ -34,7 +34,8 @@ struct Open<'a> {
 /// Puts the nodes of all that stands in the base behind those so far.
 #[tactic(auto, unfolding(crate::specs::Reading::content))]
 pub(crate) fn content<'a>(alloc: Global, size: usize, base: Base, nodes: &mut Vec<ReadNode>, text: &'a str) -> Result<&'a str, Stop<'a>>
-    ensures { Gives (λ rest. (nodes_of nodes.new.items, rest.now)) result (readers.content size base (nodes_of nodes.old.items) text.now) }
+    ensures read { Gives (λ rest. (nodes_of nodes.new.items, rest.now)) result (readers.content size base (nodes_of nodes.old.items) text.now) }
+    ensures shorter { IfOk result (λ rest. length rest.now ≤ length text.now) }
 {
     let mut opened = Vec::new(alloc);
     let mut rest = with_gap(alloc, base, &opened, nodes, text)?;
@@ -64,8 +65,9 @@ fn base_ends(base: Base, text: &str) -> bool
 // A tag, and the text behind it.
 #[tactic(auto, unfolding(crate::specs::Reading::turn))]
 fn turn<'a>(alloc: Global, size: usize, base: Base, opened: &mut Vec<Open<'a>>, nodes: &mut Vec<ReadNode>, text: &'a str) -> Result<&'a str, Stop<'a>>
-    ensures { Gives (λ rest. (readers.content_of (opened_of opened.new.items) (nodes_of nodes.new.items), rest.now)) result
+    ensures read { Gives (λ rest. (readers.content_of (opened_of opened.new.items) (nodes_of nodes.new.items), rest.now)) result
         (readers.turn size base (readers.content_of (opened_of opened.old.items) (nodes_of nodes.old.items)) text.now) }
+    ensures shorter { IfOk result (λ rest. length rest.now < length text.now) }
 {
     let rest = markup(alloc, size, base, opened, nodes, text)?;
     with_gap(alloc, base, opened, nodes, rest)
@@ -73,8 +75,9 @@ fn turn<'a>(alloc: Global, size: usize, base: Base, opened: &mut Vec<Open<'a>>, 
 
 #[tactic(auto, unfolding(crate::specs::Reading::markup))]
 fn markup<'a>(alloc: Global, size: usize, base: Base, opened: &mut Vec<Open<'a>>, nodes: &mut Vec<ReadNode>, text: &'a str) -> Result<&'a str, Stop<'a>>
-    ensures { Gives (λ rest. (readers.content_of (opened_of opened.new.items) (nodes_of nodes.new.items), rest.now)) result
+    ensures read { Gives (λ rest. (readers.content_of (opened_of opened.new.items) (nodes_of nodes.new.items), rest.now)) result
         (readers.markup size base (readers.content_of (opened_of opened.old.items) (nodes_of nodes.old.items)) text.now) }
+    ensures shorter { IfOk result (λ rest. length rest.now < length text.now) }
 {
     if starts("</", text) {
         ending(opened, text)
@@ -88,12 +91,13 @@ fn markup<'a>(alloc: Global, size: usize, base: Base, opened: &mut Vec<Open<'a>>
 // The innermost open element ends.
 #[tactic(auto, unfolding(reading::specs::Readers::after))]
 fn ending<'a>(opened: &mut Vec<Open<'a>>, text: &'a str) -> Result<&'a str, Stop<'a>>
-    ensures { (nodes : List Node) → Gives (λ rest. (readers.content_of (opened_of opened.new.items) nodes, rest.now)) result
+    ensures read { (nodes : List Node) → Gives (λ rest. (readers.content_of (opened_of opened.new.items) nodes, rest.now)) result
         (readers.ending (opened_of opened.old.items) nodes text.now) }
+    ensures shorter { IfOk result (λ rest. length rest.now < length text.now) }
 {
     match opened.pop() {
         Some(open) => end_tag(open.name, text),
-        None => Err(Stop::from(strip("<", text)?.as_bytes())),
+        None => Err(Stop::Refused(Refusal::Syntax, strip("<", text)?.as_bytes())),
     }
 }
 
@@ -101,7 +105,7 @@ fn ending<'a>(opened: &mut Vec<Open<'a>>, text: &'a str) -> Result<&'a str, Stop
 #[tactic(auto, unfolding(crate::specs::Reading::begun))]
 fn begin<'a>(base: Base, start: Start<'a>, opened: &mut Vec<Open<'a>>, nodes: &mut Vec<ReadNode>) -> Result<(), Stop<'a>>
     ensures begun { OnOk result (readers.content_of (opened_of opened.new.items) (nodes_of nodes.new.items)
-        ≡ readers.begun base (readers.content_of (opened_of opened.old.items) (nodes_of nodes.old.items)) (start_of start)) }
+        ≡ readers.begun base (readers.content_of (opened_of opened.old.items) (nodes_of nodes.old.items)) (start_of start.entry)) }
     ensures memory { IfErr result (λ stop. stop ≡ Stops.Memory) }
 {
     let number = nodes.len();
@@ -144,8 +148,9 @@ fn base_parent(base: Base) -> Option<usize>
 // The text up to the next tag; an empty one is no node.
 #[tactic(auto, unfolding(crate::specs::Reading::with_gap))]
 fn with_gap<'a>(alloc: Global, base: Base, opened: &[Open<'a>], nodes: &mut Vec<ReadNode>, text: &'a str) -> Result<&'a str, Stop<'a>>
-    ensures { Gives (λ rest. (readers.content_of (opened_of opened.now) (nodes_of nodes.new.items), rest.now)) result
+    ensures read { Gives (λ rest. (readers.content_of (opened_of opened.now) (nodes_of nodes.new.items), rest.now)) result
         (readers.with_gap base (readers.content_of (opened_of opened.now) (nodes_of nodes.old.items)) text.now) }
+    ensures shorter { IfOk result (λ rest. length rest.now ≤ length text.now) }
 {
     let (letters, rest) = gap(alloc, text)?;
     with_text(parent_in(base, opened), letters, nodes)?;

@@ -5,7 +5,7 @@ ghost use Rattle.html_read.specs.Faults.{Gives};
 ghost use Rattle.html_read.specs.Reading as readers;
 ghost use Rattle.html_read.specs.Values.{text_at, sheets_of};
 
-use crate::error::Stop;
+use crate::error::{Refusal, Stop};
 use crate::lexing::{comment, end_of, misc, white, white_ahead};
 use crate::node::PlacedText;
 use crate::raw::{RawEnd, raw};
@@ -65,7 +65,7 @@ fn head_turn<'a>(alloc: Global, size: usize, sheets: &mut Vec<PlacedText>, text:
         sheets.push(sheet)?;
         Ok(rest)
     } else {
-        Err(Stop::from(strip("<", text)?.as_bytes()))
+        Err(Stop::Refused(Refusal::Syntax, strip("<", text)?.as_bytes()))
     }
 }
 

@@ -1,20 +1,22 @@
 //! What the attributes of a tag say.
 
-ghost use Rattle.std.specs.Prelude.{◌≡◌, IfOk, map, bytes_eq};
+ghost use Rattle.std.specs.Prelude.{◌≡◌, ◌<◌, IfOk, IfErr, IfSome, length, map, bytes_eq};
 ghost use Rattle.std.specs.String.{string_bytes};
-ghost use Rattle.reading.specs.Readers as reading;
+ghost use Rattle.reading.specs.Readers.{starts};
 ghost use Rattle.html_read.specs.Characters.{lowered, role_of};
+ghost use Rattle.html_read.specs.Cuts.{EndsWord, IsNextWord, IsWordNext};
 ghost use Rattle.html_read.specs.Faults.{Gives};
 ghost use Rattle.html_read.specs.Judging as judging;
 ghost use Rattle.html_read.specs.Values.{acting_of};
 ghost use Rattle.html_read.specs.Views.{attribute_of, names_of};
+ghost use Rattle.html_read.specs.declared.error.Stop.TheVariants as Stops;
 
 use crate::attribute::{ATTRIBUTES, Role};
 use crate::attributes::WrittenAttribute;
 use crate::error::{Refusal, Stop};
+use crate::lexing::{front_of, spaces};
 use crate::node::{Attributes, PlacedText};
 use crate::table::{named, same_name};
-use reading::starts;
 use std::alloc::Global;
 use style_types::{LetterList, Letters};
 use wm_modes::Direction;
@@ -42,14 +44,16 @@ pub(crate) fn judged<'a>(alloc: Global, size: usize, attributes: Vec<WrittenAttr
     Ok(said)
 }
 
+#[tactic(auto, using(crate::proofs::Judges::seen_here, crate::proofs::Judges::seen_further, crate::proofs::Judges::seen_nowhere))]
 fn has_name(name: &str, seen: &[&str]) -> bool
     ensures { result ≡ judging.has_name (lowered name.now) (names_of seen.now) }
 {
-    seen.iter().any(
-        |other| -> bool
-            ensures { result ≡ bytes_eq (lowered other.now.now) (lowered name.now) }
-        { same_name(other, name) },
-    )
+    for other in seen {
+        if same_name(other, name) {
+            return true;
+        }
+    }
+    false
 }
 
 // What this attribute says, too.
@@ -76,7 +80,7 @@ fn with_attribute<'a>(alloc: Global, size: usize, attribute: WrittenAttribute<'a
 }
 
 // What an attribute of this name is for.
-#[tactic(auto, unfolding(crate::specs::Characters::role_of, crate::specs::Characters::roles, reading::specs::Readers::starts))]
+#[tactic(auto, unfolding(crate::specs::Characters::role_of, crate::specs::Characters::roles))]
 fn role_of(name: &str) -> Option<Role>
     ensures { result ≡ role_of (lowered name.now) }
 {
@@ -86,8 +90,10 @@ fn role_of(name: &str) -> Option<Role>
     named(&ATTRIBUTES, name)
 }
 
+// The name, in small letters, begins with this text.
+#[tactic(auto, using(crate::proofs::Names::lowered_starts))]
 fn begins(word: &str, name: &str) -> bool
-    ensures { result ≡ reading.can_read (reading.strip_either_case word.now) name.now }
+    ensures { result ≡ starts word.now (lowered name.now) }
 {
     reading::strip_either_case(word, name).is_ok()
 }
@@ -107,11 +113,43 @@ fn direction_of(value: &str) -> Option<Direction>
 
 // The words of a text, between white space.
 fn words(alloc: Global, text: &str) -> Result<LetterList, Stop<'static>>
-    ensures { IfOk result (λ w. map (λ s. string_bytes s) w.items ≡ judging.words text.now) }
+    ensures words { IfOk result (λ w. map (λ s. string_bytes s) w.items ≡ judging.words text.now) }
+    ensures memory { IfErr result (λ stop. stop ≡ Stops.Memory) }
 {
     let mut words = LetterList::new(alloc);
-    for word in text.split_ascii_whitespace() {
+    let mut rest = text;
+    while let Some((word, after)) = next_word(rest) {
         words.push(Letters::from_str(alloc, word)?)?;
+        rest = after;
     }
     Ok(words)
+}
+
+// The next word of a text, and what stands behind it.
+#[tactic(auto, using(crate::proofs::Words::no_word, crate::proofs::Words::next_word, crate::proofs::Words::word_starts))]
+fn next_word(text: &str) -> Option<(&str, &str)>
+    ensures read { IsNextWord text.now result }
+    ensures shorter { IfSome result (λ w. length w.1.now < length text.now) }
+{
+    let here = spaces(text);
+    if here.is_empty() {
+        return None;
+    }
+    let rest = word_end(here);
+    Some((front_of(here, rest), rest))
+}
+
+// What stands behind the word with which the text begins.
+#[tactic(auto, using(crate::proofs::Words::word_goes_on, crate::proofs::Words::word_stops, crate::proofs::Words::word_ends, crate::proofs::Words::word_cut, crate::proofs::Words::word_begins, crate::proofs::Words::word_shorter, crate::proofs::Words::word_to_end))]
+fn word_end(text: &str) -> &str
+    requires { IsWordNext text.now }
+    ensures read { EndsWord text.now result.now }
+    ensures shorter { length result.now < length text.now }
+{
+    for at in 0..text.len() {
+        if text.as_bytes()[at].is_ascii_whitespace() {
+            return text.split_at(at).1;
+        }
+    }
+    text.split_at(text.len()).1
 }

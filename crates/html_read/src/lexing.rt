@@ -108,6 +108,7 @@ pub(crate) fn comment(text: &str) -> Result<&str, &[u8]>
 #[tactic(auto, unfolding(crate::specs::Lexing::misc))]
 pub(crate) fn misc<'a>(mark: &str, text: &'a str) -> Result<&'a str, &'a [u8]>
     ensures read { Answers (λ rest. (tt, rest.now)) result (readers.misc mark.now text.now) }
+    ensures shorter { IfOk result (λ rest. length rest.now ≤ length text.now) }
 {
     let mut rest = text;
     while in_misc(mark, rest) {
@@ -149,7 +150,8 @@ pub(crate) fn doctype(text: &str) -> Result<&str, &[u8]>
 /// The end of a start tag. Where `slash` says so a `/` may stand before the `>`.
 #[tactic(auto, unfolding(crate::specs::Lexing::tag_end))]
 pub(crate) fn tag_end(slash: bool, text: &str) -> Result<&str, &[u8]>
-    ensures { Answers (λ rest. (tt, rest.now)) result (readers.tag_end slash text.now) }
+    ensures read { Answers (λ rest. (tt, rest.now)) result (readers.tag_end slash text.now) }
+    ensures shorter { IfOk result (λ rest. length rest.now < length text.now) }
 {
     if slash && starts("/", text) {
         strip("/>", text)
@@ -173,6 +175,7 @@ pub(crate) fn end_of<'a>(word: &str, text: &'a str) -> Result<&'a str, &'a [u8]>
 #[tactic(auto, unfolding(crate::specs::Lexing::end_name))]
 pub(crate) fn end_name(text: &str) -> Result<(&str, &str), &[u8]>
     ensures read { Answers (λ n. (lowered n.0.now, n.1.now)) result (readers.end_name text.now) }
+    ensures shorter { IfOk result (λ n. length n.1.now < length text.now) }
 {
     let rest = strip("</", text)?;
     let (name, rest) = name(rest)?;

@@ -9,6 +9,7 @@ mod entity;
 mod error;
 mod head;
 mod judging;
+mod laws;
 mod lexing;
 mod node;
 mod raw;
@@ -23,6 +24,12 @@ pub use attribute::{ATTRIBUTES, Role};
 pub use document::{read_document, read_fragment};
 pub use entity::ENTITIES;
 pub use error::{HtmlError, Refusal};
+pub use laws::{
+    attributes_spell, calls_answer_by_the_grammar, comments_spell, contents_spell,
+    documents_are_found_or_refused, documents_spell, fragments_are_found_or_refused,
+    fragments_spell, heads_spell, names_spell, nodes_stand_in_place, references_spell, tags_spell,
+    texts_spell,
+};
 pub use node::{Attributes, PlacedText, ReadDocument, ReadKind, ReadNode, ReadNodes, Sheets};
 pub use raw::RawEnd;
 pub use tag::{TAGS, Tag};

@@ -4,7 +4,7 @@ ghost use Rattle.std.specs.Prelude.{◌≡◌, bytes_eq};
 ghost use Rattle.html_read.specs.Characters.{lowered, named, words_of};
 
 /// What the table has for a name, in either case.
-#[tactic(auto, using(crate::proofs::Tables::here, crate::proofs::Tables::further, crate::proofs::Tables::nowhere))]
+#[tactic(auto, using(crate::proofs::Names::names_go_on, crate::proofs::Names::names_here, crate::proofs::Names::names_end))]
 pub(crate) fn named<T: Copy>(table: &[(&str, T)], name: &str) -> Option<T>
     ensures { result ≡ named (words_of table.now) (lowered name.now) }
 {

@@ -1,6 +1,6 @@
 //! Start tags and end tags.
 
-ghost use Rattle.std.specs.Prelude.{◌≡◌};
+ghost use Rattle.std.specs.Prelude.{◌≡◌, ◌<◌, length, IfOk};
 ghost use Rattle.html_read.specs.Characters.{lowered, is_void, tag_named};
 ghost use Rattle.html_read.specs.Faults.{Gives};
 ghost use Rattle.html_read.specs.Reading as readers;
@@ -28,7 +28,8 @@ pub(crate) struct Start<'a> {
 /// The start tag of this word, which begins with `<`: wholly read, and then judged.
 #[tactic(auto, unfolding(crate::specs::Reading::start_of, crate::specs::Reading::tag_behind))]
 pub(crate) fn start_of<'a>(alloc: Global, size: usize, word: &str, slash: bool, text: &'a str) -> Result<(Attributes, &'a str), Stop<'a>>
-    ensures { Gives (λ r. (acting_of r.0, r.1.now)) result (readers.start_of size word.now slash text.now) }
+    ensures read { Gives (λ r. (acting_of r.0, r.1.now)) result (readers.start_of size word.now slash text.now) }
+    ensures shorter { IfOk result (λ r. length r.1.now < length text.now) }
 {
     let rest = strip_either_case(word, text)?;
     let (all, rest) = attributes(alloc, rest)?;
@@ -39,7 +40,8 @@ pub(crate) fn start_of<'a>(alloc: Global, size: usize, word: &str, slash: bool, 
 /// A start tag in `body`: wholly read, and then its name and its attributes judged.
 #[tactic(auto, unfolding(crate::specs::Reading::start_tag, reading::specs::Readers::after))]
 pub(crate) fn start_tag(alloc: Global, size: usize, text: &str) -> Result<(Start<'_>, &str), Stop<'_>>
-    ensures { Gives (λ r. (start_of r.0, r.1.now)) result (readers.start_tag size text.now) }
+    ensures read { Gives (λ r. (start_of r.0, r.1.now)) result (readers.start_tag size text.now) }
+    ensures shorter { IfOk result (λ r. length r.1.now < length text.now) }
 {
     let rest = strip("<", text)?;
     let (name, rest) = name(rest)?;
@@ -60,7 +62,8 @@ pub(crate) fn start_tag(alloc: Global, size: usize, text: &str) -> Result<(Start
 /// The end tag of an element of this name: wholly read, and then its name judged.
 #[tactic(auto, unfolding(crate::specs::Reading::end_tag))]
 pub(crate) fn end_tag<'a>(open_name: &str, text: &'a str) -> Result<&'a str, Stop<'a>>
-    ensures { Gives (λ rest. (tt, rest.now)) result (readers.end_tag (lowered open_name.now) text.now) }
+    ensures read { Gives (λ rest. (tt, rest.now)) result (readers.end_tag (lowered open_name.now) text.now) }
+    ensures shorter { IfOk result (λ rest. length rest.now < length text.now) }
 {
     let (name, rest) = end_name(text)?;
     if !same_name(name, open_name) {

@@ -22,10 +22,10 @@ pub fn read_tail(bytes: &[u8], end: usize, script: bool) -> Result<usize, HtmlEr
         return Ok(bytes.len());
     };
     match tail(script, text) {
-        Ok(rest) => Ok(bytes.len() - rest.len()),
+        Ok(rest) => Ok(bytes.len().saturating_sub(rest.len())),
         Err(left) => Err(HtmlError::Refused {
             kind: Refusal::Syntax,
-            place: bytes.len() - left.len(),
+            place: bytes.len().saturating_sub(left.len()),
         }),
     }
 }
@@ -44,7 +44,8 @@ fn tail(script: bool, text: &str) -> Result<&str, &[u8]>
 // What stands behind spaces, tabs and CR.
 #[tactic(auto, unfolding(reading::specs::Readers::skip))]
 fn blanks(text: &str) -> &str
-    ensures { reading.skip readers.is_blank text.now ≡ Ok (tt, result.now) }
+    ensures read { reading.skip readers.is_blank text.now ≡ Ok (tt, result.now) }
+    ensures shorter { length result.now ≤ length text.now }
 {
     let mut rest = text;
     while let Some((b' ' | b'\t' | b'\r', after)) = first(rest) {

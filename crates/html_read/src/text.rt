@@ -1,17 +1,18 @@
 //! Text, with comments in it.
 
-ghost use Rattle.std.specs.Prelude.{◌≡◌, ◌<◌, true, length, IfOk};
+ghost use Rattle.std.specs.Prelude.{◌≡◌, ◌<◌, ◌≤◌, [], true, length, IfOk};
 ghost use Rattle.std.specs.String.{string_bytes};
+ghost use Rattle.reading.specs.Readers as reading;
 ghost use Rattle.html_read.specs.Characters.{in_repertoire};
-ghost use Rattle.html_read.specs.Faults.{Gives};
-ghost use Rattle.html_read.specs.Lexing.{reference};
-ghost use Rattle.html_read.specs.Pieces.{Joins, PutsPiece, RunsOrStops, IsLetterNext};
+ghost use Rattle.html_read.specs.Faults.{Gives, spelled};
+ghost use Rattle.html_read.specs.Lexing.{comment, reference};
+ghost use Rattle.html_read.specs.Pieces.{Joins, PutsPiece, RunsOrStops, IsFirstChar, PutsLetter, is_letter_next};
 ghost use Rattle.html_read.specs.Reading as readers;
 
 use crate::error::{Refusal, Stop};
 use crate::lexing::{comment, front_of};
 use crate::reference::reference;
-use reading::{first, starts};
+use reading::starts;
 use std::alloc::Global;
 use style_types::Letters;
 use wm_chars::bidi_class;
@@ -19,7 +20,8 @@ use wm_chars::bidi_class;
 /// The letters up to the next tag.
 #[tactic(auto, unfolding(crate::specs::Reading::gap))]
 pub(crate) fn gap(alloc: Global, text: &str) -> Result<(Letters, &str), Stop<'_>>
-    ensures { Gives (λ g. (string_bytes g.0, g.1.now)) result (readers.gap text.now) }
+    ensures read { Gives (λ g. (string_bytes g.0, g.1.now)) result (readers.gap text.now) }
+    ensures shorter { IfOk result (λ g. length g.1.now ≤ length text.now) }
 {
     let mut letters = Letters::new(alloc);
     let mut rest = text;
@@ -34,7 +36,12 @@ pub(crate) fn gap(alloc: Global, text: &str) -> Result<(Letters, &str), Stop<'_>
 fn in_text(text: &str) -> bool
     ensures { result ≡ readers.in_text text.now }
 {
-    !text.is_empty() && (!starts("<", text) || starts("<!", text))
+    match text.as_bytes() {
+        [] => false,
+        [b'<', b'!', ..] => true,
+        [b'<', ..] => false,
+        [_, ..] => true,
+    }
 }
 
 // A comment, a reference, or characters up to one of these or a tag, put behind the letters.
@@ -44,16 +51,25 @@ fn piece<'a>(letters: &mut Letters, text: &'a str) -> Result<&'a str, Stop<'a>>
     ensures shorter { IfOk result (λ rest. length rest.now < length text.now) }
 {
     if starts("<", text) {
-        Ok(comment(text)?)
+        skip_comment(text)
     } else if starts("&", text) {
-        checked_reference(letters, text)
+        put_reference(letters, text)
     } else {
         characters(letters, text)
     }
 }
 
+// A comment, of which nothing is put.
+fn skip_comment(text: &str) -> Result<&str, Stop<'_>>
+    ensures read { PutsPiece (spelled (reading.mapped (λ u. []) comment)) [] [] text.now result }
+    ensures shorter { IfOk result (λ rest. length rest.now < length text.now) }
+{
+    Ok(comment(text)?)
+}
+
+// A reference to a character of the repertoire, put behind the letters.
 #[tactic(auto, unfolding(crate::specs::Reading::checked))]
-fn checked_reference<'a>(letters: &mut Letters, text: &'a str) -> Result<&'a str, Stop<'a>>
+fn put_reference<'a>(letters: &mut Letters, text: &'a str) -> Result<&'a str, Stop<'a>>
     ensures read { PutsPiece (readers.checked reference) (string_bytes letters.old) (string_bytes letters.new) text.now result }
     ensures shorter { IfOk result (λ rest. length rest.now < length text.now) }
 {
@@ -65,8 +81,9 @@ fn checked_reference<'a>(letters: &mut Letters, text: &'a str) -> Result<&'a str
     Ok(rest)
 }
 
+// Characters of the repertoire up to a comment, a reference or a tag, put behind the letters.
 fn characters<'a>(letters: &mut Letters, text: &'a str) -> Result<&'a str, Stop<'a>>
-    requires { IsLetterNext text.now }
+    requires { is_letter_next text.now ≡ true }
     ensures read { Joins readers.in_text readers.text_piece (string_bytes letters.old) (string_bytes letters.new) text.now result }
     ensures shorter { IfOk result (λ rest. length rest.now < length text.now) }
 {
@@ -76,22 +93,51 @@ fn characters<'a>(letters: &mut Letters, text: &'a str) -> Result<&'a str, Stop<
 }
 
 // What stands behind characters of the repertoire other than `<` and `&`.
+#[tactic(auto, using(crate::proofs::Letters::letters_start, crate::proofs::Letters::letter_shorter, crate::proofs::Letters::letters_are_some))]
 fn characters_end(text: &str) -> Result<&str, Stop<'_>>
-    requires { IsLetterNext text.now }
+    requires { is_letter_next text.now ≡ true }
     ensures read { RunsOrStops readers.in_text readers.text_piece text.now result }
     ensures shorter { IfOk result (λ rest. length rest.now < length text.now) }
 {
     let mut rest = text;
-    while let Some(c) = rest.chars().next() {
-        if c == '<' || c == '&' {
-            break;
-        }
-        if !in_repertoire(c) {
-            return Err(Stop::Refused(Refusal::Character, rest.as_bytes()));
-        }
-        rest = rest.split_at(c.len_utf8()).1;
+    while letter_ahead(rest) {
+        rest = letter(rest)?;
     }
     Ok(rest)
+}
+
+// A byte comes next that is neither `<` nor `&`.
+fn letter_ahead(text: &str) -> bool
+    ensures { result ≡ is_letter_next text.now }
+{
+    match text.as_bytes() {
+        [] => false,
+        [byte, ..] => *byte != b'<' && *byte != b'&',
+    }
+}
+
+// What stands behind a character of the repertoire.
+fn letter(text: &str) -> Result<&str, Stop<'_>>
+    requires { is_letter_next text.now ≡ true }
+    ensures { PutsLetter readers.text_piece text.now result }
+{
+    let Some((c, rest)) = first_char(text) else {
+        return Err(Stop::Refused(Refusal::Syntax, text.as_bytes()));
+    };
+    if in_repertoire(c) {
+        Ok(rest)
+    } else {
+        Err(Stop::Refused(Refusal::Character, text.as_bytes()))
+    }
+}
+
+// The first character, and what stands behind it.
+fn first_char(text: &str) -> Option<(char, &str)>
+    ensures { IsFirstChar result text.now }
+{
+    let mut chars = text.chars();
+    let c = chars.next()?;
+    Some((c, chars.as_str()))
 }
 
 #[tactic(auto, unfolding(crate::specs::Characters::in_repertoire, wm_chars::specs::Repertoire::bidi_class))]

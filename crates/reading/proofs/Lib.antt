@@ -7,6 +7,7 @@ pub mod PlaceLaws
 pub mod RunLaws
 pub mod WordLaws
 pub mod UpToLaws
+pub mod PlacedLaws
 mod Examples
 pub mod TextCuts
 pub mod RunPlaces

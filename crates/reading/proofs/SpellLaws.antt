@@ -52,7 +52,7 @@ strip_by wanted byte text bytes rest x true test later e =
     rw (same, later e) refl
 strip_by wanted byte text bytes rest x false test later e = absurd cc
 
-strip_takes : (text bytes rest : List ℕ) (x : ⊤) → strip text bytes ≡ ok (x, rest) → bytes ≡ text ++ rest
+pub strip_takes : (text bytes rest : List ℕ) (x : ⊤) → strip text bytes ≡ ok (x, rest) → bytes ≡ text ++ rest
 unfolding strip
 strip_takes [] bytes rest x e = (same_answer tt x bytes rest e).1
 strip_takes (wanted ∷ text) [] rest x e = absurd cc
@@ -86,7 +86,7 @@ unfolding one_of
 one_takes test [] byte rest e = absurd cc
 one_takes test (b ∷ bytes) byte rest e = one_by test b byte bytes rest (test b) refl e
 
-one_again : (test : ℕ → Bool) (byte : ℕ) (rest : List ℕ) → test byte ≡ true → one_of test (byte ∷ rest) ≡ Ok (byte, rest)
+pub one_again : (test : ℕ → Bool) (byte : ℕ) (rest : List ℕ) → test byte ≡ true → one_of test (byte ∷ rest) ≡ Ok (byte, rest)
 unfolding one_of
 one_again test byte rest is = rw is refl
 
@@ -231,7 +231,7 @@ optional_spells {E = E} {A = A} test {f = f} {R = R} {Ends = Ends} p first secon
 
 -- ---- another word for where it stopped
 
-told_ok : {E A : Type 0} (told : List ℕ → E) (r : Read A) (x : A × List ℕ) → read_or told r ≡ ok x → r ≡ ok x
+pub told_ok : {E A : Type 0} (told : List ℕ → E) (r : Read A) (x : A × List ℕ) → read_or told r ≡ ok x → r ≡ ok x
 told_ok told (Ok y) x e =
     let same : y ≡ x = cc in
     rw same refl

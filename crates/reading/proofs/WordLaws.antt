@@ -60,7 +60,7 @@ differ_by : (next byte : ℕ) (word text rest : List ℕ) (t : Bool) → cond t 
 differ_by next byte word text rest true d later = later d
 differ_by next byte word text rest false d later = refl
 
-differ_stops : (word text rest : List ℕ) → differ word text ≡ true → is_ok (strip word (text ++ rest)) ≡ false
+pub differ_stops : (word text rest : List ℕ) → differ word text ≡ true → is_ok (strip word (text ++ rest)) ≡ false
 unfolding strip
 differ_stops [] text rest d = absurd cc
 differ_stops (byte ∷ word) [] rest d = absurd cc
@@ -71,7 +71,7 @@ both : (a b : Bool) → cond a b false ≡ true → (a ≡ true) × (b ≡ true)
 both true b e = (refl, e)
 both false b e = absurd cc
 
-differs_in : {A : Type 0} (word : List ℕ) (words : List (List ℕ × A)) (text : List ℕ) (x : A) → differs_from word words ≡ true → OneWord words text x → differ word text ≡ true
+pub differs_in : {A : Type 0} (word : List ℕ) (words : List (List ℕ × A)) (text : List ℕ) (x : A) → differs_from word words ≡ true → OneWord words text x → differ word text ≡ true
 differs_in word [] text x d is = absurd is
 differs_in word (other ∷ words) text x d (inl is) = rw is.0 (both (differ word other.0) (differs_from word words) d).0
 differs_in word (other ∷ words) text x d (inr is) = differs_in word words text x (both (differ word other.0) (differs_from word words) d).1 is

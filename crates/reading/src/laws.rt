@@ -8,7 +8,8 @@ ghost use Rattle.reading.specs.Readers.{Reader};
 ghost use Rattle.reading.specs.Decimals as decimals;
 ghost use Rattle.reading.specs.Decimals.{IsDecimal, NoDigit};
 ghost use Rattle.reading.specs.Closings.{closing, Closing};
-ghost use Rattle.reading.specs.Grammars.{Grammar, Fixed, OneOf, RunOf, EitherCase, OneWord, UpTo, Given, Seq, Mapped, Either, Optional, After, Between, Each, Joined};
+ghost use Rattle.reading.specs.Grammars.{Grammar, Fixed, OneOf, RunOf, EitherCase, OneWord, UpTo, Given, Seq, Mapped, Either, Optional, After, Between, Each, Joined, AllPass};
+ghost use Rattle.reading.specs.Placed.{PlacedGrammar, Anywhere, PlacedSeq, PlacedMapped, PlacedEither, SpellsPlaced};
 ghost use Rattle.reading.specs.Places.{SeesNext, IsLocal, IsViable, GoesOnFrom};
 ghost use Rattle.reading.specs.Spelling.{Anything, Spells, IsTestOf, SeesWithin};
 ghost use Rattle.reading.specs.Words.{all_differ, longest_first, all_of};
@@ -74,6 +75,29 @@ pub trait PlacedRuleBehind<A, B>: RuleBehind<A, B> {
     ghost viable: { (before : A) → IsViable (Self.reads before) (Self.spelled before) };
 
     ghost some: { (before : A) → GoesOnFrom (Self.spelled before) [] };
+}
+
+/// A reader of values `A`, with a grammar whose values may speak of what stands behind a text.
+pub trait RuleInPlace<A> {
+    ghost reads: { Reader A };
+
+    ghost spelled: { List ℕ → List ℕ → A → Type 0 };
+
+    /// What may come behind a text of the grammar.
+    ghost ends: { List ℕ → Type 0 };
+
+    ghost spells: { SpellsPlaced reads spelled ends };
+}
+
+/// Such a reader for each value `A` that was read before it.
+pub trait RuleInPlaceBehind<A, B> {
+    ghost reads: { A → Reader B };
+
+    ghost spelled: { A → List ℕ → List ℕ → B → Type 0 };
+
+    ghost ends: { List ℕ → Type 0 };
+
+    ghost spells: { (before : A) → SpellsPlaced (reads before) (spelled before) ends };
 }
 
 /// A fixed text.
@@ -151,6 +175,11 @@ pub fn runs_spell()
     ensures { (test : ℕ → Bool) → Spells (readers.run_of test) (RunOf test) (λ rest. readers.next_is test rest ≡ false) }
 {}
 
+/// Over the bytes that pass a test, where none comes behind them.
+pub fn skipped_runs_spell()
+    ensures { (test : ℕ → Bool) → Spells (readers.skip test) (λ text u. AllPass test text) (λ rest. readers.next_is test rest ≡ false) }
+{}
+
 /// A text in either case.
 pub fn cased_texts_spell()
     ensures { (word : List ℕ) → Spells (readers.strip_either_case word) (EitherCase word) Anything }
@@ -183,6 +212,30 @@ pub fn ends_see_within()
 pub fn closings_spell()
     ensures { (opening word : List ℕ) (test : ℕ → Bool) (last : ℕ) (behind : List ℕ) → test last ≡ false
         → Spells (closing opening word test (last ∷ behind)) (Closing opening word test (last ∷ behind)) Anything }
+{}
+
+/// A grammar with no word on what stands behind a text, wherever the text stands.
+pub fn rules_spell_anywhere<A, R: Rule<A>>()
+    ensures { SpellsPlaced R.reads (Anywhere R.spelled) R.ends }
+{}
+
+/// One after the other, in their places.
+pub fn sequences_spell_in_place<A, B, R: RuleInPlace<A>, S: RuleInPlaceBehind<A, B>>()
+    ensures { ((x : A) (y : B) (text rest : List ℕ) → S.spelled x text rest y → S.ends rest → R.ends (text ++ rest))
+        → SpellsPlaced (readers.follow R.reads S.reads) (PlacedSeq R.spelled S.spelled) S.ends }
+{}
+
+/// Another view of what is read, in its place.
+pub fn views_spell_in_place<A, B, R: RuleInPlace<A>>()
+    ensures { (view : A → B) → SpellsPlaced (readers.mapped view R.reads) (PlacedMapped view R.spelled) R.ends }
+{}
+
+/// One or the other in its place, by a test of the next bytes.
+pub fn choices_spell_in_place<A, R: RuleInPlace<A>, S: RuleInPlace<A>>()
+    ensures { (test : List ℕ → Bool) → ((rest : List ℕ) → S.ends rest → R.ends rest)
+        → ((text : List ℕ) (x : A) (rest : List ℕ) → R.spelled text rest x → S.ends rest → test (text ++ rest) ≡ true)
+        → ((text : List ℕ) (x : A) (rest : List ℕ) → S.spelled text rest x → S.ends rest → test (text ++ rest) ≡ false)
+        → SpellsPlaced (readers.choice test R.reads S.reads) (PlacedEither R.spelled S.spelled) S.ends }
 {}
 
 /// A fixed text stops at the first byte that differs.

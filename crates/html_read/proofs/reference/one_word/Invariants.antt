@@ -4,4 +4,4 @@ use Rattle.html_read.specs.Characters.{words_of}
 use Rattle.html_read.proofs.reference.one_word.Given as goal
 
 abbrev pub invariant-loop-name : goal.invariant-loop-name
-invariant-loop-name l = reading.word_from (words_of (drop l.name-index l.name-items)) l.best l.text ≡ reading.one_word (words_of l.name-items) l.text
+invariant-loop-name l = reading.word_from (words_of (drop l.name-index l.table)) l.best l.text ≡ reading.one_word (words_of l.table) l.text

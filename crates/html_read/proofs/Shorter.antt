@@ -1,0 +1,11 @@
+-- What is left behind a text that was read is shorter.
+use Rattle.std.proofs.Common.{◌≡◌, ℕ, ◌<◌, List, length, Ok, Err, arith}
+use Rattle.std.specs.Prelude.{IfOk, Result}
+use denote.Bor.{Bor}
+use Rattle.reading.specs.Readers.{Answers, strip}
+use Rattle.html_read.proofs.Runs.{strip_shortens}
+
+pub strip_strict : (word text : List ℕ) (result : Result (Bor (List ℕ)) (Bor (List ℕ))) → 0 < length word → Answers (λ rest. (tt, rest.now)) result (strip word text)
+    → IfOk result (λ rest. length rest.now < length text)
+strip_strict word text (Ok rest) some e = omega (arith, some, strip_shortens word text rest.now e)
+strip_strict word text (Err left) some e = tt
