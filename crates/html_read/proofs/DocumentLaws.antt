@@ -18,7 +18,8 @@ use Rattle.html_read.specs.declared.error.Refusal.TheVariants.{Utf8}
 use Rattle.html_read.specs.Characters.{is_white}
 use Rattle.html_read.specs.Faults.{Fault, syntax, spelled}
 use Rattle.html_read.specs.Lexing.{misc, in_misc, end_of}
-use Rattle.html_read.specs.Reading.{content, end_tag, mark, maybe_mark, maybe_doctype, prolog, roots, body, html, ended, document, input, fragment}
+use Rattle.html_read.specs.Tree.{roots}
+use Rattle.html_read.specs.Reading.{content, end_tag, mark, maybe_mark, maybe_doctype, prolog, body, html, ended, document, input, fragment}
 use Rattle.html_read.specs.Values.{TextAt, Acting, Node, Whole}
 use Rattle.html_read.specs.Grammar.{IsMiscPiece, IsMisc, IsDoctype, IsEndOf, IsEndName, IsContent, IsMaybeHead, IsBody, IsHtml, IsMark, IsProlog, IsDocument, IsFragment}
 use Rattle.html_read.proofs.MiscLaws.{IsOpening, cased_first, NoMisc, misc_spells, doctype_spells, end_of_spells}

@@ -10,6 +10,7 @@ mod Tables
 mod Names
 mod Judges
 mod Shorter
+mod Heads
 mod Words
 mod MiscLaws
 mod CharacterLaws
@@ -23,3 +24,4 @@ mod HeadLaws
 mod DocumentLaws
 mod ShapeLaws
 mod AnsweredLaws
+mod NodesLaws

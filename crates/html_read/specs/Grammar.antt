@@ -30,8 +30,8 @@ use Rattle.html_read.specs.declared.tag.Tag.TheVariants.{Br}
 use Rattle.html_read.specs.Characters.{is_white, is_letter, is_name_byte, lowered, entities, tag_named, is_void, in_repertoire}
 use Rattle.html_read.specs.Judging.{Attribute, judged}
 use Rattle.html_read.specs.Lexing.{raw_end, is_x, is_quote, is_plain}
-use Rattle.html_read.specs.Reading.{Start, mark, roots}
-use Rattle.html_read.specs.Tree.{Items, none, pair, line_break, with_text, listed}
+use Rattle.html_read.specs.Reading.{Start, mark}
+use Rattle.html_read.specs.Tree.{Items, none, pair, line_break, with_text, listed, roots}
 use Rattle.html_read.specs.Values.{TextAt, Acting, Node, Whole}
 
 -- ---- white space, names, comments

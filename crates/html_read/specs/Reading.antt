@@ -4,7 +4,6 @@ use Rattle.std.specs.Char.{encode_utf8}
 use Rattle.std.specs.Str.Lossy.{utf8_valid_len}
 use Rattle.reading.specs.Readers.{ReadOr, ReaderOr, Reader, skip, ◌>>=◌, give, refuse, follow, mapped, choice, optional, strip, strip_either_case, starts, one_of, next_is, can_read, after, repeat, joined}
 use Rattle.html_read.specs.declared.tag.Tag.{Tag}
-use Rattle.html_read.specs.declared.tag.Tag.TheVariants.{Html, Body, Br}
 use Rattle.html_read.specs.declared.error.Refusal.TheVariants.{Utf8, Character, UnknownTag, Nesting}
 use Rattle.html_read.specs.declared.raw.RawEnd.TheVariants as ends
 use Rattle.html_read.specs.declared.content.Base.{Base}
@@ -13,7 +12,7 @@ use Rattle.html_read.specs.Characters.{is_white, tag_named, is_void, in_repertoi
 use Rattle.html_read.specs.Faults.{Fault, Judged, syntax, spelled}
 use Rattle.html_read.specs.Judging.{Attribute, judged}
 use Rattle.html_read.specs.Lexing.{white, name, raw, comment, misc, doctype, reference, attributes, tag_end, end_of, end_name, character}
-use Rattle.html_read.specs.Tree.{with_text, with_element}
+use Rattle.html_read.specs.Tree.{with_text, with_element, roots}
 use Rattle.html_read.specs.Values.{TextAt, Acting, Node, Whole}
 
 -- ---- text, with comments in it
@@ -189,10 +188,6 @@ maybe_doctype = choice (starts (codes "<!")) (follow doctype (λ u. misc (codes 
 
 unfoldable pub prolog : Reader ⊤
 prolog = follow maybe_mark (λ u. follow (misc (codes "<!-")) (λ u. maybe_doctype))
-
--- the nodes of `html` and `body`
-abbrev pub roots : (html body : Acting) → List Node
-roots html body = with_element (Some 0) Body body (with_element None Html html [])
 
 -- `body` with all that stands in it, and the nodes of the document
 unfoldable pub body : (size : ℕ) → (html : Acting) → Judged (List Node)

@@ -3,7 +3,10 @@
 ghost use Rattle.std.specs.Prelude.{◌≡◌, length, IfOk, IfErr};
 ghost use Rattle.reading.specs.Readers.{Answers};
 ghost use Rattle.html_read.specs.Faults.{Gives, GivesFront, Tells, Told};
+ghost use Rattle.html_read.specs.Answered.{IsTheDocument, IsTheFragment, RefusesDocument, RefusesFragment};
 ghost use Rattle.html_read.specs.Reading as readers;
+ghost use Rattle.html_read.specs.Shape.{IsShaped, IsFragmentShaped};
+ghost use Rattle.html_read.specs.Tree.{AreNodes, roots};
 ghost use Rattle.html_read.specs.Values.{acting_of, nodes_of, sheets_of, whole_of};
 ghost use Rattle.html_read.specs.declared.error.Stop.TheVariants as Stops;
 
@@ -18,8 +21,22 @@ use reading::{starts, strip};
 use std::alloc::Global;
 
 /// Reads a document, from the first byte to past `</html>`. Bytes may stand behind it.
+#[tactic(auto, using(crate::proofs::AnsweredLaws::told_document, crate::proofs::AnsweredLaws::told_no_document, crate::proofs::AnsweredLaws::told_shape, crate::proofs::NodesLaws::told_nodes))]
 pub fn read_document(alloc: Global, bytes: &[u8]) -> Result<ReadDocument, HtmlError>
+    // The answer is that of the reading: the document, or the refusal with its place.
     ensures read { Told (length bytes.now) whole_of result (readers.input bytes.now) }
+    // The bytes begin with this document and no other; where they are refused they begin with none.
+    ensures found { IfOk result (λ d. IsTheDocument bytes.now (whole_of d)) }
+    ensures refused { IfErr result (λ error. RefusesDocument bytes.now error) }
+    // `html` stands first, `body` second, and each other node within `body`; they are made of tags and texts in it.
+    ensures shaped { IfOk result (λ d. IsShaped (nodes_of d.nodes.items)) }
+    ensures nodes { IfOk result (λ d. AreNodes (nodes_of d.nodes.items)) }
+{
+    answer_document(alloc, bytes)
+}
+
+fn answer_document(alloc: Global, bytes: &[u8]) -> Result<ReadDocument, HtmlError>
+    ensures { Told (length bytes.now) whole_of result (readers.input bytes.now) }
 {
     match input(alloc, bytes) {
         Ok(document) => Ok(document),
@@ -28,8 +45,21 @@ pub fn read_document(alloc: Global, bytes: &[u8]) -> Result<ReadDocument, HtmlEr
 }
 
 /// Reads what may stand in an element, to the end of the text.
+#[tactic(auto, using(crate::proofs::AnsweredLaws::told_fragment, crate::proofs::AnsweredLaws::told_no_fragment, crate::proofs::AnsweredLaws::told_fragment_shape))]
 pub fn read_fragment(alloc: Global, text: &str) -> Result<ReadNodes, HtmlError>
+    // The answer is that of the reading: the nodes, or the refusal with its place.
     ensures read { Told (length text.now) (λ nodes. nodes_of nodes.items) result (readers.fragment text.now) }
+    // The text is this fragment and no other; where it is refused it is none.
+    ensures found { IfOk result (λ nodes. IsTheFragment text.now (nodes_of nodes.items)) }
+    ensures refused { IfErr result (λ error. RefusesFragment text.now error) }
+    // Each node stands in nothing, or in an element before it.
+    ensures shaped { IfOk result (λ nodes. IsFragmentShaped (nodes_of nodes.items)) }
+{
+    answer_fragment(alloc, text)
+}
+
+fn answer_fragment(alloc: Global, text: &str) -> Result<ReadNodes, HtmlError>
+    ensures { Told (length text.now) (λ nodes. nodes_of nodes.items) result (readers.fragment text.now) }
 {
     match fragment(alloc, text) {
         Ok(nodes) => Ok(nodes),
@@ -142,7 +172,7 @@ fn body(alloc: Global, size: usize, html: Attributes, text: &str) -> Result<(Vec
 
 // The nodes of `html` and `body`.
 fn roots(alloc: Global, html: Attributes, body: Attributes) -> Result<Vec<ReadNode>, Stop<'static>>
-    ensures roots { IfOk result (λ nodes. nodes_of nodes.items ≡ readers.roots (acting_of html) (acting_of body)) }
+    ensures roots { IfOk result (λ nodes. nodes_of nodes.items ≡ roots (acting_of html) (acting_of body)) }
     ensures memory { IfErr result (λ stop. stop ≡ Stops.Memory) }
 {
     let mut nodes = Vec::new(alloc);

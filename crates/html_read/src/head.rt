@@ -1,6 +1,6 @@
 //! The head of a document: its style sheets, and what is read and ignored.
 
-ghost use Rattle.std.specs.Prelude.{◌≡◌};
+ghost use Rattle.std.specs.Prelude.{◌≡◌, ◌<◌, ◌≤◌, length, IfOk};
 ghost use Rattle.html_read.specs.Faults.{Gives};
 ghost use Rattle.html_read.specs.Reading as readers;
 ghost use Rattle.html_read.specs.Values.{text_at, sheets_of};
@@ -50,7 +50,8 @@ fn head_items(alloc: Global, size: usize, text: &str) -> Result<(Vec<PlacedText>
 // What comes next in the head.
 #[tactic(auto, unfolding(crate::specs::Reading::head_turn, crate::specs::Reading::meta, reading::specs::Readers::after))]
 fn head_turn<'a>(alloc: Global, size: usize, sheets: &mut Vec<PlacedText>, text: &'a str) -> Result<&'a str, Stop<'a>>
-    ensures { Gives (λ rest. (sheets_of sheets.new.items, rest.now)) result (readers.head_turn size (sheets_of sheets.old.items) text.now) }
+    ensures read { Gives (λ rest. (sheets_of sheets.new.items, rest.now)) result (readers.head_turn size (sheets_of sheets.old.items) text.now) }
+    ensures shorter { IfOk result (λ rest. length rest.now < length text.now) }
 {
     if white_ahead(text) {
         Ok(white(text)?)
@@ -77,7 +78,8 @@ fn ahead(word: &str, text: &str) -> bool
 
 #[tactic(auto, unfolding(crate::specs::Reading::title))]
 fn title(alloc: Global, size: usize, text: &str) -> Result<&str, Stop<'_>>
-    ensures { Gives (λ rest. (tt, rest.now)) result (readers.title size text.now) }
+    ensures read { Gives (λ rest. (tt, rest.now)) result (readers.title size text.now) }
+    ensures shorter { IfOk result (λ rest. length rest.now < length text.now) }
 {
     let (_, rest) = start_of(alloc, size, "<title", false, text)?;
     Ok(raw(RawEnd::Title, rest)?.1)
@@ -85,7 +87,8 @@ fn title(alloc: Global, size: usize, text: &str) -> Result<&str, Stop<'_>>
 
 #[tactic(auto, unfolding(crate::specs::Reading::style))]
 fn style(alloc: Global, size: usize, text: &str) -> Result<(PlacedText, &str), Stop<'_>>
-    ensures { Gives (λ s. (text_at s.0, s.1.now)) result (readers.style size text.now) }
+    ensures read { Gives (λ s. (text_at s.0, s.1.now)) result (readers.style size text.now) }
+    ensures shorter { IfOk result (λ s. length s.1.now < length text.now) }
 {
     let (_, rest) = start_of(alloc, size, "<style", false, text)?;
     sheet(alloc, size, rest)
@@ -94,7 +97,8 @@ fn style(alloc: Global, size: usize, text: &str) -> Result<(PlacedText, &str), S
 // The text of a style sheet up to its end tag.
 #[tactic(auto, unfolding(crate::specs::Reading::sheet))]
 fn sheet(alloc: Global, size: usize, text: &str) -> Result<(PlacedText, &str), Stop<'_>>
-    ensures { Gives (λ s. (text_at s.0, s.1.now)) result (readers.sheet size text.now) }
+    ensures read { Gives (λ s. (text_at s.0, s.1.now)) result (readers.sheet size text.now) }
+    ensures shorter { IfOk result (λ s. length s.1.now ≤ length text.now) }
 {
     let (inside, rest) = raw(RawEnd::Style, text)?;
     let sheet = PlacedText {
