@@ -3,11 +3,10 @@ use Rattle.std.proofs.Common.{◌≡◌, refl, sym, ap, subst, ◌∙◌, arith,
 use Rattle.std.specs.Prelude.{option_and_then, option_map, is_some, unwrap_or}
 use Rattle.std.specs.List.{list_all, slice_get}
 use Rattle.std.specs.Char.{is_ascii_whitespace}
-use Rattle.html_types.specs.declared.tag.Tag.{Tag}
-use Rattle.html_types.specs.declared.tag.Tag.TheVariants.{Br}
-use Rattle.html_types.specs.Values.{Acting, element, text, Node}
-use Rattle.html_types.specs.Tree.{Items, none, pair, line_break, with_text, with_element, listed}
-use Rattle.html_types.specs.Reading.{roots}
+use Rattle.html_read.specs.declared.tag.Tag.{Tag}
+use Rattle.html_read.specs.declared.tag.Tag.TheVariants.{Br}
+use Rattle.html_read.specs.Values.{Acting, element, text, Node}
+use Rattle.html_read.specs.Tree.{Items, none, pair, line_break, with_text, with_element, listed, roots}
 use Rattle.early_tree.specs.declared.boxes.EarlyBox.{EarlyBox}
 use Rattle.early_tree.specs.declared.walk.Stand.{Stand}
 use Rattle.early_tree.specs.Boxes as boxes

@@ -2,8 +2,8 @@
 use Rattle.std.proofs.Common.{◌≡◌, sym, ap, ◌∙◌, ℕ, suc, ◌+◌, ◌<◌, List, ◌∷◌, length, drop, get_or, Option, Some, None, add-one}
 use Rattle.std.proofs.Math.Seq.{drop-cons}
 use Rattle.std.specs.Prelude.{option_and_then}
-use Rattle.html_types.specs.declared.node.ReadNode.{ReadNode}
-use Rattle.html_types.specs.Values.{Node, node_of, nodes_of}
+use Rattle.html_read.specs.declared.node.ReadNode.{ReadNode}
+use Rattle.html_read.specs.Values.{Node, node_of, nodes_of}
 use Rattle.early_tree.specs.declared.error.EarlyError.{EarlyError}
 use Rattle.early_tree.specs.declared.error.EarlyError.TheVariants.{NotYet, Memory}
 use Rattle.early_tree.specs.Walking.{Walk, step, walked, Refuses}

@@ -4,15 +4,14 @@ use Rattle.std.proofs.lemmas.Bool.{and_parts, leb-true, le-leb}
 use Rattle.std.specs.Prelude.{nat_le, is_none, option_and_then, option_map, IsErrOf}
 use Rattle.std.specs.List.{slice_get}
 use Rattle.wm_modes.specs.declared.mode.WritingMode.{WritingMode}
-use Rattle.html_types.specs.Values.{TextAt, Acting, Node, Whole}
-use Rattle.html_types.specs.Tree.{Items, with_text, listed}
-use Rattle.html_types.specs.Reading.{roots}
+use Rattle.html_read.specs.Values.{TextAt, Acting, Node, Whole}
+use Rattle.html_read.specs.Tree.{Items, with_text, listed, roots, AreNodes}
 use Rattle.early_tree.specs.declared.boxes.Early.{Early}
 use Rattle.early_tree.specs.declared.boxes.EarlyBox.{EarlyBox}
 use Rattle.early_tree.specs.declared.error.EarlyError.{EarlyError}
 use Rattle.early_tree.specs.declared.error.EarlyError.TheVariants.{NotYet, Memory}
 use Rattle.early_tree.specs.Boxes.{Boxes, none, box, count, in_order}
-use Rattle.early_tree.specs.Early.{SaysStyleAlone, DeclaresMode, is_element, elements_from, AreNodes, IsEarly}
+use Rattle.early_tree.specs.Early.{SaysStyleAlone, DeclaresMode, is_element, elements_from, IsEarly}
 use Rattle.early_tree.specs.Walking.{is_nil, says_style_alone, declared_mode, Walk, walked, start, is_bare, body_mode, from_roots, early_nodes, early, Refuses}
 use Rattle.early_tree.proofs.Items.{stand, fits, text_walk, text_found, text_boxes, text_numbers, text_keeps, IsFound, Finds, fine, boxes_of, behind, items_found, then_, items_stopped, numbers_behind, boxes_behind}
 use Rattle.early_tree.proofs.Fine.{both, nil_is, unstyled_is, alone_is, alone_so, mode_is, mode_so, fits_is, fits_so, fine_is, fine_so, boxes_so}

@@ -5,10 +5,9 @@ use Rattle.std.specs.Char.{is_ascii_whitespace}
 use Rattle.wm_modes.specs.declared.mode.WritingMode.{WritingMode}
 use Rattle.wm_modes.specs.declared.mode.WritingMode.TheVariants.{HorizontalTb}
 use Rattle.reading.specs.Grammars.{Grammar, AllPass}
-use Rattle.html_types.specs.declared.tag.Tag.TheVariants.{Div}
-use Rattle.html_types.specs.Values.{TextAt, Acting, Kind, element, text, Node, Whole}
-use Rattle.html_types.specs.Tree.{Items, none, pair, line_break, with_text, listed}
-use Rattle.html_types.specs.Reading.{roots}
+use Rattle.html_read.specs.declared.tag.Tag.TheVariants.{Div}
+use Rattle.html_read.specs.Values.{TextAt, Acting, Kind, element, text, Node, Whole}
+use Rattle.html_read.specs.Tree.{Items, none, pair, line_break, with_text, listed, roots}
 use Rattle.early_tree.specs.Boxes as boxes
 use Rattle.early_tree.specs.Boxes.{Boxes}
 use Rattle.early_tree.specs.Styles.{Sizes, IsSizes, IsMode}
@@ -64,14 +63,6 @@ is_element (text letters) = false
 abbrev pub elements_from : ℕ → List Node → List ℕ
 elements_from number [] = []
 elements_from number (node ∷ nodes) = if is_element node.kind then number ∷ elements_from (number + 1) nodes else elements_from (number + 1) nodes
-
--- nodes of a document: those of html, of body, and of some items in body
-pub record AreNodes (nodes : List Node) : Type 0 where
-  pub html : Acting
-  pub body : Acting
-  pub first : List ℕ
-  pub items : Items
-  pub are : nodes ≡ listed items (Some 1) (with_text (Some 1) first (roots html body))
 
 -- an early document with this mode on body, these boxes in it, and these numbers of the nodes of html, body and the boxes.
 -- The tree is at most 64 deep, with html as 1 and body as 2, and has at most 65,536 nodes; texts count.

@@ -1,12 +1,12 @@
 //! What the attributes of an element say.
 
 ghost use Rattle.std.specs.Prelude.{◌≡◌, option_map};
-ghost use Rattle.html_types.specs.Values.{acting_of, kind_of, text_at};
+ghost use Rattle.html_read.specs.Values.{acting_of, kind_of, text_at};
 ghost use Rattle.early_tree.specs.Walking as readers;
 
 use crate::mode::mode_in;
 use crate::sizes::{Sizes, sizes_in};
-use html_types::{Attributes, PlacedText, ReadKind, Tag};
+use html_read::{Attributes, PlacedText, ReadKind, Tag};
 use wm_modes::WritingMode;
 
 /// The sizes of a `div` that says nothing but perhaps a style.

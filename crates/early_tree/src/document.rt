@@ -1,10 +1,11 @@
 //! The early document as a whole.
 
 ghost use Rattle.std.specs.Prelude.{◌≡◌, ◌≤◌, List, ℕ, length, IfOk, IsErrOf};
-ghost use Rattle.html_types.specs.Values.{node_of, nodes_of, whole_of};
+ghost use Rattle.html_read.specs.Tree.{AreNodes};
+ghost use Rattle.html_read.specs.Values.{node_of, nodes_of, whole_of};
 ghost use Rattle.wm_modes.specs.declared.mode.WritingMode.{WritingMode};
 ghost use Rattle.early_tree.specs.Boxes.{Boxes, in_order};
-ghost use Rattle.early_tree.specs.Early.{AreNodes, IsEarly};
+ghost use Rattle.early_tree.specs.Early.{IsEarly};
 ghost use Rattle.early_tree.specs.Walking as readers;
 ghost use Rattle.early_tree.specs.Walking.{Reads, walk_of};
 ghost use Rattle.early_tree.specs.declared.error.EarlyError.TheVariants as EarlyErrors;
@@ -13,7 +14,7 @@ use crate::attributes::{body_mode, is_bare};
 use crate::boxes::{Early, EarlyBoxes, NodeNumbers};
 use crate::error::EarlyError;
 use crate::walk::{Walk, walk_through};
-use html_types::{ReadDocument, ReadNode};
+use html_read::{ReadDocument, ReadNode};
 use std::alloc::Global;
 use wm_modes::WritingMode;
 

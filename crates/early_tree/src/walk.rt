@@ -3,7 +3,7 @@
 ghost use Rattle.std.specs.Prelude.{◌≡◌, ◌+◌, ◌<◌, ◌≤◌, length, IfOk, IfErr};
 ghost use Rattle.std.specs.List.{list_all};
 ghost use Rattle.std.specs.Char.{is_ascii_whitespace};
-ghost use Rattle.html_types.specs.Values.{kind_of, node_of, nodes_of};
+ghost use Rattle.html_read.specs.Values.{kind_of, node_of, nodes_of};
 ghost use Rattle.early_tree.specs.Walking as readers;
 ghost use Rattle.early_tree.specs.Walking.{Reads, walk_of};
 ghost use Rattle.early_tree.specs.declared.error.EarlyError.TheVariants as EarlyErrors;
@@ -12,7 +12,7 @@ use crate::attributes::div_sizes;
 use crate::boxes::EarlyBox;
 use crate::error::EarlyError;
 use crate::sizes::Sizes;
-use html_types::{ReadKind, ReadNode};
+use html_read::{ReadKind, ReadNode};
 use std::alloc::Global;
 
 /// The greatest depth of a node, with `html` as 1.

@@ -1,6 +1,6 @@
 use Rattle.std.proofs.Common.{◌∙◌, ap, subst, sym, List, ℕ, ◌≤◌, length, Err}
 use Rattle.std.proofs.lemmas.Result.{err_from_is_err_and}
-use Rattle.html_types.specs.Values.{whole_of}
+use Rattle.html_read.specs.Values.{whole_of}
 use Rattle.early_tree.specs.declared.boxes.EarlyBox.{EarlyBox}
 use Rattle.early_tree.specs.Early.{IsEarly}
 use Rattle.early_tree.specs.Walking.{walk_of}

@@ -1,8 +1,8 @@
 use Rattle.std.proofs.Common.{◌+◌, ◌∙◌, sym, ap, arith, List, length, drop}
 use Rattle.std.proofs.lemmas.List.{drop_all}
 use Rattle.std.proofs.lemmas.Result.{err_from_is_err_and}
-use Rattle.html_types.specs.declared.node.ReadNode.{ReadNode}
-use Rattle.html_types.specs.Values.{node_of, nodes_of}
+use Rattle.html_read.specs.declared.node.ReadNode.{ReadNode}
+use Rattle.html_read.specs.Values.{node_of, nodes_of}
 use Rattle.early_tree.specs.Walking.{Walk, start, walked, walk_of}
 use Rattle.early_tree.proofs.Nodes.{next_node, walked_on, refused_at}
 use Rattle.early_tree.proofs.walk.walk_through.Goals as goal

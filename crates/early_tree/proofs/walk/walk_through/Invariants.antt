@@ -1,5 +1,5 @@
 use Rattle.std.proofs.Common.{◌≡◌, ◌+◌, ◌≤◌, length, drop}
-use Rattle.html_types.specs.Values.{nodes_of}
+use Rattle.html_read.specs.Values.{nodes_of}
 use Rattle.early_tree.specs.Walking.{walked, start, walk_of}
 use Rattle.early_tree.proofs.walk.walk_through.Given as goal
 
