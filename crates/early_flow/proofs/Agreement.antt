@@ -1,5 +1,5 @@
 -- The flow of an early document and what it comes to are one, and so are their pages.
-use Rattle.std.proofs.Common.{◌≡◌, refl, sym, ap, ◌∙◌, arith, Bool, true, false, cond, append-nil, List, [], ◌∷◌, ◌++◌, map, ℤ, pos, ◌+ℤ◌, ◌-ℤ◌, ◌≤ℤ◌, None, unwrap_or}
+use Rattle.std.proofs.Common.{ℕ, ◌≡◌, refl, sym, ap, ◌∙◌, arith, Bool, true, false, cond, append-nil, List, [], ◌∷◌, ◌++◌, map, ℤ, pos, ◌+ℤ◌, ◌-ℤ◌, ◌≤ℤ◌, None, unwrap_or}
 use Rattle.std.specs.Prelude.{fold}
 use Rattle.std.specs.List.{list_all}
 use Rattle.std.specs.Int.{int_max}
@@ -16,7 +16,7 @@ use Rattle.wm_modes.specs.Map.{map_of, inside}
 use Rattle.wm_modes.specs.Sides.{used_direction}
 use Rattle.wm_modes.proofs.AddUp.{add_up}
 use Rattle.wm_modes.proofs.MapLaws.{rect_is, flow_is}
-use Rattle.html_read.specs.Boxes as early
+use Rattle.early_tree.specs.Boxes as early
 use Rattle.margin_collapse.specs.Margins.{greatest, least, collapsed}
 use Rattle.early_flow.specs.Boxes.{BoxStyle}
 use Rattle.block_flow.specs.Children.{Child}
@@ -213,9 +213,9 @@ initial_direction SidewaysRl = refl
 initial_direction SidewaysLr = refl
 
 -- the boxes of a page are the absolute rectangles, each mapped in the page
-pub page_boxes : (view : View) (mode : WritingMode) (boxes : early.Boxes)
-    → (page_of view mode boxes).boxes ≡ map (map_of mode Ltr (page_area mode view)) (all_rects (fixed (pos 800)) view.inline boxes)
-page_boxes view mode boxes =
+pub page_boxes : (view : View) (mode : WritingMode) (nodes : List ℕ) (boxes : early.Boxes)
+    → (page_of view mode nodes boxes).boxes ≡ map (map_of mode Ltr (page_area mode view)) (all_rects (fixed (pos 800)) view.inline boxes)
+page_boxes view mode nodes boxes =
     let page = page_area mode view in
     let fragments = flow (document (margin_all (fixed (pos 800))) boxes) view.inline (begin false) in
     let whole : FlowRect = record { i = pos 0; b = pos 0; inline = view.inline; block = view.block } in
@@ -225,11 +225,13 @@ page_boxes view mode boxes =
     ∙ ap (map (map_of mode Ltr page)) (document_rects (fixed (pos 800)) view.inline boxes (omega (arith, ints)))
 
 -- a page is that of the document where its rectangle and its boxes are
-pub page_is : (view : View) (mode : WritingMode) (divs : early.Boxes) (page : Rect) (rects_there : List Rect)
+pub page_is : (view : View) (mode : WritingMode) (nodes : List ℕ) (divs : early.Boxes) (page : Rect) (nodes_there : List ℕ) (rects_there : List Rect)
     → page ≡ page_area mode view
+    → nodes_there ≡ nodes
     → rects_there ≡ map (map_of mode Ltr (page_area mode view)) (all_rects (fixed (pos 800)) view.inline divs)
-    → record { mode = mode; direction = Ltr; page = page; boxes = rects_there } ≡ page_of view mode divs
-page_is view mode divs page rects_there is boxes_are =
-    ap (λ (area : Rect). let p : Placed = record { mode = mode; direction = Ltr; page = area; boxes = rects_there } in p) is
-    ∙ ap (λ (rs : List Rect). let p : Placed = record { mode = mode; direction = Ltr; page = page_area mode view; boxes = rs } in p) (boxes_are ∙ sym (page_boxes view mode divs))
-    ∙ ap (λ (dir : Direction). let p : Placed = record { mode = mode; direction = dir; page = page_area mode view; boxes = (page_of view mode divs).boxes } in p) (sym (initial_direction mode))
+    → record { mode = mode; direction = Ltr; page = page; nodes = nodes_there; boxes = rects_there } ≡ page_of view mode nodes divs
+page_is view mode nodes divs page nodes_there rects_there is nodes_are boxes_are =
+    ap (λ (area : Rect). let p : Placed = record { mode = mode; direction = Ltr; page = area; nodes = nodes_there; boxes = rects_there } in p) is
+    ∙ ap (λ (ns : List ℕ). let p : Placed = record { mode = mode; direction = Ltr; page = page_area mode view; nodes = ns; boxes = rects_there } in p) nodes_are
+    ∙ ap (λ (rs : List Rect). let p : Placed = record { mode = mode; direction = Ltr; page = page_area mode view; nodes = nodes; boxes = rs } in p) (boxes_are ∙ sym (page_boxes view mode nodes divs))
+    ∙ ap (λ (dir : Direction). let p : Placed = record { mode = mode; direction = dir; page = page_area mode view; nodes = nodes; boxes = (page_of view mode nodes divs).boxes } in p) (sym (initial_direction mode))

@@ -7,7 +7,7 @@ use Rattle.wm_units.specs.declared.view.View.{View}
 use Rattle.wm_modes.specs.declared.mode.WritingMode.{WritingMode}
 use Rattle.wm_modes.specs.declared.mode.WritingMode.TheVariants.{HorizontalTb, VerticalRl, VerticalLr, SidewaysRl, SidewaysLr}
 use Rattle.wm_modes.specs.Near.{IsNear, IsNearFlow}
-use Rattle.html_read.specs.Boxes.{Boxes, none, box, count}
+use Rattle.early_tree.specs.Boxes.{Boxes, none, box, count}
 use Rattle.early_flow.specs.Divs.{used_size, total, all_through, rects, root_block, all_rects}
 use Rattle.early_flow.specs.Page.{IsView, page_area}
 

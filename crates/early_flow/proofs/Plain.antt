@@ -5,7 +5,7 @@ use Rattle.std.specs.List.{list_all}
 use Rattle.std.specs.Int.{int_max}
 use Rattle.std.proofs.lemmas.Int.{ints, clamps}
 use Rattle.wm_units.specs.Numbers.{cap_size}
-use Rattle.html_read.specs.Boxes as early
+use Rattle.early_tree.specs.Boxes as early
 use Rattle.margin_collapse.specs.Margins.{greatest, least, collapsed}
 use Rattle.block_flow.specs.Children.{Child}
 use Rattle.block_flow.specs.Stacking.{Progress, begin, place_in, after, handed}

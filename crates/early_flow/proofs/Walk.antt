@@ -5,8 +5,8 @@ use Rattle.std.proofs.Math.Dec.{eqb}
 use Rattle.std.proofs.lemmas.Int.{ints}
 use Rattle.wm_units.specs.Numbers.{cap_size}
 use Rattle.wm_modes.specs.declared.rects.FlowRect.{FlowRect}
-use Rattle.html_read.specs.Boxes.{Boxes, none, box, count, in_order}
-use Rattle.html_read.specs.declared.early.EarlyBox.{EarlyBox}
+use Rattle.early_tree.specs.Boxes.{Boxes, none, box, count, in_order}
+use Rattle.early_tree.specs.declared.boxes.EarlyBox.{EarlyBox}
 use Rattle.early_flow.specs.Flow.{is_zero, is_auto_or_zero}
 use Rattle.early_flow.specs.Divs.{used_size, total, all_through, rects, root_block, all_rects}
 use Rattle.early_flow.specs.Document.{divs}

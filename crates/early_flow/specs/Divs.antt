@@ -3,7 +3,7 @@
 use Rattle.std.specs.Prelude.{Bool, true, ◌&&◌, List, [], ◌∷◌, ◌++◌, ℤ, pos, ◌+ℤ◌, ◌-ℤ◌, Option, option_map, unwrap_or, if◌then◌else◌}
 use Rattle.wm_units.specs.Numbers.{cap_size}
 use Rattle.wm_modes.specs.declared.rects.FlowRect.{FlowRect}
-use Rattle.html_read.specs.Boxes.{Boxes, none, box}
+use Rattle.early_tree.specs.Boxes.{Boxes, none, box}
 use Rattle.early_flow.specs.Flow.{is_auto_or_zero}
 
 -- a size that is declared, or else this one

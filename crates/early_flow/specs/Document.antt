@@ -1,7 +1,7 @@
 -- The boxes of an early document.
 use Rattle.std.specs.Prelude.{◌≡◌, ◌+◌, ◌≤◌, true, false, List, ℤ, pos, Option, None}
-use Rattle.html_read.specs.Boxes as early
-use Rattle.html_read.specs.declared.early.EarlyBox.{EarlyBox}
+use Rattle.early_tree.specs.Boxes as early
+use Rattle.early_tree.specs.declared.boxes.EarlyBox.{EarlyBox}
 use Rattle.early_flow.specs.Boxes.{Margins, BoxStyle, FlowBoxes, none, box}
 
 -- the same margin on all sides

@@ -1,8 +1,8 @@
 -- Which boxes of a list in document order come next in a container, and what laying them out pushes.
 use Rattle.std.specs.Prelude.{◌≡◌, ℕ, ◌+◌, ◌-◌, ◌*◌, ◌^◌, ◌<◌, ◌≤◌, List, [], ◌∷◌, ◌++◌, length, drop, ℤ, pos, ◌+ℤ◌, ◌≤ℤ◌, Option, Some, None, ◌==◌, if◌then◌else◌}
 use Rattle.wm_modes.specs.declared.rects.FlowRect.{FlowRect}
-use Rattle.html_read.specs.Boxes.{Boxes, none, box, in_order}
-use Rattle.html_read.specs.declared.early.EarlyBox.{EarlyBox}
+use Rattle.early_tree.specs.Boxes.{Boxes, none, box, in_order}
+use Rattle.early_tree.specs.declared.boxes.EarlyBox.{EarlyBox}
 use Rattle.early_flow.specs.Divs.{total, all_through, rects}
 use Rattle.early_flow.specs.declared.flow.Cursor.{Cursor}
 use Rattle.early_flow.specs.declared.flow.Stacked.{Stacked}

@@ -1,6 +1,6 @@
 -- The boxes on the page: each stands by the mode and used direction of its containing block.
 -- CSS Writing Modes 4, 6.4, 7.4 and 8.1.
-use Rattle.std.specs.Prelude.{List, [], ◌∷◌, ◌++◌, false, ◌^◌, pos, ◌≤ℤ◌}
+use Rattle.std.specs.Prelude.{ℕ, List, [], ◌∷◌, ◌++◌, false, ◌^◌, pos, ◌≤ℤ◌}
 use Rattle.wm_units.specs.Numbers.{fixed}
 use Rattle.wm_units.specs.declared.view.View.{View}
 use Rattle.wm_modes.specs.declared.mode.WritingMode.{WritingMode}
@@ -10,7 +10,7 @@ use Rattle.wm_modes.specs.declared.mode.Direction.TheVariants.{Ltr}
 use Rattle.wm_modes.specs.declared.rects.Rect.{Rect}
 use Rattle.wm_modes.specs.Map.{map_of}
 use Rattle.wm_modes.specs.Sides.{used_direction}
-use Rattle.html_read.specs.Boxes.{Boxes}
+use Rattle.early_tree.specs.Boxes.{Boxes}
 use Rattle.early_flow.specs.declared.placed.Placed.{Placed}
 use Rattle.early_flow.specs.Boxes.{Margins}
 use Rattle.early_flow.specs.Document.{document, margin_all}
@@ -39,18 +39,19 @@ page_area VerticalLr view = record { x = pos 0; y = pos 0; w = view.block; h = v
 page_area SidewaysRl view = record { x = pos 0; y = pos 0; w = view.block; h = view.inline }
 page_area SidewaysLr view = record { x = pos 0; y = pos 0; w = view.block; h = view.inline }
 
--- an early document with these margins on body, laid out in the view and placed on its page; its text is mixed and its direction ltr, the initial values
-abbrev pub page_with : Margins → View → WritingMode → Boxes → Placed
-page_with margins view mode boxes =
+-- an early document with these margins on body and these numbers of its nodes, laid out in the view and placed on its page; its text is mixed and its direction ltr, the initial values
+abbrev pub page_with : Margins → View → WritingMode → List ℕ → Boxes → Placed
+page_with margins view mode nodes boxes =
     let direction = used_direction mode false Ltr in
     let page = page_area mode view in
     record {
       mode = mode;
       direction = direction;
       page = page;
+      nodes = nodes;
       boxes = placed mode direction page (flow (document margins boxes) view.inline (begin false));
     }
 
 -- the margins of body are 8 px on all sides (CSS 2, appendix D)
-abbrev pub page_of : View → WritingMode → Boxes → Placed
+abbrev pub page_of : View → WritingMode → List ℕ → Boxes → Placed
 page_of = page_with (margin_all (fixed (pos 800)))

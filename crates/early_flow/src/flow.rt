@@ -2,14 +2,14 @@
 //! that stand in one another add their places up, so each is measured from the view at once.
 
 ghost use Rattle.std.specs.Prelude.{◌≡◌, ◌+◌, ◌-◌, ◌*◌, ◌^◌, ◌<◌, ◌≤◌, ◌++◌, ◌∷◌, List, length, drop, IfOk, OnOk, pos, ◌≤ℤ◌, ◌+ℤ◌, ◌-ℤ◌, ◌&&◌, if◌then◌else◌, unsigned_abs};
-ghost use Rattle.html_read.specs.Boxes.{Boxes, in_order};
-ghost use Rattle.html_read.specs.declared.early.EarlyBox.{EarlyBox};
+ghost use Rattle.early_tree.specs.Boxes.{Boxes, in_order};
+ghost use Rattle.early_tree.specs.declared.boxes.EarlyBox.{EarlyBox};
 ghost use Rattle.wm_units.specs.Numbers as numbers;
 ghost use Rattle.early_flow.specs.Divs.{used_size, all_rects};
 ghost use Rattle.early_flow.specs.Flow.{is_zero};
 ghost use Rattle.early_flow.specs.Next.{next_in, IsBelow, IsInside, IsWithin, Grows, LaysNext, LaysOne};
 
-use html_read::EarlyBox;
+use early_tree::EarlyBox;
 use std::alloc::{AllocError, Global};
 use wm_modes::FlowRect;
 use wm_units::{cap_size, fixed};

@@ -3,13 +3,13 @@
 ghost use Rattle.std.specs.Prelude.{◌≡◌, ◌^◌, ◌≤ℤ◌, All, IfOk, map, pos};
 ghost use Rattle.wm_modes.specs.Map.{map_of};
 ghost use Rattle.wm_modes.specs.Near.{IsNear, IsNearFlow};
-ghost use Rattle.html_read.specs.Boxes.{Boxes, in_order};
+ghost use Rattle.early_tree.specs.Boxes.{Boxes, in_order};
 ghost use Rattle.early_flow.specs.Document.{AreEarlyBoxes};
 ghost use Rattle.early_flow.specs.Page.{IsView, page_area, page_of};
 
 use crate::flow::flow_rects;
 use crate::placed::{Placed, Rects};
-use html_read::Early;
+use early_tree::Early;
 use std::alloc::{AllocError, Global};
 use wm_modes::{Direction, FlowRect, Rect, WritingMode, to_physical};
 use wm_units::View;
@@ -19,7 +19,7 @@ use wm_units::View;
 pub fn lay_out(alloc: Global, view: View, early: &Early) -> Result<Placed, AllocError>
     requires view { IsView view }
     requires boxes { AreEarlyBoxes early.now.boxes }
-    ensures { IfOk result (λ placed. (divs : Boxes) → in_order divs 1 2 ≡ early.now.boxes → placed ≡ page_of view early.now.mode divs) }
+    ensures { IfOk result (λ placed. (divs : Boxes) → in_order divs 1 2 ≡ early.now.boxes → placed ≡ page_of view early.now.mode early.now.nodes divs) }
 {
     let flow = flow_rects(alloc, view.inline, early.boxes.as_slice())?;
     let page = page_area(early.mode, view);
@@ -28,6 +28,7 @@ pub fn lay_out(alloc: Global, view: View, early: &Early) -> Result<Placed, Alloc
         mode: early.mode,
         direction: Direction::Ltr,
         page,
+        nodes: early.nodes.copied(alloc)?,
         boxes: Rects::new(boxes),
     })
 }

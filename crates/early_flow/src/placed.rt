@@ -1,5 +1,6 @@
 ghost use Rattle.std.specs.Prelude.{◌≡◌, List};
 
+use early_tree::NodeNumbers;
 use std::marker::Model;
 use wm_modes::{Direction, Rect, WritingMode};
 
@@ -33,12 +34,13 @@ impl Rects {
     }
 }
 
-/// A page: the mode and used direction of the root, the page's own rectangle, and the border boxes of the
-/// nodes 0, 1, 2 and so on. All lengths are in units of 1/64 px.
+/// A page: the mode and used direction of the root, the page's own rectangle, and the border boxes in tree
+/// order, each with the number of its node. All lengths are in units of 1/64 px.
 #[derive(Drop)]
 pub struct Placed {
     pub mode: WritingMode,
     pub direction: Direction,
     pub page: Rect,
+    pub nodes: NodeNumbers,
     pub boxes: Rects,
 }

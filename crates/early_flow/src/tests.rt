@@ -1,5 +1,6 @@
 use super::*;
-use html_read::read_early;
+use early_tree::{Early, early_of};
+use html_read::read_document;
 use std::alloc::Global;
 use std::test::*;
 use wm_modes::{Direction, Rect, WritingMode};
@@ -13,6 +14,11 @@ struct Case {
     mode: WritingMode,
     size: (i64, i64),
     boxes: &'static [(i64, i64, i64, i64)],
+}
+
+/// The early document of these bytes.
+fn read_early(alloc: Global, bytes: &[u8]) -> Result<Early, Fail> {
+    Ok(early_of(alloc, &read_document(alloc, bytes)?)?)
 }
 
 /// What these documents come to was worked out by another program.

@@ -1,6 +1,6 @@
 -- The text of a listing: a line for the page, a line for each box in tree order, a last line. Numbers are
 -- decimal, one space stands between words, and each line ends with LF (docs/PROFILE/listing.md).
-use Rattle.std.specs.Prelude.{ℕ, ◌+◌, List, [], ◌∷◌, ◌++◌, ℤ, codes, decimal}
+use Rattle.std.specs.Prelude.{ℕ, List, [], ◌∷◌, ◌++◌, ℤ, codes, decimal}
 use Rattle.std.specs.Fmt.{signed_decimal}
 use Rattle.wm_modes.specs.Words.{mode_word, direction_word}
 use Rattle.wm_modes.specs.declared.rects.Rect.{Rect}
@@ -26,13 +26,14 @@ box_start node = codes "box " ++ decimal node ++ codes " 0"
 unfoldable pub box_line : (node : ℕ) → Rect → List ℕ
 box_line node rect = box_start node ++ word rect.x ++ word rect.y ++ word rect.w ++ word rect.h ++ codes "\n"
 
--- the lines of boxes whose first is that of this node
-abbrev pub box_lines : (node : ℕ) → List Rect → List ℕ
-box_lines node [] = []
-box_lines node (rect ∷ rects) = box_line node rect ++ box_lines (node + 1) rects
+-- the lines of boxes, each with the number of its node
+abbrev pub box_lines : (nodes : List ℕ) → List Rect → List ℕ
+box_lines [] rects = []
+box_lines (node ∷ nodes) [] = []
+box_lines (node ∷ nodes) (rect ∷ rects) = box_line node rect ++ box_lines nodes rects
 
 unfoldable pub end_line : List ℕ
 end_line = codes "end\n"
 
 unfoldable pub listing : Placed → List ℕ
-listing placed = page_line placed ++ box_lines 0 placed.boxes ++ end_line
+listing placed = page_line placed ++ box_lines placed.nodes placed.boxes ++ end_line

@@ -20,19 +20,22 @@ pub fn write_listing<K: Sink>(placed: &Placed, sink: &mut K) -> Result<(), Write
     ensures fault { IsErrOf result WriteError.WriteFault → Rose (K.faults sink.old) (K.faults sink.new) }
 {
     write_all_of(sink, page_line(placed).as_bytes())?;
-    write_boxes(placed.boxes.as_slice(), sink)?;
+    write_boxes(placed.nodes.as_slice(), placed.boxes.as_slice(), sink)?;
     write_all_of(sink, b"end\n")
 }
 
-// The lines of the boxes, of which the first is node 0.
-fn write_boxes<K: Sink>(rects: &[Rect], sink: &mut K) -> Result<(), WriteError>
-    ensures front { AppendsFront (K.held sink.old) (K.held sink.new) (box_lines 0 rects.now) }
-    ensures whole { OnOk result (Appends (K.held sink.old) (K.held sink.new) (box_lines 0 rects.now)) }
+// The lines of the boxes, each with the number of its node.
+fn write_boxes<K: Sink>(nodes: &[usize], rects: &[Rect], sink: &mut K) -> Result<(), WriteError>
+    ensures front { AppendsFront (K.held sink.old) (K.held sink.new) (box_lines nodes.now rects.now) }
+    ensures whole { OnOk result (Appends (K.held sink.old) (K.held sink.new) (box_lines nodes.now rects.now)) }
     ensures later { K.faults sink.old ≤ K.faults sink.new }
     ensures fault { IsErrOf result WriteError.WriteFault → Rose (K.faults sink.old) (K.faults sink.new) }
 {
-    for (node, rect) in rects.iter().enumerate() {
-        write_all_of(sink, box_line(node, rect).as_bytes())?;
+    for (place, rect) in rects.iter().enumerate() {
+        let Some(node) = nodes.get(place) else {
+            return Ok(());
+        };
+        write_all_of(sink, box_line(*node, rect).as_bytes())?;
     }
     Ok(())
 }

@@ -1,14 +1,15 @@
 use super::*;
 use early_flow::{Placed, Rects};
+use early_tree::NodeNumbers;
 use io_edge::{MemorySink, SteadySink, WriteError};
 use std::alloc::Global;
 use std::test::*;
 use wm_modes::{Direction, Rect, WritingMode};
 
 const LISTING: &[u8] =
-    b"page 3200 64 sideways-lr ltr\nbox 0 0 0 0 1408 64\nbox 1 0 512 -448 384 0\nbox 2 0 512 -448 192 0\nbox 3 0 704 -576 192 128\nend\n";
+    b"page 3200 64 sideways-lr ltr\nbox 0 0 0 0 1408 64\nbox 1 0 512 -448 384 0\nbox 3 0 512 -448 192 0\nbox 5 0 704 -576 192 128\nend\n";
 
-/// A page of four boxes.
+/// A page of four boxes. Texts stand between the last ones, with the numbers 2 and 4.
 fn page(alloc: Global) -> Result<Placed, Fail> {
     let boxes = [
         (0, 0, 1408, 64),
@@ -25,6 +26,7 @@ fn page(alloc: Global) -> Result<Placed, Fail> {
             h: *h,
         })
         .collect(alloc)?;
+    let nodes: Vec<usize> = [0, 1, 3, 5].iter().copied().collect(alloc)?;
     Ok(Placed {
         mode: WritingMode::SidewaysLr,
         direction: Direction::Ltr,
@@ -34,6 +36,7 @@ fn page(alloc: Global) -> Result<Placed, Fail> {
             w: 3200,
             h: 64,
         },
+        nodes: NodeNumbers::from_vec(nodes),
         boxes: Rects::new(boxes),
     })
 }

@@ -1,6 +1,6 @@
 -- What stands after each step, from what the steps below it give.
 use Rattle.std.proofs.Common.{◌≡◌, refl, sym, ap, ◌∙◌, subst, arith, inl, inr, ℕ, ◌<◌, ◌≤◌, List, ◌++◌, append-nil, length, length-append, Option, Some, None}
-use Rattle.std.specs.Prelude.{codes}
+use Rattle.std.specs.Prelude.{codes, ⊤}
 use Rattle.std.specs.Fmt.{digits}
 use Rattle.std.specs.Io.KnownBytes.{Appends, Consumes, IsAtEnd}
 use Rattle.std.proofs.KnownBytes.{Keeps-refl}
@@ -8,13 +8,18 @@ use Rattle.io_edge.specs.Streams.{AppendsFront}
 use Rattle.io_edge.proofs.Growth.{front_of_kept}
 use Rattle.wm_units.specs.declared.view.View.{View}
 use Rattle.wm_modes.specs.declared.mode.WritingMode.{WritingMode}
-use Rattle.html_read.specs.Boxes.{Boxes, in_order}
-use Rattle.html_read.specs.Grammar.{IsEarly}
-use Rattle.html_read.specs.declared.early.EarlyBox.{EarlyBox}
+use Rattle.reading.specs.Readers.{Read, ReadOr}
+use Rattle.html_read.specs.declared.error.Refusal.{Refusal}
+use Rattle.html_read.specs.Faults.{Fault, place_in}
+use Rattle.html_read.specs.Reading as reading
+use Rattle.html_read.specs.Values.{Whole}
+use Rattle.early_tree.specs.Boxes.{Boxes, in_order}
+use Rattle.early_tree.specs.Early.{IsEarly}
+use Rattle.early_tree.specs.declared.boxes.EarlyBox.{EarlyBox}
 use Rattle.early_flow.specs.Page.{page_of}
 use Rattle.listing.specs.Listing.{listing}
 use Rattle.wm_run.specs.Command.{IsCommand, IsNoCommand}
-use Rattle.wm_run.specs.Job.{usage_line, refusal, longest_input, IsDueOfDocument, IsDueOfInput, IsDue, Stands, IsBroken, Gives}
+use Rattle.wm_run.specs.Job.{usage_line, refusal, longest_input, kind_word, IsDueOfFault, IsDueOfWhole, IsDueOfTail, IsDueOfRead, IsDueOfDocument, IsDueOfInput, IsDue, Stands, IsBroken, Gives}
 use Rattle.wm_run.specs.declared.status.Status.{Status}
 use Rattle.wm_run.specs.declared.status.Status.TheVariants.{Done, Usage, Refused, Memory, ReadFault, WriteFault}
 
@@ -64,47 +69,72 @@ stands_same D E old new Memory there back s = λ status due e. s status due (bac
 
 -- ---- a document
 
+-- an early document, and no other
+pub record IsOne (document : Whole) (mode : WritingMode) (nodes : List ℕ) (list : List EarlyBox) (boxes : Boxes) : Type 0 where
+  pub early : IsEarly document mode boxes nodes
+  pub is : list ≡ in_order boxes 1 2
+  pub only : (m : WritingMode) (bs : Boxes) (ns : List ℕ) → IsEarly document m bs ns → (m ≡ mode) × (in_order bs 1 2 ≡ list) × (ns ≡ nodes)
+
 -- where writing broke off, a front of what is due was written
-pub front_of_due : (view : View) (input : List ℕ) (mode : WritingMode) (list : List EarlyBox) (boxes : Boxes) (old new : Option (List ℕ)) (result : Status)
-    → IsEarly input mode boxes → list ≡ in_order boxes 1 2
-    → ((m : WritingMode) (bs : Boxes) → IsEarly input m bs → (m ≡ mode) × (in_order bs 1 2 ≡ list))
-    → ((bs : Boxes) → in_order bs 1 2 ≡ list → Gives Done (listing (page_of view mode bs)) old new result)
+pub front_of_due : (view : View) (document : Whole) (mode : WritingMode) (nodes : List ℕ) (list : List EarlyBox) (boxes : Boxes) (old new : Option (List ℕ)) (result : Status)
+    → IsOne document mode nodes list boxes
+    → ((bs : Boxes) → in_order bs 1 2 ≡ list → Gives Done (listing (page_of view mode nodes bs)) old new result)
     → (result ≡ Done → ⊥)
-    → (status : Status) (due : List ℕ) → IsDueOfDocument view input status due → AppendsFront old new due
-front_of_due view input mode list boxes old new result early is only gives broken Done due d =
-    let one = only d.0 d.1 d.2 in
-    let same : due ≡ listing (page_of view mode d.1) = d.3 ∙ ap (λ (m : WritingMode). listing (page_of view m d.1)) one.0 in
-    subst (λ (l : List ℕ). AppendsFront old new l) (sym same) (broken_answer Done (listing (page_of view mode d.1)) old new result (gives d.1 one.1) broken)
-front_of_due view input mode list boxes old new result early is only gives broken Refused due d = absurd (d.0 mode boxes early)
-front_of_due view input mode list boxes old new result early is only gives broken Usage due d = absurd d
-front_of_due view input mode list boxes old new result early is only gives broken Memory due d = absurd d
-front_of_due view input mode list boxes old new result early is only gives broken ReadFault due d = absurd d
-front_of_due view input mode list boxes old new result early is only gives broken WriteFault due d = absurd d
+    → (status : Status) (due : List ℕ) → IsDueOfWhole view document status due → AppendsFront old new due
+front_of_due view document mode nodes list boxes old new result one gives broken Done due d =
+    let same = one.only d.0 d.1 d.2 d.3 in
+    let is : due ≡ listing (page_of view mode nodes d.1) =
+    d.4 ∙ ap (λ (m : WritingMode). listing (page_of view m d.2 d.1)) same.0 ∙ ap (λ (ns : List ℕ). listing (page_of view mode ns d.1)) same.2 in
+    subst (λ (l : List ℕ). AppendsFront old new l) (sym is) (broken_answer Done (listing (page_of view mode nodes d.1)) old new result (gives d.1 same.1) broken)
+front_of_due view document mode nodes list boxes old new result one gives broken Refused due d = absurd (d.0 mode boxes nodes one.early)
+front_of_due view document mode nodes list boxes old new result one gives broken Usage due d = absurd d
+front_of_due view document mode nodes list boxes old new result one gives broken Memory due d = absurd d
+front_of_due view document mode nodes list boxes old new result one gives broken ReadFault due d = absurd d
+front_of_due view document mode nodes list boxes old new result one gives broken WriteFault due d = absurd d
 
--- a document that is read gives its listing, whichever way it is read
-pub stands_document : (view : View) (input : List ℕ) (mode : WritingMode) (list : List EarlyBox) (boxes : Boxes) (old new : Option (List ℕ)) (result : Status)
-    → IsEarly input mode boxes → list ≡ in_order boxes 1 2
-    → ((m : WritingMode) (bs : Boxes) → IsEarly input m bs → (m ≡ mode) × (in_order bs 1 2 ≡ list))
-    → ((bs : Boxes) → in_order bs 1 2 ≡ list → Gives Done (listing (page_of view mode bs)) old new result)
-    → Stands (IsDueOfDocument view input) old new result
-stands_document view input mode list boxes old new Done early is only gives =
-    (listing (page_of view mode boxes), (mode, boxes, early, refl), (whole_answer Done (listing (page_of view mode boxes)) old new Done (gives boxes (sym is)) (λ b. b)).1)
-stands_document view input mode list boxes old new WriteFault early is only gives = front_of_due view input mode list boxes old new WriteFault early is only gives (λ e. absurd (cc))
-stands_document view input mode list boxes old new Memory early is only gives = front_of_due view input mode list boxes old new Memory early is only gives (λ e. absurd (cc))
-stands_document view input mode list boxes old new Usage early is only gives = absurd (let e = (whole_answer Done _ old new Usage (gives boxes (sym is)) (λ b. b)).0 in cc)
-stands_document view input mode list boxes old new Refused early is only gives = absurd (let e = (whole_answer Done _ old new Refused (gives boxes (sym is)) (λ b. b)).0 in cc)
-stands_document view input mode list boxes old new ReadFault early is only gives = absurd (let e = (whole_answer Done _ old new ReadFault (gives boxes (sym is)) (λ b. b)).0 in cc)
+-- an early document gives its listing
+pub stands_whole : (view : View) (document : Whole) (mode : WritingMode) (nodes : List ℕ) (list : List EarlyBox) (boxes : Boxes) (old new : Option (List ℕ)) (result : Status)
+    → IsOne document mode nodes list boxes
+    → ((bs : Boxes) → in_order bs 1 2 ≡ list → Gives Done (listing (page_of view mode nodes bs)) old new result)
+    → Stands (IsDueOfWhole view document) old new result
+stands_whole view document mode nodes list boxes old new Done one gives =
+    (listing (page_of view mode nodes boxes), (mode, boxes, nodes, one.early, refl), (whole_answer Done (listing (page_of view mode nodes boxes)) old new Done (gives boxes (sym one.is)) (λ b. b)).1)
+stands_whole view document mode nodes list boxes old new WriteFault one gives = front_of_due view document mode nodes list boxes old new WriteFault one gives (λ e. absurd (cc))
+stands_whole view document mode nodes list boxes old new Memory one gives = front_of_due view document mode nodes list boxes old new Memory one gives (λ e. absurd (cc))
+stands_whole view document mode nodes list boxes old new Usage one gives = absurd (let e = (whole_answer Done _ old new Usage (gives boxes (sym one.is)) (λ b. b)).0 in cc)
+stands_whole view document mode nodes list boxes old new Refused one gives = absurd (let e = (whole_answer Done _ old new Refused (gives boxes (sym one.is)) (λ b. b)).0 in cc)
+stands_whole view document mode nodes list boxes old new ReadFault one gives = absurd (let e = (whole_answer Done _ old new ReadFault (gives boxes (sym one.is)) (λ b. b)).0 in cc)
 
--- bytes that are no document are refused, and nothing else is due for them
-pub only_not_yet : (view : View) (input : List ℕ) → ((m : WritingMode) (bs : Boxes) → IsEarly input m bs → ⊥) → IsOnly (IsDueOfDocument view input) Refused (refusal (codes "NotYet") 0)
-only_not_yet view input never = record { is = (never, refl); only = only } where
-  only : (s : Status) (d : List ℕ) → IsDueOfDocument view input s d → d ≡ refusal (codes "NotYet") 0
-  only Done d q = absurd (never q.0 q.1 q.2)
+-- a document that is no early one is refused, and nothing else is due for it
+pub only_not_yet : (view : View) (document : Whole) → ((m : WritingMode) (bs : Boxes) (ns : List ℕ) → IsEarly document m bs ns → ⊥) → IsOnly (IsDueOfWhole view document) Refused (refusal (codes "NotYet") 0)
+only_not_yet view document never = record { is = (never, refl); only = only } where
+  only : (s : Status) (d : List ℕ) → IsDueOfWhole view document s d → d ≡ refusal (codes "NotYet") 0
+  only Done d q = absurd (never q.0 q.1 q.2 q.3)
   only Refused d q = q.1
   only Usage d q = absurd q
   only Memory d q = absurd q
   only ReadFault d q = absurd q
   only WriteFault d q = absurd q
+
+-- for a fault its line alone is due
+pub only_fault : (size : ℕ) (fault : Fault) → IsOnly (IsDueOfFault size fault) Refused (refusal (kind_word fault.0) (place_in size fault.1))
+only_fault size fault = record { is = (refl, refl); only = λ s d q. q.1 }
+
+-- a fault is refused by its line
+pub stands_fault : (size : ℕ) (kind : Refusal) (left : List ℕ) (place : ℕ) (old new : Option (List ℕ)) (result : Status) → place ≡ place_in size left
+    → Gives Refused (refusal (kind_word kind) place) old new result → Stands (IsDueOfFault size (kind, left)) old new result
+stands_fault size kind left place old new result is gives =
+    stands_refused (IsDueOfFault size (kind, left)) (refusal (kind_word kind) (place_in size left)) old new result (only_fault size (kind, left))
+    (subst (λ (p : ℕ). Gives Refused (refusal (kind_word kind) p) old new result) is gives)
+
+-- what was read behind a document, and of an input
+pub stands_tail : (view : View) (size : ℕ) (document : Whole) (behind read : Read ⊤) (old new : Option (List ℕ)) (result : Status) → read ≡ behind
+    → Stands (IsDueOfTail view size document behind) old new result → Stands (IsDueOfTail view size document read) old new result
+stands_tail view size document behind read old new result e s = subst (λ (r : Read ⊤). Stands (IsDueOfTail view size document r) old new result) (sym e) s
+
+pub stands_read : (view : View) (bytes : List ℕ) (read : ReadOr Fault Whole) (old new : Option (List ℕ)) (result : Status) → reading.input bytes ≡ read
+    → Stands (IsDueOfRead view bytes read) old new result → Stands (IsDueOfDocument view bytes) old new result
+stands_read view bytes read old new result e s = subst (λ (r : ReadOr Fault Whole). Stands (IsDueOfRead view bytes r) old new result) (sym e) s
 
 -- ---- an input
 

@@ -1,13 +1,19 @@
 -- The job: which bytes are due for words and an input, with which status, and what stands after a run.
-use Rattle.std.specs.Prelude.{◌≡◌, ◌⊎◌, ℕ, ◌<◌, ◌≤◌, List, ◌++◌, length, codes, decimal, Option, Result, Ok, Err}
+use Rattle.std.specs.Prelude.{◌≡◌, ◌⊎◌, ℕ, ◌<◌, ◌≤◌, List, ◌++◌, length, drop, codes, decimal, false, Option, Result, Ok, Err, ⊤}
 use Rattle.std.specs.Io.KnownBytes.{Appends, Keeps}
 use Rattle.io_edge.specs.Streams.{AppendsFront}
 use Rattle.io_edge.specs.declared.error.WriteError.{WriteError}
 use Rattle.io_edge.specs.declared.error.WriteError.TheVariants as write_errors
 use Rattle.wm_units.specs.declared.view.View.{View}
 use Rattle.wm_modes.specs.declared.mode.WritingMode.{WritingMode}
-use Rattle.html_read.specs.Boxes.{Boxes}
-use Rattle.html_read.specs.Grammar.{IsEarly}
+use Rattle.reading.specs.Readers.{Read, ReadOr}
+use Rattle.html_read.specs.declared.error.Refusal.{Refusal}
+use Rattle.html_read.specs.declared.error.Refusal.TheVariants as kinds
+use Rattle.html_read.specs.Faults.{Fault, syntax, place_in}
+use Rattle.html_read.specs.Reading as reading
+use Rattle.html_read.specs.Values.{Whole}
+use Rattle.early_tree.specs.Boxes.{Boxes}
+use Rattle.early_tree.specs.Early.{IsEarly}
 use Rattle.early_flow.specs.Page.{page_of}
 use Rattle.listing.specs.Listing.{listing}
 use Rattle.wm_run.specs.Command.{IsCommand, IsNoCommand}
@@ -26,14 +32,42 @@ refusal kind place = codes "refused " ++ kind ++ codes " " ++ decimal place ++ c
 abbrev pub longest_input : ℕ
 longest_input = 1048576
 
--- for an input that isn't too long: the listing of its page where it is an early document, else a refusal
+-- the word of what is wrong with a document
+unfoldable pub kind_word : Refusal → List ℕ
+kind_word kinds.Utf8 = codes "Utf8"
+kind_word kinds.Character = codes "Character"
+kind_word kinds.Syntax = codes "Syntax"
+kind_word kinds.UnknownTag = codes "UnknownTag"
+kind_word kinds.UnknownAttribute = codes "UnknownAttribute"
+kind_word kinds.Nesting = codes "Nesting"
+kind_word kinds.Unsupported = codes "Unsupported"
+
+-- the line of a fault in an input of this size
+abbrev pub IsDueOfFault : (size : ℕ) → Fault → Status → List ℕ → Type 0
+IsDueOfFault size fault status due = (status ≡ Refused) × (due ≡ refusal (kind_word fault.0) (place_in size fault.1))
+
+-- for a document: the listing of its page where it is an early one, else a refusal
+abbrev pub IsDueOfWhole : View → Whole → Status → List ℕ → Type 0
+IsDueOfWhole view document Done due = (mode : WritingMode) × (boxes : Boxes) × (nodes : List ℕ) × IsEarly document mode boxes nodes × (due ≡ listing (page_of view mode nodes boxes))
+IsDueOfWhole view document Refused due = ((mode : WritingMode) (boxes : Boxes) (nodes : List ℕ) → IsEarly document mode boxes nodes → ⊥) × (due ≡ refusal (codes "NotYet") 0)
+IsDueOfWhole view document Usage due = ⊥
+IsDueOfWhole view document Memory due = ⊥
+IsDueOfWhole view document ReadFault due = ⊥
+IsDueOfWhole view document WriteFault due = ⊥
+
+-- for a document that stands in an input of this size, by what was read behind it
+abbrev pub IsDueOfTail : View → (size : ℕ) → Whole → Read ⊤ → Status → List ℕ → Type 0
+IsDueOfTail view size document (Ok behind) status due = IsDueOfWhole view document status due
+IsDueOfTail view size document (Err left) status due = IsDueOfFault size (syntax left) status due
+
+-- for an input, by what was read of it: a fault, or a document, with nothing but white space and comments behind it
+abbrev pub IsDueOfRead : View → List ℕ → ReadOr Fault Whole → Status → List ℕ → Type 0
+IsDueOfRead view bytes (Ok read) status due = IsDueOfTail view (length bytes) read.0 (reading.tail false (drop read.0.length bytes)) status due
+IsDueOfRead view bytes (Err fault) status due = IsDueOfFault (length bytes) fault status due
+
+-- for an input that isn't too long
 abbrev pub IsDueOfDocument : View → List ℕ → Status → List ℕ → Type 0
-IsDueOfDocument view input Done due = (mode : WritingMode) × (boxes : Boxes) × IsEarly input mode boxes × (due ≡ listing (page_of view mode boxes))
-IsDueOfDocument view input Refused due = ((mode : WritingMode) (boxes : Boxes) → IsEarly input mode boxes → ⊥) × (due ≡ refusal (codes "NotYet") 0)
-IsDueOfDocument view input Usage due = ⊥
-IsDueOfDocument view input Memory due = ⊥
-IsDueOfDocument view input ReadFault due = ⊥
-IsDueOfDocument view input WriteFault due = ⊥
+IsDueOfDocument view bytes = IsDueOfRead view bytes (reading.input bytes)
 
 -- for an input: that it is too long is refused first
 abbrev pub IsDueOfInput : View → List ℕ → Status → List ℕ → Type 0

@@ -1,21 +1,28 @@
 //! The top call, and the steps below it.
 
-ghost use Rattle.std.specs.Prelude.{◌≡◌, ◌≢◌, ◌≤◌, List, ℕ, Some, None, length, codes, map, string_bytes};
+ghost use Rattle.std.specs.Prelude.{◌≡◌, ◌≢◌, ◌≤◌, List, ℕ, Some, None, false, length, drop, codes, map, string_bytes};
+ghost use Rattle.std.specs.Str.{IsUtf8};
 ghost use Rattle.std.specs.Io.KnownBytes.{Appends, Keeps, IsAtEnd};
 ghost use Rattle.io_edge.specs.Faults.{Rose};
 ghost use Rattle.early_flow.specs.Document.{AreEarlyBoxes};
 ghost use Rattle.early_flow.specs.Page.{IsView, page_of};
-ghost use Rattle.html_read.specs.Boxes.{Boxes, in_order};
+ghost use Rattle.early_tree.specs.Boxes.{Boxes, in_order};
+ghost use Rattle.html_read.specs.Reading as reading;
+ghost use Rattle.html_read.specs.Tree.{AreNodes};
+ghost use Rattle.html_read.specs.Values.{nodes_of, whole_of};
 ghost use Rattle.listing.specs.Listing.{listing};
 ghost use Rattle.wm_run.specs.Command.{IsNoCommand, IsCommand};
-ghost use Rattle.wm_run.specs.Job.{usage_line, refusal, longest_input, IsDue, IsDueOfInput, IsDueOfDocument, Stands, Gives, IsUsageOrBroken, ended};
+ghost use Rattle.wm_run.specs.Job.{usage_line, refusal, longest_input, IsDue, IsDueOfInput, IsDueOfDocument, IsDueOfTail, IsDueOfWhole, kind_word, Stands, Gives, IsUsageOrBroken, ended};
 
 use crate::command::view_of;
 use crate::status::Status;
 use crate::words::Words;
+use arrayvec::ArrayString;
 use early_flow::lay_out;
-use html_read::{Early, EarlyError, read_early};
+use early_tree::{Early, EarlyError, early_of};
+use html_read::{HtmlError, ReadDocument, Refusal, read_document, read_tail};
 use io_edge::{ReadError, Sink, Source, WriteError, read_all, write_all_of};
+use itoa::Buffer;
 use listing::write_listing;
 use std::alloc::Global;
 use wm_units::View;
@@ -33,8 +40,9 @@ const NOT_YET: &[u8] = b"refused NotYet 0\n";
 /// Runs the job of the words over the bytes of the source, and writes to the sink what is due.
 ///
 /// The words are `layout` alone, or `layout --view-inline N --view-block N` with N from 1 to 16,384 px; with
-/// other words the usage line is written. The input is an early document of at most 1,048,576 bytes: a
-/// longer one is refused as `TooLong`, and any other bytes are refused as `NotYet`.
+/// other words the usage line is written. The input is a document of at most 1,048,576 bytes: a longer one is
+/// refused as `TooLong`, bytes that are no document by the kind and the place of what is wrong, and a document
+/// that is no early one as `NotYet`.
 pub fn run<S: Source, K: Sink>(alloc: Global, words: &Words, source: &mut S, sink: &mut K) -> Status
     // Whatever words and bytes come, the status and the bytes written are those of the job.
     ensures job { (input : List ℕ) → S.left source.old ≡ Some input
@@ -82,7 +90,7 @@ fn layout<S: Source, K: Sink>(alloc: Global, view: View, source: &mut S, sink: &
     }
 }
 
-// Reads an input that isn't too long as a document, and lists its page.
+// Reads an input that isn't too long, and lists its page.
 fn document<K: Sink>(alloc: Global, view: View, input: &[u8], sink: &mut K) -> Status
     requires { IsView view }
     ensures stands { Stands (IsDueOfDocument view input.now) (K.held sink.old) (K.held sink.new) result }
@@ -90,7 +98,48 @@ fn document<K: Sink>(alloc: Global, view: View, input: &[u8], sink: &mut K) -> S
     ensures no_read_fault { result ≢ Status.ReadFault }
     ensures write_fault { result ≡ Status.WriteFault → Rose (K.faults sink.old) (K.faults sink.new) }
 {
-    match read_early(alloc, input) {
+    match read_document(alloc, input) {
+        Ok(read) => alone(alloc, view, input, &read, sink),
+        Err(HtmlError::Refused { kind, place }) => refuse(kind, place, sink),
+        Err(HtmlError::Memory) => Status::Memory,
+    }
+}
+
+// Lists the page of a document where nothing but white space and comments stands behind it.
+fn alone<K: Sink>(
+    alloc: Global,
+    view: View,
+    input: &[u8],
+    read: &ReadDocument,
+    sink: &mut K,
+) -> Status
+    requires view { IsView view }
+    requires end { read.now.end ≤ length input.now }
+    requires utf8 { IsUtf8 (drop read.now.end input.now) }
+    requires nodes { AreNodes (nodes_of read.now.nodes.items) }
+    ensures stands { Stands (IsDueOfTail view (length input.now) (whole_of read.now) (reading.tail false (drop read.now.end input.now)))
+        (K.held sink.old) (K.held sink.new) result }
+    ensures no_usage { result ≢ Status.Usage }
+    ensures no_read_fault { result ≢ Status.ReadFault }
+    ensures write_fault { result ≡ Status.WriteFault → Rose (K.faults sink.old) (K.faults sink.new) }
+{
+    match read_tail(input, read.end, false) {
+        Ok(_) => whole(alloc, view, read, sink),
+        Err(HtmlError::Refused { kind, place }) => refuse(kind, place, sink),
+        Err(HtmlError::Memory) => Status::Memory,
+    }
+}
+
+// Lists the page of a document that is an early one.
+fn whole<K: Sink>(alloc: Global, view: View, read: &ReadDocument, sink: &mut K) -> Status
+    requires view { IsView view }
+    requires nodes { AreNodes (nodes_of read.now.nodes.items) }
+    ensures stands { Stands (IsDueOfWhole view (whole_of read.now)) (K.held sink.old) (K.held sink.new) result }
+    ensures no_usage { result ≢ Status.Usage }
+    ensures no_read_fault { result ≢ Status.ReadFault }
+    ensures write_fault { result ≡ Status.WriteFault → Rose (K.faults sink.old) (K.faults sink.new) }
+{
+    match early_of(alloc, read) {
         Ok(early) => page(alloc, view, &early, sink),
         Err(EarlyError::NotYet) => refuse_not_yet(sink),
         Err(EarlyError::Memory) => Status::Memory,
@@ -102,7 +151,7 @@ fn page<K: Sink>(alloc: Global, view: View, early: &Early, sink: &mut K) -> Stat
     requires view { IsView view }
     requires boxes { AreEarlyBoxes early.now.boxes }
     ensures gives { (divs : Boxes) → in_order divs 1 2 ≡ early.now.boxes
-        → Gives Status.Done (listing (page_of view early.now.mode divs)) (K.held sink.old) (K.held sink.new) result }
+        → Gives Status.Done (listing (page_of view early.now.mode early.now.nodes divs)) (K.held sink.old) (K.held sink.new) result }
     ensures write_fault { result ≡ Status.WriteFault → Rose (K.faults sink.old) (K.faults sink.new) }
 {
     match lay_out(alloc, view, early) {
@@ -129,7 +178,44 @@ fn refuse_too_long<K: Sink>(sink: &mut K) -> Status
     answer(sink, TOO_LONG, Status::Refused)
 }
 
-// The refusal of bytes that are no document.
+// The refusal of a document, with its place.
+fn refuse<K: Sink>(kind: Refusal, place: usize, sink: &mut K) -> Status
+    ensures gives { Gives Status.Refused (refusal (kind_word kind) place) (K.held sink.old) (K.held sink.new) result }
+    ensures write_fault { result ≡ Status.WriteFault → Rose (K.faults sink.old) (K.faults sink.new) }
+{
+    answer(sink, refusal_line(kind, place).as_bytes(), Status::Refused)
+}
+
+#[tactic(auto, unfolding(crate::specs::Job::refusal))]
+fn refusal_line(kind: Refusal, place: usize) -> ArrayString<64>
+    ensures { result.bytes ≡ refusal (kind_word kind) place }
+{
+    let mut line = ArrayString::new();
+    line.push_str("refused ");
+    line.push_str(word(kind));
+    line.push_str(" ");
+    line.push_str(Buffer::new().format(place));
+    line.push_str("\n");
+    line
+}
+
+#[tactic(auto, unfolding(crate::specs::Job::kind_word))]
+fn word(kind: Refusal) -> &'static str
+    ensures word { result.now ≡ kind_word kind }
+    ensures short { length result.now ≤ 16 }
+{
+    match kind {
+        Refusal::Utf8 => "Utf8",
+        Refusal::Character => "Character",
+        Refusal::Syntax => "Syntax",
+        Refusal::UnknownTag => "UnknownTag",
+        Refusal::UnknownAttribute => "UnknownAttribute",
+        Refusal::Nesting => "Nesting",
+        Refusal::Unsupported => "Unsupported",
+    }
+}
+
+// The refusal of a document that is no early one.
 #[tactic(auto, using(crate::proofs::JobLaws::not_yet_given))]
 fn refuse_not_yet<K: Sink>(sink: &mut K) -> Status
     ensures gives { Gives Status.Refused (refusal (codes "NotYet") 0) (K.held sink.old) (K.held sink.new) result }

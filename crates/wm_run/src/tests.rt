@@ -34,7 +34,32 @@ struct Run {
     output: &'static str,
 }
 
-const RUNS: [Run; 10] = [
+const RUNS: [Run; 13] = [
+    Run {
+        words: LAYOUT,
+        input: b"<html><body></body></html>x",
+        status: Status::Refused,
+        output: "refused Syntax 26\n",
+    },
+    Run {
+        words: LAYOUT,
+        input: b"<html><body><b></i></b></body></html>",
+        status: Status::Refused,
+        output: "refused Nesting 15\n",
+    },
+    Run {
+        words: SMALL_VIEW,
+        input: b"<!DOCTYPE html>\n<html>\n<body>\n  <div class=\"\" style=\"inline-size:20px;block-size:10px\"></div>\n  <div></div><!-- c -->\n</body>\n</html>\n",
+        status: Status::Done,
+        output: "\
+page 6400 3200 horizontal-tb ltr
+box 0 0 0 0 6400 1664
+box 1 0 512 512 5376 640
+box 3 0 512 512 1280 640
+box 5 0 512 1152 5376 0
+end
+",
+    },
     Run {
         words: LAYOUT,
         input: EMPTY_BODY,
@@ -57,13 +82,13 @@ const RUNS: [Run; 10] = [
         words: LAYOUT,
         input: b"",
         status: Status::Refused,
-        output: NOT_YET,
+        output: "refused Syntax 0\n",
     },
     Run {
         words: LAYOUT,
         input: b"<html><body>\xff\xfe</body></html>",
         status: Status::Refused,
-        output: NOT_YET,
+        output: "refused Utf8 12\n",
     },
     Run {
         words: SMALL_VIEW,
@@ -226,7 +251,8 @@ fn commands(rt: HostRuntime) -> Result<(), Fail> {
 #[test]
 fn an_input_that_breaks_off_is_refused(rt: HostRuntime) -> Result<(), Fail> {
     for len in 0..EMPTY_BODY.len() {
-        check(&rt, LAYOUT, &EMPTY_BODY[..len], Status::Refused, NOT_YET)?;
+        let line = format!(in rt.alloc(); "refused Syntax {len}\n")?;
+        check(&rt, LAYOUT, &EMPTY_BODY[..len], Status::Refused, &line)?;
     }
     Ok(())
 }
@@ -237,7 +263,7 @@ fn the_longest_input(rt: HostRuntime) -> Result<(), Fail> {
     for _ in 0..1_048_576 {
         input.push(b' ')?;
     }
-    check(&rt, LAYOUT, &input, Status::Refused, NOT_YET)?;
+    check(&rt, LAYOUT, &input, Status::Refused, "refused Syntax 1048576\n")?;
     input.push(b' ')?;
     check(&rt, LAYOUT, &input, Status::Refused, TOO_LONG)
 }

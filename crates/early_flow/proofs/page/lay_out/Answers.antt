@@ -45,4 +45,4 @@ returns c = λ divs is.
     ∙ c.in_ok-boxes.ensures
     ∙ ap (λ (page : Rect). map (map_of c.args.early.now.mode Ltr page) c.deref.result.now) c.page_area-page.ensures
     ∙ ap (map (map_of c.args.early.now.mode Ltr (page_area c.args.early.now.mode c.args.view))) flow_is in
-    page_is c.args.view c.args.early.now.mode divs c.page_area-page.result c.new.result c.page_area-page.ensures boxes_are
+    page_is c.args.view c.args.early.now.mode c.args.early.now.nodes divs c.page_area-page.result c.in_ok-copied.field-0 c.new.result c.page_area-page.ensures c.in_ok-copied.ensures boxes_are

@@ -11,18 +11,19 @@ returns-in_err-write_all_of-clause-front g c =
     let line : c.as_bytes.result.now ≡ page_line c.args.placed.now = c.as_bytes.ensures.value ∙ c.deref.ensures.0 ∙ c.page_line.ensures in
     let s0 = g.K.Sink.held c.args.sink.now in
     let s1 = g.K.Sink.held c.write_all_of.new.sink in
-    first_front s0 s1 s1 s1 (page_line c.args.placed.now) (box_lines 0 c.args.placed.now.boxes) end_line
+    first_front s0 s1 s1 s1 (page_line c.args.placed.now) (box_lines c.args.placed.now.nodes c.args.placed.now.boxes) end_line
     (subst (λ (l : List ℕ). AppendsFront s0 s1 l) line c.in_err-write_all_of.ensures.front)
 
 pub returns-in_err-write_boxes-clause-front : goal.returns-in_err-write_boxes-clause-front
 unfolding listing
 returns-in_err-write_boxes-clause-front g c =
     let line : c.as_bytes.result.now ≡ page_line c.args.placed.now = c.as_bytes.ensures.value ∙ c.deref.ensures.0 ∙ c.page_line.ensures in
-    let lines : box_lines 0 c.as_slice.result.now ≡ box_lines 0 c.args.placed.now.boxes = ap (box_lines 0) c.as_slice.ensures in
+    let lines : box_lines c.as_slice.result.now c.as_slice-2.result.now ≡ box_lines c.args.placed.now.nodes c.args.placed.now.boxes =
+    ap (λ (ns : List ℕ). box_lines ns c.as_slice-2.result.now) c.as_slice.ensures ∙ ap (box_lines c.args.placed.now.nodes) c.as_slice-2.ensures in
     let s0 = g.K.Sink.held c.args.sink.now in
     let s1 = g.K.Sink.held c.write_all_of.new.sink in
     let s2 = g.K.Sink.held c.write_boxes.new.sink in
-    second_front s0 s1 s2 s2 (page_line c.args.placed.now) (box_lines 0 c.args.placed.now.boxes) end_line
+    second_front s0 s1 s2 s2 (page_line c.args.placed.now) (box_lines c.args.placed.now.nodes c.args.placed.now.boxes) end_line
     (subst (λ (l : List ℕ). Appends s0 s1 l) line c.in_ok-write_all_of.ensures.whole)
     (subst (λ (l : List ℕ). AppendsFront s1 s2 l) lines c.in_err-write_boxes.ensures.front)
 
@@ -30,12 +31,13 @@ pub returns-clause-front : goal.returns-clause-front
 unfolding listing end_line
 returns-clause-front g c =
     let line : c.as_bytes.result.now ≡ page_line c.args.placed.now = c.as_bytes.ensures.value ∙ c.deref.ensures.0 ∙ c.page_line.ensures in
-    let lines : box_lines 0 c.as_slice.result.now ≡ box_lines 0 c.args.placed.now.boxes = ap (box_lines 0) c.as_slice.ensures in
+    let lines : box_lines c.as_slice.result.now c.as_slice-2.result.now ≡ box_lines c.args.placed.now.nodes c.args.placed.now.boxes =
+    ap (λ (ns : List ℕ). box_lines ns c.as_slice-2.result.now) c.as_slice.ensures ∙ ap (box_lines c.args.placed.now.nodes) c.as_slice-2.ensures in
     let s0 = g.K.Sink.held c.args.sink.now in
     let s1 = g.K.Sink.held c.write_all_of.new.sink in
     let s2 = g.K.Sink.held c.write_boxes.new.sink in
     let s3 = g.K.Sink.held c.write_all_of-2.new.sink in
-    third_front s0 s1 s2 s3 (page_line c.args.placed.now) (box_lines 0 c.args.placed.now.boxes) end_line
+    third_front s0 s1 s2 s3 (page_line c.args.placed.now) (box_lines c.args.placed.now.nodes c.args.placed.now.boxes) end_line
     (subst (λ (l : List ℕ). Appends s0 s1 l) line c.in_ok-write_all_of.ensures.whole)
     (subst (λ (l : List ℕ). Appends s1 s2 l) lines c.in_ok-write_boxes.ensures.whole)
     c.write_all_of-2.ensures.front
@@ -44,13 +46,14 @@ pub returns-clause-whole : goal.returns-clause-whole
 unfolding listing end_line
 returns-clause-whole g c =
     let line : c.as_bytes.result.now ≡ page_line c.args.placed.now = c.as_bytes.ensures.value ∙ c.deref.ensures.0 ∙ c.page_line.ensures in
-    let lines : box_lines 0 c.as_slice.result.now ≡ box_lines 0 c.args.placed.now.boxes = ap (box_lines 0) c.as_slice.ensures in
+    let lines : box_lines c.as_slice.result.now c.as_slice-2.result.now ≡ box_lines c.args.placed.now.nodes c.args.placed.now.boxes =
+    ap (λ (ns : List ℕ). box_lines ns c.as_slice-2.result.now) c.as_slice.ensures ∙ ap (box_lines c.args.placed.now.nodes) c.as_slice-2.ensures in
     let s0 = g.K.Sink.held c.args.sink.now in
     let s1 = g.K.Sink.held c.write_all_of.new.sink in
     let s2 = g.K.Sink.held c.write_boxes.new.sink in
     let s3 = g.K.Sink.held c.write_all_of-2.new.sink in
     on_ok c.write_all_of-2.result
-    (all_whole s0 s1 s2 s3 (page_line c.args.placed.now) (box_lines 0 c.args.placed.now.boxes) end_line
+    (all_whole s0 s1 s2 s3 (page_line c.args.placed.now) (box_lines c.args.placed.now.nodes c.args.placed.now.boxes) end_line
     (subst (λ (l : List ℕ). Appends s0 s1 l) line c.in_ok-write_all_of.ensures.whole)
     (subst (λ (l : List ℕ). Appends s1 s2 l) lines c.in_ok-write_boxes.ensures.whole))
     c.write_all_of-2.ensures.whole

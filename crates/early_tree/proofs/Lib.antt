@@ -1,0 +1,5 @@
+mod Fine
+mod Items
+mod Nodes
+mod Styles
+mod Whole
