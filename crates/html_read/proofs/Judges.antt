@@ -69,7 +69,7 @@ next_here : {Y : Type 0} (size : ℕ) (all left others : List WrittenAttribute) 
     → and_then r (λ more. judged_behind size (now.names ++ (attribute_of a).name ∷ []) more (map attribute_of others)) ≡ judged size (map attribute_of all)
 next_here size all left others a count seen said r now first e =
     let here : judged_behind size now.names said (map attribute_of left)
-        ≡ and_then (with_next size now.names (attribute_of a) said) (λ more. judged_behind size (now.names ++ (attribute_of a).name ∷ []) more (map attribute_of others)) =
+    ≡ and_then (with_next size now.names (attribute_of a) said) (λ more. judged_behind size (now.names ++ (attribute_of a).name ∷ []) more (map attribute_of others)) =
     ap (λ (l : List WrittenAttribute). judged_behind size now.names said (map attribute_of l)) first in
     ap (λ (x : Result Acting Fault). and_then x (λ more. judged_behind size (now.names ++ (attribute_of a).name ∷ []) more (map attribute_of others))) (sym e) ∙ sym here ∙ now.same
 

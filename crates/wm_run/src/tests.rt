@@ -263,7 +263,13 @@ fn the_longest_input(rt: HostRuntime) -> Result<(), Fail> {
     for _ in 0..1_048_576 {
         input.push(b' ')?;
     }
-    check(&rt, LAYOUT, &input, Status::Refused, "refused Syntax 1048576\n")?;
+    check(
+        &rt,
+        LAYOUT,
+        &input,
+        Status::Refused,
+        "refused Syntax 1048576\n",
+    )?;
     input.push(b' ')?;
     check(&rt, LAYOUT, &input, Status::Refused, TOO_LONG)
 }

@@ -15,5 +15,5 @@ pub returns-in_err-with_attribute : goal.returns-in_err-with_attribute
 returns-in_err-with_attribute c =
     let p = err_from_is_err_and c.from_residual-in_err-with_attribute.result c.from_residual-in_err-with_attribute.ensures.1 in
     rw (p.1, p.2) (judging_stops c.args.size c.args.attributes.items (into_iter_items c.loop-attribute.attribute-iterator) (into_iter_items c.next.new.self) c.in-Some.attribute
-        (into_iter_len c.loop-attribute.attribute-iterator) c.loop-attribute.seen c.is_new.new.seen (acting_of c.loop-attribute.said) c.in_ok-is_new.field-0 c.in_err-with_attribute.field-0.0
-        c.loop-attribute.invariant c.in-Some.ensures.steps.0 c.in_ok-is_new.ensures c.if-not-branch.false c.in_err-with_attribute.ensures)
+    (into_iter_len c.loop-attribute.attribute-iterator) c.loop-attribute.seen c.is_new.new.seen (acting_of c.loop-attribute.said) c.in_ok-is_new.field-0 c.in_err-with_attribute.field-0.0
+    c.loop-attribute.invariant c.in-Some.ensures.steps.0 c.in_ok-is_new.ensures c.if-not-branch.false c.in_err-with_attribute.ensures)
