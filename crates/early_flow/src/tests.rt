@@ -151,7 +151,7 @@ const CASES: [Case; 10] = [
 
 /// The page of a document in a view of these pixels.
 fn page(alloc: Global, view: (u16, u16), bytes: &[u8]) -> Result<Placed, Fail> {
-    let early = read_early(alloc, bytes).ok().ok_or("an early document")?;
+    let early = read_early(alloc, bytes)?;
     let view = View {
         inline: 64 * i64::from(view.0),
         block: 64 * i64::from(view.1),
