@@ -1,5 +1,5 @@
 use super::*;
-use early_tree::{Early, early_of};
+use early_tree::early_of;
 use html_read::read_document;
 use std::alloc::Global;
 use std::test::*;
@@ -14,11 +14,6 @@ struct Case {
     mode: WritingMode,
     size: (i64, i64),
     boxes: &'static [(i64, i64, i64, i64)],
-}
-
-/// The early document of these bytes.
-fn read_early(alloc: Global, bytes: &[u8]) -> Result<Early, Fail> {
-    Ok(early_of(alloc, &read_document(alloc, bytes)?)?)
 }
 
 /// What these documents come to was worked out by another program.
@@ -151,7 +146,8 @@ const CASES: [Case; 10] = [
 
 /// The page of a document in a view of these pixels.
 fn page(alloc: Global, view: (u16, u16), bytes: &[u8]) -> Result<Placed, Fail> {
-    let early = read_early(alloc, bytes)?;
+    let read = read_document(alloc, bytes)?;
+    let early = early_of(alloc, &read)?;
     let view = View {
         inline: 64 * i64::from(view.0),
         block: 64 * i64::from(view.1),
