@@ -14,9 +14,9 @@ use Rattle.reading.proofs.PlaceLaws.{strip_viable, one_of_viable, follow_viable,
 use Rattle.reading.proofs.Turns.{turns_stop_back}
 use Rattle.reading.proofs.TurnPlaces.{joined_viable}
 use Rattle.reading.proofs.UpToPlaces.{skip_never}
-use Rattle.html_read.specs.Characters.{is_white}
+use Rattle.reading.specs.White.{is_white, spaces}
 use Rattle.html_read.specs.Judging.{Attribute}
-use Rattle.html_read.specs.Lexing.{spaces, name, is_quote, is_plain, in_value, value_piece, value_in, quoted, equals, value, attribute, name_ahead, next_attribute, attributes}
+use Rattle.html_read.specs.Lexing.{name, is_quote, is_plain, in_value, value_piece, value_in, quoted, equals, value, attribute, name_ahead, next_attribute, attributes}
 use Rattle.html_read.specs.Grammar.{IsName, IsValuePiece, IsQuoted, IsEquals, IsValue, IsAttribute, AreAttributes}
 use Rattle.html_read.proofs.MiscLaws.{NoWhite, spaces_spells, name_spells}
 use Rattle.html_read.proofs.ValueLaws.{value_piece_spells, value_test, equals_spells}

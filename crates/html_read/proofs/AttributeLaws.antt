@@ -10,9 +10,10 @@ use Rattle.reading.specs.Placed.{SpellsPlaced}
 use Rattle.reading.proofs.SpellLaws.{ok, stop, bind_ok, same_answer, follow_spells, mapped_spells, spells_before}
 use Rattle.reading.proofs.Turns.{Leads, leads_nowhere, leads_on, one_turn, leads_to_end, turns_back}
 use Rattle.reading.proofs.PlacedLaws.{skip_again}
-use Rattle.html_read.specs.Characters.{is_white, is_letter, is_name_byte}
+use Rattle.reading.specs.White.{is_white, spaces, white}
+use Rattle.html_read.specs.Characters.{is_letter, is_name_byte}
 use Rattle.html_read.specs.Judging.{Attribute}
-use Rattle.html_read.specs.Lexing.{spaces, white, name, value, attribute, name_ahead, next_attribute, attributes}
+use Rattle.html_read.specs.Lexing.{name, value, attribute, name_ahead, next_attribute, attributes}
 use Rattle.html_read.specs.Grammar.{IsName, IsValue, IsAttribute, AreAttributes}
 use Rattle.html_read.proofs.MiscLaws.{NoWhite, NoNameByte, spaces_spells, name_spells, blank_ends_name, white_no_name}
 use Rattle.html_read.proofs.ValueLaws.{NoEquals, value_spells, value_ends_name, no_equals}

@@ -16,9 +16,11 @@ use Rattle.reading.proofs.RunLaws.{run_is}
 use Rattle.reading.proofs.Turns.{turn_once, turn_none, turns_stop_back}
 use Rattle.reading.proofs.StopPlaces.{Stays, local_stops, follow_stops, mapped_stops, choice_stops, TurnsStop, repeat_stops}
 use Rattle.reading.proofs.PlacedLaws.{skip_again}
-use Rattle.html_read.specs.Characters.{is_white, is_letter, is_name_byte, lowered}
+use Rattle.reading.specs.White.{is_white, spaces, white}
+use Rattle.reading.specs.Names.{lowered}
+use Rattle.html_read.specs.Characters.{is_letter, is_name_byte}
 use Rattle.html_read.specs.Judging.{Attribute}
-use Rattle.html_read.specs.Lexing.{spaces, white, name, is_quote, is_plain, in_value, value_piece, value_in, quoted, equals, value, attribute, name_ahead, next_attribute, attributes}
+use Rattle.html_read.specs.Lexing.{name, is_quote, is_plain, in_value, value_piece, value_in, quoted, equals, value, attribute, name_ahead, next_attribute, attributes}
 use Rattle.html_read.specs.Grammar.{IsAttribute}
 use Rattle.html_read.proofs.MiscLaws.{NoWhite, NoNameByte, spaces_spells, name_spells}
 use Rattle.html_read.proofs.ValueLaws.{NoEquals, value_piece_spells, piece_some, equals_spells, no_equals}

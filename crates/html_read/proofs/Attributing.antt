@@ -1,7 +1,7 @@
 -- The attributes of a tag, one by one.
 use Rattle.std.proofs.Common.{◌≡◌, ℕ, ◌<◌, ◌≤◌, true, false, List, [], ◌∷◌, ◌++◌, length, Ok, Err, refl, sym, ap, subst, ◌∙◌, map, arith}
 use Rattle.std.proofs.lemmas.List.{map-append}
-use Rattle.reading.specs.Readers.{Read, ◌>>=◌, give, mapped, repeat, can_read, read_or}
+use Rattle.reading.specs.Readers.{Read, repeat, can_read, read_or}
 use Rattle.reading.proofs.Turns.{IsTurning, turning_starts, turning_goes_on, turning_stops, turning_ends}
 use Rattle.html_read.specs.declared.error.Stop.{Stop}
 use Rattle.html_read.specs.declared.error.Stop.TheVariants as stops
@@ -9,7 +9,8 @@ use Rattle.html_read.specs.Faults.{Fault, Stops, syntax, spelled}
 use Rattle.html_read.specs.declared.attributes.WrittenAttribute.{WrittenAttribute}
 use Rattle.html_read.specs.Views.{attribute_of}
 use Rattle.html_read.specs.Judging.{Attribute}
-use Rattle.html_read.specs.Lexing.{spaces, attribute, attributes, next_attribute, name_ahead}
+use Rattle.reading.specs.White.{spaces}
+use Rattle.html_read.specs.Lexing.{attribute, attributes, next_attribute, name_ahead}
 
 pub unspelled_ok : {A : Type 0} (r : Read A) (x : A × List ℕ) → read_or syntax r ≡ Ok x → r ≡ Ok x
 unspelled_ok (Ok y) x e = cc

@@ -1,8 +1,7 @@
 -- What stands in an element, tag by tag.
-use Rattle.std.proofs.Common.{◌≡◌, ℕ, ◌<◌, ◌≤◌, true, false, cond, List, [], ◌∷◌, ◌++◌, length, reverse, map, Some, None, Ok, Err, refl, sym, ap, subst, ◌∙◌, arith}
-use Rattle.std.specs.Prelude.{Bool, not, ◌&&◌, ◌==◌, Option, ⊤}
-use Rattle.std.specs.String.{string_bytes}
-use Rattle.reading.specs.Readers.{ReadOr, ◌>>=◌, give, mapped, follow, repeat, starts}
+use Rattle.std.proofs.Common.{◌≡◌, ℕ, ◌<◌, true, false, List, [], length, Ok, Err, refl, sym, subst, ◌∙◌}
+use Rattle.std.specs.Prelude.{Bool}
+use Rattle.reading.specs.Readers.{ReadOr, repeat}
 use Rattle.reading.proofs.Turns.{IsTurning, turning_starts, turning_goes_on, turning_stops, turning_ends}
 use Rattle.html_read.specs.declared.content.Base.{Base}
 use Rattle.html_read.specs.declared.error.Stop.{Stop}

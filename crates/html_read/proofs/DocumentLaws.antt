@@ -15,7 +15,7 @@ use Rattle.reading.proofs.SpellLaws.{bind_ok, give_spells, strip_spells, follow_
 use Rattle.reading.proofs.PlacedLaws.{anywhere_spells, placed_follow}
 use Rattle.html_read.specs.declared.content.Base.TheVariants as bases
 use Rattle.html_read.specs.declared.error.Refusal.TheVariants.{Utf8}
-use Rattle.html_read.specs.Characters.{is_white}
+use Rattle.reading.specs.White.{is_white}
 use Rattle.html_read.specs.Faults.{Fault, syntax, spelled}
 use Rattle.html_read.specs.Lexing.{misc, in_misc, end_of}
 use Rattle.html_read.specs.Tree.{roots}

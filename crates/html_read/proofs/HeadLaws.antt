@@ -12,7 +12,7 @@ use Rattle.reading.proofs.SpellLaws.{give_spells, mapped_spells, telling_spells,
 use Rattle.reading.proofs.PlacedLaws.{anywhere_spells, placed_before, placed_follow, placed_mapped, placed_choice}
 use Rattle.reading.proofs.Turns.{Leads, leads_nowhere, leads_on, one_turn, leads_to_end, turns_back}
 use Rattle.html_read.specs.declared.raw.RawEnd.TheVariants as ends
-use Rattle.html_read.specs.Characters.{is_white}
+use Rattle.reading.specs.White.{is_white}
 use Rattle.html_read.specs.Faults.{syntax, spelled}
 use Rattle.html_read.specs.Lexing.{raw, in_misc, misc}
 use Rattle.html_read.specs.Reading.{ahead, title, meta, sheet, style, head_turn, head_items, head, maybe_head}

@@ -1,5 +1,5 @@
 -- The head of a document, piece by piece.
-use Rattle.std.proofs.Common.{◌≡◌, ℕ, ◌<◌, true, false, List, [], ◌∷◌, ◌++◌, length, map, codes, Ok, Err, refl, sym, ap, ◌∙◌}
+use Rattle.std.proofs.Common.{◌≡◌, ℕ, ◌<◌, true, false, List, [], ◌∷◌, ◌++◌, length, codes, Ok, refl, sym, ap, ◌∙◌}
 use Rattle.std.specs.Prelude.{not}
 use Rattle.std.proofs.lemmas.List.{map-append}
 use Rattle.reading.specs.Readers.{next_is, starts}
@@ -7,7 +7,7 @@ use Rattle.reading.proofs.Turns.{IsTurning, turning_starts, turning_goes_on, tur
 use Rattle.html_read.specs.declared.node.PlacedText.{PlacedText}
 use Rattle.html_read.specs.declared.error.Stop.{Stop}
 use Rattle.html_read.specs.declared.error.Stop.TheVariants as stops
-use Rattle.html_read.specs.Characters.{is_white}
+use Rattle.reading.specs.White.{is_white}
 use Rattle.html_read.specs.Faults.{Stops}
 use Rattle.html_read.specs.Reading.{ahead, style, head_turn, head_items}
 use Rattle.html_read.specs.Values.{TextAt, text_at, sheets_of}

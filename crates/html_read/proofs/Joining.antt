@@ -7,9 +7,9 @@ use Rattle.std.specs.Str.{IsCharBoundary}
 use Rattle.std.proofs.lemmas.Bool.{eqb-true, eq-eqb}
 use Rattle.std.proofs.lemmas.Str.{IsCharBoundary-before_ascii}
 use Rattle.std.proofs.lemmas.List.{drop_all, append_cancel_right}
-use Rattle.reading.specs.Readers.{Read, ReadOr, Reader, ◌>>=◌, give, follow, mapped, joined, repeat, turns, choice, one_of, starts, strip, next_is, read_or}
-use Rattle.reading.proofs.Turns.{IsTurning, turning_starts, turning_goes_on, turning_stops, turning_ends}
-use Rattle.html_read.proofs.Runs.{append_none}
+use Rattle.reading.specs.Readers.{Read, ReadOr, Reader, ◌>>=◌, give, follow, mapped, joined, repeat, turns, one_of, starts, strip, read_or}
+use Rattle.reading.proofs.Turns.{turning_starts, turning_goes_on, turning_stops, turning_ends}
+use Rattle.reading.proofs.Running.{append_none}
 use Rattle.reading.proofs.SpellLaws.{ok, stop}
 use Rattle.html_read.specs.declared.error.Stop.{Stop}
 use Rattle.html_read.specs.declared.error.Stop.TheVariants as stops

@@ -1,19 +1,19 @@
 -- Texts, piece by piece.
-use Rattle.std.proofs.Common.{◌≡◌, ◌⊎◌, inl, inr, ℕ, ◌<◌, ◌≤◌, true, false, cond, eqb, List, [], ◌∷◌, ◌++◌, length, Some, None, Ok, Err, refl, sym, ap, subst, ◌∙◌, append_assoc, length-append, arith}
-use Rattle.std.specs.Prelude.{Bool, not, ◌&&◌, ◌==◌, is_ok, IfOk, Result, ⊤}
+use Rattle.std.proofs.Common.{◌≡◌, ◌⊎◌, inl, inr, ℕ, ◌<◌, true, false, cond, eqb, List, [], ◌∷◌, ◌++◌, length, Ok, Err, refl, sym, ap, subst, ◌∙◌, length-append, arith}
+use Rattle.std.specs.Prelude.{Bool, not, ◌&&◌, is_ok, IfOk, Result, ⊤}
 use denote.Bor.{Bor}
 use Rattle.std.specs.Char.{IsScalar, encode_utf8}
 use Rattle.std.proofs.lemmas.List.{append-nil}
-use Rattle.reading.specs.Readers.{ReadOr, ◌>>=◌, mapped, joined, choice, starts, strip}
+use Rattle.reading.specs.Readers.{ReadOr, mapped, joined, starts, strip}
 use Rattle.reading.proofs.SpellLaws.{ok, stop, strip_again}
 use Rattle.std.proofs.lemmas.Str.{length-encode, len_utf8_bounds}
 use Rattle.html_read.specs.declared.error.Stop.{Stop}
 use Rattle.html_read.specs.declared.error.Stop.TheVariants as stops
 use Rattle.html_read.specs.declared.error.Refusal.TheVariants.{Character}
-use Rattle.html_read.specs.Characters.{in_repertoire, first_code}
-use Rattle.html_read.specs.Faults.{Fault, Judged, Stops, spelled}
+use Rattle.html_read.specs.Characters.{in_repertoire}
+use Rattle.html_read.specs.Faults.{Fault, Stops, spelled}
 use Rattle.html_read.specs.Lexing.{comment, reference, character}
-use Rattle.html_read.specs.Pieces.{IsJoining, Joins, JoinsRun, RunsOrStops, PutsPiece, PutsLetter, is_letter_next}
+use Rattle.html_read.specs.Pieces.{IsJoining, Joins, JoinsRun, PutsPiece, is_letter_next}
 use Rattle.html_read.specs.Reading.{in_text, text_piece, checked, gap}
 use Rattle.html_read.proofs.CharacterLaws.{first_is}
 use Rattle.html_read.proofs.Joining.{puts_ok, puts_err, run_starts, run_goes_on, joining_starts, joining_ends, joining_stops}

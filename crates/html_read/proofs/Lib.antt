@@ -7,9 +7,7 @@ mod Numbers
 mod Runs
 mod Seeking
 mod Tables
-mod Names
 mod Judges
-mod Shorter
 mod Heads
 mod Inputs
 mod Words

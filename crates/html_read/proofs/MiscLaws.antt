@@ -13,8 +13,10 @@ use Rattle.reading.proofs.UpToLaws.{strip_sees, closing_sees, up_to_spells}
 use Rattle.reading.proofs.PlacedLaws.{skip_spells}
 use Rattle.html_read.specs.declared.raw.RawEnd.{RawEnd}
 use Rattle.html_read.specs.declared.raw.RawEnd.TheVariants as ends
-use Rattle.html_read.specs.Characters.{is_white, is_letter, is_name_byte, lowered}
-use Rattle.html_read.specs.Lexing.{spaces, white, name, end_of, raw_end, raw, comment, in_misc, misc_piece, misc, doctype, end_name}
+use Rattle.reading.specs.White.{is_white, spaces, white}
+use Rattle.reading.specs.Names.{lowered}
+use Rattle.html_read.specs.Characters.{is_letter, is_name_byte}
+use Rattle.html_read.specs.Lexing.{name, end_of, raw_end, raw, comment, in_misc, misc_piece, misc, doctype, end_name}
 use Rattle.html_read.specs.Grammar.{IsSpaces, IsWhite, IsName, IsEndOf, IsRawEnd, IsRaw, IsComment, IsMiscPiece, IsMisc, IsDoctype, IsEndName}
 
 -- ---- texts in either case, by their first bytes

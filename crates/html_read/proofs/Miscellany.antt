@@ -1,5 +1,5 @@
 -- White space and comments, piece by piece.
-use Rattle.std.proofs.Common.{◌≡◌, ℕ, ◌<◌, true, false, List, [], ◌++◌, length, Ok, Err, refl, ap, ◌∙◌}
+use Rattle.std.proofs.Common.{◌≡◌, ℕ, ◌<◌, true, false, List, [], ◌++◌, length, Ok, Err, refl, ap}
 use Rattle.reading.specs.Readers.{Read, ◌>>=◌, give, mapped, joined}
 use Rattle.reading.proofs.Turns.{IsTurning, turning_starts, turning_goes_on, turning_stops, turning_ends}
 use Rattle.html_read.specs.Lexing.{in_misc, misc_piece, misc}

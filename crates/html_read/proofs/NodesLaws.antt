@@ -1,5 +1,5 @@
 -- The nodes of a document that was read are those of `html`, `body` and what stands in it.
-use Rattle.std.proofs.Common.{◌≡◌, ℕ, List, ◌++◌, length, Some, Ok, Err, sym, subst, ◌∙◌, IfOk}
+use Rattle.std.proofs.Common.{ℕ, List, ◌++◌, length, Ok, Err, sym, subst, IfOk}
 use Rattle.std.specs.Prelude.{Result}
 use Rattle.html_read.specs.declared.error.HtmlError.{HtmlError}
 use Rattle.html_read.specs.Faults.{Told}

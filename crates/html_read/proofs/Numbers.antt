@@ -1,12 +1,10 @@
 -- Numbers of references, digit by digit.
-use Rattle.std.proofs.Common.{◌≡◌, ℕ, zero, suc, ◌+◌, ◌-◌, ◌*◌, ◌<◌, ◌≤◌, true, false, List, [], ◌∷◌, None, Ok, refl, sym, ap, ◌∙◌, arith}
+use Rattle.std.proofs.Common.{◌≡◌, ℕ, zero, suc, ◌+◌, ◌-◌, ◌*◌, ◌<◌, ◌≤◌, true, false, List, [], ◌∷◌, None, refl, sym, ◌∙◌, arith}
 use Rattle.std.specs.Prelude.{nat_lt, nat_le, ◌&&◌, ◌||◌}
 use lib.Utf8.{scalar}
-use denote.Bor.{Bor}
 use Rattle.std.specs.Char.{digit_value}
 use Rattle.reading.specs.Readers.{Read, next_is, one_of, IsAsciiFirst}
 use Rattle.html_read.specs.Lexing.{number_from, number_end, may_follow}
-use Rattle.html_read.specs.Pieces.{GoesOnWith}
 
 digit_read : (base left value byte : ℕ) (after : List ℕ) → may_follow base left value byte ≡ true
     → number_from base (suc left) value (byte ∷ after) ≡ number_from base left (base * value + digit_value byte) after

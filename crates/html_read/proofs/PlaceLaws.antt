@@ -16,8 +16,10 @@ use Rattle.reading.proofs.RunPlaces.{run_of_local, run_of_viable, either_case_lo
 use Rattle.reading.proofs.UpToPlaces.{skip_local, skip_viable, up_to_local, up_to_viable}
 use Rattle.reading.proofs.WordPlaces.{one_word_local, one_word_viable}
 use Rattle.html_read.specs.declared.raw.RawEnd.TheVariants as ends
-use Rattle.html_read.specs.Characters.{is_white, is_letter, is_name_byte, lowered, entities}
-use Rattle.html_read.specs.Lexing.{spaces, white, name, raw, comment, doctype, end_name, may_follow, number_end, number_from, scalar_number, is_x, number_reference, reference}
+use Rattle.reading.specs.White.{is_white, spaces, white}
+use Rattle.reading.specs.Names.{lowered}
+use Rattle.html_read.specs.Characters.{is_letter, is_name_byte, entities}
+use Rattle.html_read.specs.Lexing.{name, raw, comment, doctype, end_name, may_follow, number_end, number_from, scalar_number, is_x, number_reference, reference}
 use Rattle.html_read.specs.Grammar.{IsSpaces, IsWhite, IsName, IsRaw, IsComment, IsDoctype, IsEndName, IsScalarNumber, IsNumberReference, IsReference}
 use Rattle.html_read.proofs.MiscLaws.{white_spells, spaces_spells, name_spells, raw_end_spells, raw_end_sees}
 use Rattle.html_read.proofs.ReferenceLaws.{IsRest, is_digit, more_digits, to_number, names_differ}

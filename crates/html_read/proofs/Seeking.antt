@@ -1,16 +1,16 @@
 -- The end of characters that may be any, looked for place by place.
-use Rattle.std.proofs.Common.{◌≡◌, ℕ, ◌<◌, ◌≤◌, ◌+◌, Bool, true, false, cond, eqb, List, [], ◌∷◌, ◌++◌, length, take, drop, get_or, Ok, Err, refl, sym, ap, subst, ◌∙◌, append_assoc, arith, add-one, drop-cons}
+use Rattle.std.proofs.Common.{◌≡◌, ℕ, ◌<◌, ◌≤◌, ◌+◌, Bool, true, false, eqb, List, [], ◌∷◌, ◌++◌, length, take, drop, get_or, Ok, Err, refl, sym, ap, subst, ◌∙◌, append_assoc, arith, add-one, drop-cons}
 use denote.Bor.{Bor}
-use Rattle.std.specs.Prelude.{⊤, Result, Some, None}
+use Rattle.std.specs.Prelude.{Some, None}
 use Rattle.html_read.specs.Cuts.{EndsHere}
 use Rattle.std.proofs.lemmas.Bool.{ne_eqb}
 use Rattle.std.proofs.Common.{slice_index_or}
 use Rattle.std.proofs.lemmas.List.{drop_all, take_more}
-use Rattle.reading.specs.Readers.{Read, ◌>>=◌, follow, mapped, until, with_byte, can_read, up_to, strip}
+use Rattle.reading.specs.Readers.{until, with_byte, can_read, up_to, strip}
 use Rattle.html_read.specs.declared.raw.RawEnd.{RawEnd}
 use Rattle.html_read.specs.declared.raw.RawEnd.TheVariants as ends
 use Rattle.html_read.specs.Lexing.{raw, raw_end, raw_mark, end_of}
-use Rattle.html_read.proofs.Runs.{with_front, no_front, longer_front, append_none}
+use Rattle.reading.proofs.Running.{with_front, no_front, longer_front, append_none}
 
 -- nothing was found in the front
 pub record IsSeeking (test : List ℕ → Bool) (text front rest : List ℕ) : Type 0 where

@@ -15,8 +15,8 @@ use Rattle.reading.proofs.RunPlaces.{either_case_local}
 use Rattle.reading.proofs.UpToPlaces.{up_to_local, split}
 use Rattle.reading.proofs.StopPlaces.{goes_no_further, Stays, local_stops, follow_stopped, follow_stops, mapped_stops, choice_stops, TurnsStop, repeat_stops, repeat_ends}
 use Rattle.html_read.specs.declared.raw.RawEnd.TheVariants as ends
-use Rattle.html_read.specs.Characters.{is_white}
-use Rattle.html_read.specs.Lexing.{spaces, white, raw, comment, in_misc, misc_piece, misc, doctype}
+use Rattle.reading.specs.White.{is_white, spaces, white}
+use Rattle.html_read.specs.Lexing.{raw, comment, in_misc, misc_piece, misc, doctype}
 use Rattle.html_read.specs.Reading.{mark, maybe_mark, maybe_doctype, prolog}
 use Rattle.html_read.specs.Grammar.{IsMiscPiece, IsMisc, IsDoctype, IsMark, IsProlog}
 use Rattle.html_read.proofs.MiscLaws.{NoMisc, BeginsComments, misc_begins, misc_test, misc_piece_spells, misc_spells, doctype_spells, raw_end_spells, raw_end_sees}

@@ -1,10 +1,9 @@
 -- Tables, row by row.
-use Rattle.std.proofs.Common.{◌≡◌, ℕ, ◌<◌, ◌≤◌, ◌+◌, true, false, List, [], ◌∷◌, length, drop, get_or, map, Some, None, Ok, Err, refl, sym, ap, ◌∙◌, add-one, drop-cons}
+use Rattle.std.proofs.Common.{◌≡◌, ℕ, ◌<◌, ◌≤◌, ◌+◌, List, [], ◌∷◌, length, drop, get_or, Ok, Err, refl, sym, ◌∙◌, add-one, drop-cons}
 use denote.Bor.{Bor}
-use Rattle.std.specs.Prelude.{⊤}
 use Rattle.std.proofs.lemmas.List.{drop_all}
 use Rattle.reading.specs.Readers.{Read, strip, word_from, one_word, shorter_of}
-use Rattle.html_read.specs.Characters.{words_of}
+use Rattle.reading.specs.Names.{words_of}
 
 -- ---- one of the words, by the furthest front so far
 

@@ -9,8 +9,8 @@ use Rattle.reading.specs.Spelling.{Anything, Spells, IsTestOf}
 use Rattle.reading.proofs.SpellLaws.{give_spells, strip_spells, one_of_spells, follow_spells, mapped_spells, choice_spells, spells_before}
 use Rattle.reading.proofs.ManyLaws.{joined_spells}
 use Rattle.reading.proofs.PlacedLaws.{follow_spells_where, skip_again}
-use Rattle.html_read.specs.Characters.{is_white}
-use Rattle.html_read.specs.Lexing.{spaces, is_quote, is_plain, in_value, value_piece, value_in, quoted, equals, value}
+use Rattle.reading.specs.White.{is_white, spaces}
+use Rattle.html_read.specs.Lexing.{is_quote, is_plain, in_value, value_piece, value_in, quoted, equals, value}
 use Rattle.html_read.specs.Grammar.{IsSpaces, IsReference, IsValuePiece, IsQuoted, IsEquals, IsValue}
 use Rattle.html_read.proofs.MiscLaws.{NoWhite, NoNameByte, spaces_spells, blank_ends_name}
 use Rattle.html_read.proofs.ReferenceLaws.{reference_spells}

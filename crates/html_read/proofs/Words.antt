@@ -1,16 +1,15 @@
 -- The words of a text, byte by byte.
-use Rattle.std.proofs.Common.{◌≡◌, ◌⊎◌, ℕ, ◌<◌, ◌≤◌, ◌+◌, true, false, List, [], ◌∷◌, ◌++◌, length, drop, take, get_or, Some, None, Ok, refl, sym, ap, subst, ◌∙◌, append_assoc, length-append, length-drop, add-one, drop-cons, arith}
+use Rattle.std.proofs.Common.{◌≡◌, ℕ, ◌<◌, ◌≤◌, ◌+◌, true, false, List, [], ◌∷◌, ◌++◌, length, drop, take, get_or, Ok, refl, sym, ap, ◌∙◌, append_assoc, length-append, length-drop, add-one, drop-cons, arith}
 use Rattle.std.specs.Prelude.{zero, suc, Bool, cond, ◌==◌, ⊤}
 use Rattle.std.proofs.lemmas.Str.{IsCharBoundary-before_ascii}
 use Rattle.std.specs.Str.{IsCharBoundary}
-use Rattle.std.proofs.lemmas.List.{drop_all, append-nil, append_cancel_right, take-append-drop}
+use Rattle.std.proofs.lemmas.List.{drop_all, append_cancel_right, take-append-drop}
 use Rattle.std.proofs.lemmas.Bool.{eqb-true}
 use Rattle.reading.specs.Readers.{next_is, skip}
 use Rattle.reading.proofs.SpellLaws.{ok}
-use Rattle.html_read.specs.Characters.{is_white}
+use Rattle.reading.specs.White.{is_white, spaces}
 use Rattle.html_read.specs.Cuts.{EndsWord, IsWordNext}
 use Rattle.html_read.specs.Judging.{word_before, words_behind, words}
-use Rattle.html_read.specs.Lexing.{spaces}
 
 -- ---- white space before a word
 

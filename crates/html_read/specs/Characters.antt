@@ -1,9 +1,9 @@
 -- Names, references and characters: which bytes they are made of, and what the tables say of them.
-use Rattle.std.specs.Prelude.{ℕ, zero, suc, ◌+◌, ◌-◌, ◌*◌, nat_lt, Bool, ◌&&◌, ◌||◌, ◌==◌, List, [], ◌∷◌, map, find, is_some, bytes_eq, codes, Option, Some, option_map, if◌then◌else◌}
-use Rattle.std.specs.Char.{to_ascii_lowercase, is_ascii_alphabetic, is_ascii_alphanumeric, is_ascii_whitespace}
-use denote.Bor.{Bor}
+use Rattle.std.specs.Prelude.{ℕ, zero, suc, ◌+◌, ◌-◌, ◌*◌, Bool, ◌||◌, ◌==◌, List, [], ◌∷◌, map, is_some, bytes_eq, codes, Option, Some, if◌then◌else◌}
+use Rattle.std.specs.Char.{is_ascii_alphabetic, is_ascii_alphanumeric}
 use Rattle.std.specs.Str.{continuation_len, lead_bits}
 use Rattle.reading.specs.Readers.{starts}
+use Rattle.reading.specs.Names.{named}
 use Rattle.wm_chars.specs.Repertoire.{row_of}
 use Rattle.html_read.specs.declared.tag.Tag.{Tag}
 use Rattle.html_read.specs.declared.tag.TheConstants.{TAGS}
@@ -12,28 +12,12 @@ use Rattle.html_read.specs.declared.attribute.Role.TheVariants.{Ignored}
 use Rattle.html_read.specs.declared.attribute.TheConstants.{ATTRIBUTES}
 use Rattle.html_read.specs.declared.entity.TheConstants.{ENTITIES}
 
--- white space: tab, LF, FF, CR and space
-abbrev pub is_white : ℕ → Bool
-is_white = is_ascii_whitespace
-
 -- a name begins with a letter, and goes on with letters, digits, `-` and `_`
 abbrev pub is_letter : ℕ → Bool
 is_letter = is_ascii_alphabetic
 
 abbrev pub is_name_byte : ℕ → Bool
 is_name_byte byte = is_ascii_alphanumeric byte || byte == 45 || byte == 95
-
--- names are compared in small letters
-abbrev pub lowered : List ℕ → List ℕ
-lowered = map to_ascii_lowercase
-
--- a table of the code, by its words
-abbrev pub words_of : {T : Type 0} → List (Bor (List ℕ) × T) → List (List ℕ × T)
-words_of table = map (λ row. (row.0.now, row.1)) table
-
--- what a table has for a name
-abbrev pub named : {T : Type 0} → List (List ℕ × T) → List ℕ → Option T
-named table name = option_map (λ row. row.1) (find (λ row. bytes_eq (lowered row.0) name) table)
 
 unfoldable pub tags : List (List ℕ × Tag)
 tags = map (λ row. (row.0.now, row.1)) TAGS

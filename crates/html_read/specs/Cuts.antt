@@ -1,17 +1,9 @@
 -- A text cut in two.
-use Rattle.std.specs.Prelude.{◌≡◌, ℕ, Bool, false, List, [], ◌∷◌, ◌++◌, take, drop, Option, Some, None, Result, Ok, ⊤}
+use Rattle.std.specs.Prelude.{◌≡◌, ℕ, false, List, [], ◌∷◌, ◌++◌, take, drop, Option, Some, None, Ok, ⊤}
 use denote.Bor.{Bor}
-use Rattle.reading.specs.Readers.{Read, Reader, can_read}
-use Rattle.html_read.specs.Characters.{is_white}
+use Rattle.reading.specs.Readers.{Reader, can_read}
+use Rattle.reading.specs.White.{is_white}
 use Rattle.html_read.specs.Judging.{word_before, words}
-
--- the text ends so
-abbrev pub EndsWith : (text rest : List ℕ) → Type 0
-EndsWith text rest = (front : List ℕ) × (text ≡ front ++ rest)
-
--- what is read is what stands before the rest
-abbrev pub ReadsFront : Read (List ℕ) → (text rest : List ℕ) → Type 0
-ReadsFront read text rest = (front : List ℕ) × (read ≡ Ok (front, rest)) × (text ≡ front ++ rest)
 
 -- what f reads can be read at this place of the text: what stands before it and what stands behind it
 abbrev pub EndsHere : Reader ⊤ → (text : List ℕ) → (at : ℕ) → Option (Bor (List ℕ) × Bor (List ℕ)) → Type 0

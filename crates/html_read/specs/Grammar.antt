@@ -22,12 +22,14 @@
 use Rattle.std.specs.Prelude.{◌≡◌, ◌⊎◌, ℕ, ◌+◌, ◌-◌, ◌*◌, ◌<◌, ◌≤◌, nat_lt, Bool, true, false, ◌==◌, List, [], ◌∷◌, ◌++◌, length, fold, codes, Option, Some, None, Ok, ⊤}
 use Rattle.std.specs.Char.{IsScalar, encode_utf8, digit_value}
 use Rattle.std.specs.Str.{IsUtf8}
-use Rattle.reading.specs.Grammars.{Grammar, Given, Fixed, OneOf, AllPass, RunOf, EitherCase, OneWord, UpTo, Seq, Mapped, Either, After, Each, Joined}
+use Rattle.reading.specs.Grammars.{Grammar, Given, Fixed, OneOf, AllPass, RunOf, EitherCase, OneWord, UpTo, Seq, Mapped, Either, After, Joined}
 use Rattle.reading.specs.Placed.{PlacedGrammar, Anywhere, PlacedSeq, PlacedMapped, PlacedEither}
 use Rattle.html_read.specs.declared.raw.RawEnd.{RawEnd}
 use Rattle.html_read.specs.declared.raw.RawEnd.TheVariants as ends
 use Rattle.html_read.specs.declared.tag.Tag.TheVariants.{Br}
-use Rattle.html_read.specs.Characters.{is_white, is_letter, is_name_byte, lowered, entities, tag_named, is_void, in_repertoire}
+use Rattle.reading.specs.White.{is_white}
+use Rattle.reading.specs.Names.{lowered}
+use Rattle.html_read.specs.Characters.{is_letter, is_name_byte, entities, tag_named, is_void, in_repertoire}
 use Rattle.html_read.specs.Judging.{Attribute, judged}
 use Rattle.html_read.specs.Lexing.{raw_end, is_x, is_quote, is_plain}
 use Rattle.html_read.specs.Reading.{Start, mark}

@@ -1,15 +1,16 @@
 -- What the attributes of a tag say, judged from left to right once the tag is wholly read.
-use Rattle.std.specs.Prelude.{◌≡◌, ℕ, ◌-◌, Bool, List, [], ◌∷◌, ◌++◌, length, codes, bytes_eq, Option, Some, None, option_map, Result, Ok, Err, if◌then◌else◌}
+use Rattle.std.specs.Prelude.{ℕ, ◌-◌, Bool, List, [], ◌∷◌, ◌++◌, length, codes, bytes_eq, Option, Some, None, Result, Ok, Err, if◌then◌else◌}
 use Rattle.std.specs.List.{list_any}
 use Rattle.wm_modes.specs.declared.mode.Direction.{Direction}
 use Rattle.wm_modes.specs.declared.mode.Direction.TheVariants.{Ltr, Rtl}
 use Rattle.html_read.specs.declared.attribute.Role.{Role}
 use Rattle.html_read.specs.declared.attribute.Role.TheVariants.{Id, Class, Style, Dir, Ignored}
-use Rattle.html_read.specs.declared.error.Refusal.{Refusal}
 use Rattle.html_read.specs.declared.error.Refusal.TheVariants.{Syntax, UnknownAttribute, Unsupported}
-use Rattle.html_read.specs.Characters.{is_white, lowered, role_of}
+use Rattle.reading.specs.White.{is_white}
+use Rattle.reading.specs.Names.{lowered}
+use Rattle.html_read.specs.Characters.{role_of}
 use Rattle.html_read.specs.Faults.{Fault}
-use Rattle.html_read.specs.Values.{TextAt, Acting}
+use Rattle.html_read.specs.Values.{Acting}
 
 -- an attribute as it stands in a tag: its name in small letters, its value with references replaced, and the bytes from its name on
 pub record Attribute : Type 0 where

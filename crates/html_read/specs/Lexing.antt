@@ -2,20 +2,15 @@
 use Rattle.std.specs.Prelude.{ℕ, zero, suc, ◌+◌, ◌*◌, nat_lt, nat_le, Bool, true, ◌&&◌, ◌||◌, not, ◌==◌, List, [], ◌∷◌, ◌++◌, codes, ⊤}
 use Rattle.std.specs.Char.{encode_utf8, digit_value}
 use lib.Utf8.{scalar}
-use Rattle.reading.specs.Readers.{Reader, give, refuse, follow, mapped, choice, optional, strip, strip_either_case, starts, one_of, next_is, run_of, skip, up_to, can_read, one_word, after, repeat, joined}
+use Rattle.reading.specs.Readers.{Reader, give, refuse, follow, mapped, choice, strip, strip_either_case, starts, one_of, next_is, run_of, up_to, can_read, one_word, after, repeat, joined}
 use Rattle.html_read.specs.declared.raw.RawEnd.{RawEnd}
 use Rattle.html_read.specs.declared.raw.RawEnd.TheVariants as ends
-use Rattle.html_read.specs.Characters.{is_white, is_letter, is_name_byte, lowered, entities, first_code}
+use Rattle.reading.specs.White.{is_white, spaces, white}
+use Rattle.reading.specs.Names.{lowered}
+use Rattle.html_read.specs.Characters.{is_letter, is_name_byte, entities, first_code}
 use Rattle.html_read.specs.Judging.{Attribute}
 
--- ---- white space, names and comments
-
-unfoldable pub spaces : Reader ⊤
-spaces = skip is_white
-
--- one character of white space
-unfoldable pub white : Reader ⊤
-white = mapped (λ byte. tt) (one_of is_white)
+-- ---- names and comments
 
 -- a name, in small letters
 unfoldable pub name : Reader (List ℕ)

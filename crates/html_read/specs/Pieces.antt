@@ -5,7 +5,7 @@ use denote.Bor.{Bor}
 use Rattle.reading.specs.Readers.{ReadOr, mapped, next_is}
 use Rattle.reading.proofs.Turns.{IsTurning}
 use Rattle.html_read.specs.declared.error.Stop.{Stop}
-use Rattle.html_read.specs.Faults.{Fault, Judged, Stops, spelled}
+use Rattle.html_read.specs.Faults.{Fault, Judged, Stops}
 use Rattle.html_read.specs.Lexing.{is_plain, may_follow}
 
 -- the turns that read a text by its pieces

@@ -1,17 +1,18 @@
 -- Texts, tags, what stands in an element, and documents, with each refusal: a function here for each of the code.
-use Rattle.std.specs.Prelude.{◌≡◌, ℕ, zero, ◌-◌, Bool, true, false, not, ◌&&◌, ◌||◌, ◌==◌, List, [], ◌∷◌, ◌++◌, length, drop, bytes_eq, codes, Option, Some, None, Result, Ok, Err, ⊤, if◌then◌else◌}
+use Rattle.std.specs.Prelude.{ℕ, ◌-◌, Bool, true, false, not, ◌&&◌, ◌||◌, ◌==◌, List, [], ◌∷◌, ◌++◌, length, drop, bytes_eq, codes, Option, Some, None, Result, Ok, Err, ⊤, if◌then◌else◌}
 use Rattle.std.specs.Char.{encode_utf8}
 use Rattle.std.specs.Str.Lossy.{utf8_valid_len}
-use Rattle.reading.specs.Readers.{ReadOr, ReaderOr, Reader, skip, ◌>>=◌, give, refuse, follow, mapped, choice, optional, strip, strip_either_case, starts, one_of, next_is, can_read, after, repeat, joined}
+use Rattle.reading.specs.Readers.{ReadOr, Reader, skip, ◌>>=◌, give, refuse, follow, mapped, choice, strip, strip_either_case, starts, next_is, can_read, after, repeat, joined}
 use Rattle.html_read.specs.declared.tag.Tag.{Tag}
 use Rattle.html_read.specs.declared.error.Refusal.TheVariants.{Utf8, Character, UnknownTag, Nesting}
 use Rattle.html_read.specs.declared.raw.RawEnd.TheVariants as ends
 use Rattle.html_read.specs.declared.content.Base.{Base}
 use Rattle.html_read.specs.declared.content.Base.TheVariants as bases
-use Rattle.html_read.specs.Characters.{is_white, tag_named, is_void, in_repertoire}
-use Rattle.html_read.specs.Faults.{Fault, Judged, syntax, spelled}
-use Rattle.html_read.specs.Judging.{Attribute, judged}
-use Rattle.html_read.specs.Lexing.{white, name, raw, comment, misc, doctype, reference, attributes, tag_end, end_of, end_name, character}
+use Rattle.reading.specs.White.{is_white, white}
+use Rattle.html_read.specs.Characters.{tag_named, is_void, in_repertoire}
+use Rattle.html_read.specs.Faults.{Fault, Judged, spelled}
+use Rattle.html_read.specs.Judging.{judged}
+use Rattle.html_read.specs.Lexing.{name, raw, comment, misc, doctype, reference, attributes, tag_end, end_of, end_name, character}
 use Rattle.html_read.specs.Tree.{with_text, with_element, roots}
 use Rattle.html_read.specs.Values.{TextAt, Acting, Node, Whole}
 

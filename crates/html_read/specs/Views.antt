@@ -6,7 +6,7 @@ use Rattle.std.specs.declared.string.String.{String}
 use Rattle.html_read.specs.declared.attributes.WrittenAttribute as code
 use Rattle.html_read.specs.declared.tags.Start as code_start
 use Rattle.html_read.specs.declared.content.Open as code_open
-use Rattle.html_read.specs.Characters.{lowered}
+use Rattle.reading.specs.Names.{lowered}
 use Rattle.html_read.specs.declared.error.Stop.{Stop}
 use Rattle.html_read.specs.declared.error.Stop.TheVariants.{Memory}
 use Rattle.html_read.specs.Judging.{Attribute, has_name}

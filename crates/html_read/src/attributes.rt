@@ -12,9 +12,9 @@ ghost use Rattle.html_read.specs.Pieces.{Joins, JoinsRun, PutsPiece, IsPlainNext
 ghost use Rattle.html_read.specs.Views.{attribute_of};
 
 use crate::error::{Refusal, Stop};
-use crate::lexing::{front_of, name, spaces, white};
+use crate::lexing::name;
 use crate::reference::reference;
-use reading::{first, starts, strip};
+use reading::{first, front_of, spaces, starts, strip, white};
 use std::alloc::Global;
 use style_types::Letters;
 

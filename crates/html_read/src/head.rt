@@ -6,11 +6,11 @@ ghost use Rattle.html_read.specs.Reading as readers;
 ghost use Rattle.html_read.specs.Values.{text_at, sheets_of};
 
 use crate::error::{Refusal, Stop};
-use crate::lexing::{comment, end_of, misc, white, white_ahead};
+use crate::lexing::{comment, end_of, misc};
 use crate::node::PlacedText;
 use crate::raw::{RawEnd, raw};
 use crate::tags::start_of;
-use reading::{starts, strip, strip_either_case};
+use reading::{starts, strip, strip_either_case, white, white_ahead};
 use std::alloc::Global;
 use style_types::Letters;
 

@@ -3,7 +3,8 @@
 ghost use Rattle.std.specs.Prelude.{◌≡◌, ◌<◌, IfOk, IfErr, IfSome, length, map};
 ghost use Rattle.std.specs.String.{string_bytes};
 ghost use Rattle.reading.specs.Readers.{starts};
-ghost use Rattle.html_read.specs.Characters.{lowered, role_of};
+ghost use Rattle.reading.specs.Names.{lowered};
+ghost use Rattle.html_read.specs.Characters.{role_of};
 ghost use Rattle.html_read.specs.Cuts.{EndsWord, IsNextWord, IsWordNext};
 ghost use Rattle.html_read.specs.Faults.{Gives};
 ghost use Rattle.html_read.specs.Judging as judging;
@@ -14,9 +15,8 @@ ghost use Rattle.html_read.specs.declared.error.Stop.TheVariants as Stops;
 use crate::attribute::{ATTRIBUTES, Role};
 use crate::attributes::WrittenAttribute;
 use crate::error::{Refusal, Stop};
-use crate::lexing::{front_of, spaces};
 use crate::node::{Attributes, PlacedText};
-use crate::table::{named, same_name};
+use reading::{front_of, named, same_name, spaces};
 use std::alloc::Global;
 use std::collections::BTreeSet;
 use style_types::{LetterList, Letters};
@@ -96,7 +96,7 @@ fn role_of(name: &str) -> Option<Role>
 }
 
 // The name, in small letters, begins with this text.
-#[tactic(auto, using(crate::proofs::Names::lowered_starts))]
+#[tactic(auto, using(reading::proofs::Names::lowered_starts))]
 fn begins(word: &str, name: &str) -> bool
     ensures { result ≡ starts word.now (lowered name.now) }
 {

@@ -6,7 +6,8 @@ ghost use Rattle.reading.specs.Placed.{IsViableInPlace, SpellsPlaced};
 ghost use Rattle.reading.specs.Places.{IsLocal, IsViable, StopsInPlace};
 ghost use Rattle.reading.specs.Spelling.{Anything, Spells};
 ghost use Rattle.html_read.specs.Answered.{HaveNoDocument, IsTheDocument, IsTheFragment, RefusesDocument, RefusesFragment};
-ghost use Rattle.html_read.specs.Characters.{is_white, is_name_byte};
+ghost use Rattle.reading.specs.White.{is_white, spaces};
+ghost use Rattle.html_read.specs.Characters.{is_name_byte};
 ghost use Rattle.html_read.specs.Faults.{Fault, Told};
 ghost use Rattle.html_read.specs.Grammar as grammar;
 ghost use Rattle.html_read.specs.Judging.{Attribute};
@@ -20,7 +21,7 @@ ghost use Rattle.html_read.specs.declared.raw.RawEnd.{RawEnd};
 
 /// White space, names and end tags are read as they are spelled.
 pub fn names_spell()
-    ensures spaces { Spells readers.spaces grammar.IsSpaces (λ rest. next_is is_white rest ≡ false) }
+    ensures spaces { Spells spaces grammar.IsSpaces (λ rest. next_is is_white rest ≡ false) }
     ensures names { Spells readers.name grammar.IsName (λ rest. next_is is_name_byte rest ≡ false) }
     ensures end_names { Spells readers.end_name grammar.IsEndName Anything }
 {}

@@ -1,63 +1,18 @@
-//! White space, names, comments, and the ends of tags: what refuses by `Syntax` alone.
+//! Names, comments, white space between them, and the ends of tags: what refuses by `Syntax` alone.
 
-ghost use Rattle.std.specs.Prelude.{◌≡◌, ◌++◌, ◌≤◌, ◌<◌, [], length, IfOk, Ok};
+ghost use Rattle.std.specs.Prelude.{◌≡◌, ◌≤◌, ◌<◌, [], length, IfOk};
 ghost use Rattle.reading.specs.Readers as reading;
 ghost use Rattle.reading.specs.Readers.{Answers};
-ghost use Rattle.html_read.specs.Characters.{lowered, is_white, is_name_byte};
-ghost use Rattle.html_read.specs.Cuts.{EndsWith, ReadsFront};
+ghost use Rattle.reading.specs.Names.{lowered};
+ghost use Rattle.html_read.specs.Characters.{is_name_byte};
+ghost use Rattle.reading.specs.Cuts.{ReadsFront};
 ghost use Rattle.html_read.specs.Lexing as readers;
 
 use crate::raw::{RawEnd, raw};
-use reading::{first, starts, strip, strip_either_case};
-
-// The front of the text that `rest` leaves.
-pub(crate) fn front_of<'a>(text: &'a str, rest: &str) -> &'a str
-    requires { EndsWith text.now rest.now }
-    ensures { text.now ≡ result.now ++ rest.now }
-{
-    text.split_at(text.len() - rest.len()).0
-}
-
-#[tactic(auto, unfolding(crate::specs::Lexing::spaces, reading::specs::Readers::skip))]
-pub(crate) fn spaces(text: &str) -> &str
-    ensures read { readers.spaces text.now ≡ Ok (tt, result.now) }
-    ensures shorter { length result.now ≤ length text.now }
-{
-    let mut rest = text;
-    while let Some((byte, after)) = first(rest) {
-        if !byte.is_ascii_whitespace() {
-            break;
-        }
-        rest = after;
-    }
-    rest
-}
-
-/// White space, one character of it.
-#[tactic(auto, unfolding(crate::specs::Lexing::white, reading::specs::Readers::one_of))]
-pub(crate) fn white(text: &str) -> Result<&str, &[u8]>
-    ensures read { Answers (λ rest. (tt, rest.now)) result (readers.white text.now) }
-    ensures shorter { IfOk result (λ rest. length rest.now < length text.now) }
-{
-    match first(text) {
-        Some((byte, after)) if byte.is_ascii_whitespace() => Ok(after),
-        _ => Err(text.as_bytes()),
-    }
-}
-
-/// Does white space come next?
-#[tactic(auto, using(crate::proofs::Runs::no_white))]
-pub(crate) fn white_ahead(text: &str) -> bool
-    ensures { result ≡ reading.next_is is_white text.now }
-{
-    match first(text) {
-        Some((byte, _)) => byte.is_ascii_whitespace(),
-        None => false,
-    }
-}
+use reading::{first, front_of, spaces, starts, strip, strip_either_case, white, white_ahead};
 
 /// A name as it is written.
-#[tactic(auto, unfolding(crate::specs::Lexing::name, reading::specs::Readers::one_of), using(crate::proofs::Runs::ends_behind, crate::proofs::Runs::name_read, crate::proofs::Runs::no_name))]
+#[tactic(auto, unfolding(crate::specs::Lexing::name, reading::specs::Readers::one_of), using(reading::proofs::Running::ends_behind, crate::proofs::Runs::name_read, crate::proofs::Runs::no_name))]
 pub(crate) fn name(text: &str) -> Result<(&str, &str), &[u8]>
     ensures read { Answers (λ n. (lowered n.0.now, n.1.now)) result (readers.name text.now) }
     ensures shorter { IfOk result (λ n. length n.1.now < length text.now) }
@@ -73,7 +28,7 @@ pub(crate) fn name(text: &str) -> Result<(&str, &str), &[u8]>
 }
 
 // What stands behind the bytes that a name may go on with.
-#[tactic(auto, using(crate::proofs::Runs::running_starts, crate::proofs::Runs::running_goes_on, crate::proofs::Runs::running_stops, crate::proofs::Runs::running_ends))]
+#[tactic(auto, using(reading::proofs::Running::running_starts, reading::proofs::Running::running_goes_on, reading::proofs::Running::running_stops, reading::proofs::Running::running_ends, crate::proofs::Runs::name_bytes_are_ascii))]
 fn name_end(text: &str) -> &str
     ensures { ReadsFront (reading.run_of is_name_byte text.now) text.now result.now }
 {

@@ -14,7 +14,6 @@ mod lexing;
 mod node;
 mod raw;
 mod reference;
-mod table;
 mod tag;
 mod tags;
 mod tail;

@@ -5,7 +5,8 @@ ghost use Rattle.std.specs.Char.{digit_value};
 ghost use lib.Utf8.{scalar};
 ghost use Rattle.reading.specs.Readers as reading;
 ghost use Rattle.reading.specs.Readers.{Answers};
-ghost use Rattle.html_read.specs.Characters.{entities, words_of};
+ghost use Rattle.reading.specs.Names.{words_of};
+ghost use Rattle.html_read.specs.Characters.{entities};
 ghost use Rattle.html_read.specs.Lexing as readers;
 ghost use Rattle.html_read.specs.Pieces.{GoesOnWith};
 

@@ -1,7 +1,8 @@
 //! Start tags and end tags.
 
 ghost use Rattle.std.specs.Prelude.{◌≡◌, ◌<◌, length, IfOk};
-ghost use Rattle.html_read.specs.Characters.{lowered, is_void, tag_named};
+ghost use Rattle.reading.specs.Names.{lowered};
+ghost use Rattle.html_read.specs.Characters.{is_void, tag_named};
 ghost use Rattle.html_read.specs.Faults.{Gives};
 ghost use Rattle.html_read.specs.Reading as readers;
 ghost use Rattle.html_read.specs.Values.{acting_of};
@@ -12,9 +13,8 @@ use crate::error::{Refusal, Stop};
 use crate::judging::judged;
 use crate::lexing::{end_name, name, tag_end};
 use crate::node::Attributes;
-use crate::table::{named, same_name};
 use crate::tag::{TAGS, Tag};
-use reading::{strip, strip_either_case};
+use reading::{named, same_name, strip, strip_either_case};
 use std::alloc::Global;
 
 /// An element that begins.

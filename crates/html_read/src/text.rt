@@ -10,9 +10,9 @@ ghost use Rattle.html_read.specs.Pieces.{Joins, PutsPiece, RunsOrStops, IsFirstC
 ghost use Rattle.html_read.specs.Reading as readers;
 
 use crate::error::{Refusal, Stop};
-use crate::lexing::{comment, front_of};
+use crate::lexing::comment;
 use crate::reference::reference;
-use reading::starts;
+use reading::{front_of, starts};
 use std::alloc::Global;
 use style_types::Letters;
 use wm_chars::bidi_class;

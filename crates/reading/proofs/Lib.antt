@@ -16,3 +16,6 @@ pub mod UpToPlaces
 pub mod WordPlaces
 pub mod ClosingPlaces
 pub mod StopPlaces
+pub mod Running
+pub mod Names
+pub mod Shorter

@@ -6,3 +6,6 @@ pub mod Places
 pub mod Placed
 pub mod Words
 pub mod Closings
+pub mod Names
+pub mod White
+pub mod Cuts

@@ -3,6 +3,8 @@
 
 mod decimals;
 mod laws;
+mod runs;
+mod table;
 mod texts;
 
 pub use decimals::decimal;
@@ -20,6 +22,8 @@ pub use laws::{
     texts_up_to_spell, texts_up_to_stop_in_place, views_spell, views_spell_in_place,
     views_stop_in_place, words_spell, words_stop_in_place,
 };
+pub use runs::{front_of, spaces, white, white_ahead};
+pub use table::{named, same_name};
 pub use texts::{digit, first, starts, strip, strip_either_case};
 
 #[cfg(test)]

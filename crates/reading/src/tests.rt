@@ -56,3 +56,37 @@ fn numbers(rt: HostRuntime) {
     assert_eq!(rt; decimal(9, "999999999"), Ok((999_999_999, "")));
     assert_eq!(rt; decimal(5, "px"), Err(b"px".as_slice()));
 }
+
+const UNITS: [(&str, u32); 3] = [("px", 1), ("Em", 2), ("PX", 3)];
+
+#[test]
+fn names(rt: HostRuntime) {
+    // The first row counts, in either case.
+    assert_eq!(rt; named(&UNITS, "Px"), Some(1));
+    assert_eq!(rt; named(&UNITS, "eM"), Some(2));
+    assert_eq!(rt; named(&UNITS, "e"), None);
+    assert_eq!(rt; named::<u32>(&[], "px"), None);
+    assert!(rt; same_name("Title", "tITLE"));
+    assert!(rt; !same_name("title", "titles"));
+    assert!(rt; !same_name("\u{e9}", "\u{c9}"));
+}
+
+#[test]
+fn white_spaces(rt: HostRuntime) {
+    assert_eq!(rt; spaces("\t\n\u{c}\r a b"), "a b");
+    assert_eq!(rt; spaces("\u{b}a"), "\u{b}a");
+    assert_eq!(rt; spaces("\u{a0}"), "\u{a0}");
+    assert_eq!(rt; spaces(""), "");
+    assert_eq!(rt; white("\u{c} a"), Ok(" a"));
+    assert_eq!(rt; white("a "), Err(b"a ".as_slice()));
+    assert_eq!(rt; white(""), Err(b"".as_slice()));
+    assert!(rt; white_ahead("\ra"));
+    assert!(rt; !white_ahead("a\r"));
+    assert!(rt; !white_ahead("\u{a0}"));
+    assert!(rt; !white_ahead(""));
+}
+
+#[test]
+fn fronts(rt: HostRuntime) {
+    assert_eq!(rt; front_of("ab", "b"), "a");
+}

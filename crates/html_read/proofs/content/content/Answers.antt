@@ -1,4 +1,4 @@
-use Rattle.std.proofs.Common.{rules, refl, [], sym, ◌∙◌, true, false, arith}
+use Rattle.std.proofs.Common.{rules, refl, true, false, arith}
 use Rattle.std.proofs.lemmas.Result.{err_from_is_err_and}
 use Rattle.html_read.specs.Reading.{content_of}
 use Rattle.html_read.specs.Values.{nodes_of}

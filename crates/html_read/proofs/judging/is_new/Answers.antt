@@ -1,5 +1,5 @@
 use Rattle.std.proofs.Common.{ap, ◌∙◌}
-use Rattle.html_read.specs.Characters.{lowered}
+use Rattle.reading.specs.Names.{lowered}
 use Rattle.html_read.proofs.Judges.{new_told}
 use Rattle.html_read.proofs.judging.is_new.Goals as goal
 

@@ -1,7 +1,7 @@
 use Rattle.std.proofs.lemmas.Result.{err_from_is_err_and}
 use Rattle.std.specs.Vec.Iter.{into_iter_items, into_iter_len}
 use Rattle.html_read.specs.Values.{acting_of}
-use Rattle.html_read.proofs.Judges.{judging_twice, judging_goes_on, judging_stops, judging_ends}
+use Rattle.html_read.proofs.Judges.{judging_goes_on, judging_stops}
 use Rattle.html_read.proofs.judging.judged.Goals as goal
 
 pub loop-attribute-preserved : goal.loop-attribute-preserved

@@ -1,7 +1,8 @@
 use Rattle.std.proofs.Common.{sym, ◌∙◌}
 use Rattle.reading.specs.Readers.{run_of}
 use Rattle.html_read.specs.Characters.{is_name_byte}
-use Rattle.html_read.proofs.Runs.{ends_behind, name_read}
+use Rattle.reading.proofs.Running.{ends_behind}
+use Rattle.html_read.proofs.Runs.{name_read}
 use Rattle.html_read.proofs.lexing.name.Goals as goal
 
 pub front_of-requires : goal.front_of-requires

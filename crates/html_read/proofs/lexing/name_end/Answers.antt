@@ -1,5 +1,5 @@
 use Rattle.std.proofs.Common.{sym, ◌∙◌}
-use Rattle.html_read.proofs.Runs.{running_stops}
+use Rattle.reading.proofs.Running.{running_stops}
 use Rattle.html_read.proofs.lexing.name_end.Goals as goal
 
 pub returns-then-not-is_name_byte : goal.returns-then-not-is_name_byte

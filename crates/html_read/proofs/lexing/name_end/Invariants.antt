@@ -2,7 +2,7 @@ use Rattle.std.proofs.Common.{length}
 use denote.Text.{Utf8}
 use denote.Shadow.{shadow}
 use Rattle.html_read.specs.Characters.{is_name_byte}
-use Rattle.html_read.proofs.Runs.{IsRunning}
+use Rattle.reading.proofs.Running.{IsRunning}
 use Rattle.html_read.proofs.lexing.name_end.Given as goal
 
 abbrev pub invariant-loop-byte : goal.invariant-loop-byte

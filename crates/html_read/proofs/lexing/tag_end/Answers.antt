@@ -1,6 +1,6 @@
 use Rattle.std.proofs.Common.{arith}
 use Rattle.std.specs.Prelude.{codes}
-use Rattle.html_read.proofs.Shorter.{strip_strict}
+use Rattle.reading.proofs.Shorter.{strip_strict}
 use Rattle.html_read.proofs.lexing.tag_end.Goals as goal
 
 pub returns-then-starts-clause-shorter : goal.returns-then-starts-clause-shorter

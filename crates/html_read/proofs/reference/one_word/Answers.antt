@@ -1,6 +1,6 @@
 use Rattle.std.proofs.Common.{[]}
 use Rattle.reading.specs.Readers.{one_word}
-use Rattle.html_read.specs.Characters.{words_of}
+use Rattle.reading.specs.Names.{words_of}
 use Rattle.html_read.proofs.Tables.{words_go_on, words_here}
 use Rattle.html_read.proofs.reference.one_word.Goals as goal
 

@@ -1,6 +1,6 @@
 use Rattle.std.proofs.Common.{◌≡◌, drop}
 use Rattle.reading.specs.Readers as reading
-use Rattle.html_read.specs.Characters.{words_of}
+use Rattle.reading.specs.Names.{words_of}
 use Rattle.html_read.proofs.reference.one_word.Given as goal
 
 abbrev pub invariant-loop-name : goal.invariant-loop-name

@@ -1,6 +1,6 @@
 use Rattle.std.proofs.Common.{rules, inr, sym, ◌∙◌}
 use Rattle.std.proofs.lemmas.Result.{err_from_is_err_and}
-use Rattle.html_read.proofs.Letters.{letters_stop, letters_go_on, letters_shorten, letters_are_some}
+use Rattle.html_read.proofs.Letters.{letters_stop, letters_go_on, letters_shorten}
 use Rattle.html_read.proofs.text.characters_end.Goals as goal
 
 pub returns-in_err-rest-clause-read : goal.returns-in_err-rest-clause-read

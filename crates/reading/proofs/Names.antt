@@ -1,11 +1,11 @@
 -- Tables of names, row by row.
-use Rattle.std.proofs.Common.{◌≡◌, ℕ, ◌<◌, ◌≤◌, ◌+◌, true, false, List, [], ◌∷◌, length, drop, get_or, map, bytes_eq, Some, None, Err, refl, sym, ap, ◌∙◌, add-one, drop-cons}
+use Rattle.std.proofs.Common.{◌≡◌, ℕ, ◌<◌, ◌≤◌, ◌+◌, true, false, List, [], ◌∷◌, length, drop, get_or, bytes_eq, Some, None, Err, refl, sym, ◌∙◌, add-one, drop-cons}
 use Rattle.std.specs.Prelude.{Option, Bool, cond, eqb, is_ok, ⊤}
 use Rattle.std.specs.Char.{to_ascii_lowercase}
 use denote.Bor.{Bor}
 use Rattle.std.proofs.lemmas.List.{drop_all}
 use Rattle.reading.specs.Readers.{Read, strip, strip_either_case, starts, can_read}
-use Rattle.html_read.specs.Characters.{lowered, named, words_of}
+use Rattle.reading.specs.Names.{lowered, named, words_of}
 
 name_step : {T : Type 0} (word : List ℕ) (x : T) (others : List (List ℕ × T)) (name : List ℕ) → bytes_eq (lowered word) name ≡ false → named ((word, x) ∷ others) name ≡ named others name
 name_step word x others name e = rw e refl

@@ -1,6 +1,6 @@
 use Rattle.std.proofs.Common.{◌≡◌, drop}
-use Rattle.html_read.specs.Characters.{lowered, named, words_of}
-use Rattle.html_read.proofs.table.named.Given as goal
+use Rattle.reading.specs.Names.{lowered, named, words_of}
+use Rattle.reading.proofs.table.named.Given as goal
 
 abbrev pub invariant-loop-other : goal.invariant-loop-other
 invariant-loop-other g l = named (words_of (drop l.other-index l.table)) (lowered l.name) ≡ named (words_of l.table) (lowered l.name)

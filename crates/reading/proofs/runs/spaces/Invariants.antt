@@ -1,11 +1,11 @@
 use Rattle.std.proofs.Common.{◌≡◌, ◌≤◌, length}
 use denote.Text.{Utf8}
 use denote.Shadow.{shadow}
-use Rattle.html_read.specs.Lexing as readers
-use Rattle.html_read.proofs.lexing.spaces.Given as goal
+use Rattle.reading.specs.White as blanks
+use Rattle.reading.proofs.runs.spaces.Given as goal
 
 abbrev pub invariant-loop-byte : goal.invariant-loop-byte
-invariant-loop-byte l = shadow (Utf8 l.rest) × (readers.spaces l.rest ≡ readers.spaces l.text) × (length l.rest ≤ length l.text)
+invariant-loop-byte l = shadow (Utf8 l.rest) × (blanks.spaces l.rest ≡ blanks.spaces l.text) × (length l.rest ≤ length l.text)
 
 abbrev pub decreases-loop-byte : goal.decreases-loop-byte
 decreases-loop-byte l = length l.rest
