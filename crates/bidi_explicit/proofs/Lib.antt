@@ -11,3 +11,4 @@ pub mod Matching
 pub mod OneLevel
 pub mod Strong
 pub mod Walking
+pub mod Writing

@@ -3,7 +3,7 @@ use Rattle.std.proofs.Common.{◌≡◌, ◌∙◌, sym, refl, ap, subst, ℕ, z
 use Rattle.std.specs.Prelude.{IfSome}
 use Rattle.std.proofs.Math.Numerals.{add-one}
 use Rattle.std.proofs.Math.Nat.{add-zero}
-use Rattle.std.proofs.lemmas.Bool.{lt-ltb, le-ltb, cases_order}
+use Rattle.std.proofs.lemmas.Bool.{lt-ltb, le-ltb, eq-eqb, cases_order}
 use Rattle.std.proofs.lemmas.List.{drop_more, drop_all, get_or_past, length-replicate, length-set, length-drop}
 use Rattle.wm_chars.specs.declared.classes.BidiClass.TheVariants.{L}
 use Rattle.bidi_explicit.specs.declared.kind.Kind.TheVariants.{Strong, Opens, Closes, Other}
@@ -13,7 +13,7 @@ use Rattle.bidi_explicit.specs.declared.paragraph.Levels.{Levels}
 use Rattle.bidi_explicit.specs.Isolates.{kind_of}
 use Rattle.bidi_explicit.specs.Sequences.{is_open_at, match_at, kept_from, level_behind, level_at_end, level_in}
 use Rattle.bidi_explicit.specs.Bounds.{AreAligned}
-use Rattle.bidi_explicit.specs.Links.{no_link, first_of, closers, closers_at, matched_by, followed, chains, behind_of, behind_at, linked, skipped, kept_behind, IsLinked, IsLinkedWhole}
+use Rattle.bidi_explicit.specs.Links.{no_link, first_of, closers, closers_at, matched_by, followed, chains, behind_of, behind_at, linked, skipped, kept_behind, GoesOn, IsLinked, IsLinkedWhole}
 use Rattle.bidi_explicit.proofs.Chains.{by_place}
 use Rattle.bidi_explicit.proofs.Matches.{matched, AreWithin, closers_within}
 use Rattle.bidi_explicit.proofs.Linking.{hold_skipped, hold_linked, length_linked, behind_here, behind_else, skipped_here, skipped_else}
@@ -35,6 +35,11 @@ kept_within (b ∷ marks) i high l = go b (lower (kept_from (i + 1) marks) (kept
 first_within : (low high : ℕ) (xs : List ℕ) → AreWithin low high xs → IfSome (first_of xs) (λ q. (low ≤ q) × (q < high))
 first_within low high [] a = tt
 first_within low high (x ∷ xs) a = (a.0, a.1)
+
+-- from within the text to within a list of its length
+pub within_other : (low high high' : ℕ) (o : Option ℕ) → high ≤ high' → IfSome o (λ q. (low ≤ q) × (q < high)) → IfSome o (λ q. q < high')
+within_other low high high' None l w = tt
+within_other low high high' (Some q) l w = let b : q < high = w.1 in omega arith
 
 -- the level of the first of these places, or the base level
 abbrev level_of : (ℕ → ℕ) → ℕ → Option ℕ → ℕ
@@ -199,6 +204,15 @@ module _ (levels : Levels) (aligned : AreAligned levels) (i : ℕ) (inside : i <
         let k : links' ≡ linked links i follower end_level = links-is ∙ ap (λ (n : ℕ). linked links i f n) b_is ∙ ap (λ (o : Option ℕ). linked links i o end_level) fo in
         let p : pdis' ≡ closers_at (kind_of (get_or levels.original.items i L)) i pdis = pdis-is ∙ ap (λ k. closers_at k i pdis) kind-is in
         rw (k, p) (step_kept e)
+
+  -- the same where the sequence goes on at the next kept place
+  pub goes_on_by : (kind : Kind) (q : ℕ) (links' : List Link) → kind ≡ kind_of (get_or levels.original.items i L) → GoesOn levels kind i nearest q
+      → links' ≡ linked links i (Some q) (level_in levels.level.items q) → IsLinked levels i links' pdis (Some i)
+  goes_on_by kind q links' kind-is on links-is =
+      let behind : level_in levels.level.items q ≡ behind_of levels.base (level_in levels.level.items) kind None nearest = rw on.next (sym (on.none.behind levels.base (level_in levels.level.items) q)) in
+      let level : eqb (level_in levels.level.items i) (level_in levels.level.items q) ≡ true = eq-eqb _ _ on.level in
+      let follows : Some q ≡ followed (level_in levels.level.items) i nearest None = rw (on.next, level) refl in
+      kept_by kind None (level_in levels.level.items q) kind-is (sym (on.none.matched pdis)) behind (Some q) links' pdis follows links-is (sym (on.none.closers i pdis)) on.kept
 
 -- before the last place
 pub begins_linked : (levels : Levels) (i : ℕ) → AreAligned levels → i ≡ length levels.original.items → IsLinked levels i (replicate i no_link) [] None

@@ -121,6 +121,19 @@ pub record IsLinkedWhole (levels : Levels) (links : List Link) : Type 0 where
   pub behind : (p : ℕ) → p < length levels.original.items → behind_at links p ≡ level_at_end levels.base (level_in levels.level.items) levels.original.items (kept_from 0 levels.removed.items) p
   pub length : length links ≡ length levels.original.items
 
+-- a character of this kind matches no other
+pub record MatchesNone (kind : Kind) : Type 0 where
+  pub matched : (closers : List ℕ) → matched_by kind closers ≡ None
+  pub closers : (at : ℕ) (closers : List ℕ) → closers_at kind at closers ≡ closers
+  pub behind : (base : ℕ) (level : ℕ → ℕ) (next : ℕ) → behind_of base level kind None (Some next) ≡ level next
+
+-- so does the one at this place, which is kept and has the level of the next kept place q
+pub record GoesOn (levels : Levels) (kind : Kind) (i : ℕ) (nearest : Option ℕ) (q : ℕ) : Type 0 where
+  pub next : nearest ≡ Some q
+  pub level : level_in levels.level.items i ≡ level_in levels.level.items q
+  pub kept : slice_index_or levels.removed.items i false ≡ false
+  pub none : MatchesNone kind
+
 -- ---- what is read out of the links
 
 -- the links lead from this place to an end

@@ -1,4 +1,4 @@
-ghost use Rattle.std.specs.Prelude.{◌≡◌, ◌∷◌, List, OnOk, IfOk};
+ghost use Rattle.std.specs.Prelude.{◌≡◌, [], ◌∷◌, List, false, OnOk, IfOk};
 ghost use Rattle.bidi_explicit.specs.Isolates.{turns_right};
 ghost use Rattle.bidi_explicit.specs.Ahead.{ahead_of, ahead_at, rights};
 
@@ -16,9 +16,30 @@ pub(crate) struct Scan {
     pending: VecDeque<bool>,
 }
 
-// Whether each FSI is treated as an RLI, in their order (UAX 9, X5c). One pass from the end answers for all.
-#[tactic(auto, using(crate::proofs::Looking::turns_right_found))]
+// Whether each FSI is treated as an RLI, in their order (UAX 9, X5c).
 pub(crate) fn rights(alloc: Global, classes: &[BidiClass]) -> Result<VecDeque<bool>, AllocError>
+    ensures { IfOk result (λ answers. answers.items ≡ rights classes.now) }
+{
+    if has_fsi(classes) {
+        read_rights(alloc, classes)
+    } else {
+        Ok(VecDeque::new(alloc))
+    }
+}
+
+fn has_fsi(classes: &[BidiClass]) -> bool
+    ensures { result ≡ false → rights classes.now ≡ [] }
+{
+    let mut has = false;
+    for class in classes {
+        has |= *class == BidiClass::FSI;
+    }
+    has
+}
+
+// One pass from the end answers for all.
+#[tactic(auto, using(crate::proofs::Looking::turns_right_found))]
+fn read_rights(alloc: Global, classes: &[BidiClass]) -> Result<VecDeque<bool>, AllocError>
     ensures { IfOk result (λ answers. answers.items ≡ rights classes.now) }
 {
     let mut scan = Scan {

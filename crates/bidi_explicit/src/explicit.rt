@@ -1,5 +1,6 @@
-ghost use Rattle.std.specs.Prelude.{◌≡◌, ◌+◌, ◌<◌, ◌≤◌, ◌^◌, [], ◌∷◌, ◌++◌, IfOk, OnOk};
+ghost use Rattle.std.specs.Prelude.{ℕ, ◌≡◌, ◌+◌, ◌<◌, ◌≤◌, ◌^◌, ◌∷◌, true, length, set, IfOk, OnOk};
 ghost use Rattle.std.specs.List.{All};
+ghost use Rattle.std.specs.Option.{unwrap_or};
 ghost use Rattle.bidi_explicit.specs.Ahead.{rights};
 ghost use Rattle.bidi_explicit.specs.Bounds.{AreAligned, IsBetween};
 ghost use Rattle.bidi_explicit.specs.Explicit.{plain, entered, taken, entries, begin, is_removed, level_at, levels_by, class_at, classes_by, explicit_levels, explicit_classes, removed_marks};
@@ -11,6 +12,7 @@ use crate::paragraph::{ClassList, LevelList, Levels, MarkList};
 use std::alloc::{AllocError, Global};
 use std::collections::VecDeque;
 use wm_chars::BidiClass;
+use wm_chars::BidiClass::{AL, AN, CS, EN, ES, ET, L, NSM, ON, R, S, WS};
 
 /// The explicit levels of a paragraph whose base level is 0 or 1 (UAX 9, X1 to X9). No level is below the base level
 /// or above 125.
@@ -24,14 +26,9 @@ pub fn levels(alloc: Global, classes: &[BidiClass], base: u8) -> Result<Levels, 
     ensures aligned { IfOk result (λ levels. AreAligned levels) }
     ensures between { IfOk result (λ levels. All (IsBetween base) levels.level.items) }
 {
-    let written = walk(alloc, classes, base)?;
+    let Written { level, class } = walk(alloc, classes, base)?;
     let original = Vec::from_slice(alloc, classes)?;
     let removed = marks(alloc, classes)?;
-    let Written {
-        last: _,
-        level,
-        class,
-    } = written;
     Ok(Levels {
         base,
         level,
@@ -41,10 +38,9 @@ pub fn levels(alloc: Global, classes: &[BidiClass], base: u8) -> Result<Levels, 
     })
 }
 
-// The levels and classes of the characters so far, and the level of the last one.
+// The levels and classes of the characters.
 #[derive(Drop)]
 struct Written {
-    last: u8,
     level: LevelList,
     class: ClassList,
 }
@@ -56,16 +52,76 @@ fn walk(alloc: Global, classes: &[BidiClass], base: u8) -> Result<Written, Alloc
 {
     let mut answers = ahead::rights(alloc, classes)?;
     let mut machine = machine::begin(alloc, base);
-    let mut out = Written {
-        last: base,
-        level: Vec::with_capacity(alloc, classes.len())?,
-        class: Vec::with_capacity(alloc, classes.len())?,
-    };
-    for class in classes {
-        let entry = step(&mut machine, &mut answers, *class)?;
-        write(&mut out, base, *class, entry)?;
+    let mut level = Vec::from_elem(alloc, base, classes.len())?;
+    let mut class = Vec::from_slice(alloc, classes)?;
+    write_all(
+        &mut machine,
+        &mut answers,
+        classes,
+        base,
+        &mut level,
+        &mut class,
+    )?;
+    Ok(Written { level, class })
+}
+
+// Writes the level and the class of each character.
+#[tactic(auto, using(crate::proofs::Writing::written_more))]
+fn write_all(
+    machine: &mut Machine,
+    answers: &mut VecDeque<bool>,
+    classes: &[BidiClass],
+    base: u8,
+    level: &mut [u8],
+    class: &mut [BidiClass],
+) -> Result<(), AllocError>
+    requires machine { state_of machine.old ≡ begin base }
+    requires total { total machine.old ≡ 0 }
+    requires answers { answers.old.items ≡ rights classes.now }
+    requires level { length level.old ≡ length classes.now }
+    requires class { length class.old ≡ length classes.now }
+    ensures level { IfOk result (λ _. level.new ≡ levels_by base base classes.now (entries (begin base) classes.now)) }
+    ensures class { IfOk result (λ _. class.new ≡ classes_by classes.now (entries (begin base) classes.now)) }
+{
+    let mut last = base;
+    for i in 0..classes.len() {
+        last = write_at(machine, answers, classes[i], base, last, i, level, class)?;
     }
-    Ok(out)
+    Ok(())
+}
+
+// Writes the level and the class of one character of this class, and tells its level.
+fn write_at(
+    machine: &mut Machine,
+    answers: &mut VecDeque<bool>,
+    own: BidiClass,
+    base: u8,
+    last: u8,
+    i: usize,
+    level: &mut [u8],
+    class: &mut [BidiClass],
+) -> Result<u8, AllocError>
+    requires total { total machine.old + 1 < 2 ^ 64 }
+    requires level { i < length level.old }
+    requires class { i < length class.old }
+    ensures state { OnOk result ((after : _) → answers.old.items ≡ rights (own ∷ after) → state_of machine.new ≡ entered (plain own after) (state_of machine.old)) }
+    ensures answers { OnOk result ((after : _) → answers.old.items ≡ rights (own ∷ after) → answers.new.items ≡ rights after) }
+    ensures total { OnOk result (total machine.new ≤ total machine.old + 1) }
+    ensures last { IfOk result (λ now. (after : _) → answers.old.items ≡ rights (own ∷ after) → now ≡ level_at base last own (taken own (state_of machine.old) (entered (plain own after) (state_of machine.old)))) }
+    ensures level { IfOk result (λ now. level.new ≡ set level.old i now) }
+    ensures class { OnOk result ((after : _) → answers.old.items ≡ rights (own ∷ after) → class.new ≡ set class.old i (class_at own (taken own (state_of machine.old) (entered (plain own after) (state_of machine.old))))) }
+{
+    if is_still(own) {
+        let now = machine.top.level;
+        level[i] = now;
+        class[i] = machine.top.instead.unwrap_or(own);
+        return Ok(now);
+    }
+    let entry = step(machine, answers, own)?;
+    let now = level_at(base, last, own, entry);
+    level[i] = now;
+    class[i] = class_at(own, entry);
+    Ok(now)
 }
 
 // One character: what it does to the stack, and the entry that it takes.
@@ -113,16 +169,18 @@ fn taken(class: BidiClass, before: Entry, behind: Entry) -> Entry
     }
 }
 
-fn write(out: &mut Written, base: u8, class: BidiClass, entry: Entry) -> Result<(), AllocError>
-    ensures last { OnOk result (out.new.last ≡ level_at base out.old.last class entry) }
-    ensures level { OnOk result (out.new.level.items ≡ out.old.level.items ++ level_at base out.old.last class entry ∷ []) }
-    ensures class { OnOk result (out.new.class.items ≡ out.old.class.items ++ class_at class entry ∷ []) }
+// Whether a character leaves the stack as it is and takes the level of the last entry.
+fn is_still(class: BidiClass) -> bool
+    ensures entered { result ≡ true → (after : _) → (s : _) → entered (plain class after) s ≡ s }
+    ensures taken { result ≡ true → (s t : _) → taken class s t ≡ s.top }
+    ensures rights { result ≡ true → (after : _) → rights (class ∷ after) ≡ rights after }
+    ensures level { result ≡ true → (base last : ℕ) → (entry : _) → level_at base last class entry ≡ entry.level }
+    ensures class { result ≡ true → (entry : _) → class_at class entry ≡ unwrap_or entry.instead class }
 {
-    let level = level_at(base, out.last, class, entry);
-    out.last = level;
-    out.level.push(level)?;
-    out.class.push(class_at(class, entry))?;
-    Ok(())
+    matches!(
+        class,
+        L | R | AL | EN | ES | ET | AN | CS | NSM | S | WS | ON
+    )
 }
 
 fn level_at(base: u8, last: u8, class: BidiClass, entry: Entry) -> u8
@@ -162,9 +220,17 @@ fn is_removed(class: BidiClass) -> bool
 fn marks(alloc: Global, classes: &[BidiClass]) -> Result<MarkList, AllocError>
     ensures { IfOk result (λ marks. marks.items ≡ removed_marks classes.now) }
 {
-    let mut marks = Vec::with_capacity(alloc, classes.len())?;
-    for class in classes {
-        marks.push(is_removed(*class))?;
-    }
+    let mut marks = Vec::from_elem(alloc, false, classes.len())?;
+    mark(&mut marks, classes);
     Ok(marks)
+}
+
+#[tactic(auto, using(crate::proofs::Writing::written_more))]
+fn mark(marks: &mut [bool], classes: &[BidiClass])
+    requires { length marks.old ≡ length classes.now }
+    ensures { marks.new ≡ removed_marks classes.now }
+{
+    for i in 0..classes.len() {
+        marks[i] = is_removed(classes[i]);
+    }
 }

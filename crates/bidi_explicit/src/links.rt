@@ -1,7 +1,7 @@
-ghost use Rattle.std.specs.Prelude.{◌≡◌, ◌+◌, ◌<◌, length, slice_index, IfSome, IfOk, OnOk};
+ghost use Rattle.std.specs.Prelude.{◌≡◌, ◌+◌, ◌<◌, length, slice_index, true, IfSome, IfOk, OnOk};
 ghost use Rattle.bidi_explicit.specs.Sequences.{level_in};
 ghost use Rattle.bidi_explicit.specs.Bounds.{AreAligned};
-ghost use Rattle.bidi_explicit.specs.Links.{IsLinked, IsLinkedWhole, begins_at, behind_of, closers_at, followed, freed, linked, matched_by, skipped};
+ghost use Rattle.bidi_explicit.specs.Links.{GoesOn, MatchesNone, IsLinked, IsLinkedWhole, begins_at, behind_of, closers_at, followed, freed, linked, matched_by, skipped};
 
 use crate::kind::{Kind, kind_of};
 use crate::paragraph::Levels;
@@ -63,6 +63,24 @@ fn step(links: &mut Links, levels: &Levels, i: usize) -> Result<(), AllocError>
     ensures { OnOk result (IsLinked levels.now i links.new.links.items links.new.pending.items links.new.next) }
 {
     let kind = kind_of(levels.original[i]);
+    if let Some(next) = goes_on(levels, kind, i, links.next) {
+        let behind = levels.level[next];
+        begin_at(&mut links.links, i, Some(next), behind);
+        links.next = Some(i);
+        Ok(())
+    } else {
+        step_by_match(links, levels, i)
+    }
+}
+
+// The same for any character.
+fn step_by_match(links: &mut Links, levels: &Levels, i: usize) -> Result<(), AllocError>
+    requires aligned { AreAligned levels.now }
+    requires inside { i < length levels.now.original.items }
+    requires linked { IsLinked levels.now (i + 1) links.old.links.items links.old.pending.items links.old.next }
+    ensures { OnOk result (IsLinked levels.now i links.new.links.items links.new.pending.items links.new.next) }
+{
+    let kind = kind_of(levels.original[i]);
     let matched = matched_by(&mut links.pending, kind, i)?;
     let behind = behind_of(levels, kind, matched, links.next);
     if levels.removed[i] {
@@ -73,6 +91,35 @@ fn step(links: &mut Links, levels: &Levels, i: usize) -> Result<(), AllocError>
         links.next = Some(i);
     }
     Ok(())
+}
+
+// The next kept place, where the sequence of a character goes on there and the character itself matches no other. Most
+// characters in a text are so.
+fn goes_on(levels: &Levels, kind: Kind, i: usize, next: Option<usize>) -> Option<usize>
+    requires aligned { AreAligned levels.now }
+    requires inside { i < length levels.now.original.items }
+    requires next { IfSome next (λ q. q < length levels.now.level.items) }
+    ensures goes_on { IfSome result (λ q. GoesOn levels.now kind i next q) }
+    ensures within { IfSome result (λ q. q < length levels.now.level.items) }
+{
+    let Some(q) = next else {
+        return None;
+    };
+    if matches_none(kind) && !levels.removed[i] && levels.level[i] == levels.level[q] {
+        Some(q)
+    } else {
+        None
+    }
+}
+
+// Whether a character of this kind is neither an isolate initiator nor a PDI.
+fn matches_none(kind: Kind) -> bool
+    ensures { result ≡ true → MatchesNone kind }
+{
+    match kind {
+        Kind::Opens | Kind::Closes => false,
+        _ => true,
+    }
 }
 
 // The matching PDI of an isolate initiator (UAX 9, BD9).

@@ -111,7 +111,7 @@ fn chain_from(alloc: Global, links: &[Link], first: usize) -> Result<Chain, Allo
     ensures last { IfOk result (λ chain. (places : _) → Follows links.now first places → chain.last ≡ last_of first places) }
     ensures within { IfOk result (λ chain. chain.last < length links.now) }
 {
-    let mut places = Vec::new(alloc);
+    let mut places = Vec::with_capacity(alloc, room_for(links, first))?;
     places.push(first)?;
     let mut last = first;
     while let Some(next) = links[last].next {
@@ -119,6 +119,24 @@ fn chain_from(alloc: Global, links: &[Link], first: usize) -> Result<Chain, Allo
         last = next;
     }
     Ok(Chain { places, last })
+}
+
+// How many places the sequence has that begins here, or so many to begin with where it has more.
+fn room_for(links: &[Link], first: usize) -> usize {
+    const MOST: usize = 32;
+    let mut last = first;
+    for count in 1..MOST {
+        match links.get(last) {
+            Some(
+                Link {
+                    next: Some(next),
+                    ..
+                },
+            ) => last = *next,
+            _ => return count,
+        }
+    }
+    MOST
 }
 
 fn direction(level: u8) -> BidiClass

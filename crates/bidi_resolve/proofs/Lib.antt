@@ -1,6 +1,7 @@
 pub mod BracketLaws
 pub mod Examples
 pub mod LengthLaws
+pub mod LineLaws
 pub mod NeutralLaws
 pub mod PairingLaws
 pub mod ParagraphLaws

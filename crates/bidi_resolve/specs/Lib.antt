@@ -1,5 +1,6 @@
 pub mod Brackets
 pub mod Laws
+pub mod Line
 pub mod Neutral
 pub mod Pairing
 pub mod Paragraph

@@ -7,15 +7,15 @@ ghost use Rattle.std.specs.List.{list_any, slice_range};
 ghost use Rattle.std.specs.Prelude.{◌≡◌, ◌+◌, ◌<◌, ◌≤◌, All, IfOk, IfSome, length, take};
 
 use crate::neutral::{direction, n1_after};
-use crate::pairing::{Pairing, pairs};
-use std::alloc::{AllocError, Global};
+use crate::pairing::{Pairing, read_pairs};
+use std::alloc::AllocError;
 use wm_chars::BidiClass;
 use wm_chars::BidiClass::{AN, EN, L, NSM, R};
 
 /// N0: the two brackets of a pair take one direction. The sequence has these places in the lists of its paragraph's
 /// characters and of the classes that were handed in.
 pub(crate) fn n0(
-    alloc: Global,
+    pairing: &mut Pairing,
     classes: &mut [BidiClass],
     originals: &[BidiClass],
     chars: &[char],
@@ -28,8 +28,8 @@ pub(crate) fn n0(
     requires originals { length originals.now ≡ length chars.now }
     ensures { IfOk result (λ _. classes.new ≡ brackets.n0 level sos (gathered 0 chars.now places.now) (gathered L originals.now places.now) classes.old) }
 {
-    let pairs = pairs(alloc, chars, places, classes)?;
-    resolve_pairs(classes, originals, places, &pairs, level, sos);
+    read_pairs(pairing, chars, places, classes)?;
+    resolve_pairs(classes, originals, places, pairing, level, sos);
     Ok(())
 }
 

@@ -2,7 +2,7 @@ ghost use Rattle.bidi_resolve.specs.Brackets as brackets;
 ghost use Rattle.bidi_resolve.specs.Pairing.{IsWithin, reading_of};
 ghost use Rattle.bidi_resolve.specs.Places.{gathered};
 ghost use Rattle.std.specs.Option.{is_some};
-ghost use Rattle.std.specs.Prelude.{◌≡◌, ◌<◌, All, IfOk, Some, false, get_or, length};
+ghost use Rattle.std.specs.Prelude.{◌≡◌, ◌<◌, All, IfOk, OnOk, Some, false, get_or, length};
 ghost use Rattle.wm_chars.specs.declared.classes.BidiClass.TheVariants.{L};
 
 use std::alloc::{AllocError, Global};
@@ -31,31 +31,45 @@ pub(crate) struct Pairing {
     pub(crate) stopped: bool,
 }
 
-/// The pairs of brackets of a sequence, which has these places in its paragraph's characters.
-pub(crate) fn pairs(
-    alloc: Global,
+/// The pairs of brackets of a sequence, which has these places in its paragraph's characters, in place of what was
+/// read before.
+pub(crate) fn read_pairs(
+    pairing: &mut Pairing,
     chars: &[char],
     places: &[usize],
     classes: &[BidiClass],
-) -> Result<Pairing, AllocError>
+) -> Result<(), AllocError>
     requires places { length places.now ≡ length classes.now }
     requires within { All (λ place. place < length chars.now) places.now }
-    ensures pairs { IfOk result (λ pairs. reading_of pairs ≡ brackets.read_all (gathered 0 chars.now places.now) classes.now) }
-    ensures within { IfOk result (λ pairs. IsWithin (length classes.now) (reading_of pairs)) }
+    ensures pairs { OnOk result (reading_of pairing.new ≡ brackets.read_all (gathered 0 chars.now places.now) classes.now) }
+    ensures within { OnOk result (IsWithin (length classes.now) (reading_of pairing.new)) }
 {
-    let mut pairing = Pairing {
-        opened: VecDeque::new(alloc),
-        openings: Vec::new(alloc),
-        closings: Vec::new(alloc),
-        stopped: false,
-    };
+    pairing.begin();
     for k in 0..classes.len() {
         pairing.read_at(chars, places, classes, k)?;
     }
-    Ok(pairing)
+    Ok(())
 }
 
 impl Pairing {
+    pub(crate) fn new(alloc: Global) -> Pairing {
+        Pairing {
+            opened: VecDeque::new(alloc),
+            openings: Vec::new(alloc),
+            closings: Vec::new(alloc),
+            stopped: false,
+        }
+    }
+
+    fn begin(&mut self)
+        ensures { reading_of self.new ≡ brackets.begin }
+    {
+        self.opened.clear();
+        self.openings.clear();
+        self.closings.clear();
+        self.stopped = false;
+    }
+
     fn read_at(
         &mut self,
         chars: &[char],

@@ -7,7 +7,7 @@ ghost use Rattle.bidi_resolve.specs.Sequence.{run_levels};
 ghost use Rattle.std.specs.Prelude.{ℕ, ◌≡◌, ◌<◌, ◌≤◌, All, IfOk, IfSome, length, map};
 
 use crate::places::{level_of, write_levels};
-use crate::sequence::classes_of;
+use crate::sequence::{Scratch, resolve_classes};
 use bidi_explicit::{ClassList, LevelList, Levels, Run, base_level, levels, runs};
 use std::alloc::{AllocError, Global};
 use wm_chars::{BidiClass, bidi_class};
@@ -21,11 +21,12 @@ pub fn text_levels(alloc: Global, chars: &[char], base: Option<u8>) -> Result<Le
     ensures length { IfOk result (λ levels. length levels.items ≡ length chars.now) }
     ensures between { IfOk result (λ levels. All (IsResolvedLevel (paragraph.base_of base (paragraph.classes_of chars.now))) levels.items) }
 {
-    let classes = classes(alloc, chars)?;
+    let classes = classes_of_text(alloc, chars)?;
     paragraph_levels(alloc, chars, &classes, base_of(base, &classes))
 }
 
-fn classes(alloc: Global, chars: &[char]) -> Result<ClassList, AllocError>
+/// The classes of characters.
+pub(crate) fn classes_of_text(alloc: Global, chars: &[char]) -> Result<ClassList, AllocError>
     ensures classes { IfOk result (λ classes. classes.items ≡ paragraph.classes_of chars.now) }
     ensures length { IfOk result (λ classes. length classes.items ≡ length chars.now) }
 {
@@ -36,7 +37,8 @@ fn classes(alloc: Global, chars: &[char]) -> Result<ClassList, AllocError>
     Ok(classes)
 }
 
-fn base_of(base: Option<u8>, classes: &[BidiClass]) -> u8
+/// A base level that was given, or by P2 and P3.
+pub(crate) fn base_of(base: Option<u8>, classes: &[BidiClass]) -> u8
     requires { IfSome base (λ base. base ≤ 1) }
     ensures is { result ≡ paragraph.base_of base classes.now }
     ensures most { result ≤ 1 }
@@ -103,8 +105,9 @@ fn write_runs(
     requires most { All (λ level. level ≤ 125) levels.now.level.items }
     ensures { IfOk result (λ _. out.new ≡ resolved_from chars.now levels.now.original.items levels.now.level.items levels.now.class.items (map sequence_of runs.now) out.old) }
 {
+    let mut scratch = Scratch::new(alloc);
     for run in runs {
-        write_run(alloc, chars, levels, run, out)?;
+        write_run(&mut scratch, chars, levels, run, out)?;
     }
     Ok(())
 }
@@ -112,7 +115,7 @@ fn write_runs(
 // Writes the levels of one sequence, which is resolved by itself on the levels and classes as X1 to X9 leave them.
 #[tactic(auto, unfolding(crate::specs::Sequence::sequence_levels), using(crate::proofs::ParagraphLaws::most_at))]
 fn write_run(
-    alloc: Global,
+    scratch: &mut Scratch,
     chars: &[char],
     levels: &Levels,
     run: &Run,
@@ -127,7 +130,7 @@ fn write_run(
     ensures { IfOk result (λ _. out.new ≡ scattered run.now.places.items (run_levels chars.now levels.now run.now) out.old) }
 {
     let level = level_of(&levels.level, &run.places);
-    let classes = classes_of(alloc, chars, levels, run, level)?;
-    write_levels(out, &run.places, level, &classes);
+    resolve_classes(scratch, chars, levels, run, level)?;
+    write_levels(out, &run.places, level, &scratch.classes);
     Ok(())
 }

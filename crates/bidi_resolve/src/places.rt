@@ -1,26 +1,27 @@
 ghost use Rattle.bidi_resolve.specs.Neutral.{i1_i2};
 ghost use Rattle.bidi_resolve.specs.Places.{gathered, run_level, scattered};
-ghost use Rattle.std.specs.Prelude.{◌≡◌, ◌<◌, ◌≤◌, All, IfOk, length, slice_index};
+ghost use Rattle.std.specs.Prelude.{◌≡◌, ◌<◌, ◌≤◌, All, OnOk, length, slice_index};
 ghost use Rattle.wm_chars.specs.declared.classes.BidiClass.TheVariants.{L};
 
 use crate::neutral::raised;
-use std::alloc::{AllocError, Global};
+use bidi_explicit::ClassList;
+use std::alloc::AllocError;
 use wm_chars::BidiClass;
 
-/// The classes at the places of a sequence.
-pub(crate) fn classes_at(
-    alloc: Global,
+/// The classes at the places of a sequence, in place of what the list has.
+pub(crate) fn read_classes(
+    out: &mut ClassList,
     classes: &[BidiClass],
     places: &[usize],
-) -> Result<Vec<BidiClass>, AllocError>
+) -> Result<(), AllocError>
     requires { All (λ place. place < length classes.now) places.now }
-    ensures { IfOk result (λ out. out.items ≡ gathered L classes.now places.now) }
+    ensures { OnOk result (out.new.items ≡ gathered L classes.now places.now) }
 {
-    let mut out = Vec::with_capacity(alloc, places.len())?;
+    out.clear();
     for place in places {
         out.push(classes[*place])?;
     }
-    Ok(out)
+    Ok(())
 }
 
 /// The level of a sequence: that of its first character.

@@ -1,11 +1,12 @@
 ghost use Rattle.bidi_resolve.specs.Places.{gathered, run_level};
 ghost use Rattle.bidi_resolve.specs.Sequence as sequence;
-ghost use Rattle.std.specs.Prelude.{◌≡◌, ◌<◌, ◌≤◌, All, IfOk, length, slice_index};
+ghost use Rattle.std.specs.Prelude.{◌≡◌, ◌<◌, ◌≤◌, All, IfOk, OnOk, length, slice_index};
 ghost use Rattle.wm_chars.specs.declared.classes.BidiClass.TheVariants.{L};
 
 use crate::brackets::n0;
 use crate::neutral::n1_n2;
-use crate::places::{classes_at, level_of, write_classes, write_levels};
+use crate::pairing::Pairing;
+use crate::places::{level_of, read_classes, write_classes, write_levels};
 use crate::weak::{w1, w2, w3, w4, w5, w6, w7};
 use bidi_explicit::{ClassList, Levels, Run};
 use std::alloc::{AllocError, Global};
@@ -35,37 +36,62 @@ pub fn resolve(
     ensures class_len { length levels.new.class.items ≡ length levels.old.class.items }
 {
     let level = level_of(&levels.level, &run.places);
-    let classes = classes_of(alloc, chars, levels, run, level)?;
-    write_classes(&mut levels.class, &run.places, &classes);
-    write_levels(&mut levels.level, &run.places, level, &classes);
+    let mut scratch = Scratch::new(alloc);
+    resolve_classes(&mut scratch, chars, levels, run, level)?;
+    write_classes(&mut levels.class, &run.places, &scratch.classes);
+    write_levels(&mut levels.level, &run.places, level, &scratch.classes);
     Ok(())
+}
+
+/// What resolving one sequence takes memory for, to be used again for the next one.
+#[derive(Drop)]
+pub(crate) struct Scratch {
+    /// The classes of the sequence.
+    pub(crate) classes: ClassList,
+    /// Its pairs of brackets.
+    pairing: Pairing,
+}
+
+impl Scratch {
+    pub(crate) fn new(alloc: Global) -> Scratch {
+        Scratch {
+            classes: Vec::new(alloc),
+            pairing: Pairing::new(alloc),
+        }
+    }
 }
 
 /// The classes of a sequence by all rules.
 #[tactic(auto, unfolding(crate::specs::Sequence::sequence_classes))]
-pub(crate) fn classes_of(
-    alloc: Global,
+pub(crate) fn resolve_classes(
+    scratch: &mut Scratch,
     chars: &[char],
     levels: &Levels,
     run: &Run,
     level: u8,
-) -> Result<ClassList, AllocError>
+) -> Result<(), AllocError>
     requires class { length levels.now.class.items ≡ length chars.now }
     requires original { length levels.now.original.items ≡ length chars.now }
     requires places { All (λ place. place < length chars.now) run.now.places.items }
     requires level { level ≡ run_level levels.now.level.items run.now.places.items }
-    ensures classes { IfOk result (λ out. out.items ≡ sequence.run_classes chars.now levels.now run.now) }
-    ensures length { IfOk result (λ out. length out.items ≡ length run.now.places.items) }
+    ensures classes { OnOk result (scratch.new.classes.items ≡ sequence.run_classes chars.now levels.now run.now) }
+    ensures length { OnOk result (length scratch.new.classes.items ≡ length run.now.places.items) }
 {
-    let mut classes = classes_at(alloc, &levels.class, &run.places)?;
-    rules(alloc, &mut classes, &levels.original, chars, level, run)?;
-    Ok(classes)
+    read_classes(&mut scratch.classes, &levels.class, &run.places)?;
+    rules(
+        &mut scratch.pairing,
+        &mut scratch.classes,
+        &levels.original,
+        chars,
+        level,
+        run,
+    )
 }
 
 // All rules for classes, each over the whole sequence before the next.
 #[tactic(auto, unfolding(crate::specs::Sequence::resolved))]
 fn rules(
-    alloc: Global,
+    pairing: &mut Pairing,
     classes: &mut [BidiClass],
     originals: &[BidiClass],
     chars: &[char],
@@ -79,7 +105,7 @@ fn rules(
 {
     weak(classes, run.sos);
     n0(
-        alloc,
+        pairing,
         classes,
         originals,
         chars,

@@ -169,3 +169,54 @@ fn classes_of_ones_own_count(rt: HostRuntime) -> Result<(), Fail> {
     assert_eq!(rt; levels.as_slice(), [1, 2].as_slice());
     Ok(())
 }
+
+// A text; whether its base level is 1, or None where P2 and P3 tell it; the first place of a line, and the one behind
+// its last; the places from left to right.
+type Line = (&'static str, Option<bool>, usize, usize, &'static [usize]);
+
+// Values from outside.
+const LINES: [Line; 9] = [
+    (
+        "x\u{2067}\u{05D0}\u{05D1}(1)\u{2069}2",
+        Some(false),
+        0,
+        9,
+        &[0, 1, 6, 5, 4, 3, 2, 7, 8],
+    ),
+    ("a\u{05D0} \u{05D1}b", Some(false), 0, 5, &[0, 3, 2, 1, 4]),
+    ("a\u{05D0} \u{05D1}b", Some(false), 0, 3, &[0, 1, 2]),
+    ("a\u{05D0} \u{05D1}b", Some(false), 3, 5, &[3, 4]),
+    ("\u{05D0} 12 \u{05D1}", None, 2, 6, &[5, 4, 2, 3]),
+    ("\u{05D0}(1)", Some(true), 4, 4, &[]),
+    ("\u{05D0}\u{202B}\u{05D1}", Some(false), 0, 3, &[2, 0]),
+    (
+        "ab\u{202B}\u{05D0} 1\u{202C} c",
+        Some(false),
+        2,
+        7,
+        &[5, 4, 3],
+    ),
+    ("\u{05D0}\u{05D1}\tc 1", Some(true), 0, 4, &[3, 2, 1, 0]),
+];
+
+#[test]
+fn lines_have_this_order(rt: HostRuntime) -> Result<(), Fail> {
+    for (text, odd, start, stop, expected) in LINES {
+        let chars = chars(rt.alloc(), text)?;
+        assert!(rt; start <= stop && stop <= chars.len());
+        let places = text_line_order(rt.alloc(), &chars, base_level(odd), start, stop)?;
+        assert_eq!(rt; places.as_slice(), expected, "{text}");
+    }
+    Ok(())
+}
+
+// The space is a blank of the line's end by its class, and stays between the two letters where its class is another.
+#[test]
+fn lines_follow_classes_of_ones_own(rt: HostRuntime) -> Result<(), Fail> {
+    let levels = [2, 2, 2, 1];
+    let blank = line_order(rt.alloc(), &levels, &[L, L, WS, R], 1, 0, 3)?;
+    assert_eq!(rt; blank.as_slice(), [2, 0, 1].as_slice());
+    let other = line_order(rt.alloc(), &levels, &[L, L, ON, R], 1, 0, 3)?;
+    assert_eq!(rt; other.as_slice(), [0, 1, 2].as_slice());
+    Ok(())
+}

@@ -1,4 +1,5 @@
 pub mod Ascending
+pub mod Blocks
 pub mod Examples
 pub mod Outside
 pub mod PairLaws

@@ -1,8 +1,10 @@
-ghost use Rattle.std.specs.Prelude.{◌≡◌, ltb};
+ghost use Rattle.std.specs.List.{AllWithin};
+ghost use Rattle.std.specs.Prelude.{◌≡◌, ◌<◌, ltb};
 ghost use Rattle.wm_chars.specs.Repertoire as repertoire;
+ghost use Rattle.wm_chars.specs.declared.rows.TheConstants.{ROWS};
 
 use crate::classes::{BidiClass, BreakClass, Orient};
-use crate::rows::{ROWS, Row};
+use crate::rows::{ROWS, ROWS_BEFORE_ASCII, ROWS_BEFORE_BLOCK, Row};
 
 /// The bidi class of a character (UAX 9, table 4), or None exactly where it isn't in the repertoire.
 #[tactic(auto, unfolding(crate::specs::Repertoire::bidi_class))]
@@ -32,6 +34,7 @@ pub fn break_class(c: char) -> Option<BreakClass>
 
 // The row in which a character stands. Since the rows ascend, no row but the first that doesn't end before
 // the character can have it.
+#[inline(always)]
 fn row_of(c: char) -> Option<Row>
     ensures { result ≡ repertoire.row_of c }
 {
@@ -39,8 +42,40 @@ fn row_of(c: char) -> Option<Row>
     if row.first <= c { Some(row) } else { None }
 }
 
-// How many rows end before the character, by a search by halves.
+// How many rows end before the character. In ASCII the search begins with the character's own row, and in the blocks
+// up to Arabic with the block's own rows.
+#[inline(always)]
 fn rows_before(c: char) -> usize
+    ensures { repertoire.DividesAt c result }
+{
+    let code = c as usize;
+    if code < ROWS_BEFORE_ASCII.len() {
+        return rows_before_from(usize::from(ROWS_BEFORE_ASCII[code]), c);
+    }
+    let block = code / 16;
+    if block < ROWS_BEFORE_BLOCK.len() {
+        return rows_before_from(usize::from(ROWS_BEFORE_BLOCK[block]), c);
+    }
+    rows_before_by_halves(c)
+}
+
+// The same by a search row by row, where it is known that these many rows end before the character.
+#[inline(always)]
+fn rows_before_from(known: usize, c: char) -> usize
+    requires { AllWithin (λ row. row.last < c) ROWS 0 known }
+    ensures { repertoire.DividesAt c result }
+{
+    for i in known..ROWS.len() {
+        if c <= ROWS[i].last {
+            return i;
+        }
+    }
+    ROWS.len()
+}
+
+// The same by a search by halves.
+#[inline(never)]
+fn rows_before_by_halves(c: char) -> usize
     ensures { repertoire.DividesAt c result }
 {
     ROWS.partition_point(

@@ -10,10 +10,10 @@ returns-clause-aligned c =
     let classes = c.args.classes.now in
     let original : length c.in_ok-original.original.items ≡ length classes = ap length c.in_ok-original.ensures.items in
     record {
-      level = ap length c.in_ok-written.ensures.level ∙ explicit_levels_length c.args.base classes ∙ sym original;
-      class = ap length c.in_ok-written.ensures.class ∙ explicit_classes_length c.args.base classes ∙ sym original;
+      level = ap length c.in_ok-level.ensures.level ∙ explicit_levels_length c.args.base classes ∙ sym original;
+      class = ap length c.in_ok-level.ensures.class ∙ explicit_classes_length c.args.base classes ∙ sym original;
       removed = ap length c.in_ok-removed.ensures ∙ removed_marks_length classes ∙ sym original;
     }
 
 pub returns-clause-between : goal.returns-clause-between
-returns-clause-between c = All-same (IsBetween c.args.base) c.in_ok-written.written.level.items (explicit_levels c.args.base c.args.classes.now) c.in_ok-written.ensures.level (explicit_between c.args.base c.args.classes.now c.requires)
+returns-clause-between c = All-same (IsBetween c.args.base) c.in_ok-level.field-0.level.items (explicit_levels c.args.base c.args.classes.now) c.in_ok-level.ensures.level (explicit_between c.args.base c.args.classes.now c.requires)

@@ -1,12 +1,9 @@
-use Rattle.std.proofs.Common.{ltb, rules}
-use Rattle.std.proofs.lemmas.Bool.{ltb-true, ltb-false}
-use Rattle.std.proofs.lemmas.List.Sorted.{IsPartitionPoint-from_clause, IsPartitionedBy-ltb}
-use Rattle.wm_chars.specs.declared.rows.TheConstants.{ROWS}
-use Rattle.wm_chars.proofs.Ascending.{ends_ascend, the_rows_climb}
+use Rattle.std.proofs.Common.{◌≡◌, ◌/◌, arith}
+use Rattle.wm_chars.proofs.Blocks.{ascii_rows_end, block_rows_end}
 use Rattle.wm_chars.proofs.repertoire.rows_before.Goals as goal
 
-pub returns : goal.returns
-returns c =
-    let parted = IsPartitionedBy-ltb (λ row. row.last) ROWS c.args.c (ends_ascend 0 ROWS the_rows_climb) in
-    let point = IsPartitionPoint-from_clause (λ row. ltb row.last c.args.c) ROWS _ c.partition_point.ensures.partitioned parted (λ a r q k. search rules) in
-    record { before = λ k d low high. ltb-true _ _ (point.0 k d low high); behind = λ k d low high. ltb-false _ _ (point.1 k d low high) }
+pub rows_before_from-requires : goal.rows_before_from-requires
+rows_before_from-requires c = λ k d low high. ascii_rows_end c.args.c k d c.if-code-lt128.true (rw c.from.ensures at high)
+
+pub rows_before_from-requires-then-block-lt128 : goal.rows_before_from-requires-then-block-lt128
+rows_before_from-requires-then-block-lt128 c = λ k d low high. block_rows_end c.args.c (c.args.c / 16) k d c.if-block-lt128.true (omega arith) (rw c.from-then-block-lt128.ensures at high)

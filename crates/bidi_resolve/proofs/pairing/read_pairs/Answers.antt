@@ -4,7 +4,7 @@ use Rattle.bidi_resolve.specs.Pairing.{reading_of}
 use Rattle.bidi_resolve.specs.Places.{gathered}
 use Rattle.bidi_resolve.proofs.PairingLaws.{read_more, read_within}
 use Rattle.wm_chars.specs.declared.classes.BidiClass.TheVariants.{L}
-use Rattle.bidi_resolve.proofs.pairing.pairs.Goals as goal
+use Rattle.bidi_resolve.proofs.pairing.read_pairs.Goals as goal
 
 pub loop-k-preserved : goal.loop-k-preserved
 loop-k-preserved c =

@@ -1,6 +1,6 @@
 use Rattle.std.proofs.Common.{◌≡◌, ◌≤◌, drop, length}
 use Rattle.bidi_explicit.specs.Ahead.{ahead, ahead_of, rights}
-use Rattle.bidi_explicit.proofs.ahead.rights.Given as goal
+use Rattle.bidi_explicit.proofs.ahead.read_rights.Given as goal
 
 abbrev pub invariant-loop-i : goal.invariant-loop-i
 invariant-loop-i l = record {

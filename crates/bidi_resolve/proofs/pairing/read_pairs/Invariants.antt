@@ -2,7 +2,7 @@ use Rattle.std.proofs.Common.{◌≡◌, drop}
 use Rattle.bidi_resolve.specs.Brackets.{read, read_all}
 use Rattle.bidi_resolve.specs.Pairing.{reading_of, IsWithin}
 use Rattle.bidi_resolve.specs.Places.{gathered}
-use Rattle.bidi_resolve.proofs.pairing.pairs.Given as goal
+use Rattle.bidi_resolve.proofs.pairing.read_pairs.Given as goal
 
 abbrev pub invariant-loop-k : goal.invariant-loop-k
 invariant-loop-k l = record {

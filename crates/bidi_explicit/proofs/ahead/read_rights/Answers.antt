@@ -2,7 +2,7 @@ use Rattle.std.proofs.Common.{arith, ◌≡◌, ◌-◌, ◌∷◌, drop, get_or
 use Rattle.wm_chars.specs.declared.classes.BidiClass.TheVariants.{L}
 use Rattle.bidi_explicit.specs.Ahead.{Ahead, ahead}
 use Rattle.bidi_explicit.proofs.Looking.{drop_less, turns_right_found}
-use Rattle.bidi_explicit.proofs.ahead.rights.Goals as goal
+use Rattle.bidi_explicit.proofs.ahead.read_rights.Goals as goal
 
 pub loop-i-preserved : goal.loop-i-preserved
 loop-i-preserved c =

@@ -1,7 +1,7 @@
 use Rattle.std.proofs.Common.{◌≡◌, take}
 use Rattle.bidi_resolve.specs.Places.{gathered}
 use Rattle.wm_chars.specs.declared.classes.BidiClass.TheVariants.{L}
-use Rattle.bidi_resolve.proofs.places.classes_at.Given as goal
+use Rattle.bidi_resolve.proofs.places.read_classes.Given as goal
 
 abbrev pub invariant-loop-place : goal.invariant-loop-place
 invariant-loop-place l = l.out.items ≡ gathered L l.classes (take l.place-index l.places)
