@@ -31,6 +31,16 @@ joined_apart (first ∷ (next ∷ units)) unit last is apart =
     let is_later : last ≡ slice_index_or (next ∷ units) (length (next ∷ units) - 1) last = subst (λ k. last ≡ slice_index_or (first ∷ (next ∷ units)) k last) place is in
     ap (λ later. first ∷ later) (joined_apart (next ∷ units) unit last is_later apart)
 
+-- a unit that doesn't combine stands by itself
+and_false : (a b : Bool) → b ≡ false → (a && b) ≡ false
+and_false true b e = e
+and_false false b e = refl
+
+pub joined_alone : (units : List Unit) (unit : Unit) → is_combined unit.kind ≡ false → units ++ unit ∷ [] ≡ joined units (unit ∷ [])
+joined_alone [] unit e = refl
+joined_alone (first ∷ []) unit e = rw (and_false (is_combined first.kind) (is_combined unit.kind) e) refl
+joined_alone (first ∷ (next ∷ units)) unit e = ap (λ later. first ∷ later) (joined_alone (next ∷ units) unit e)
+
 -- ---- all units that are left
 
 merged_twice : (one two three : Unit) → merged one (merged two three) ≡ merged (merged one two) three

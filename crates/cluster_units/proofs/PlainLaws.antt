@@ -1,38 +1,78 @@
--- In printable ASCII each character is a cluster.
-use Rattle.std.proofs.Common.{◌≡◌, ℕ, zero, suc, ◌+◌, ◌<◌, ◌≤◌, true, not, ◌||◌, ◌==◌, List, [], ◌∷◌, ◌++◌, map, length, slice_index, drop, ap, sym, ◌∙◌, refl, arith, drop-cons}
-use Rattle.std.specs.Prelude.{nat_le, nat_lt}
+-- In Latin text each character is a cluster.
+use Rattle.std.proofs.Common.{◌≡◌, ℕ, ◌<◌, Bool, true, false, not, ◌&&◌, ◌||◌, List, [], ◌∷◌, ◌++◌, map, unwrap_or, ap, ap₂, sym, ◌∙◌, refl, arith}
 use Rattle.std.specs.List.{list_all}
-use Rattle.std.specs.Str.{chars}
-use Rattle.std.proofs.lemmas.Bool.{and_parts, eqb-true, ltb-true}
-use Rattle.std.proofs.lemmas.List.{drop_all, length-map}
-use Rattle.std.proofs.lemmas.Str.{chars-IsAscii}
-use Rattle.ucd_breaks.specs.GraphemeClusterBreak.{grapheme_cluster_break, grapheme_cluster_break_number}
-use Rattle.ucd_breaks.proofs.GraphemeClusterBreakLemmas.{grapheme_cluster_break_stepped, grapheme_cluster_break_number_injective}
-use Rattle.ucd_table.proofs.Facts.{Stepped-below}
-use Rattle.ucd_breaks.specs.declared.GraphemeClusterBreak.TheVariants.{Other}
+use Rattle.std.proofs.lemmas.Bool.{and_parts, and_right, not-true}
+use Rattle.ucd_breaks.specs.GraphemeClusterBreak.{grapheme_cluster_break}
+use Rattle.ucd_breaks.proofs.GraphemeClusterBreakLemmas.{grapheme_cluster_break_stepped}
+use Rattle.ucd_breaks.specs.declared.GraphemeClusterBreak.{GraphemeClusterBreak}
+use Rattle.ucd_breaks.specs.declared.GraphemeClusterBreak.TheVariants.{Control, Cr, Extend, L, Lf, Lv, Lvt, Other, Prepend, RegionalIndicator, SpacingMark, T, V, Zwj}
 use Rattle.ucd_breaks.proofs.Computing.{ucd_breaks}
-use Rattle.unicode_segmentation.specs.Grapheme.{is_grapheme_break}
+use Rattle.ucd_derived.specs.IndicConjunctBreak.{indic_conjunct_break}
+use Rattle.ucd_derived.proofs.IndicConjunctBreakLemmas.{indic_conjunct_break_stepped}
+use Rattle.ucd_table.proofs.Computing.{tables}
+use Rattle.ucd_table.proofs.Facts.{Stepped-below}
+use Rattle.unicode_segmentation.specs.Grapheme.{break_by_pair, ends_in_linker, is_consonant, joins_conjunct, is_zwj, is_regional, joins_emoji, ends_in_half_flag, joins_flag, is_grapheme_break}
 use Rattle.unicode_segmentation.specs.Segments.{cut}
-use Rattle.unicode_segmentation.proofs.GraphemeLemmas.{is_grapheme_break-others}
+use Rattle.unicode_segmentation.proofs.GraphemeLemmas.{is_grapheme_break-inside, joins_emoji-not_zwj}
 use Rattle.cluster_units.specs.Clusters.{clusters}
 use Rattle.cluster_units.specs.Plain.{is_plain}
 
-other : (c : ℕ) → is_plain c ≡ true → Other ≡ grapheme_cluster_break c
+below : (c : ℕ) → is_plain c ≡ true → c < 0x2028
+below c plain = grind arith
+
+-- the values of these characters: they join neither what stands before nor what stands behind
+abbrev is_loose : GraphemeClusterBreak → Bool
+is_loose Other = true
+is_loose Control = true
+is_loose Lf = true
+is_loose _ = false
+
+loose : (c : ℕ) → is_plain c ≡ true → is_loose (grapheme_cluster_break c) ≡ true
 unfolding ucd_breaks
-other c plain =
-    let range = and_parts (nat_le 0x20 c) (nat_lt c 0x7F) plain in
-    let below = ltb-true c 0x7F range.1 in
-    let test = Stepped-below grapheme_cluster_break grapheme_cluster_break_stepped
-    (λ x v. not (is_plain x) || (grapheme_cluster_break_number Other == grapheme_cluster_break_number v)) 0x7F refl c below in
-    grapheme_cluster_break_number_injective Other (grapheme_cluster_break c) (eqb-true _ _ (rw plain at test))
+loose c plain =
+    let test = Stepped-below grapheme_cluster_break grapheme_cluster_break_stepped (λ x v. not (is_plain x) || is_loose v) 0x2028 refl c (below c plain) in
+    rw plain at test
+
+loose_cases : (v : GraphemeClusterBreak) → is_loose v ≡ true → (P : GraphemeClusterBreak → Type 0) → P Other → P Control → P Lf → P v
+loose_cases Other is P other control lf = other
+loose_cases Control is P other control lf = control
+loose_cases Lf is P other control lf = lf
+loose_cases Cr is P other control lf = absurd (cc)
+loose_cases Extend is P other control lf = absurd (cc)
+loose_cases L is P other control lf = absurd (cc)
+loose_cases Lv is P other control lf = absurd (cc)
+loose_cases Lvt is P other control lf = absurd (cc)
+loose_cases Prepend is P other control lf = absurd (cc)
+loose_cases RegionalIndicator is P other control lf = absurd (cc)
+loose_cases SpacingMark is P other control lf = absurd (cc)
+loose_cases T is P other control lf = absurd (cc)
+loose_cases V is P other control lf = absurd (cc)
+loose_cases Zwj is P other control lf = absurd (cc)
+
+no_consonant : (c : ℕ) → is_plain c ≡ true → not (is_consonant (indic_conjunct_break c)) ≡ true
+unfolding tables indic_conjunct_break_stepped
+no_consonant c plain =
+    let test = Stepped-below indic_conjunct_break indic_conjunct_break_stepped (λ x v. not (is_plain x) || not (is_consonant v)) 0x2028 refl c (below c plain) in
+    rw plain at test
+
+apart : (l r : GraphemeClusterBreak) → is_loose l ≡ true → is_loose r ≡ true → (rest : Bool) → rest ≡ true → unwrap_or (break_by_pair true l r) rest ≡ true
+apart l r left right rest is =
+    loose_cases l left (λ l. unwrap_or (break_by_pair true l r) rest ≡ true)
+    (loose_cases r right (λ r. unwrap_or (break_by_pair true Other r) rest ≡ true) is refl refl)
+    (loose_cases r right (λ r. unwrap_or (break_by_pair true Control r) rest ≡ true) refl refl refl)
+    (loose_cases r right (λ r. unwrap_or (break_by_pair true Lf r) rest ≡ true) refl refl refl)
 
 breaks : (c : ℕ) (before cs : List ℕ) → is_plain c ≡ true → list_all is_plain cs ≡ true → is_grapheme_break true (c ∷ before) (cs ++ []) ≡ true
 breaks c before [] plain all = unfold is_grapheme_break in refl
 breaks c before (d ∷ cs) plain all =
     let parts = and_parts (is_plain d) (list_all is_plain cs) all in
-    let range = and_parts (nat_le 0x20 d) (nat_lt d 0x7F) parts.0 in
-    let low = ltb-true d 0x7F range.1 in
-    sym (is_grapheme_break-others true (c ∷ before) d (cs ++ []) (omega arith) (omega arith) (other c plain) (other d parts.0))
+    let left = loose c plain in
+    let right = loose d parts.0 in
+    let conjunct = and_right (ends_in_linker (map indic_conjunct_break (c ∷ before))) _ (not-true _ (no_consonant d parts.0)) in
+    let emoji = joins_emoji-not_zwj (c ∷ before) d (loose_cases (grapheme_cluster_break c) left (λ v. is_zwj v ≡ false) refl refl refl) in
+    let flag = and_right (ends_in_half_flag (c ∷ before)) _ (loose_cases (grapheme_cluster_break d) right (λ v. is_regional v ≡ false) refl refl refl) in
+    is_grapheme_break-inside true (c ∷ before) d (cs ++ []) (omega arith)
+    ∙ apart (grapheme_cluster_break c) (grapheme_cluster_break d) left right _ (ap not (ap₂ ◌||◌ (ap₂ ◌||◌ conjunct emoji) flag))
 
 cut_plain : (before cs : List ℕ) → list_all is_plain cs ≡ true → cut (is_grapheme_break true) before cs [] ≡ map (λ c. c ∷ []) cs
 unfolding cut
@@ -41,37 +81,9 @@ cut_plain before (c ∷ cs) all =
     let parts = and_parts (is_plain c) (list_all is_plain cs) all in
     rw (breaks c before cs parts.0 parts.1) (ap (λ rest. (c ∷ []) ∷ rest) (cut_plain (c ∷ before) cs parts.1))
 
-pub plain_clusters : (text : List ℕ) → list_all is_plain text ≡ true → clusters text ≡ map (λ c. c ∷ []) text
-plain_clusters text all = cut_plain [] text all
+-- each character as a piece
+abbrev pub pieces : List ℕ → List (List ℕ)
+pieces = map (λ c. c ∷ [])
 
-ascii : (text : List ℕ) → list_all is_plain text ≡ true → (i : ℕ) → slice_index text i < 128
-ascii [] all i = omega arith
-ascii (c ∷ cs) all zero =
-    let parts = and_parts (is_plain c) (list_all is_plain cs) all in
-    let range = and_parts (nat_le 0x20 c) (nat_lt c 0x7F) parts.0 in
-    let low = ltb-true c 0x7F range.1 in
-    omega arith
-ascii (c ∷ cs) all (suc i) =
-    let parts = and_parts (is_plain c) (list_all is_plain cs) all in
-    ascii cs parts.1 i
-
-pub plain_chars : (text : List ℕ) → list_all is_plain text ≡ true → chars text ≡ text
-plain_chars text all = chars-IsAscii text (ascii text all)
-
--- the characters from the place on, each as a piece
-abbrev pub pieces_from : ℕ → List ℕ → List (List ℕ)
-pieces_from place text = map (λ c. c ∷ []) (drop place text)
-
-pub pieces_more : (place : ℕ) (text : List ℕ) → place < length text → pieces_from place text ≡ (slice_index text place ∷ []) ∷ pieces_from (place + 1) text
-pieces_more place text lt =
-    let next : suc place ≡ place + 1 = omega arith in
-    ap (map (λ c. c ∷ [])) (drop-cons text place 0 lt) ∙ ap (λ later. (slice_index text place ∷ []) ∷ pieces_from later text) next
-
-pub pieces_none : (place : ℕ) (text : List ℕ) → length text ≤ place → pieces_from place text ≡ []
-pieces_none place text past = ap (map (λ c. c ∷ [])) (drop_all place text past)
-
-pub pieces_all : (text : List ℕ) → list_all is_plain text ≡ true → pieces_from 0 text ≡ clusters text
-pieces_all text all = sym (plain_clusters text all)
-
-pub pieces_long : (text : List ℕ) → length text ≤ 1048576 → length (pieces_from 0 text) ≤ 1048576
-pieces_long text few = omega (arith, length-map text (λ c. c ∷ []))
+pub plain_pieces : (text : List ℕ) → list_all is_plain text ≡ true → pieces text ≡ clusters text
+plain_pieces text all = sym (cut_plain [] text all)

@@ -7,8 +7,6 @@ mod single;
 #[cfg(test)]
 mod tests;
 mod text;
-#[cfg(test)]
-mod texts;
 mod unit;
 
 pub use text::units;

@@ -1,5 +1,6 @@
 ghost use Rattle.std.specs.Prelude.{◌≡◌, ◌≤◌, pos, ◌≤ℤ◌, length, true, IfOk};
 ghost use Rattle.std.specs.List.{list_all};
+ghost use Rattle.std.specs.Str.{chars};
 ghost use Rattle.cluster_units.specs.Plain.{is_plain};
 ghost use Rattle.cluster_units.specs.Units.{units_of};
 
@@ -10,38 +11,48 @@ use face_api::Face;
 use std::alloc::{AllocError, Global};
 use style_types::Style;
 
-// Whether the text has printable ASCII characters alone. Each of these is a cluster.
+// Whether the text has characters of Latin text alone, and neither marks nor carriage returns. Each of these is a
+// cluster.
 pub(crate) fn is_plain(text: &str) -> bool
-    ensures { result ≡ list_all is_plain text.now }
+    ensures { result ≡ list_all is_plain (chars text.now) }
 {
-    text.as_bytes().iter().all(
-        |byte| -> bool
-            ensures { result ≡ is_plain byte.now }
-        { *byte >= b' ' && *byte < 0x7F },
+    text.chars().all(
+        |c: char| -> bool
+            ensures { result ≡ is_plain c }
+        { is_plain_character(c) },
     )
 }
 
-// The units of a plain text, as bytes, by this face.
+// A character before the first mark, but for the carriage return; a dash or a quotation mark.
+fn is_plain_character(c: char) -> bool
+    ensures { result ≡ is_plain c }
+{
+    matches!(c, '\0'..='\u{C}' | '\u{E}'..='\u{2FF}' | '\u{2010}'..='\u{2027}')
+}
+
+// The units of a plain text by this face.
 pub(crate) fn plain_units(
     alloc: Global,
-    text: &[u8],
+    text: &str,
     style: &Style,
     face: &dyn Face,
 ) -> Result<Units, AllocError>
     requires bytes { length text.now ≤ 1048576 }
-    requires plain { list_all is_plain text.now ≡ true }
+    requires plain { list_all is_plain (chars text.now) ≡ true }
     requires low { pos 0 ≤ℤ style.now.font_size }
     requires high { style.now.font_size ≤ℤ pos 65536 }
-    ensures { IfOk result (λ units. units.items ≡ units_of style.now (table face.now) text.now) }
+    ensures { IfOk result (λ units. units.items ≡ units_of style.now (table face.now) (chars text.now)) }
 {
     let mut units = Vec::new(alloc);
-    for (place, byte) in text.iter().enumerate() {
+    let mut place = 0;
+    for c in text.chars() {
         let cluster = Cluster {
             first: place,
             end: place + 1,
-            head: char::from(*byte),
+            head: c,
         };
         add_cluster(&mut units, cluster, style, face)?;
+        place = cluster.end;
     }
     Ok(units)
 }

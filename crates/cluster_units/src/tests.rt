@@ -1,34 +1,38 @@
-use crate::texts::{HORIZONTAL, Row, SIDEWAYS_LR, SIDEWAYS_RL, VERTICAL_LR, VERTICAL_RL};
-use crate::*;
+mod texts;
+
+use self::texts::{HORIZONTAL, Row, SIDEWAYS_LR, SIDEWAYS_RL, VERTICAL_LR, VERTICAL_RL};
+use crate::units;
 use face_api::{Face, Faces, MonoFace, TableFace, WideFace};
-use std::alloc::{AllocError, Global};
+use std::process::Abort;
 use std::test::*;
 use style_types::Style;
 use wm_modes::WritingMode;
 
-/// How many of the texts don't have the units of the table.
-fn wrong_in(
-    alloc: Global,
+/// Holds the units of the texts to those of the rows.
+fn check(
+    rt: &(impl Abort + AllocGlobal),
     mode: WritingMode,
     rows: &[Row],
     faces: &Faces,
-) -> Result<usize, AllocError> {
-    let mut wrong: usize = 0;
-    for (setting, expected) in rows {
-        let (text, orientation, combine, font_size, face) = *setting;
+) -> Result<(), Fail> {
+    for (text, orientation, combine, font_size, face, expected) in rows {
         let style = Style {
             mode,
-            orientation,
-            combine,
-            font_size: i64::from(font_size),
-            face,
+            orientation: *orientation,
+            combine: *combine,
+            font_size: i64::from(*font_size),
+            face: *face,
             ..Style::initial()
         };
-        if text.len() > 1_048_576 || units(alloc, text, &style, faces)?.as_slice() != *expected {
-            wrong = wrong.saturating_add(1);
-        }
+        assert!(rt; text.len() <= 1_048_576);
+        let made = units(rt.alloc(), text, &style, faces)?;
+        assert_eq!(rt;
+            made.as_slice(),
+            *expected,
+            "{text} {mode:?} {orientation:?} {combine:?}"
+        );
     }
-    Ok(wrong)
+    Ok(())
 }
 
 #[test]
@@ -39,15 +43,9 @@ fn texts_have_their_units(rt: HostRuntime) -> Result<(), Fail> {
     boxes.push(Box::new(alloc, WideFace::new())?)?;
     boxes.push(Box::new(alloc, TableFace::new(alloc)?)?)?;
     let faces = Faces::new(alloc, boxes)?;
-    let wrong = wrong_in(alloc, WritingMode::HorizontalTb, &HORIZONTAL, &faces)?;
-    assert_eq!(rt; wrong, 0);
-    let wrong = wrong_in(alloc, WritingMode::VerticalRl, &VERTICAL_RL, &faces)?;
-    assert_eq!(rt; wrong, 0);
-    let wrong = wrong_in(alloc, WritingMode::VerticalLr, &VERTICAL_LR, &faces)?;
-    assert_eq!(rt; wrong, 0);
-    let wrong = wrong_in(alloc, WritingMode::SidewaysRl, &SIDEWAYS_RL, &faces)?;
-    assert_eq!(rt; wrong, 0);
-    let wrong = wrong_in(alloc, WritingMode::SidewaysLr, &SIDEWAYS_LR, &faces)?;
-    assert_eq!(rt; wrong, 0);
-    Ok(())
+    check(&rt, WritingMode::HorizontalTb, &HORIZONTAL, &faces)?;
+    check(&rt, WritingMode::VerticalRl, &VERTICAL_RL, &faces)?;
+    check(&rt, WritingMode::VerticalLr, &VERTICAL_LR, &faces)?;
+    check(&rt, WritingMode::SidewaysRl, &SIDEWAYS_RL, &faces)?;
+    check(&rt, WritingMode::SidewaysLr, &SIDEWAYS_LR, &faces)
 }

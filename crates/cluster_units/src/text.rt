@@ -35,7 +35,7 @@ fn units_by(alloc: Global, text: &str, style: &Style, face: &dyn Face) -> Result
     ensures { IfOk result (λ units. units.items ≡ units_of style.now (table face.now) (chars text.now)) }
 {
     if is_plain(text) {
-        return plain_units(alloc, text.as_bytes(), style, face);
+        return plain_units(alloc, text, style, face);
     }
     let mut units = Vec::new(alloc);
     let mut place = 0;
@@ -67,7 +67,28 @@ pub(crate) fn add_cluster(
 }
 
 // Adds a unit: where it and the last one both combine they become one.
+#[tactic(auto, using(crate::proofs::JoinLaws::joined_alone))]
 fn add(units: &mut Units, unit: Unit) -> Result<(), AllocError>
+    requires units { AreWithin (2 ^ 50) units.old.items }
+    requires unit { unsigned_abs unit.natural ≤ 655360 }
+    ensures items { OnOk result (units.new.items ≡ joined units.old.items (unit ∷ [])) }
+    ensures near { (most : ℕ) → AreWithin most units.old.items → AreWithin (most + 655360) units.new.items }
+{
+    if is_combined(unit.kind) {
+        return add_combined(units, unit);
+    }
+    units.push(unit)?;
+    Ok(())
+}
+
+fn is_combined(kind: UnitKind) -> bool
+    ensures { result ≡ is_combined kind }
+{
+    kind == UnitKind::Combined
+}
+
+// The same, of a combined run.
+fn add_combined(units: &mut Units, unit: Unit) -> Result<(), AllocError>
     requires units { AreWithin (2 ^ 50) units.old.items }
     requires unit { unsigned_abs unit.natural ≤ 655360 }
     ensures items { OnOk result (units.new.items ≡ joined units.old.items (unit ∷ [])) }

@@ -1,32 +1,56 @@
-use Rattle.std.proofs.Common.{◌≡◌, ◌∙◌, ◌+◌, ◌∷◌, [], slice_index, sym, ap, subst, rules}
+use Rattle.std.proofs.Common.{◌≡◌, ◌∙◌, ◌≤◌, [], ◌∷◌, map, length, sym, ap, subst, arith}
+use Rattle.std.specs.Str.{chars, IsUtf8}
+use Rattle.std.specs.Str.Iter.{chars_rest}
+use Rattle.std.proofs.lemmas.List.{length-map}
+use Rattle.std.proofs.lemmas.Str.{IsUtf8-past_char, chars_past_char}
+use Rattle.std.proofs.StrCases.{chars_of_empty}
 use Rattle.cluster_units.specs.Clusters.{cluster_of}
 use Rattle.cluster_units.specs.Joined.{added}
 use Rattle.cluster_units.specs.Units.{lone_unit}
-use Rattle.cluster_units.proofs.PlainLaws.{pieces_from, pieces_more, pieces_none, pieces_all, pieces_long}
-use Rattle.cluster_units.proofs.Walk.{IsUnderway, begins, goes_on, ends}
+use Rattle.cluster_units.proofs.Pieces.{fewer_chars}
+use Rattle.cluster_units.proofs.PlainLaws.{pieces, plain_pieces}
+use Rattle.cluster_units.proofs.Walk.{IsUnderway, begins, goes_on, ends, place_within}
 use Rattle.cluster_units.proofs.plain.plain_units.Goals as goal
 
-pub loop-place-init : goal.loop-place-init
-loop-place-init g c =
+pub loop-c-init : goal.loop-c-init
+loop-c-init g c =
     let table = (goal.Face-dyn g c.args.face.now).table c.args.face.now.1 in
     let text = c.args.text.now in
-    subst (λ made. IsUnderway c.args.style.now table text made 0 (pieces_from 0 text)) (sym c.new-units.ensures.items)
-    (begins c.args.style.now table text (pieces_from 0 text) (pieces_all text c.requires.plain) (pieces_long text c.requires.bytes))
+    let rest : chars_rest c.into_iter-c-iterator.result ≡ text = ap chars_rest c.into_iter-c-iterator.ensures.into_iter_gives ∙ c.chars-c-items.ensures.rest in
+    let bytes = c.requires.bytes in
+    let few = fewer_chars text c.utf8.text in
+    let long : length (pieces (chars text)) ≤ 1048576 = omega (arith, length-map (chars text) (λ c. c ∷ [])) in
+    let made = subst (λ made. IsUnderway c.args.style.now table (chars text) made 0 (pieces (chars text))) (sym c.new-units.ensures.items)
+    (begins c.args.style.now table (chars text) (pieces (chars text)) (plain_pieces (chars text) c.requires.plain) long) in
+    (subst IsUtf8 (sym rest) c.utf8.text, subst (λ left. IsUnderway c.args.style.now table (chars text) c.new-units.result.items 0 (pieces (chars left))) (sym rest) made)
 
-pub loop-place-preserved : goal.loop-place-preserved
-loop-place-preserved g c =
+pub overflow_add-cluster : goal.overflow_add-cluster
+overflow_add-cluster g c =
     let table = (goal.Face-dyn g c.args.face.now).table c.args.face.now.1 in
-    let text = c.args.text.now in
-    let place = c.loop-place.place in
-    let inside = c.loop-place-test.true in
-    let at = subst (λ left. IsUnderway c.args.style.now table text c.loop-place.units.items place left) (pieces_more place text inside) c.loop-place.invariant in
-    let head : c.from.result ≡ slice_index text place = search rules in
-    let made : c.add_cluster.new.units.items ≡ added c.loop-place.units.items (lone_unit c.args.style.now table (cluster_of place (slice_index text place ∷ []))) =
-    c.in_ok-add_cluster.ensures.items ∙ ap (λ head. added c.loop-place.units.items (lone_unit c.args.style.now table (record { first = place; end = place + 1; head = head }))) head in
-    goes_on c.args.style.now table text c.loop-place.units.items c.add_cluster.new.units.items place (slice_index text place ∷ []) (pieces_from (place + 1) text) made c.add_cluster.ensures.near at
+    let text = chars c.args.text.now in
+    let held = c.loop-c.invariant in
+    let left = chars (chars_rest c.next.new.self) in
+    let step = chars_past_char _ _ c.in-Some.c held.0 c.in-Some.ensures.steps.0 in
+    let at = subst (λ left. IsUnderway c.args.style.now table text c.loop-c.units.items c.loop-c.place (pieces left)) step held.1 in
+    let bytes = c.requires.bytes in
+    let few = fewer_chars c.args.text.now c.utf8.text in
+    let within = place_within c.args.style.now table text c.loop-c.units.items c.loop-c.place (c.in-Some.c ∷ []) (pieces left) (omega arith) at in
+    omega arith
+
+pub loop-c-preserved : goal.loop-c-preserved
+loop-c-preserved g c =
+    let table = (goal.Face-dyn g c.args.face.now).table c.args.face.now.1 in
+    let text = chars c.args.text.now in
+    let held = c.loop-c.invariant in
+    let parts = c.in-Some.ensures.steps.0 in
+    let step = chars_past_char _ _ c.in-Some.c held.0 parts in
+    let at = subst (λ left. IsUnderway c.args.style.now table text c.loop-c.units.items c.loop-c.place (pieces left)) step held.1 in (
+      IsUtf8-past_char _ _ c.in-Some.c held.0 parts,
+      goes_on c.args.style.now table text c.loop-c.units.items c.add_cluster.new.units.items c.loop-c.place (c.in-Some.c ∷ []) (pieces (chars (chars_rest c.next.new.self))) c.in_ok-add_cluster.ensures.items c.add_cluster.ensures.near at,
+    )
 
 pub returns : goal.returns
 returns g c =
     let table = (goal.Face-dyn g c.args.face.now).table c.args.face.now.1 in
-    let past = c.loop-place-test.false in
-    ends c.args.style.now table c.args.text.now c.loop-place.units.items c.loop-place.place (pieces_from c.loop-place.place c.args.text.now) (pieces_none c.loop-place.place c.args.text.now past) c.loop-place.invariant
+    let none = ap pieces (chars_of_empty _ c.in-None.ensures.steps.0.0) in
+    ends c.args.style.now table (chars c.args.text.now) c.loop-c.units.items c.loop-c.place (pieces (chars (chars_rest c.loop-c.c-iterator))) none c.loop-c.invariant.1

@@ -7,11 +7,6 @@ use Rattle.cluster_units.specs.Units.{lone_unit}
 use Rattle.cluster_units.specs.Joined.{added}
 use Rattle.cluster_units.proofs.Pieces.{pieces_are, fewer_chars}
 use Rattle.cluster_units.proofs.Walk.{IsUnderway, begins, goes_on, ends, place_within}
-use Rattle.std.specs.Prelude.{IfOk, true}
-use Rattle.std.specs.List.{list_all}
-use Rattle.cluster_units.specs.Plain.{is_plain}
-use Rattle.cluster_units.specs.Units.{units_of}
-use Rattle.cluster_units.proofs.PlainLaws.{plain_chars}
 use Rattle.cluster_units.proofs.text.units_by.Goals as goal
 
 pub loop-piece-init : goal.loop-piece-init
@@ -49,12 +44,6 @@ loop-piece-preserved g c =
       subst (λ place. IsUnderway c.args.style.now table text c.add_cluster.new.units.items place left) place
           (goes_on c.args.style.now table text c.loop-piece.units.items c.add_cluster.new.units.items c.loop-piece.place (chars c.in-Some.piece.now) left made c.add_cluster.ensures.near at),
     )
-
-pub returns-then-is_plain : goal.returns-then-is_plain
-returns-then-is_plain g c =
-    let table = (goal.Face-dyn g c.args.face.now).table c.args.face.now.1 in
-    let plain : list_all is_plain c.args.text.now ≡ true = sym c.is_plain.ensures ∙ c.if-is_plain.true in
-    subst (λ text. IfOk c.plain_units.result (λ units. units.items ≡ units_of c.args.style.now table text)) (c.as_bytes.ensures.value ∙ sym (plain_chars c.args.text.now plain)) c.plain_units.ensures
 
 pub returns : goal.returns
 returns g c =
