@@ -20,6 +20,7 @@ use crate::words::Words;
 use arrayvec::ArrayString;
 use early_flow::lay_out;
 use early_tree::{Early, EarlyError, early_of};
+use face_api::{Face, Faces};
 use html_read::{HtmlError, ReadDocument, Refusal, read_document, read_tail};
 use io_edge::{ReadError, Sink, Source, WriteError, read_all, write_all_of};
 use itoa::Buffer;
@@ -43,8 +44,20 @@ const NOT_YET: &[u8] = b"refused NotYet 0\n";
 /// other words the usage line is written. The input is a document of at most 1,048,576 bytes: a longer one is
 /// refused as `TooLong`, bytes that are no document by the kind and the place of what is wrong, and a document
 /// that is no early one as `NotYet`.
-pub fn run<S: Source, K: Sink>(alloc: Global, words: &Words, source: &mut S, sink: &mut K) -> Status
-    // Whatever words and bytes come, the status and the bytes written are those of the job.
+///
+/// The faces are one to eight, by numbers from 0 in the order of the list. The run owns them, and drops them when
+/// it ends. No document that is laid out today has text to measure.
+pub fn run<S: Source, K: Sink>(
+    alloc: Global,
+    words: &Words,
+    faces: Vec<Box<dyn Face>>,
+    source: &mut S,
+    sink: &mut K,
+) -> Status
+    requires some { 1 ≤ length faces.items }
+    requires few { length faces.items ≤ 8 }
+
+    // Whatever words, faces and bytes come, the status and the bytes written are those of the job.
     ensures job { (input : List ℕ) → S.left source.old ≡ Some input
         → Stands (IsDue words.now input) (K.held sink.old) (K.held sink.new) result }
 
@@ -63,6 +76,9 @@ pub fn run<S: Source, K: Sink>(alloc: Global, words: &Words, source: &mut S, sin
     ensures refused { (input : List ℕ) → S.left source.old ≡ Some input → length input ≤ longest_input
         → result ≡ Status.Refused → IsAtEnd (S.left source.new) }
 {
+    let Ok(_faces) = Faces::new(alloc, faces) else {
+        return Status::Memory;
+    };
     match view_of(words.as_slice()) {
         Some(view) => layout(alloc, view, source, sink),
         None => tell_usage(sink),

@@ -1,7 +1,8 @@
 //! Whole runs, with their listings from outside; what the limits do; and streams that fail.
 
 use crate::{Status, Words, run};
-use io_edge::{MemorySink, MemorySource, SteadySink, SteadySource};
+use face_api::{Face, MonoFace, TableFace, WideFace};
+use io_edge::{MemorySink, MemorySource, Sink, Source, SteadySink, SteadySource};
 use std::process::Abort;
 use std::str;
 use std::test::Fail;
@@ -212,6 +213,21 @@ fn words(rt: &(impl Abort + AllocGlobal), texts: &[&str]) -> Result<Words, Fail>
     Ok(words)
 }
 
+/// A run with the three faces of the program.
+fn run_with_faces<S: Source, K: Sink>(
+    rt: &(impl Abort + AllocGlobal),
+    words: &Words,
+    source: &mut S,
+    sink: &mut K,
+) -> Result<Status, Fail> {
+    let alloc = rt.alloc();
+    let mut faces: Vec<Box<dyn Face>> = Vec::new(alloc);
+    faces.push(Box::new(alloc, MonoFace::new())?)?;
+    faces.push(Box::new(alloc, WideFace::new())?)?;
+    faces.push(Box::new(alloc, TableFace::new(alloc)?)?)?;
+    Ok(run(alloc, words, faces, source, sink))
+}
+
 /// Runs over streams that don't fail, and holds the status and all that is written to what is expected.
 fn check(
     rt: &(impl Abort + AllocGlobal),
@@ -222,7 +238,7 @@ fn check(
 ) -> Result<(), Fail> {
     let words = words(rt, texts)?;
     let mut sink = SteadySink::new(rt.alloc());
-    let ended = run(rt.alloc(), &words, &mut SteadySource::new(input), &mut sink);
+    let ended = run_with_faces(rt, &words, &mut SteadySource::new(input), &mut sink)?;
     assert_eq!(rt; str::from_utf8(sink.bytes())?, output, "{texts:?}");
     assert_eq!(rt; ended, status, "{texts:?}");
     Ok(())
@@ -335,7 +351,7 @@ fn a_read_fault_writes_nothing(rt: HostRuntime) -> Result<(), Fail> {
     for (failing, most) in &READ_FAULTS {
         let mut source = MemorySource::new(rt.alloc(), EMPTY_BODY, &[*failing], *most)?;
         let mut sink = SteadySink::new(rt.alloc());
-        let ended = run(rt.alloc(), &words, &mut source, &mut sink);
+        let ended = run_with_faces(&rt, &words, &mut source, &mut sink)?;
         assert_eq!(rt; ended, Status::ReadFault, "at {failing}");
         assert_eq!(rt; sink.bytes().len(), 0, "at {failing}");
     }
@@ -358,7 +374,7 @@ fn a_write_fault_leaves_a_front(rt: HostRuntime) -> Result<(), Fail> {
     for (failing, most, held) in &WRITE_FAULTS {
         let mut source = SteadySource::new(EMPTY_BODY);
         let mut sink = MemorySink::new(rt.alloc(), &[*failing], *most)?;
-        let ended = run(rt.alloc(), &words, &mut source, &mut sink);
+        let ended = run_with_faces(&rt, &words, &mut source, &mut sink)?;
         assert_eq!(rt; ended, Status::WriteFault, "at {failing}");
         assert_eq!(rt; sink.bytes().len(), *held, "at {failing}");
         assert!(rt;
@@ -374,7 +390,7 @@ fn short_reads_and_writes_change_nothing(rt: HostRuntime) -> Result<(), Fail> {
     let words = words(&rt, LAYOUT)?;
     let mut source = MemorySource::new(rt.alloc(), EMPTY_BODY, &[], 1)?;
     let mut sink = MemorySink::new(rt.alloc(), &[], 1)?;
-    let ended = run(rt.alloc(), &words, &mut source, &mut sink);
+    let ended = run_with_faces(&rt, &words, &mut source, &mut sink)?;
     assert_eq!(rt; ended, Status::Done);
     assert_eq!(rt; str::from_utf8(sink.bytes())?, EMPTY_BODY_LISTING);
     Ok(())
