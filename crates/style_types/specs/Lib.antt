@@ -1,4 +1,5 @@
 pub mod Initial
+pub mod Keywords
 pub mod Laws
 pub mod Properties
 pub mod Reaches

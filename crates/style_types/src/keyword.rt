@@ -1,3 +1,8 @@
+//! Keywords, and which of them are values together (docs/PROFILE/properties.md).
+
+ghost use Rattle.std.specs.Prelude.{◌≡◌, map};
+ghost use Rattle.style_types.specs.Keywords.{words_of};
+
 /// A keyword that is a value of some property, spelled as in the style sheet but for case and dashes.
 #[derive(Clone, Copy, Debug, PartialEq, Eq)]
 pub enum Keyword {
@@ -59,28 +64,67 @@ pub enum Keywords {
     Lines,
 }
 
-macro_rules! groups {
-    ($($group:ident $($keyword:ident)*;)*) => {
-        [$((Keywords::$group, &[$(Keyword::$keyword),*])),*]
-    };
-}
+static DISPLAYS: [&str; 5] = ["block", "inline", "inline-block", "flow-root", "none"];
 
-/// Which keywords these are, in the order of the docs.
-pub static KEYWORDS: [(Keywords, &[Keyword]); 13] = groups! {
-    Nowhere;
-    Displays     Block Inline InlineBlock FlowRoot None;
-    Modes        HorizontalTb VerticalRl VerticalLr SidewaysRl SidewaysLr;
-    Directions   Ltr Rtl;
-    Orientations Mixed Upright Sideways;
-    Combines     None All;
-    Bidis        Normal Embed Isolate BidiOverride IsolateOverride Plaintext;
-    Normal       Normal;
-    Aligns       Start End Left Right Center;
-    Baseline     Baseline;
-    Auto         Auto;
-    NoLimit      None;
-    Lines        None Hidden Dotted Dashed Solid Double Groove Ridge Inset Outset;
-};
+static MODES: [&str; 5] = [
+    "horizontal-tb",
+    "vertical-rl",
+    "vertical-lr",
+    "sideways-rl",
+    "sideways-lr",
+];
+
+static DIRECTIONS: [&str; 2] = ["ltr", "rtl"];
+
+static ORIENTATIONS: [&str; 3] = ["mixed", "upright", "sideways"];
+
+static COMBINES: [&str; 2] = ["none", "all"];
+
+static BIDIS: [&str; 6] = [
+    "normal",
+    "embed",
+    "isolate",
+    "bidi-override",
+    "isolate-override",
+    "plaintext",
+];
+
+static NORMAL: [&str; 1] = ["normal"];
+
+static ALIGNS: [&str; 5] = ["start", "end", "left", "right", "center"];
+
+static BASELINE: [&str; 1] = ["baseline"];
+
+static AUTO: [&str; 1] = ["auto"];
+
+static NO_LIMIT: [&str; 1] = ["none"];
+
+static LINES: [&str; 10] = [
+    "none", "hidden", "dotted", "dashed", "solid", "double", "groove", "ridge", "inset", "outset",
+];
+
+impl Keywords {
+    /// Which keywords these are, in lower case and in the order of the docs.
+    pub fn words(self) -> &'static [&'static str]
+        ensures { map (λ word. word.now) result.now ≡ words_of self }
+    {
+        match self {
+            Keywords::Nowhere => &[],
+            Keywords::Displays => &DISPLAYS,
+            Keywords::Modes => &MODES,
+            Keywords::Directions => &DIRECTIONS,
+            Keywords::Orientations => &ORIENTATIONS,
+            Keywords::Combines => &COMBINES,
+            Keywords::Bidis => &BIDIS,
+            Keywords::Normal => &NORMAL,
+            Keywords::Aligns => &ALIGNS,
+            Keywords::Baseline => &BASELINE,
+            Keywords::Auto => &AUTO,
+            Keywords::NoLimit => &NO_LIMIT,
+            Keywords::Lines => &LINES,
+        }
+    }
+}
 
 macro_rules! words {
     ($($word:literal $keyword:ident;)*) => {
@@ -129,3 +173,6 @@ pub static WORDS: [(&str, Keyword); 38] = words! {
     "inset"             Inset;
     "outset"            Outset;
 };
+
+/// The names of border widths, in lower case, with their lengths in hundredths of a pixel (CSS 2, 8.5.1).
+pub static WIDTH_NAMES: [(&str, i64); 3] = [("thin", 100), ("medium", 300), ("thick", 500)];

@@ -19,18 +19,18 @@ mod tree;
 mod value;
 
 pub use constraint::Constraint;
-pub use keyword::{KEYWORDS, Keyword, Keywords, WORDS};
+pub use keyword::{Keyword, Keywords, WIDTH_NAMES, WORDS};
 pub use laws::{all_are_listed, flow_and_page_pair_up, text_is_inherited};
 pub use lists::{Declarations, LetterList, Letters, Parts, Rules, StyledNodes, Styles, Winners};
 pub use property::Property;
 pub use reach::{Axis, AxisFamily, FlowAxis, Reach, SideFamily, on_page};
 pub use refusal::{REFUSALS, Refused};
 pub use rule::{Joint, Part, Rule, Selector, Styled};
-pub use shorthand::{Form, SHORTHANDS};
+pub use shorthand::{Longhands, SHORTHANDS, Shorthand};
 pub use style::{
     Align, Combine, Display, LineHeight, SideSizes, SideWidths, Size, Style, TextOrientation,
     UnicodeBidi,
 };
-pub use table::{More, PROPERTIES, PropertyRow, Range, Values};
+pub use table::{LINES, MARGINS, More, PADDINGS, PROPERTIES, PropertyRow, Range, Values, WIDTHS};
 pub use tree::{StyledKind, StyledNode};
 pub use value::{Declaration, Value};

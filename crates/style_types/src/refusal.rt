@@ -6,10 +6,10 @@
 pub enum Refused {
     /// Those that are one of these names.
     Names,
-    /// Those whose first token begins so.
+    /// Those whose first token is a name that begins so.
     Beginning,
-    /// Those whose first token is this name.
-    First,
+    /// Those that are this name, alone or with a number behind it.
+    WithNumber,
     /// Those that are none of these names.
     AllBut,
 }
@@ -39,5 +39,5 @@ pub static REFUSALS: [(&str, Refused, &[&str]); 18] = refusals! {
     "break-after"          AllBut    "auto" "avoid";
     "page-break-before"    AllBut    "auto" "avoid";
     "page-break-after"     AllBut    "auto" "avoid";
-    "text-combine-upright" First     "digits";
+    "text-combine-upright" WithNumber "digits";
 };

@@ -1,49 +1,165 @@
 //! The table of shorthands (docs/PROFILE/properties.md).
 
 use crate::property::Property;
+use crate::table::{LINES, MARGINS, PADDINGS, Values, WIDTHS};
 
-/// How the values of a shorthand are given to its longhands.
+/// Longhands that mean the same of different sides.
 #[derive(Clone, Copy, Debug, PartialEq, Eq)]
-pub enum Form {
-    /// One to four values for top, right, bottom and left (CSS 2, 8.3).
-    Sides,
-    /// One or two values for start and end (CSS Logical Properties 1, 4.2).
-    Ends,
-    /// A width, a style and a colour, each at most once, in any order, for all longhands of their kind
-    /// (CSS 2, 8.5.4). The colour is passed over.
-    Border,
+pub enum Longhands {
+    One(Property),
+    Ends {
+        start: Property,
+        end: Property,
+    },
+    Sides {
+        top: Property,
+        right: Property,
+        bottom: Property,
+        left: Property,
+    },
 }
 
-macro_rules! shorthands {
-    ($($name:literal $form:ident $($longhand:ident)*;)*) => {
-        [$(($name, Form::$form, &[$(Property::$longhand),*])),*]
+/// How the values of a shorthand are given to its longhands.
+#[derive(Clone, Copy, Debug)]
+pub enum Shorthand {
+    /// One to four values for top, right, bottom and left (CSS 2, 8.3), or one or two for start and end (CSS Logical
+    /// Properties 1, 4.2): each is one of these values.
+    Round(Values, Longhands),
+    /// A width, a style and a colour, each at most once, in any order (CSS 2, 8.5.4). The width is given to all of
+    /// `widths`, then the style to all of `styles`. The colour is passed over.
+    Border {
+        widths: Longhands,
+        styles: Longhands,
+    },
+}
+
+macro_rules! longhands {
+    (One $one:ident) => {
+        Longhands::One(Property::$one)
+    };
+    (Ends $start:ident $end:ident) => {
+        Longhands::Ends {
+            start: Property::$start,
+            end: Property::$end,
+        }
+    };
+    (Sides $top:ident $right:ident $bottom:ident $left:ident) => {
+        Longhands::Sides {
+            top: Property::$top,
+            right: Property::$right,
+            bottom: Property::$bottom,
+            left: Property::$left,
+        }
     };
 }
 
-/// Each shorthand once: its name in lower case, its form, and its longhands in the order in which they are
-/// declared.
-pub static SHORTHANDS: [(&str, Form, &[Property]); 23] = shorthands! {
-    "margin"               Sides  MarginTop MarginRight MarginBottom MarginLeft;
-    "padding"              Sides  PaddingTop PaddingRight PaddingBottom PaddingLeft;
-    "border-width"         Sides  BorderTopWidth BorderRightWidth BorderBottomWidth BorderLeftWidth;
-    "border-style"         Sides  BorderTopStyle BorderRightStyle BorderBottomStyle BorderLeftStyle;
-    "margin-block"         Ends   MarginBlockStart MarginBlockEnd;
-    "margin-inline"        Ends   MarginInlineStart MarginInlineEnd;
-    "padding-block"        Ends   PaddingBlockStart PaddingBlockEnd;
-    "padding-inline"       Ends   PaddingInlineStart PaddingInlineEnd;
-    "border-block-width"   Ends   BorderBlockStartWidth BorderBlockEndWidth;
-    "border-inline-width"  Ends   BorderInlineStartWidth BorderInlineEndWidth;
-    "border-block-style"   Ends   BorderBlockStartStyle BorderBlockEndStyle;
-    "border-inline-style"  Ends   BorderInlineStartStyle BorderInlineEndStyle;
-    "border"               Border BorderTopWidth BorderRightWidth BorderBottomWidth BorderLeftWidth BorderTopStyle BorderRightStyle BorderBottomStyle BorderLeftStyle;
-    "border-top"           Border BorderTopWidth BorderTopStyle;
-    "border-right"         Border BorderRightWidth BorderRightStyle;
-    "border-bottom"        Border BorderBottomWidth BorderBottomStyle;
-    "border-left"          Border BorderLeftWidth BorderLeftStyle;
-    "border-block-start"   Border BorderBlockStartWidth BorderBlockStartStyle;
-    "border-block-end"     Border BorderBlockEndWidth BorderBlockEndStyle;
-    "border-inline-start"  Border BorderInlineStartWidth BorderInlineStartStyle;
-    "border-inline-end"    Border BorderInlineEndWidth BorderInlineEndStyle;
-    "border-block"         Border BorderBlockStartWidth BorderBlockEndWidth BorderBlockStartStyle BorderBlockEndStyle;
-    "border-inline"        Border BorderInlineStartWidth BorderInlineEndWidth BorderInlineStartStyle BorderInlineEndStyle;
-};
+macro_rules! round {
+    ($values:ident, $($longhands:ident)*) => {
+        Shorthand::Round($values, longhands!($($longhands)*))
+    };
+}
+
+macro_rules! border {
+    ($($widths:ident)*, $($styles:ident)*) => {
+        Shorthand::Border {
+            widths: longhands!($($widths)*),
+            styles: longhands!($($styles)*),
+        }
+    };
+}
+
+/// Each shorthand once, with its name in lower case.
+pub static SHORTHANDS: [(&str, Shorthand); 23] = [
+    (
+        "margin",
+        round!(MARGINS, Sides MarginTop MarginRight MarginBottom MarginLeft),
+    ),
+    (
+        "padding",
+        round!(PADDINGS, Sides PaddingTop PaddingRight PaddingBottom PaddingLeft),
+    ),
+    (
+        "border-width",
+        round!(WIDTHS, Sides BorderTopWidth BorderRightWidth BorderBottomWidth BorderLeftWidth),
+    ),
+    (
+        "border-style",
+        round!(LINES, Sides BorderTopStyle BorderRightStyle BorderBottomStyle BorderLeftStyle),
+    ),
+    (
+        "margin-block",
+        round!(MARGINS, Ends MarginBlockStart MarginBlockEnd),
+    ),
+    (
+        "margin-inline",
+        round!(MARGINS, Ends MarginInlineStart MarginInlineEnd),
+    ),
+    (
+        "padding-block",
+        round!(PADDINGS, Ends PaddingBlockStart PaddingBlockEnd),
+    ),
+    (
+        "padding-inline",
+        round!(PADDINGS, Ends PaddingInlineStart PaddingInlineEnd),
+    ),
+    (
+        "border-block-width",
+        round!(WIDTHS, Ends BorderBlockStartWidth BorderBlockEndWidth),
+    ),
+    (
+        "border-inline-width",
+        round!(WIDTHS, Ends BorderInlineStartWidth BorderInlineEndWidth),
+    ),
+    (
+        "border-block-style",
+        round!(LINES, Ends BorderBlockStartStyle BorderBlockEndStyle),
+    ),
+    (
+        "border-inline-style",
+        round!(LINES, Ends BorderInlineStartStyle BorderInlineEndStyle),
+    ),
+    (
+        "border",
+        border!(Sides BorderTopWidth BorderRightWidth BorderBottomWidth BorderLeftWidth, Sides BorderTopStyle BorderRightStyle BorderBottomStyle BorderLeftStyle),
+    ),
+    (
+        "border-top",
+        border!(One BorderTopWidth, One BorderTopStyle),
+    ),
+    (
+        "border-right",
+        border!(One BorderRightWidth, One BorderRightStyle),
+    ),
+    (
+        "border-bottom",
+        border!(One BorderBottomWidth, One BorderBottomStyle),
+    ),
+    (
+        "border-left",
+        border!(One BorderLeftWidth, One BorderLeftStyle),
+    ),
+    (
+        "border-block-start",
+        border!(One BorderBlockStartWidth, One BorderBlockStartStyle),
+    ),
+    (
+        "border-block-end",
+        border!(One BorderBlockEndWidth, One BorderBlockEndStyle),
+    ),
+    (
+        "border-inline-start",
+        border!(One BorderInlineStartWidth, One BorderInlineStartStyle),
+    ),
+    (
+        "border-inline-end",
+        border!(One BorderInlineEndWidth, One BorderInlineEndStyle),
+    ),
+    (
+        "border-block",
+        border!(Ends BorderBlockStartWidth BorderBlockEndWidth, Ends BorderBlockStartStyle BorderBlockEndStyle),
+    ),
+    (
+        "border-inline",
+        border!(Ends BorderInlineStartWidth BorderInlineEndWidth, Ends BorderInlineStartStyle BorderInlineEndStyle),
+    ),
+];

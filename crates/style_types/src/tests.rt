@@ -26,51 +26,32 @@ fn each_name_stands_once(rt: HostRuntime) {
     for (name, _) in &PROPERTIES {
         assert!(rt; stands_once(*name), "{name}");
     }
-    for (name, _, _) in &SHORTHANDS {
+    for (name, _) in &SHORTHANDS {
         assert!(rt; stands_once(*name), "{name}");
     }
 }
 
 #[test]
 fn each_keyword_has_one_word(rt: HostRuntime) {
-    for (_, keywords) in &KEYWORDS {
-        for keyword in *keywords {
-            assert_eq!(rt; words_of(*keyword), 1, "{keyword:?}");
+    for (_, row) in &PROPERTIES {
+        for word in row.values.keywords.words() {
+            assert_eq!(rt; keywords_of(*word), 1, "{word}");
         }
     }
-    for (word, _) in &WORDS {
+    for (word, keyword) in &WORDS {
         assert_eq!(rt; keywords_of(*word), 1, "{word}");
+        assert_eq!(rt; words_of(*keyword), 1, "{keyword:?}");
     }
 }
 
 #[test]
 fn shorthands_spread_over_sides(rt: HostRuntime) {
-    for (name, form, longhands) in &SHORTHANDS {
-        match form {
-            Form::Sides => {
-                let sides = [Side::Top, Side::Right, Side::Bottom, Side::Left];
-                assert_eq!(rt; longhands.len(), 4, "{name}");
-                for (longhand, side) in longhands.iter().zip(sides) {
-                    assert!(rt; is_of_page(*longhand, side), "{name} {longhand:?}");
-                }
-            }
-            Form::Ends => {
-                assert_eq!(rt; longhands.len(), 2, "{name}");
-                let block = [FlowSide::BlockStart, FlowSide::BlockEnd];
-                let inline = [FlowSide::InlineStart, FlowSide::InlineEnd];
-                let ends = if name.contains("block") {
-                    block
-                } else {
-                    inline
-                };
-                for (longhand, side) in longhands.iter().zip(ends) {
-                    assert!(rt; is_of_flow(*longhand, side), "{name} {longhand:?}");
-                }
-            }
-            Form::Border => {
-                for longhand in *longhands {
-                    assert!(rt; is_of_border(*longhand), "{name} {longhand:?}");
-                }
+    for (name, shorthand) in &SHORTHANDS {
+        match shorthand {
+            Shorthand::Round(_, longhands) => assert!(rt; are_sides(*name, *longhands), "{name}"),
+            Shorthand::Border { widths, styles } => {
+                assert!(rt; are_of_border(*widths), "{name}");
+                assert!(rt; are_of_border(*styles), "{name}");
             }
         }
     }
@@ -113,6 +94,44 @@ fn stands_once(name: &str) -> bool {
     let properties = PROPERTIES.iter().filter(|row| row.0 == name).count();
     let shorthands = SHORTHANDS.iter().filter(|row| row.0 == name).count();
     (properties, shorthands) == (1, 0) || (properties, shorthands) == (0, 1)
+}
+
+fn are_sides(name: &str, longhands: Longhands) -> bool {
+    match longhands {
+        Longhands::One(_) => false,
+        Longhands::Ends { start, end } if name.contains("block") => {
+            is_of_flow(start, FlowSide::BlockStart) && is_of_flow(end, FlowSide::BlockEnd)
+        }
+        Longhands::Ends { start, end } => {
+            is_of_flow(start, FlowSide::InlineStart) && is_of_flow(end, FlowSide::InlineEnd)
+        }
+        Longhands::Sides {
+            top,
+            right,
+            bottom,
+            left,
+        } => {
+            is_of_page(top, Side::Top)
+                && is_of_page(right, Side::Right)
+                && is_of_page(bottom, Side::Bottom)
+                && is_of_page(left, Side::Left)
+        }
+    }
+}
+
+fn are_of_border(longhands: Longhands) -> bool {
+    match longhands {
+        Longhands::One(one) => is_of_border(one),
+        Longhands::Ends { start, end } => is_of_border(start) && is_of_border(end),
+        Longhands::Sides {
+            top,
+            right,
+            bottom,
+            left,
+        } => {
+            is_of_border(top) && is_of_border(right) && is_of_border(bottom) && is_of_border(left)
+        }
+    }
 }
 
 fn words_of(keyword: Keyword) -> usize {
