@@ -1,0 +1,5 @@
+mod Seeking
+mod Running
+mod Counting
+mod Stringing
+mod Gapping

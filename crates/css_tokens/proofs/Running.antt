@@ -1,0 +1,94 @@
+-- Runs of bytes up to their end, and where texts are cut behind them.
+use Rattle.std.proofs.Common.{◌≡◌, ℕ, ◌<◌, ◌≤◌, Bool, true, false, List, [], ◌∷◌, ◌++◌, length, Ok, refl, sym, ap, ◌∙◌, arith, length-append}
+use Rattle.std.proofs.lemmas.List.{append_cancel_right}
+use Rattle.std.specs.Prelude.{◌&&◌, not}
+use Rattle.reading.specs.Readers.{run_of, next_is}
+use Rattle.reading.specs.Cuts.{ReadsFront}
+use Rattle.reading.proofs.Running.{IsRunning, with_front, append_none}
+use Rattle.reading.proofs.RunLaws.{run_is}
+use Rattle.css_tokens.specs.Characters.{is_name_byte, is_name_start}
+use Rattle.css_tokens.specs.Lexing.{name, name_ahead}
+use Rattle.css_tokens.specs.Numbers.{number_ahead}
+use Rattle.css_tokens.specs.Cuts.{BeginsInAscii}
+
+run_nil : (test : ℕ → Bool) → run_of test [] ≡ Ok ([], [])
+unfolding run_of
+run_nil test = refl
+
+front_nil : (front rest : List ℕ) → with_front front (Ok ([], rest)) ≡ Ok (front ++ [], rest)
+unfolding with_front
+front_nil front rest = refl
+
+nothing : (rest : List ℕ) → length rest ≡ 0 → rest ≡ []
+nothing [] e = refl
+nothing (byte ∷ after) e = absurd (omega arith)
+
+-- a run goes on to the end of the text
+pub running_to_end : {test : ℕ → Bool} {text rest : List ℕ} → IsRunning test text rest → length rest ≡ 0 → ReadsFront (run_of test text) text rest
+running_to_end {test = test} {text = text} {rest = rest} now zero_ =
+    let none : rest ≡ [] = nothing rest zero_ in
+    let read : run_of test text ≡ Ok (now.front, rest) =
+    now.same ∙ ap (λ (r : List ℕ). with_front now.front (run_of test r)) none ∙ ap (with_front now.front) (run_nil test) ∙ front_nil now.front []
+    ∙ ap (λ (run : List ℕ). Ok (run, [])) (append_none now.front) ∙ ap (λ (r : List ℕ). Ok (now.front, r)) (sym none) in
+    (now.front, read, now.parts)
+
+-- ---- names
+
+low : (byte : ℕ) → is_name_byte byte ≡ false → byte < 128
+low byte e = grind arith
+
+pub name_ends_low : (byte : ℕ) (after rest : List ℕ) → rest ≡ byte ∷ after → is_name_byte byte ≡ false → BeginsInAscii rest
+name_ends_low byte after rest first e = rw first (low byte e)
+
+pub nothing_is_low : (rest : List ℕ) → length rest ≡ 0 → BeginsInAscii rest
+nothing_is_low rest none = rw (nothing rest none) tt
+
+-- what was read is what stands before the rest
+pub name_cut : (text bytes front rest end_ : List ℕ) → bytes ≡ text → ReadsFront (run_of is_name_byte bytes) bytes end_ → text ≡ front ++ rest → rest ≡ end_ → name text ≡ Ok (front, rest)
+unfolding name
+name_cut text bytes front rest end_ same read parts is =
+    let parts_too : front ++ rest ≡ read.0 ++ rest = sym parts ∙ sym same ∙ read.2 ∙ ap (λ (r : List ℕ). read.0 ++ r) (sym is) in
+    rw (← same, append_cancel_right front read.0 rest parts_too, is) read.1
+
+pub run_shorter : (test : ℕ → Bool) (text run rest : List ℕ) → run_of test text ≡ Ok (run, rest) → length rest ≤ length text
+run_shorter test text run rest e =
+    let r = run_is test text run rest e in
+    omega (arith, ap length r.parts, length-append run rest)
+
+strict_by : (test : ℕ → Bool) (text run rest : List ℕ) → next_is test text ≡ true → text ≡ run ++ rest → next_is test rest ≡ false → length rest < length text
+strict_by test text [] rest some parts ends =
+    let clash : next_is test rest ≡ true = rw (← parts) some in
+    absurd (cc (sym ends ∙ clash))
+strict_by test text (byte ∷ run) rest some parts ends = omega (arith, ap length parts, length-append (byte ∷ run) rest)
+
+pub run_strict : (test : ℕ → Bool) (text run rest : List ℕ) → next_is test text ≡ true → run_of test text ≡ Ok (run, rest) → length rest < length text
+run_strict test text run rest some e =
+    let r = run_is test text run rest e in
+    strict_by test text run rest some r.parts r.ends
+
+first_of_two : (a b : Bool) → (a && b) ≡ true → a ≡ true
+first_of_two true b e = refl
+first_of_two false b e = absurd cc
+
+starts_name : (text : List ℕ) → next_is is_name_start text ≡ true → next_is is_name_byte text ≡ true
+starts_name [] e = absurd cc
+starts_name (byte ∷ after) e = rw e refl
+
+pub name_strict : (text run rest : List ℕ) → name_ahead text ≡ true → name text ≡ Ok (run, rest) → length rest < length text
+unfolding name name_ahead
+name_strict text run rest ahead e =
+    let start : next_is is_name_start text ≡ true = first_of_two (next_is is_name_start text) (not (number_ahead text)) ahead in
+    run_strict is_name_byte text run rest (starts_name text start) e
+
+pub name_shorter : (text run rest : List ℕ) → name text ≡ Ok (run, rest) → length rest ≤ length text
+unfolding name
+name_shorter text run rest e = run_shorter is_name_byte text run rest e
+
+first_is_not : (a b : Bool) → b ≡ false → (a && not b) ≡ false → a ≡ false
+first_is_not true b e f = absurd (cc (sym f ∙ ap not e))
+first_is_not false b e f = refl
+
+-- where no number and no name can be read, no name begins
+pub no_name_start : (text : List ℕ) → number_ahead text ≡ false → name_ahead text ≡ false → next_is is_name_start text ≡ false
+unfolding name_ahead
+no_name_start text number name_ = first_is_not (next_is is_name_start text) (number_ahead text) number name_
