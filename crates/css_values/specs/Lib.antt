@@ -1,0 +1,11 @@
+pub mod Border
+pub mod Declarations
+pub mod Families
+pub mod Faults
+pub mod Judging
+pub mod Longhand
+pub mod Reading
+pub mod Shorthand
+pub mod Tables
+pub mod Value
+pub mod Views

@@ -1,0 +1,25 @@
+//! Declarations of style sheets and style attributes.
+#![tactic(auto)]
+
+mod begun;
+mod border;
+mod declarations;
+mod error;
+mod family;
+mod judging;
+mod longhand;
+mod names;
+mod refused;
+mod shorthand;
+mod value;
+mod within;
+mod words;
+
+pub use declarations::{declarations_within, read_declarations, told};
+pub use error::{CssError, Refusal, Stop};
+pub use within::Within;
+
+#[cfg(test)]
+mod tests;
+#[cfg(test)]
+mod value_tests;
