@@ -1,0 +1,5 @@
+mod Counting
+mod Heading
+mod Sheeting
+mod Styling
+mod Turning
