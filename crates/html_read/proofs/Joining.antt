@@ -1,12 +1,12 @@
 -- Texts read by pieces, of which the code takes several at once.
-use Rattle.std.proofs.Common.{◌≡◌, ℕ, ◌<◌, ◌≤◌, ◌+◌, true, false, cond, eqb, List, [], ◌∷◌, ◌++◌, length, drop, get_or, Ok, Err, refl, sym, ap, subst, ◌∙◌, append_assoc, length-append, length-drop, arith, add-one, drop-cons}
+use Rattle.std.proofs.Common.{◌≡◌, ℕ, ◌<◌, ◌≤◌, ◌+◌, true, false, cond, eqb, List, [], ◌∷◌, ◌++◌, length, drop, get_or, Ok, Err, refl, sym, ap, subst, ◌∙◌, append_assoc, length-append, length-drop, arith}
 use Rattle.std.specs.Prelude.{Bool, zero, suc, not, ◌&&◌, ◌==◌, is_ok, IfOk, Result, ⊤}
 use denote.Bor.{Bor}
 use Rattle.std.specs.Char.{encode_utf8}
 use Rattle.std.specs.Str.{IsCharBoundary}
 use Rattle.std.proofs.lemmas.Bool.{eqb-true, eq-eqb}
 use Rattle.std.proofs.lemmas.Str.{IsCharBoundary-before_ascii}
-use Rattle.std.proofs.lemmas.List.{drop_all, append_cancel_right}
+use Rattle.std.proofs.lemmas.List.{drop_all, append_cancel_right, drop_more}
 use Rattle.reading.specs.Readers.{Read, ReadOr, Reader, ◌>>=◌, give, follow, mapped, joined, repeat, turns, one_of, starts, strip, read_or}
 use Rattle.reading.proofs.Turns.{turning_starts, turning_goes_on, turning_stops, turning_ends}
 use Rattle.reading.proofs.Running.{append_none}
@@ -71,9 +71,6 @@ plain_by quote byte after e amp = rw (e, amp) refl
 plain_goes : (quote byte : ℕ) (after : List ℕ) → eqb byte quote ≡ false → in_value quote (byte ∷ after) ≡ true
 plain_goes quote byte after e = rw e refl
 
-front : (text : List ℕ) (at : ℕ) → at < length text → drop at text ≡ get_or text at 0 ∷ drop (at + 1) text
-front text at lt = rw add-one (drop-cons text at 0 lt)
-
 -- at a place, all before it plain
 pub record IsPlainTo (quote : ℕ) (text : List ℕ) (at : ℕ) : Type 0 where
   pub within : at ≤ length text
@@ -85,10 +82,10 @@ plain_starts quote text = record { within = omega arith; run = run_starts (in_va
 pub plain_goes_on : (quote : ℕ) (text : List ℕ) (at : ℕ) → IsPlainTo quote text at → at < length text → is_plain quote (get_or text at 0) ≡ true → IsPlainTo quote text (at + 1)
 plain_goes_on quote text at now lt e =
     let byte = get_or text at 0 in
-    let piece : drop at text ≡ (byte ∷ []) ++ drop (at + 1) text = front text at lt in
-    let goes : in_value quote (drop at text) ≡ true = rw (front text at lt) (plain_goes quote byte (drop (at + 1) text) (not_first (eqb byte quote) (eqb byte 38) e)) in
+    let piece : drop at text ≡ (byte ∷ []) ++ drop (at + 1) text = drop_more text at 0 lt in
+    let goes : in_value quote (drop at text) ≡ true = rw (drop_more text at 0 lt) (plain_goes quote byte (drop (at + 1) text) (not_first (eqb byte quote) (eqb byte 38) e)) in
     let read : spelled (value_piece quote) (drop at text) ≡ Ok (byte ∷ [], drop (at + 1) text) =
-    rw (front text at lt) (plain_by quote byte (drop (at + 1) text) (not_first (eqb byte quote) (eqb byte 38) e) (not_second (eqb byte quote) (eqb byte 38) e)) in
+    rw (drop_more text at 0 lt) (plain_by quote byte (drop (at + 1) text) (not_first (eqb byte quote) (eqb byte 38) e) (not_second (eqb byte quote) (eqb byte 38) e)) in
     record {
       within = omega arith;
       run = run_goes_on (in_value quote) (spelled (value_piece quote)) text (drop at text) (byte ∷ []) (drop (at + 1) text) now.run piece (omega arith) goes read;

@@ -1,11 +1,11 @@
 -- The end of characters that may be any, looked for place by place.
-use Rattle.std.proofs.Common.{◌≡◌, ℕ, ◌<◌, ◌≤◌, ◌+◌, Bool, true, false, eqb, List, [], ◌∷◌, ◌++◌, length, take, drop, get_or, Ok, Err, refl, sym, ap, subst, ◌∙◌, append_assoc, arith, add-one, drop-cons}
+use Rattle.std.proofs.Common.{◌≡◌, ℕ, ◌<◌, ◌≤◌, ◌+◌, Bool, true, false, eqb, List, [], ◌∷◌, ◌++◌, length, take, drop, get_or, Ok, Err, refl, sym, ap, subst, ◌∙◌, append_assoc, arith}
 use denote.Bor.{Bor}
 use Rattle.std.specs.Prelude.{Some, None}
 use Rattle.html_read.specs.Cuts.{EndsHere}
 use Rattle.std.proofs.lemmas.Bool.{ne_eqb}
 use Rattle.std.proofs.Common.{slice_index_or}
-use Rattle.std.proofs.lemmas.List.{drop_all, take_more}
+use Rattle.std.proofs.lemmas.List.{drop_all, take_more, drop_more}
 use Rattle.reading.specs.Readers.{until, with_byte, can_read, up_to, strip}
 use Rattle.html_read.specs.declared.raw.RawEnd.{RawEnd}
 use Rattle.html_read.specs.declared.raw.RawEnd.TheVariants as ends
@@ -91,13 +91,10 @@ pub record IsAt (end_ : RawEnd) (text : List ℕ) (at : ℕ) : Type 0 where
 pub at_start : (end_ : RawEnd) (text : List ℕ) → IsAt end_ text 0
 at_start end_ text = record { within = omega arith; seeking = seeking_starts (can_read (raw_end end_)) text }
 
-front : (text : List ℕ) (at : ℕ) → at < length text → drop at text ≡ get_or text at 0 ∷ drop (at + 1) text
-front text at lt = rw add-one (drop-cons text at 0 lt)
-
 at_next : (end_ : RawEnd) (text : List ℕ) (at : ℕ) → IsAt end_ text at → at < length text → can_read (raw_end end_) (get_or text at 0 ∷ drop (at + 1) text) ≡ false → IsAt end_ text (at + 1)
 at_next end_ text at now lt e =
     let here : IsSeeking (can_read (raw_end end_)) text (take at text) (get_or text at 0 ∷ drop (at + 1) text) =
-    subst (λ (r : List ℕ). IsSeeking (can_read (raw_end end_)) text (take at text) r) (front text at lt) now.seeking in
+    subst (λ (r : List ℕ). IsSeeking (can_read (raw_end end_)) text (take at text) r) (drop_more text at 0 lt) now.seeking in
     let later = seeking_goes_on (can_read (raw_end end_)) text (take at text) (drop (at + 1) text) (get_or text at 0) here e in
     record {
       within = omega arith;
@@ -106,11 +103,11 @@ at_next end_ text at now lt e =
 
 -- no end can be read here
 pub at_not_here : (end_ : RawEnd) (text : List ℕ) (at : ℕ) → IsAt end_ text at → at < length text → EndsHere (raw_end end_) text at None → IsAt end_ text (at + 1)
-at_not_here end_ text at now lt none = at_next end_ text at now lt (subst (λ (r : List ℕ). can_read (raw_end end_) r ≡ false) (front text at lt) none)
+at_not_here end_ text at now lt none = at_next end_ text at now lt (subst (λ (r : List ℕ). can_read (raw_end end_) r ≡ false) (drop_more text at 0 lt) none)
 
 -- another byte than that with which the end begins
 pub other_here : (end_ : RawEnd) (text : List ℕ) (at : ℕ) → at < length text → eqb (get_or text at 0) (raw_mark end_) ≡ false → can_read (raw_end end_) (drop at text) ≡ false
-other_here end_ text at lt e = rw (front text at lt) (end_by end_ (get_or text at 0) (drop (at + 1) text) e)
+other_here end_ text at lt e = rw (drop_more text at 0 lt) (end_by end_ (get_or text at 0) (drop (at + 1) text) e)
 
 raw_by : (end_ : RawEnd) (text inside here rest : List ℕ) → until (can_read (raw_end end_)) text ≡ Ok (inside, here) → raw_end end_ here ≡ Ok (tt, rest) → raw end_ text ≡ Ok (inside, rest)
 unfolding raw up_to

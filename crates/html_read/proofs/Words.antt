@@ -1,9 +1,9 @@
 -- The words of a text, byte by byte.
-use Rattle.std.proofs.Common.{◌≡◌, ℕ, ◌<◌, ◌≤◌, ◌+◌, true, false, List, [], ◌∷◌, ◌++◌, length, drop, take, get_or, Ok, refl, sym, ap, ◌∙◌, append_assoc, length-append, length-drop, add-one, drop-cons, arith}
+use Rattle.std.proofs.Common.{◌≡◌, ℕ, ◌<◌, ◌≤◌, ◌+◌, true, false, List, [], ◌∷◌, ◌++◌, length, drop, take, get_or, Ok, refl, sym, ap, ◌∙◌, append_assoc, length-append, length-drop, add-one, arith}
 use Rattle.std.specs.Prelude.{zero, suc, Bool, cond, ◌==◌, ⊤}
 use Rattle.std.proofs.lemmas.Str.{IsCharBoundary-before_ascii}
 use Rattle.std.specs.Str.{IsCharBoundary}
-use Rattle.std.proofs.lemmas.List.{drop_all, append_cancel_right, take-append-drop}
+use Rattle.std.proofs.lemmas.List.{drop_all, append_cancel_right, take-append-drop, drop_more}
 use Rattle.std.proofs.lemmas.Bool.{eqb-true}
 use Rattle.reading.specs.Readers.{next_is, skip}
 use Rattle.reading.proofs.SpellLaws.{ok}
@@ -87,9 +87,6 @@ pub word_begins : (text : List ℕ) → IsWordTo text 0
 unfolding words
 word_begins text = record { within = omega arith; same = refl }
 
-front : (text : List ℕ) (at : ℕ) → at < length text → drop at text ≡ get_or text at 0 ∷ drop (at + 1) text
-front text at lt = rw add-one (drop-cons text at 0 lt)
-
 longer : (text : List ℕ) (at : ℕ) → at < length text → take (suc at) text ≡ take at text ++ get_or text at 0 ∷ []
 longer [] at lt = absurd (omega arith)
 longer (byte ∷ text) zero lt = refl
@@ -110,7 +107,7 @@ word_goes_on text bytes at same now lt e =
     let none : is_white (get_or text at 0) ≡ false = ap (λ (b : List ℕ). is_white (get_or b at 0)) (sym same) ∙ e in
     record {
       within = omega arith;
-      same = now.same ∙ ap (words_behind (take at text)) (front text at lt) ∙ in_word (take at text) (get_or text at 0) (drop (at + 1) text) none
+      same = now.same ∙ ap (words_behind (take at text)) (drop_more text at 0 lt) ∙ in_word (take at text) (get_or text at 0) (drop (at + 1) text) none
           ∙ ap (λ (t : List ℕ). words_behind t (drop (at + 1) text)) (sym (one_more text at lt));
     }
 
@@ -119,8 +116,8 @@ word_stops text bytes at same now lt e =
     let white : is_white (get_or text at 0) ≡ true = ap (λ (b : List ℕ). is_white (get_or b at 0)) (sym same) ∙ e in (
       take at text,
       sym (take-append-drop at text),
-      now.same ∙ ap (words_behind (take at text)) (front text at lt) ∙ behind_word (take at text) (get_or text at 0) (drop (at + 1) text) white
-          ∙ ap (λ (t : List ℕ). word_before (take at text) (words t)) (sym (front text at lt)),
+      now.same ∙ ap (words_behind (take at text)) (drop_more text at 0 lt) ∙ behind_word (take at text) (get_or text at 0) (drop (at + 1) text) white
+          ∙ ap (λ (t : List ℕ). word_before (take at text) (words t)) (sym (drop_more text at 0 lt)),
     )
 
 at_end : (word : List ℕ) → words_behind word [] ≡ word_before word (words [])

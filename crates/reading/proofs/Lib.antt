@@ -19,3 +19,5 @@ pub mod StopPlaces
 pub mod Running
 pub mod Names
 pub mod Shorter
+pub mod Chains
+pub mod TurnLaws

@@ -1,8 +1,8 @@
 -- The readers one step at a time, as the loops of the code take them.
-use Rattle.std.proofs.Common.{◌≡◌, ℕ, zero, suc, ◌+◌, ◌-◌, ◌*◌, ◌<◌, ◌≤◌, ◌^◌, Bool, true, false, cond, List, [], ◌∷◌, length, get_or, drop, Ok, Err, refl, sym, ap, ◌∙◌, arith, add-one, drop-cons}
+use Rattle.std.proofs.Common.{◌≡◌, ℕ, zero, suc, ◌+◌, ◌-◌, ◌*◌, ◌<◌, ◌≤◌, ◌^◌, Bool, true, false, cond, List, [], ◌∷◌, length, get_or, drop, Ok, Err, refl, sym, ap, ◌∙◌, arith, add-one}
 use Rattle.std.specs.Char.{is_ascii_digit, to_ascii_lowercase}
 use Rattle.std.proofs.lemmas.Bool.{eq-eqb, ne_eqb}
-use Rattle.std.proofs.lemmas.List.{drop_all}
+use Rattle.std.proofs.lemmas.List.{drop_all, drop_more}
 use Rattle.std.proofs.Math.Nat.{pow-le-pow_right, pow-suc}
 use Rattle.reading.specs.Readers.{Read, strip, strip_either_case, one_of}
 use Rattle.reading.specs.Decimals.{more_digits}
@@ -22,27 +22,25 @@ unfolding strip
 strip_none wanted text = refl
 
 -- the text from a place within it on
-front : (text : List ℕ) (i : ℕ) → i < length text → drop i text ≡ get_or text i 0 ∷ drop (i + 1) text
-front text i lt = rw add-one (drop-cons text i 0 lt)
 
 pub strip_goes_on : (text bytes rest after : List ℕ) (i byte : ℕ) → i < length text → rest ≡ byte ∷ after → byte ≡ get_or text i 0
     → strip (drop i text) rest ≡ strip text bytes → strip (drop (i + 1) text) after ≡ strip text bytes
 strip_goes_on text bytes rest after i byte lt first e so_far =
     let here : strip (drop i text) rest ≡ strip (drop (i + 1) text) after =
-    rw (front text i lt, first) (strip_same (get_or text i 0) byte (drop (i + 1) text) after e) in
+    rw (drop_more text i 0 lt, first) (strip_same (get_or text i 0) byte (drop (i + 1) text) after e) in
     sym here ∙ so_far
 
 pub strip_differs : (text bytes rest after : List ℕ) (i byte : ℕ) → i < length text → rest ≡ byte ∷ after → (byte ≡ get_or text i 0 → ⊥)
     → strip (drop i text) rest ≡ strip text bytes → strip text bytes ≡ Err rest
 strip_differs text bytes rest after i byte lt first n so_far =
     let here : strip (drop i text) rest ≡ Err rest =
-    rw (front text i lt, first) (strip_other (get_or text i 0) byte (drop (i + 1) text) after n) in
+    rw (drop_more text i 0 lt, first) (strip_other (get_or text i 0) byte (drop (i + 1) text) after n) in
     sym so_far ∙ here
 
 pub strip_ends : (text bytes rest : List ℕ) (i : ℕ) → i < length text → rest ≡ [] → strip (drop i text) rest ≡ strip text bytes → strip text bytes ≡ Err rest
 strip_ends text bytes rest i lt none so_far =
     let here : strip (drop i text) rest ≡ Err rest =
-    rw (front text i lt, none) (strip_none (get_or text i 0) (drop (i + 1) text)) in
+    rw (drop_more text i 0 lt, none) (strip_none (get_or text i 0) (drop (i + 1) text)) in
     sym so_far ∙ here
 
 strip_nothing : (rest : List ℕ) → strip [] rest ≡ Ok (tt, rest)
@@ -72,20 +70,20 @@ pub cased_goes_on : (text bytes rest after : List ℕ) (i byte : ℕ) → i < le
     → strip_either_case (drop i text) rest ≡ strip_either_case text bytes → strip_either_case (drop (i + 1) text) after ≡ strip_either_case text bytes
 cased_goes_on text bytes rest after i byte lt first e so_far =
     let here : strip_either_case (drop i text) rest ≡ strip_either_case (drop (i + 1) text) after =
-    rw (front text i lt, first) (cased_same (get_or text i 0) byte (drop (i + 1) text) after e) in
+    rw (drop_more text i 0 lt, first) (cased_same (get_or text i 0) byte (drop (i + 1) text) after e) in
     sym here ∙ so_far
 
 pub cased_differs : (text bytes rest after : List ℕ) (i byte : ℕ) → i < length text → rest ≡ byte ∷ after → (to_ascii_lowercase byte ≡ get_or text i 0 → ⊥)
     → strip_either_case (drop i text) rest ≡ strip_either_case text bytes → strip_either_case text bytes ≡ Err rest
 cased_differs text bytes rest after i byte lt first n so_far =
     let here : strip_either_case (drop i text) rest ≡ Err rest =
-    rw (front text i lt, first) (cased_other (get_or text i 0) byte (drop (i + 1) text) after n) in
+    rw (drop_more text i 0 lt, first) (cased_other (get_or text i 0) byte (drop (i + 1) text) after n) in
     sym so_far ∙ here
 
 pub cased_ends : (text bytes rest : List ℕ) (i : ℕ) → i < length text → rest ≡ [] → strip_either_case (drop i text) rest ≡ strip_either_case text bytes → strip_either_case text bytes ≡ Err rest
 cased_ends text bytes rest i lt none so_far =
     let here : strip_either_case (drop i text) rest ≡ Err rest =
-    rw (front text i lt, none) (cased_none (get_or text i 0) (drop (i + 1) text)) in
+    rw (drop_more text i 0 lt, none) (cased_none (get_or text i 0) (drop (i + 1) text)) in
     sym so_far ∙ here
 
 cased_nothing : (rest : List ℕ) → strip_either_case [] rest ≡ Ok (tt, rest)
