@@ -1,9 +1,9 @@
 -- The end of a comment, looked for place by place.
-use Rattle.std.proofs.Common.{◌≡◌, ℕ, ◌<◌, ◌≤◌, ◌+◌, true, false, eqb, List, [], ◌∷◌, ◌++◌, length, take, drop, get_or, codes, Ok, Err, refl, sym, ap, subst, ◌∙◌, append_assoc, arith, add-one, drop-cons}
+use Rattle.std.proofs.Common.{◌≡◌, ℕ, ◌<◌, ◌≤◌, ◌+◌, true, false, eqb, List, [], ◌∷◌, ◌++◌, length, take, drop, get_or, codes, Ok, Err, refl, sym, ap, subst, ◌∙◌, append_assoc, arith}
 use Rattle.std.specs.Prelude.{⊤, None}
 use Rattle.std.proofs.Common.{slice_index_or}
 use Rattle.std.proofs.lemmas.Bool.{ne_eqb}
-use Rattle.std.proofs.lemmas.List.{drop_all, take_more}
+use Rattle.std.proofs.lemmas.List.{drop_all, take_more, drop_more}
 use Rattle.reading.specs.Readers.{Reader, until, with_byte, can_read, up_to, strip}
 use Rattle.reading.proofs.Running.{with_front, no_front, longer_front, append_none}
 use Rattle.css_tokens.specs.Cuts.{EndsHere}
@@ -65,14 +65,11 @@ pub record IsAt (text : List ℕ) (at : ℕ) : Type 0 where
 pub at_start : (text : List ℕ) → IsAt text 0
 at_start text = record { within = omega arith; seeking = record { parts = refl; same = sym (no_front (until (can_read close) text)) } }
 
-front : (text : List ℕ) (at : ℕ) → at < length text → drop at text ≡ get_or text at 0 ∷ drop (at + 1) text
-front text at lt = rw add-one (drop-cons text at 0 lt)
-
 -- no end can be read here
 pub at_not_here : (text : List ℕ) (at : ℕ) → IsAt text at → at < length text → EndsHere close (drop at text) None → IsAt text (at + 1)
 at_not_here text at now lt none =
-    let e : can_read close (get_or text at 0 ∷ drop (at + 1) text) ≡ false = subst (λ (r : List ℕ). can_read close r ≡ false) (front text at lt) none in
-    let here : IsSeeking text (take at text) (get_or text at 0 ∷ drop (at + 1) text) = subst (λ (r : List ℕ). IsSeeking text (take at text) r) (front text at lt) now.seeking in
+    let e : can_read close (get_or text at 0 ∷ drop (at + 1) text) ≡ false = subst (λ (r : List ℕ). can_read close r ≡ false) (drop_more text at 0 lt) none in
+    let here : IsSeeking text (take at text) (get_or text at 0 ∷ drop (at + 1) text) = subst (λ (r : List ℕ). IsSeeking text (take at text) r) (drop_more text at 0 lt) now.seeking in
     let later = seeking_goes_on text (take at text) (drop (at + 1) text) (get_or text at 0) here e in
     record {
       within = omega arith;
@@ -82,7 +79,7 @@ at_not_here text at now lt none =
 -- another byte than that with which the end begins
 pub not_begun : (text bytes : List ℕ) (at : ℕ) → bytes ≡ text → at < length text → (slice_index_or bytes at 0 ≡ 42 → ⊥) → can_read close (drop at text) ≡ false
 not_begun text bytes at same lt n =
-    rw (front text at lt) (other_byte (get_or text at 0) (drop (at + 1) text) (ne_eqb (get_or text at 0) 42 (λ e. n (rw same e))))
+    rw (drop_more text at 0 lt) (other_byte (get_or text at 0) (drop (at + 1) text) (ne_eqb (get_or text at 0) 42 (λ e. n (rw same e))))
 
 read_by : (text inside here rest : List ℕ) → until (can_read close) text ≡ Ok (inside, here) → close here ≡ Ok (tt, rest) → comment_end text ≡ Ok (tt, rest)
 unfolding up_to

@@ -3,6 +3,7 @@
 
 mod cuts;
 mod gaps;
+mod laws;
 mod names;
 mod numbers;
 mod strings;
@@ -10,6 +11,7 @@ mod token;
 mod tokens;
 
 pub use gaps::{comment, gap};
+pub use laws::tokens_spell;
 pub use names::{hash, hash_ahead, name, name_ahead};
 pub use numbers::{number, number_ahead};
 pub use token::Token;

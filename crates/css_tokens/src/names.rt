@@ -32,7 +32,6 @@ fn name_start_ahead(text: &str) -> bool
 
 /// The letters, digits, `-`, `_` and characters from U+0080 on that come next, as they are written, and the text
 /// behind them.
-
 pub fn name(text: &str) -> (&str, &str)
     ensures read { readers.name text.now ≡ Ok (result.0.now, result.1.now) }
     ensures shorter { length result.1.now ≤ length text.now }
