@@ -1,8 +1,8 @@
 -- What is asked of any word of a list, word by word.
-use Rattle.std.proofs.Common.{◌≡◌, ℕ, ◌<◌, ◌≤◌, ◌+◌, true, false, List, [], ◌∷◌, length, drop, get_or, refl, sym, ap, ◌∙◌, add-one, drop-cons}
+use Rattle.std.proofs.Common.{◌≡◌, ℕ, ◌<◌, ◌≤◌, ◌+◌, true, false, List, [], length, drop, get_or, refl, sym, ap, ◌∙◌}
 use Rattle.std.specs.Prelude.{Bool, ◌||◌, ◌&&◌}
 use Rattle.std.specs.List.{list_any}
-use Rattle.std.proofs.lemmas.List.{drop_all}
+use Rattle.std.proofs.lemmas.List.{drop_all, drop_more}
 use denote.Bor.{Bor}
 use Rattle.reading.specs.Readers.{can_read, strip_either_case}
 use Rattle.css_tokens.specs.Tokens.{Lexeme}
@@ -11,19 +11,16 @@ use Rattle.css_values.specs.Judging.{are_refused, begins_so, refuses}
 use Rattle.css_values.specs.Longhand.{is_one_of, is_word}
 use Rattle.css_values.specs.Views.{texts_of, refusings_of}
 
-front : {X : Type 0} (xs : List X) (i : ℕ) (d : X) → i < length xs → drop i xs ≡ get_or xs i d ∷ drop (i + 1) xs
-front xs i d lt = rw add-one (drop-cons xs i d lt)
-
 goes_on : (test : List ℕ → Bool) (words : List (Bor (List ℕ))) (i : ℕ) (d : Bor (List ℕ)) (total : Bool) → i < length words
     → test (get_or words i d).now ≡ false → list_any test (texts_of (drop i words)) ≡ total → list_any test (texts_of (drop (i + 1) words)) ≡ total
 goes_on test words i d total lt e so_far =
-    let here : list_any test (texts_of (drop i words)) ≡ list_any test (texts_of (drop (i + 1) words)) = rw (front words i d lt) (rw e refl) in
+    let here : list_any test (texts_of (drop i words)) ≡ list_any test (texts_of (drop (i + 1) words)) = rw (drop_more words i d lt) (rw e refl) in
     sym here ∙ so_far
 
 here : (test : List ℕ → Bool) (words : List (Bor (List ℕ))) (i : ℕ) (d : Bor (List ℕ)) (total : Bool) → i < length words
     → test (get_or words i d).now ≡ true → list_any test (texts_of (drop i words)) ≡ total → true ≡ total
 here test words i d total lt e so_far =
-    let now : list_any test (texts_of (drop i words)) ≡ true = rw (front words i d lt) (rw e refl) in
+    let now : list_any test (texts_of (drop i words)) ≡ true = rw (drop_more words i d lt) (rw e refl) in
     sym now ∙ so_far
 
 nowhere : (test : List ℕ → Bool) (words : List (Bor (List ℕ))) (i : ℕ) (total : Bool) → length words ≤ i → list_any test (texts_of (drop i words)) ≡ total → false ≡ total
@@ -64,7 +61,7 @@ Row = Bor (List ℕ) × Refused × Bor (List (Bor (List ℕ)))
 
 refusing_front : (rows : List Row) (i : ℕ) (d : Row) (name : List ℕ) (lexemes : List Lexeme) → i < length rows
     → are_refused (refusings_of (drop i rows)) name lexemes ≡ (is_word (get_or rows i d).0.now name && refuses (get_or rows i d).1 (texts_of (get_or rows i d).2.now) lexemes || are_refused (refusings_of (drop (i + 1) rows)) name lexemes)
-refusing_front rows i d name lexemes lt = rw (front rows i d lt) refl
+refusing_front rows i d name lexemes lt = rw (drop_more rows i d lt) refl
 
 abbrev rest : (rows : List Row) (i : ℕ) (name : List ℕ) (lexemes : List Lexeme) → Bool
 rest rows i name lexemes = are_refused (refusings_of (drop (i + 1) rows)) name lexemes

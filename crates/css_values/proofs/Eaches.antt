@@ -1,7 +1,7 @@
 -- The values of a shorthand, token by token.
-use Rattle.std.proofs.Common.{◌≡◌, ℕ, ◌<◌, ◌≤◌, ◌+◌, List, [], ◌∷◌, ◌++◌, length, drop, get_or, Some, None, refl, sym, ap, ◌∙◌, append_assoc, add-one, drop-cons}
+use Rattle.std.proofs.Common.{◌≡◌, ℕ, ◌<◌, ◌≤◌, ◌+◌, List, [], ◌∷◌, ◌++◌, length, drop, get_or, Some, None, refl, sym, ap, ◌∙◌, append_assoc}
 use Rattle.std.specs.Prelude.{Option, option_map}
-use Rattle.std.proofs.lemmas.List.{drop_all, append-nil}
+use Rattle.std.proofs.lemmas.List.{drop_all, append-nil, drop_more}
 use Rattle.css_tokens.specs.declared.token.Token.{Token}
 use Rattle.css_tokens.specs.Tokens.{Lexeme, lexeme_of}
 use Rattle.css_values.specs.Longhand.{single}
@@ -13,9 +13,6 @@ use Rattle.style_types.specs.declared.value.Value.{Value}
 -- these, and those that are given behind them
 abbrev pub behind : List Value → Option (List Value) → Option (List Value)
 behind all given = option_map (λ others. all ++ others) given
-
-front : {X : Type 0} (xs : List X) (i : ℕ) (d : X) → i < length xs → drop i xs ≡ get_or xs i d ∷ drop (i + 1) xs
-front xs i d lt = rw add-one (drop-cons xs i d lt)
 
 step : (v : Values) (lexeme : Lexeme) (others : List Lexeme) → each v (lexeme ∷ others) ≡ before_others (single v lexeme) (each v others)
 unfolding each
@@ -32,7 +29,7 @@ moved all x None = refl
 here_of : (v : Values) (tokens : List Token) (i : ℕ) (d : Token) (x : Option Value) → i < length tokens → x ≡ single v (lexeme_of (get_or tokens i d))
     → each v (lexemes_of (drop i tokens)) ≡ before_others x (each v (lexemes_of (drop (i + 1) tokens)))
 here_of v tokens i d x lt e =
-    rw (front tokens i d lt) (step v (lexeme_of (get_or tokens i d)) (lexemes_of (drop (i + 1) tokens))
+    rw (drop_more tokens i d lt) (step v (lexeme_of (get_or tokens i d)) (lexemes_of (drop (i + 1) tokens))
     ∙ ap (λ now. before_others now (each v (lexemes_of (drop (i + 1) tokens)))) (sym e))
 
 pub each_goes_on : (v : Values) (tokens : List Token) (i : ℕ) (d : Token) (all new : List Value) (x : Value) (total : Option (List Value)) → i < length tokens

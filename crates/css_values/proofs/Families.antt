@@ -1,7 +1,7 @@
 -- The entries of `font-family`, token by token.
-use Rattle.std.proofs.Common.{◌≡◌, ℕ, ◌<◌, ◌≤◌, ◌+◌, true, false, List, [], ◌∷◌, length, drop, get_or, Some, None, refl, sym, ap, ◌∙◌, add-one, drop-cons}
+use Rattle.std.proofs.Common.{◌≡◌, ℕ, ◌<◌, ◌≤◌, ◌+◌, true, false, List, [], ◌∷◌, length, drop, get_or, Some, None, refl, sym, ap, ◌∙◌}
 use Rattle.std.specs.Prelude.{Bool, not, Option, option_map, cond, ◌==◌}
-use Rattle.std.proofs.lemmas.List.{drop_all}
+use Rattle.std.proofs.lemmas.List.{drop_all, drop_more}
 use Rattle.css_tokens.specs.declared.token.Token.{Token}
 use Rattle.css_tokens.specs.Tokens as tokens
 use Rattle.css_tokens.specs.Tokens.{Lexeme, lexeme_of}
@@ -9,9 +9,6 @@ use Rattle.css_values.specs.Longhand.{before_others, entry, entries, face_number
 use Rattle.css_values.specs.Families.{first_of, found_behind, is_comma, meant_behind, meant_before_comma, meant_from}
 use Rattle.css_values.specs.Views.{lexemes_of}
 use Rattle.style_types.specs.declared.value.Value.TheVariants as values
-
-front : {X : Type 0} (xs : List X) (i : ℕ) (d : X) → i < length xs → drop i xs ≡ get_or xs i d ∷ drop (i + 1) xs
-front xs i d lt = rw add-one (drop-cons xs i d lt)
 
 first_or : (face other : Option ℕ) (last : ℕ) → number_or face (number_or other last) ≡ number_or (first_of face other) last
 first_or (Some number) other last = refl
@@ -113,7 +110,7 @@ pub goes_on : (all : List Token) (i : ℕ) (d : Token) (next : Bool) (face new :
     → Some new ≡ found_behind next face (lexeme_of (get_or all i d)) → IsMeantFrom next face (lexemes_of (drop i all)) (lexemes_of all) → IsMeantFrom (not next) new (lexemes_of (drop (i + 1) all)) (lexemes_of all)
 goes_on all i d next face new lt e so_far =
     let here : meant_from next face (lexemes_of (drop i all)) ≡ meant_from (not next) new (lexemes_of (drop (i + 1) all)) =
-    rw (front all i d lt) (step next face (lexeme_of (get_or all i d)) (lexemes_of (drop (i + 1) all))
+    rw (drop_more all i d lt) (step next face (lexeme_of (get_or all i d)) (lexemes_of (drop (i + 1) all))
     ∙ ap (λ found. meant_if found (not next) (lexemes_of (drop (i + 1) all))) (sym e)) in
     sym here ∙ so_far
 
@@ -121,7 +118,7 @@ pub stops : (all : List Token) (i : ℕ) (d : Token) (next : Bool) (face : Optio
     → None ≡ found_behind next face (lexeme_of (get_or all i d)) → IsMeantFrom next face (lexemes_of (drop i all)) (lexemes_of all) → None ≡ family (lexemes_of all)
 stops all i d next face lt e so_far =
     let here : meant_from next face (lexemes_of (drop i all)) ≡ None =
-    rw (front all i d lt) (step next face (lexeme_of (get_or all i d)) (lexemes_of (drop (i + 1) all))
+    rw (drop_more all i d lt) (step next face (lexeme_of (get_or all i d)) (lexemes_of (drop (i + 1) all))
     ∙ ap (λ found. meant_if found (not next) (lexemes_of (drop (i + 1) all))) (sym e)) in
     by_number (lexemes_of all) None (sym so_far ∙ here)
 

@@ -6,3 +6,7 @@ mod Listing
 mod Openings
 mod Pieces
 mod Valuing
+mod TokenFirsts
+pub mod ComponentLaws
+pub mod DeclarationLaws
+mod AnsweredLaws

@@ -1,15 +1,12 @@
 -- The pieces of a border, token by token.
-use Rattle.std.proofs.Common.{◌≡◌, ℕ, ◌<◌, ◌≤◌, ◌+◌, List, [], ◌∷◌, length, drop, get_or, Some, None, refl, sym, ap, ◌∙◌, add-one, drop-cons}
+use Rattle.std.proofs.Common.{◌≡◌, ℕ, ◌<◌, ◌≤◌, ◌+◌, List, [], ◌∷◌, length, drop, get_or, Some, None, refl, sym, ap, ◌∙◌}
 use Rattle.std.specs.Prelude.{Option}
-use Rattle.std.proofs.lemmas.List.{drop_all}
+use Rattle.std.proofs.lemmas.List.{drop_all, drop_more}
 use Rattle.css_tokens.specs.declared.token.Token.{Token}
 use Rattle.css_tokens.specs.Tokens.{Lexeme, lexeme_of}
 use Rattle.css_values.specs.Border.{and_then, pieces, with_piece}
 use Rattle.css_values.specs.declared.border.Found.{Found}
 use Rattle.css_values.specs.Views.{lexemes_of}
-
-front : {X : Type 0} (xs : List X) (i : ℕ) (d : X) → i < length xs → drop i xs ≡ get_or xs i d ∷ drop (i + 1) xs
-front xs i d lt = rw add-one (drop-cons xs i d lt)
 
 step : (lexeme : Lexeme) (others : List Lexeme) (g : Found) → pieces (lexeme ∷ others) g ≡ and_then (with_piece lexeme g) (pieces others)
 unfolding pieces
@@ -23,7 +20,7 @@ pub pieces_go_on : (tokens : List Token) (i : ℕ) (d : Token) (g new : Found) (
     → Some new ≡ with_piece (lexeme_of (get_or tokens i d)) g → pieces (lexemes_of (drop i tokens)) g ≡ total → pieces (lexemes_of (drop (i + 1) tokens)) new ≡ total
 pieces_go_on tokens i d g new total lt e so_far =
     let here : pieces (lexemes_of (drop i tokens)) g ≡ pieces (lexemes_of (drop (i + 1) tokens)) new =
-    rw (front tokens i d lt) (step (lexeme_of (get_or tokens i d)) (lexemes_of (drop (i + 1) tokens)) g
+    rw (drop_more tokens i d lt) (step (lexeme_of (get_or tokens i d)) (lexemes_of (drop (i + 1) tokens)) g
     ∙ ap (λ now. and_then now (pieces (lexemes_of (drop (i + 1) tokens)))) (sym e)) in
     sym here ∙ so_far
 
@@ -31,7 +28,7 @@ pub pieces_stop : (tokens : List Token) (i : ℕ) (d : Token) (g : Found) (total
     → None ≡ with_piece (lexeme_of (get_or tokens i d)) g → pieces (lexemes_of (drop i tokens)) g ≡ total → None ≡ total
 pieces_stop tokens i d g total lt e so_far =
     let here : pieces (lexemes_of (drop i tokens)) g ≡ None =
-    rw (front tokens i d lt) (step (lexeme_of (get_or tokens i d)) (lexemes_of (drop (i + 1) tokens)) g
+    rw (drop_more tokens i d lt) (step (lexeme_of (get_or tokens i d)) (lexemes_of (drop (i + 1) tokens)) g
     ∙ ap (λ now. and_then now (pieces (lexemes_of (drop (i + 1) tokens)))) (sym e)) in
     sym here ∙ so_far
 

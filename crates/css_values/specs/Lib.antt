@@ -1,6 +1,9 @@
+pub mod Answered
 pub mod Border
+pub mod Components
 pub mod Declarations
 pub mod Families
+pub mod Grammar
 pub mod Faults
 pub mod Judging
 pub mod Longhand

@@ -1,9 +1,11 @@
 //! Declarations, one after the other: each is judged once it is wholly read.
 
-ghost use Rattle.std.specs.Prelude.{◌≡◌, ◌≤◌, ◌<◌, List, [], IfOk, length};
+ghost use Rattle.std.specs.Prelude.{◌≡◌, ◌≤◌, ◌<◌, List, [], IfErr, IfOk, length};
 ghost use Rattle.reading.specs.Readers.{Answers, repeat};
+ghost use Rattle.css_values.specs.Answered.{IsWithinLimit, RefusesAttribute};
 ghost use Rattle.css_values.specs.Declarations as readers;
 ghost use Rattle.css_values.specs.Faults.{Gives, Tells, Told, end_of, spelled};
+ghost use Rattle.css_values.specs.Grammar as grammar;
 ghost use Rattle.css_values.specs.Reading.{text_of};
 ghost use Rattle.css_values.specs.Views.{stated_of};
 ghost use Rattle.style_types.specs.declared.value.Declaration as declaration_type;
@@ -34,8 +36,15 @@ struct Stated<'a> {
 /// expanded in order and invalid declarations dropped. `start` is the place of the text's first byte in the input, and
 /// the places of declarations and refusals are in that input. They are counted back from the text's end, which is held
 /// at the last number of usize.
+#[tactic(auto, using(crate::proofs::AnsweredLaws::attribute_found, crate::proofs::AnsweredLaws::stop_refuses, crate::proofs::AnsweredLaws::stop_within_limit))]
 pub fn read_declarations(alloc: Global, text: &str, start: usize) -> Result<Declarations, CssError>
-    ensures { Told (end_of start text.now) (λ all. all.items) result (readers.declarations Attribute (end_of start text.now) text.now) }
+    // The answer is that of the reading: the declarations, or the refusal with its place.
+    ensures read { Told (end_of start text.now) (λ all. all.items) result (readers.declarations Attribute (end_of start text.now) text.now) }
+    // The text is these declarations; where it is refused it is none.
+    ensures found { IfOk result (λ all. grammar.AreDeclarations Attribute (end_of start text.now) text.now [] all.items) }
+    ensures refused { IfErr result (λ error. RefusesAttribute (end_of start text.now) text.now error) }
+    // It is never refused for how many they are.
+    ensures few { IfErr result (λ error. IsWithinLimit error) }
 {
     let end = start.saturating_add(text.len());
     match declarations_within(alloc, Within::Attribute, end, text) {

@@ -7,6 +7,7 @@ mod declarations;
 mod error;
 mod family;
 mod judging;
+mod laws;
 mod longhand;
 mod names;
 mod refused;
@@ -17,6 +18,7 @@ mod words;
 
 pub use declarations::{declarations_within, read_declarations, told};
 pub use error::{CssError, Refusal, Stop};
+pub use laws::declarations_spell;
 pub use within::Within;
 
 #[cfg(test)]
