@@ -1,15 +1,12 @@
 -- What a selector is made of, counted compound by compound.
-use Rattle.std.proofs.Common.{◌≡◌, ℕ, ◌<◌, ◌≤◌, ◌+◌, List, [], ◌∷◌, length, drop, get_or, map, refl, sym, ap, ◌∙◌, arith, add-one, drop-cons}
-use Rattle.std.proofs.lemmas.List.{drop_all, length-map}
+use Rattle.std.proofs.Common.{◌≡◌, ℕ, ◌<◌, ◌≤◌, ◌+◌, List, [], ◌∷◌, length, drop, get_or, map, refl, sym, ap, ◌∙◌, arith}
+use Rattle.std.proofs.lemmas.List.{drop_all, length-map, drop_more}
 use Rattle.style_types.specs.declared.rule.Part.{Part}
 use Rattle.css_sheet.specs.Rules.{Compound, compound_of, compounds_of}
 use Rattle.css_sheet.specs.Specificity.{count_of, held, sum, ids_in, classes_in, types_in}
 
 held_step : (a b c : ℕ) → held (held (a + b) + c) ≡ held (a + (b + c))
 held_step a b c = omega arith
-
-front : {X : Type 0} (xs : List X) (i : ℕ) (d : X) → i < length xs → drop i xs ≡ get_or xs i d ∷ drop (i + 1) xs
-front xs i d lt = rw add-one (drop-cons xs i d lt)
 
 -- the count with those that are left is that of all
 abbrev pub IsCounting : (of : Compound → ℕ) → (parts : List Part) → (i count : ℕ) → Type 0
@@ -26,7 +23,7 @@ none_more of = refl
 goes_on : (of : Compound → ℕ) (parts : List Part) (i : ℕ) (d : Part) (count more : ℕ) → i < length parts → more ≡ held (count + of (compound_of (get_or parts i d))) → IsCounting of parts i count → IsCounting of parts (i + 1) more
 goes_on of parts i d count more lt e now =
     let here : sum of (compounds_of (drop i parts)) ≡ of (compound_of (get_or parts i d)) + sum of (compounds_of (drop (i + 1) parts)) =
-    rw (front parts i d lt) (one_more of (compound_of (get_or parts i d)) (compounds_of (drop (i + 1) parts))) in (
+    rw (drop_more parts i d lt) (one_more of (compound_of (get_or parts i d)) (compounds_of (drop (i + 1) parts))) in (
       omega (arith, e),
       ap (λ (n : ℕ). held (n + sum of (compounds_of (drop (i + 1) parts)))) e
           ∙ held_step count (of (compound_of (get_or parts i d))) (sum of (compounds_of (drop (i + 1) parts)))

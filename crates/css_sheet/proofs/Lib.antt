@@ -1,5 +1,9 @@
+mod AnsweredLaws
 mod Counting
+mod HeadLaws
 mod Heading
+mod SelectorLaws
+mod SheetLaws
 mod Sheeting
 mod Styling
 mod Turning

@@ -1,6 +1,6 @@
 -- The styles of a document, sheet by sheet and node by node.
-use Rattle.std.proofs.Common.{◌≡◌, ℕ, ◌<◌, ◌≤◌, ◌+◌, List, [], ◌∷◌, ◌++◌, length, drop, get_or, map, Ok, Err, refl, sym, ap, ◌∙◌, append_assoc, add-one, drop-cons}
-use Rattle.std.proofs.lemmas.List.{drop_all, append-nil, map-append}
+use Rattle.std.proofs.Common.{◌≡◌, ℕ, ◌<◌, ◌≤◌, ◌+◌, List, [], ◌∷◌, ◌++◌, length, drop, get_or, map, Ok, Err, refl, sym, ap, ◌∙◌, append_assoc}
+use Rattle.std.proofs.lemmas.List.{drop_all, append-nil, map-append, drop_more}
 use Rattle.style_types.specs.declared.value.Declaration.{Declaration}
 use Rattle.html_read.specs.declared.node.PlacedText.{PlacedText}
 use Rattle.html_read.specs.declared.node.ReadNode.{ReadNode}
@@ -10,9 +10,6 @@ use Rattle.css_values.specs.declared.error.CssError.{CssError}
 use Rattle.css_values.specs.declared.error.CssError.TheVariants as errors
 use Rattle.css_sheet.specs.Sheets.{Sheet, empty}
 use Rattle.css_sheet.specs.Styles.{Fails, Placed, and_then, attributes, before_others, moved_to, own_of_kind, sheet_at, sheets}
-
-front : {X : Type 0} (xs : List X) (i : ℕ) (d : X) → i < length xs → drop i xs ≡ get_or xs i d ∷ drop (i + 1) xs
-front xs i d lt = rw add-one (drop-cons xs i d lt)
 
 -- ---- declarations at one place
 
@@ -28,7 +25,7 @@ pub moving_goes_on : (place : ℕ) (own : List Declaration) (i : ℕ) (d : Decla
 moving_goes_on place own i d moved new lt e now =
     ap (λ (l : List Declaration). l ++ moved_to place (drop (i + 1) own)) e
     ∙ append_assoc moved (moved_to place (get_or own i d ∷ [])) (moved_to place (drop (i + 1) own))
-    ∙ ap (λ (l : List Declaration). moved ++ moved_to place l) (sym (front own i d lt)) ∙ now
+    ∙ ap (λ (l : List Declaration). moved ++ moved_to place l) (sym (drop_more own i d lt)) ∙ now
 
 pub moving_ends : (place : ℕ) (own : List Declaration) (i : ℕ) (moved : List Declaration) → length own ≤ i → IsMoving place own i moved → placed (moved_to place own) ≡ placed moved
 moving_ends place own i moved le now =
@@ -51,7 +48,7 @@ no_more s = refl
 here : (texts : List PlacedText) (i : ℕ) (d : PlacedText) (now : Sheet) (r : Placed Sheet) → i < length texts → sheet_at (text_at (get_or texts i d)) now ≡ r
     → sheets (sheets_of (drop i texts)) now ≡ and_then r (sheets (sheets_of (drop (i + 1) texts)))
 here texts i d now r lt e =
-    rw (front texts i d lt) (one_more (text_at (get_or texts i d)) (sheets_of (drop (i + 1) texts)) now
+    rw (drop_more texts i d lt) (one_more (text_at (get_or texts i d)) (sheets_of (drop (i + 1) texts)) now
     ∙ ap (λ (x : Placed Sheet). and_then x (sheets (sheets_of (drop (i + 1) texts)))) e)
 
 pub sheets_go_on : (texts : List PlacedText) (i : ℕ) (d : PlacedText) (now new : Sheet) → i < length texts → sheet_at (text_at (get_or texts i d)) now ≡ Ok new → IsReading texts i now → IsReading texts (i + 1) new
@@ -91,7 +88,7 @@ moved all own (Err refused) = refl
 own_here : (nodes : List ReadNode) (i : ℕ) (d : ReadNode) (r : Placed (List Declaration)) → i < length nodes → own_of_kind (kind_of (get_or nodes i d).kind) ≡ r
     → attributes (nodes_of (drop i nodes)) ≡ and_then r (λ own. before_others own (attributes (nodes_of (drop (i + 1) nodes))))
 own_here nodes i d r lt e =
-    rw (front nodes i d lt) (one_node (node_of (get_or nodes i d)) (nodes_of (drop (i + 1) nodes))
+    rw (drop_more nodes i d lt) (one_node (node_of (get_or nodes i d)) (nodes_of (drop (i + 1) nodes))
     ∙ ap (λ (x : Placed (List Declaration)). and_then x (λ own. before_others own (attributes (nodes_of (drop (i + 1) nodes))))) e)
 
 pub attributes_go_on : (nodes : List ReadNode) (i : ℕ) (d : ReadNode) (all new : List (List Declaration)) (own : List Declaration) → i < length nodes → own_of_kind (kind_of (get_or nodes i d).kind) ≡ Ok own → new ≡ all ++ own ∷ []

@@ -1,4 +1,6 @@
+pub mod Answered
 pub mod Default
+pub mod Grammar
 pub mod Halts
 pub mod Rules
 pub mod Selectors

@@ -6,6 +6,7 @@ mod counts;
 mod default;
 mod halt;
 mod heads;
+mod laws;
 mod names;
 mod selector;
 mod sheet;
@@ -14,6 +15,7 @@ mod weighing;
 
 pub use counts::Specificity;
 pub use default::{DEFAULT_SHEET, default_is_read, default_sheet};
+pub use laws::sheets_spell;
 pub use sheet::read_sheet;
 pub use styled::read_styled;
 pub use weighing::specificity;

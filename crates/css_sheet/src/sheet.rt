@@ -1,9 +1,10 @@
 //! Sheets: rules one after the other (CSS 2, 4.1.7 and 5.2.1).
 
-ghost use Rattle.std.specs.Prelude.{◌≡◌, ◌<◌, IfOk, length, map, not};
+ghost use Rattle.std.specs.Prelude.{◌≡◌, ◌<◌, IfErr, IfOk, length, map, not};
 ghost use Rattle.reading.specs.Readers.{mapped, repeat};
 ghost use Rattle.css_values.specs.Faults.{Gives, Told, end_of};
 ghost use Rattle.css_values.specs.Value.{no_items};
+ghost use Rattle.css_sheet.specs.Answered.{IsTheSheet, RefusesSheet};
 ghost use Rattle.css_sheet.specs.Rules.{rulings_of, selector_of};
 ghost use Rattle.css_sheet.specs.Sheets as readers;
 ghost use Rattle.css_sheet.specs.Views.{sheet_of, PutsRule, PutsRules};
@@ -153,7 +154,19 @@ pub(crate) fn empty(alloc: Global) -> Sheet
 /// Reads a sheet: a rule for each selector, in order. `start` is the place of the text's first byte in the input, and
 /// the places of declarations and refusals are in that input. They are counted back from the text's end, which is held
 /// at the last number of usize.
+#[tactic(auto, using(crate::proofs::AnsweredLaws::told_sheet, crate::proofs::AnsweredLaws::told_no_sheet))]
 pub fn read_sheet(alloc: Global, text: &str, start: usize) -> Result<Rules, CssError>
+    // The answer is that of the reading: the rules, or the refusal with its place.
+    ensures read { Told (end_of start text.now) (λ rules. rulings_of rules.items) result (mapped (λ s. s.rules) (readers.sheet (end_of start text.now) readers.empty) text.now) }
+    // The text is a sheet of these rules and of no others; where it is refused it is none.
+    ensures found { IfOk result (λ rules. IsTheSheet start text.now (rulings_of rules.items)) }
+    ensures refused { IfErr result (λ error. RefusesSheet start text.now error) }
+{
+    answer_sheet(alloc, text, start)
+}
+
+// The reading of a whole sheet, with its places.
+fn answer_sheet(alloc: Global, text: &str, start: usize) -> Result<Rules, CssError>
     ensures { Told (end_of start text.now) (λ rules. rulings_of rules.items) result (mapped (λ s. s.rules) (readers.sheet (end_of start text.now) readers.empty) text.now) }
 {
     let end = start.saturating_add(text.len());

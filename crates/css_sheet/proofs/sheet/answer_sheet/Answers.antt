@@ -2,9 +2,8 @@ use Rattle.std.proofs.Common.{rules, ◌≡◌}
 use Rattle.css_values.specs.Faults.{end_of}
 use Rattle.css_sheet.specs.Views.{sheet_of}
 use Rattle.css_sheet.proofs.Sheeting.{rules_read}
-use Rattle.css_sheet.proofs.sheet.read_sheet.Goals as goal
+use Rattle.css_sheet.proofs.sheet.answer_sheet.Goals as goal
 
--- src/sheet.rt:155:1
 pub returns-in-Ok : goal.returns-in-Ok
 returns-in-Ok c =
     let ends : c.saturating_add-end.result ≡ end_of c.args.start c.args.text.now = search rules in (
