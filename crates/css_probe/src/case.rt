@@ -1,5 +1,8 @@
 //! The cases that are asked.
 
+ghost use Rattle.std.specs.Prelude.{◌≡◌, Some, None, codes};
+ghost use Rattle.css_probe.specs.declared.case.Reader.TheVariants.{Declarations, Sheet};
+
 use hex::FromHexError;
 use std::alloc::Global;
 use std::io;
@@ -42,7 +45,11 @@ fn case_of_words(alloc: Global, reader: &str, start: &str, text: &str) -> io::Re
     }
 }
 
-fn reader_of(word: &str) -> Option<Reader> {
+fn reader_of(word: &str) -> Option<Reader>
+    ensures declarations { result ≡ Some Declarations → word.now ≡ codes "declarations" }
+    ensures sheet { result ≡ Some Sheet → word.now ≡ codes "sheet" }
+    ensures none { result ≡ None → word.now ≡ codes "sheet" → ⊥ }
+{
     match word {
         "declarations" => Some(Reader::Declarations),
         "sheet" => Some(Reader::Sheet),

@@ -1,5 +1,8 @@
 //! How rules are printed.
 
+ghost use Rattle.std.specs.Prelude.{◌≡◌, codes};
+ghost use Rattle.style_types.specs.declared.rule.Joint.TheVariants.{Child, Descendant};
+
 use crate::printed::print_declarations;
 use std::io;
 use std::io::Write;
@@ -35,7 +38,10 @@ fn print_selector<W: Write>(output: &mut W, parts: &[Part]) -> io::Result<()> {
     Ok(())
 }
 
-fn joint_of(joint: Joint) -> &'static str {
+fn joint_of(joint: Joint) -> &'static str
+    ensures descendant { joint ≡ Descendant → result.now ≡ codes " " }
+    ensures child { joint ≡ Child → result.now ≡ codes " > " }
+{
     match joint {
         Joint::Descendant => " ",
         Joint::Child => " > ",

@@ -2,6 +2,8 @@
 //! are handed to `run`, and its status ends the process.
 #![tactic(auto)]
 
+ghost use Rattle.std.specs.Prelude.{◌≡◌, IfErr};
+
 use face_api::{Face, MonoFace, TableFace, WideFace};
 use io_edge::{Sink, Source, StdSink, StdSource};
 use std::alloc::AllocError;
@@ -20,12 +22,15 @@ fn main(rt: HostRuntime) -> ExitCode {
     ExitCode::from(status as u8)
 }
 
-// Runs the words of the command line. Where there is no memory for them or for the faces, nothing is written.
+// Runs the words of the command line. Where there is no memory for them or for the faces, nothing is read or written.
 fn answer<S: Source, K: Sink>(
     rt: &(impl Env + AllocGlobal),
     source: &mut S,
     sink: &mut K,
-) -> Result<Status, AllocError> {
+) -> Result<Status, AllocError>
+    ensures source { IfErr result (λ e. source.new ≡ source.old) }
+    ensures sink { IfErr result (λ e. sink.new ≡ sink.old) }
+{
     let alloc = rt.alloc();
     let words = words(rt)?;
     let mut faces: Vec<Box<dyn Face>> = Vec::new(alloc);
