@@ -207,8 +207,9 @@ fn class_at(class: BidiClass, entry: Entry) -> BidiClass
     }
 }
 
-// X9.
-fn is_removed(class: BidiClass) -> bool
+/// Does X9 (UAX 9) remove a character of this class? Embeddings, overrides and their PDF take no part in the rules behind
+/// it. BN, which it removes too, is not among the classes.
+pub fn is_removed(class: BidiClass) -> bool
     ensures { result ≡ is_removed class }
 {
     match class {

@@ -15,7 +15,7 @@ mod sequences;
 mod tests;
 
 pub use base::base_level;
-pub use explicit::levels;
+pub use explicit::{is_removed, levels};
 pub use laws::matching_pdis_have_one_level;
 pub use paragraph::{ClassList, LevelList, Levels, MarkList, PlaceList, Run, Runs};
 pub use sequences::runs;

@@ -7,11 +7,10 @@ ghost use Rattle.std.specs.Prelude.{◌≡◌, ◌<◌, ◌≤◌, ◌++◌, [],
 
 use crate::paragraph::{base_of, classes_of_text, paragraph_levels};
 use crate::places::read_classes;
-use bidi_explicit::{LevelList, PlaceList};
+use bidi_explicit::{LevelList, PlaceList, is_removed};
 use bidi_order::{Order, order, reset};
 use std::alloc::{AllocError, Global};
 use wm_chars::BidiClass;
-use wm_chars::BidiClass::{LRE, LRO, PDF, RLE, RLO};
 
 /// The order of one line of a bidi paragraph (UAX 9, L1 and L2): the places of its characters in the paragraph, from left
 /// to right. The line has the places from `start` up to `stop` but those of what X9 removes. The levels are the resolved
@@ -67,12 +66,6 @@ fn keep(places: &mut PlaceList, class: BidiClass, place: usize) -> Result<(), Al
     Ok(())
 }
 
-fn is_removed(class: BidiClass) -> bool
-    ensures { result ≡ is_removed class }
-{
-    matches!(class, LRE | LRO | RLE | RLO | PDF)
-}
-
 // L1 at these places.
 fn levels_at(
     alloc: Global,
@@ -117,8 +110,8 @@ fn look_up(order: &mut Order, places: &[usize])
 
 /// The order of one line of a text that is one bidi paragraph, by all rules of UAX 9 from P2 to L2: the places of the
 /// line's characters in the text, from left to right. The base level is 0 or 1, or the one that P2 and P3 give. The line
-/// has the places from `start` up to `stop` but those of what X9 removes. Where a text has many lines, `text_levels` once and `line_order` for each of
-/// them does the same.
+/// has the places from `start` up to `stop` but those of what X9 removes. Where a text has many lines, `text_levels` once
+/// and `line_order` for each of them does the same.
 #[tactic(auto, unfolding(crate::specs::Line::text_line_order, crate::specs::Paragraph::text_levels))]
 pub fn text_line_order(
     alloc: Global,
