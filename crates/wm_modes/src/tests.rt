@@ -42,55 +42,47 @@ fn sides_of_every_mode(rt: HostRuntime) {
     }
 }
 
+type PageRows = [(WritingMode, Direction, [i32; 4]); 10];
+
+// The page's rectangle of one that is inside its content area.
+const INSIDE: PageRows = [
+    (HorizontalTb, Ltr, [1010, 2020, 100, 50]),
+    (HorizontalTb, Rtl, [1490, 2020, 100, 50]),
+    (VerticalRl, Ltr, [1530, 2010, 50, 100]),
+    (VerticalRl, Rtl, [1530, 2290, 50, 100]),
+    (VerticalLr, Ltr, [1020, 2010, 50, 100]),
+    (VerticalLr, Rtl, [1020, 2290, 50, 100]),
+    (SidewaysRl, Ltr, [1530, 2010, 50, 100]),
+    (SidewaysRl, Rtl, [1530, 2290, 50, 100]),
+    (SidewaysLr, Ltr, [1020, 2290, 50, 100]),
+    (SidewaysLr, Rtl, [1020, 2010, 50, 100]),
+];
+
+// The same of one that begins before its content area and ends beyond it.
+const BEYOND: PageRows = [
+    (HorizontalTb, Ltr, [-566, -1301, 3131, 423]),
+    (HorizontalTb, Rtl, [-3495, -1301, 3131, 423]),
+    (VerticalRl, Ltr, [-127, -641, 423, 3131]),
+    (VerticalRl, Rtl, [-127, -1401, 423, 3131]),
+    (VerticalLr, Ltr, [-1226, -641, 423, 3131]),
+    (VerticalLr, Rtl, [-1226, -1401, 423, 3131]),
+    (SidewaysRl, Ltr, [-127, -641, 423, 3131]),
+    (SidewaysRl, Rtl, [-127, -1401, 423, 3131]),
+    (SidewaysLr, Ltr, [-1226, -1401, 423, 3131]),
+    (SidewaysLr, Rtl, [-1226, -641, 423, 3131]),
+];
+
 #[test]
 fn rectangles_of_every_mode(rt: HostRuntime) {
-    // The page's rectangle of one that is inside its content area.
-    let inside: [(WritingMode, Direction, [i32; 4]); 10] = [
-        (HorizontalTb, Ltr, [1010, 2020, 100, 50]),
-        (HorizontalTb, Rtl, [1490, 2020, 100, 50]),
-        (VerticalRl, Ltr, [1530, 2010, 50, 100]),
-        (VerticalRl, Rtl, [1530, 2290, 50, 100]),
-        (VerticalLr, Ltr, [1020, 2010, 50, 100]),
-        (VerticalLr, Rtl, [1020, 2290, 50, 100]),
-        (SidewaysRl, Ltr, [1530, 2010, 50, 100]),
-        (SidewaysRl, Rtl, [1530, 2290, 50, 100]),
-        (SidewaysLr, Ltr, [1020, 2290, 50, 100]),
-        (SidewaysLr, Rtl, [1020, 2010, 50, 100]),
-    ];
-    assert_eq!(rt; inside.len(), 10);
-    for (mode, dir, page) in inside {
-        stands(
-            &rt,
-            mode,
-            dir,
-            [1000, 2000, 600, 400],
-            [10, 20, 100, 50],
-            page,
-        );
-    }
-    // The same of one that begins before its content area and ends beyond it.
-    let beyond: [(WritingMode, Direction, [i32; 4]); 10] = [
-        (HorizontalTb, Ltr, [-566, -1301, 3131, 423]),
-        (HorizontalTb, Rtl, [-3495, -1301, 3131, 423]),
-        (VerticalRl, Ltr, [-127, -641, 423, 3131]),
-        (VerticalRl, Rtl, [-127, -1401, 423, 3131]),
-        (VerticalLr, Ltr, [-1226, -641, 423, 3131]),
-        (VerticalLr, Rtl, [-1226, -1401, 423, 3131]),
-        (SidewaysRl, Ltr, [-127, -641, 423, 3131]),
-        (SidewaysRl, Rtl, [-127, -1401, 423, 3131]),
-        (SidewaysLr, Ltr, [-1226, -1401, 423, 3131]),
-        (SidewaysLr, Rtl, [-1226, -641, 423, 3131]),
-    ];
-    assert_eq!(rt; beyond.len(), 10);
-    for (mode, dir, page) in beyond {
-        stands(
-            &rt,
-            mode,
-            dir,
-            [-486, -561, 42, 2211],
-            [-80, -740, 3131, 423],
-            page,
-        );
+    all_stand(&rt, INSIDE, [1000, 2000, 600, 400], [10, 20, 100, 50]);
+    all_stand(&rt, BEYOND, [-486, -561, 42, 2211], [-80, -740, 3131, 423]);
+}
+
+// A rectangle of the flow in a content area, and the page's in each mode.
+fn all_stand(rt: &impl Abort, rows: PageRows, area: [i32; 4], flow: [i32; 4]) {
+    assert_eq!(rt; rows.len(), 10);
+    for (mode, dir, page) in rows {
+        stands(rt, mode, dir, area, flow, page);
     }
 }
 
