@@ -10,7 +10,7 @@ use wm_chars::BidiClass::{AL, EN, ES, L, ON, R, WS};
 type Row = (&'static str, Option<bool>, &'static [u8]);
 
 // Values from outside.
-const TEXTS: [Row; 26] = [
+const TEXTS: [Row; 27] = [
     (
         "x\u{2067}\u{05D0}\u{05D1}(1)\u{2069}2",
         Some(false),
@@ -23,6 +23,11 @@ const TEXTS: [Row; 26] = [
         "\u{05D0}(a)\u{0301}\u{0301} 1",
         Some(false),
         &[1, 0, 0, 0, 0, 0, 0, 0],
+    ),
+    (
+        "\u{05D0}(\u{05D0})\u{0301}a",
+        Some(false),
+        &[1, 1, 1, 1, 1, 0],
     ),
     ("a[\u{05D0}(1]b)", Some(true), &[2, 1, 1, 1, 2, 1, 2, 1]),
     (
