@@ -1,6 +1,6 @@
 //! The selectors of a rule, up to its `{`. Each makes a rule of its own.
 
-ghost use Rattle.std.specs.Prelude.{◌≡◌, ◌≤◌, ◌<◌, IfOk, length, map};
+ghost use Rattle.std.specs.Prelude.{◌≡◌, Bool, ◌≤◌, ◌<◌, IfOk, length, map};
 ghost use Rattle.reading.specs.Readers.{Answers, next_is, telling};
 ghost use Rattle.css_values.specs.Faults.{Gives};
 ghost use Rattle.css_sheet.specs.Rules.{selector_of};
@@ -33,7 +33,7 @@ pub(crate) fn heads(
     let mut opened = false;
     let mut rest = text;
     while !opened {
-        let (is_opened, after) = head_turn(alloc, rules, &mut selectors, opened, rest)?;
+        let (is_opened, after) = head_turn(alloc, rules, &mut selectors, rest)?;
         opened = is_opened;
         rest = after;
     }
@@ -45,14 +45,13 @@ fn head_turn<'a>(
     alloc: Global,
     rules: usize,
     selectors: &mut Vec<Selector>,
-    opened: bool,
     text: &'a str,
 ) -> Result<(bool, &'a str), Stop<'a>>
-    ensures read { Gives (λ t. (heads_of selectors.new.items t.0, t.1.now)) result (readers.head_turn rules (heads_of selectors.old.items opened) text.now) }
+    ensures read { (opened : Bool) → Gives (λ t. (heads_of selectors.new.items t.0, t.1.now)) result (readers.head_turn rules (heads_of selectors.old.items opened) text.now) }
     ensures shorter { IfOk result (λ t. length t.1.now < length text.now) }
 {
     let (_, rest) = gap(text)?;
-    let rest = counted(alloc, rules, selectors, opened, rest)?;
+    let rest = counted(alloc, rules, selectors, rest)?;
     Ok(behind_selector(rest)?)
 }
 
@@ -61,10 +60,9 @@ fn counted<'a>(
     alloc: Global,
     rules: usize,
     selectors: &mut Vec<Selector>,
-    opened: bool,
     text: &'a str,
 ) -> Result<&'a str, Stop<'a>>
-    ensures read { Gives (λ rest. (map selector_of selectors.new.items, rest.now)) result (readers.next_selector rules (heads_of selectors.old.items opened) text.now) }
+    ensures read { (opened : Bool) → Gives (λ rest. (map selector_of selectors.new.items, rest.now)) result (readers.next_selector rules (heads_of selectors.old.items opened) text.now) }
     ensures shorter { IfOk result (λ rest. length rest.now ≤ length text.now) }
 {
     let (selector, rest) = told_selector(alloc, text)?;

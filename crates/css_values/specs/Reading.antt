@@ -30,8 +30,8 @@ text_of (Some text) = Some text.now
 abbrev pub begun_of : code_begun.Begun → Begun
 begun_of b = record { closers = closings_of b.brackets.items; lexemes = map lexeme_of b.tokens.items; has_var = b.has_var; at_sign = text_of b.at_sign }
 
-abbrev pub written_of_code : code.Written → Written
-written_of_code w = record { lexemes = map lexeme_of w.tokens.items; important = w.important; has_var = w.has_var; at_sign = text_of w.at_sign }
+abbrev pub as_written : code.Written → Written
+as_written w = record { lexemes = map lexeme_of w.tokens.items; important = w.important; has_var = w.has_var; at_sign = text_of w.at_sign }
 
 -- what stands behind the closing of the innermost bracket, where that comes
 abbrev pub IsClosing : (closers : List ℕ) → (text : List ℕ) → Option (Bor (List ℕ)) → Type 0

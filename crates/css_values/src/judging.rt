@@ -3,7 +3,7 @@
 ghost use Rattle.std.specs.Prelude.{◌≡◌, [], ◌∷◌};
 ghost use Rattle.css_values.specs.Judging as definitions;
 ghost use Rattle.css_values.specs.Judging.{placed};
-ghost use Rattle.css_values.specs.Views.{lexemes_of, Puts};
+ghost use Rattle.css_values.specs.Views.{lexemes_of, Appends};
 
 use crate::error::Stop;
 use crate::longhand::longhand;
@@ -52,7 +52,7 @@ pub(crate) fn declare(
     manner: Manner,
     all: &mut Declarations,
 ) -> Result<(), Stop<'static>>
-    ensures { Puts result all.old.items all.new.items (placed manner (definitions.declared_by meaning (lexemes_of tokens.now))) }
+    ensures { Appends result all.old.items all.new.items (placed manner (definitions.declared_by meaning (lexemes_of tokens.now))) }
 {
     match meaning {
         Meaning::Property(row) => match longhand(row, tokens) {
@@ -71,7 +71,7 @@ pub(crate) fn put(
     manner: Manner,
     all: &mut Declarations,
 ) -> Result<(), Stop<'static>>
-    ensures { Puts result all.old.items all.new.items (placed manner ((property, value) ∷ [])) }
+    ensures { Appends result all.old.items all.new.items (placed manner ((property, value) ∷ [])) }
 {
     all.push(Declaration {
         property,

@@ -4,7 +4,7 @@ ghost use Rattle.std.specs.Prelude.{◌≡◌, option_map, [], ◌∷◌, Some};
 ghost use Rattle.css_values.specs.Judging.{placed};
 ghost use Rattle.css_values.specs.Shorthand as definitions;
 ghost use Rattle.style_types.specs.declared.shorthand.Shorthand.TheVariants.{Round};
-ghost use Rattle.css_values.specs.Views.{lexemes_of, Puts, TellsEach};
+ghost use Rattle.css_values.specs.Views.{lexemes_of, Appends, TellsEach};
 
 use crate::border::{Found, given, or_initial};
 use crate::error::Stop;
@@ -24,7 +24,7 @@ pub(crate) fn declare_shorthand(
     manner: Manner,
     all: &mut Declarations,
 ) -> Result<(), Stop<'static>>
-    ensures { Puts result all.old.items all.new.items (placed manner (definitions.shorthand shorthand (lexemes_of tokens.now))) }
+    ensures { Appends result all.old.items all.new.items (placed manner (definitions.shorthand shorthand (lexemes_of tokens.now))) }
 {
     if is_word_alone("initial", tokens) {
         return declare_initial(shorthand, manner, all);
@@ -45,7 +45,7 @@ fn declare_initial(
     manner: Manner,
     all: &mut Declarations,
 ) -> Result<(), Stop<'static>>
-    ensures { Puts result all.old.items all.new.items (placed manner (definitions.initial_of shorthand)) }
+    ensures { Appends result all.old.items all.new.items (placed manner (definitions.initial_of shorthand)) }
 {
     match shorthand {
         Shorthand::Round(_, longhands) => put_all(longhands, Value::Initial, manner, all),
@@ -63,7 +63,7 @@ fn declare_border(
     manner: Manner,
     all: &mut Declarations,
 ) -> Result<(), Stop<'static>>
-    ensures { Puts result all.old.items all.new.items (placed manner (definitions.borders widths styles (Some found))) }
+    ensures { Appends result all.old.items all.new.items (placed manner (definitions.borders widths styles (Some found))) }
 {
     put_all(widths, or_initial(found.width), manner, all)?;
     put_all(styles, or_initial(found.style), manner, all)
@@ -76,7 +76,7 @@ fn put_all(
     manner: Manner,
     all: &mut Declarations,
 ) -> Result<(), Stop<'static>>
-    ensures { Puts result all.old.items all.new.items (placed manner (definitions.all_have value longhands)) }
+    ensures { Appends result all.old.items all.new.items (placed manner (definitions.all_have value longhands)) }
 {
     match longhands {
         Longhands::One(one) => put(one, value, manner, all),
@@ -106,7 +106,7 @@ fn declare_round(
     manner: Manner,
     all: &mut Declarations,
 ) -> Result<(), Stop<'static>>
-    ensures { Puts result all.old.items all.new.items (placed manner (definitions.given_by (Round values longhands) (lexemes_of tokens.now))) }
+    ensures { Appends result all.old.items all.new.items (placed manner (definitions.given_by (Round values longhands) (lexemes_of tokens.now))) }
 {
     match each(alloc, values, tokens)? {
         Some(given) => put_round(longhands, given.as_slice(), manner, all),
@@ -140,7 +140,7 @@ fn put_round(
     manner: Manner,
     all: &mut Declarations,
 ) -> Result<(), Stop<'static>>
-    ensures { Puts result all.old.items all.new.items (placed manner (definitions.given_to longhands (definitions.spread longhands (Some given.now)))) }
+    ensures { Appends result all.old.items all.new.items (placed manner (definitions.given_to longhands (definitions.spread longhands (Some given.now)))) }
 {
     match longhands {
         Longhands::One(one) => match given {

@@ -4,7 +4,7 @@ ghost use Rattle.std.specs.Prelude.{◌≡◌, ◌≤◌, ◌||◌, ◌==◌, le
 ghost use Rattle.reading.specs.Readers as reading;
 ghost use Rattle.css_tokens.specs.Tokens.{lexeme_of};
 ghost use Rattle.css_values.specs.Faults.{Gives, spelled};
-ghost use Rattle.css_values.specs.Reading.{begun_of, written_of_code};
+ghost use Rattle.css_values.specs.Reading.{begun_of, as_written};
 ghost use Rattle.css_values.specs.Value as values;
 
 use crate::begun::{Begun, begin, turn};
@@ -34,7 +34,7 @@ pub(crate) fn value(
     within: Within,
     text: &str,
 ) -> Result<(Written<'_>, &str), Stop<'_>>
-    ensures read { Gives (λ v. (written_of_code v.0, v.1.now)) result (spelled (values.value within) text.now) }
+    ensures read { Gives (λ v. (as_written v.0, v.1.now)) result (spelled (values.value within) text.now) }
     ensures shorter { IfOk result (λ v. length v.1.now ≤ length text.now) }
 {
     let (_, text) = gap(text)?;
@@ -82,7 +82,7 @@ fn semicolon_or_brace_ahead(text: &str) -> bool
 
 // What is read, without `!important`; nothing is no value.
 fn finished<'a>(begun: Begun<'a>, rest: &'a str) -> Result<Written<'a>, Stop<'a>>
-    ensures { Gives (λ w. (written_of_code w, rest.now)) result (spelled (values.finished (begun_of begun.entry)) rest.now) }
+    ensures { Gives (λ w. (as_written w, rest.now)) result (spelled (values.finished (begun_of begun.entry)) rest.now) }
 {
     let mut tokens = begun.tokens;
     let important = take_mark(&mut tokens);

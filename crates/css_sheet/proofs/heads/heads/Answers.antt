@@ -16,13 +16,13 @@ pub returns-in_err-is_opened-clause-read : goal.returns-in_err-is_opened-clause-
 returns-in_err-is_opened-clause-read c =
     let p = err_from_is_err_and c.from_residual.result c.from_residual.ensures.1 in
     rw (p.1, p.2) (heading_stops c.args.rules c.args.text.now c.loop-opened.rest.now (heads_of c.loop-opened.selectors.items c.loop-opened.opened) c.in_err-is_opened.field-0.0 c.loop-opened.invariant.1
-    (ap not c.loop-opened-test.true) c.in_err-is_opened.ensures.read)
+    (ap not c.loop-opened-test.true) (c.in_err-is_opened.ensures.read c.loop-opened.opened))
 
 pub loop-opened-preserved : goal.loop-opened-preserved
 loop-opened-preserved c = (
   search rules,
   heading_goes_on c.args.rules c.args.text.now c.loop-opened.rest.now c.in_ok-is_opened.after.now (heads_of c.loop-opened.selectors.items c.loop-opened.opened) (heads_of c.head_turn.new.selectors.items c.in_ok-is_opened.is_opened)
-      c.loop-opened.invariant.1 (ap not c.loop-opened-test.true) c.in_ok-is_opened.ensures.read c.in_ok-is_opened.ensures.shorter,
+      c.loop-opened.invariant.1 (ap not c.loop-opened-test.true) (c.in_ok-is_opened.ensures.read c.loop-opened.opened) c.in_ok-is_opened.ensures.shorter,
   omega (arith, c.in_ok-is_opened.ensures.shorter, c.loop-opened.invariant.2),
 )
 

@@ -1,6 +1,6 @@
 use Rattle.std.proofs.Common.{rules, sym, ◌∙◌, arith, Ok}
 use Rattle.std.proofs.lemmas.Result.{err_from_is_err_and}
-use Rattle.css_values.specs.Reading.{begun_of, written_of_code}
+use Rattle.css_values.specs.Reading.{begun_of, as_written}
 use Rattle.css_values.proofs.Valuing.{gap_stops, valuing_starts, valuing_goes_on, valuing_stops, valuing_ends, valuing_refused}
 use Rattle.css_values.proofs.value.value.Goals as goal
 
@@ -38,5 +38,5 @@ returns-in_err-finished-clause-read c =
 
 pub returns-clause-read : goal.returns-clause-read
 returns-clause-read c =
-    valuing_ends c.args.within c.args.text.now c.loop-within.rest.now (begun_of c.loop-within.begun) (Ok (written_of_code c.in_ok-finished.field-0, c.loop-within.rest.now)) c.loop-within.invariant.1
+    valuing_ends c.args.within c.args.text.now c.loop-within.rest.now (begun_of c.loop-within.begun) (Ok (as_written c.in_ok-finished.field-0, c.loop-within.rest.now)) c.loop-within.invariant.1
     (sym c.goes_on.ensures ∙ c.loop-within-test.false) c.in_ok-finished.ensures
