@@ -8,6 +8,3 @@ mod placed;
 
 pub use page::lay_out;
 pub use placed::{Placed, Rects};
-
-#[cfg(test)]
-mod tests;

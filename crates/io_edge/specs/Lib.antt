@@ -1,4 +1,3 @@
-pub mod Errors
-pub mod Faults
-pub mod InMemory
-pub mod Streams
+pub mod Edge
+pub mod Error
+pub mod Memory

@@ -4,8 +4,7 @@ ghost use Rattle.std.specs.Prelude.{◌≡◌, List, ℕ};
 ghost use Rattle.std.specs.declared.option.Option.{Option};
 ghost use Rattle.std.specs.Io.{ReadsAtMost, WritesAtMost};
 ghost use Rattle.std.specs.Io.KnownBytes.{ReadConsumes, WriteAppends};
-ghost use Rattle.io_edge.specs.Faults.{HasCause};
-ghost use Rattle.io_edge.specs.Streams.{TakesSome};
+ghost use Rattle.io_edge.specs.Edge.{HasCause, TakesSome};
 
 /// Why a call moved no byte.
 #[derive(Clone, Copy, Debug, PartialEq, Eq)]

@@ -1,7 +1,7 @@
 //! Why bytes could not be read to their end, or written as a whole.
 
 ghost use Rattle.std.specs.Prelude.{◌≡◌};
-ghost use Rattle.io_edge.specs.Errors.{read_error, write_error};
+ghost use Rattle.io_edge.specs.Error.{read_error, write_error};
 ghost use Rattle.io_edge.specs.declared.error.ReadError.TheVariants.{Memory as read_memory};
 ghost use Rattle.io_edge.specs.declared.error.WriteError.TheVariants.{Memory as write_memory};
 

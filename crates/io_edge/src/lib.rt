@@ -10,6 +10,7 @@ mod memory;
 mod read;
 mod std_edge;
 mod steady;
+mod waiting;
 mod write;
 
 pub use bytes::Bytes;
@@ -19,4 +20,5 @@ pub use memory::{MemorySink, MemorySource};
 pub use read::read_all;
 pub use std_edge::{StdSink, StdSource};
 pub use steady::{SteadySink, SteadySource};
+pub use waiting::Waiting;
 pub use write::write_all_of;

@@ -3,9 +3,8 @@
 ghost use Rattle.std.specs.Prelude.{◌≡◌, ◌<◌, ◌≤◌, List, ℕ, [], drop, Some, length, min, IfOk, IsErrOf};
 ghost use Rattle.std.specs.Io.{ReadsAtMost, WritesAtMost};
 ghost use Rattle.std.specs.Io.KnownBytes.{ReadConsumes, WriteAppends};
-ghost use Rattle.io_edge.specs.Faults.{HasCause};
-ghost use Rattle.io_edge.specs.InMemory.{InMemory, IsCall, at_start};
-ghost use Rattle.io_edge.specs.Streams.{TakesSome};
+ghost use Rattle.io_edge.specs.Edge.{HasCause, TakesSome};
+ghost use Rattle.io_edge.specs.Memory.{InMemory, IsCall, at_start};
 
 use crate::calls::Calls;
 use crate::copies::copy_front;
@@ -144,32 +143,5 @@ impl Sink for MemorySink {
             Ok(()) => Ok(count),
             Err(_) => Err(IoFail::Memory),
         }
-    }
-}
-
-#[cfg(test)]
-mod tests {
-    use crate::{IoFail, MemorySource, Source};
-    use std::test::Fail;
-
-    #[test]
-    fn each_call_counts(rt: HostRuntime) -> Result<(), Fail> {
-        let mut source = MemorySource::new(rt.alloc(), b"abcde", &[1, 3], 2)?;
-        let mut buf = *b".....";
-        for (call, want) in [
-            Ok(2),
-            Err(IoFail::Failed),
-            Ok(2),
-            Err(IoFail::Failed),
-            Ok(1),
-            Ok(0),
-        ]
-        .into_iter()
-        .enumerate()
-        {
-            assert_eq!(rt; source.read(&mut buf), want, "at {call}");
-        }
-        assert_eq!(rt; buf.as_slice(), b"ed...".as_slice());
-        Ok(())
     }
 }

@@ -5,8 +5,7 @@
 ghost use Rattle.std.specs.Prelude.{◌≡◌, None, IsErrOf};
 ghost use Rattle.std.specs.Io.{ReadsAtMost, WritesAtMost};
 ghost use Rattle.std.specs.Io.KnownBytes.{ReadConsumes, WriteAppends};
-ghost use Rattle.io_edge.specs.Faults.{HasCause, CountsFaults};
-ghost use Rattle.io_edge.specs.Streams.{TakesSome};
+ghost use Rattle.io_edge.specs.Edge.{HasCause, CountsFaults, TakesSome};
 
 use crate::{IoFail, Sink, Source};
 use std::io::{Read, Write};
@@ -93,66 +92,5 @@ impl<W: Write> Sink for StdSink<W> {
                 Err(IoFail::Failed)
             }
         }
-    }
-}
-
-#[cfg(test)]
-mod tests {
-    use super::{StdSink, StdSource};
-    use crate::{ReadError, WriteError, read_all, write_all_of};
-    use std::io;
-    use std::io::{ErrorKind, Read};
-    use std::test::Fail;
-
-    // Gives one byte, and then nothing but errors.
-    #[derive(Drop)]
-    struct Torn {
-        is_given: bool,
-    }
-
-    impl Read for Torn {
-        fn read(&mut self, buf: &mut [u8]) -> io::Result<usize> {
-            if self.is_given || buf.is_empty() {
-                return Err(io::Error::from(ErrorKind::Other));
-            }
-            self.is_given = true;
-            buf[0] = b'a';
-            Ok(1)
-        }
-    }
-
-    #[test]
-    fn a_reader_is_read_to_its_end(rt: HostRuntime) -> Result<(), Fail> {
-        let alloc = rt.alloc();
-        let mut source = StdSource::new(b"hello".as_slice());
-        assert_eq!(rt;
-            read_all(alloc, &mut source, 5)?.as_slice(),
-            b"hello".as_slice()
-        );
-        assert_eq!(rt; source.faults, 0);
-
-        let mut torn = StdSource::new(Torn { is_given: false });
-        let failed = read_all(alloc, &mut torn, 5);
-        assert!(rt; matches!(failed, Err(ReadError::ReadFault)));
-        assert_eq!(rt; torn.faults, 1);
-        Ok(())
-    }
-
-    #[test]
-    fn a_write_that_takes_nothing_is_a_fault(rt: HostRuntime) -> Result<(), Fail> {
-        let mut sink = StdSink::new(Vec::new(rt.alloc()));
-        write_all_of(&mut sink, b"hello")?;
-        assert_eq!(rt; sink.inner.as_slice(), b"hello".as_slice());
-        assert_eq!(rt; sink.faults, 0);
-
-        let mut room = *b"....";
-        let mut full = StdSink::new(room.as_mut_slice());
-        assert_eq!(rt;
-            write_all_of(&mut full, b"hello"),
-            Err(WriteError::WriteFault)
-        );
-        assert_eq!(rt; full.faults, 1);
-        assert_eq!(rt; room.as_slice(), b"hell".as_slice());
-        Ok(())
     }
 }

@@ -3,8 +3,7 @@
 ghost use Rattle.std.specs.Prelude.{◌≡◌, ◌<◌, List, ℕ, [], ◌++◌, Some, length, min, IsOk, IfOk, IsErrOf};
 ghost use Rattle.std.specs.Io.{ReadsAtMost, WritesAtMost};
 ghost use Rattle.std.specs.Io.KnownBytes.{ReadConsumes, WriteAppends};
-ghost use Rattle.io_edge.specs.Faults.{HasCause};
-ghost use Rattle.io_edge.specs.Streams.{TakesSome};
+ghost use Rattle.io_edge.specs.Edge.{HasCause, TakesSome};
 
 use crate::copies::copy_front;
 use crate::{IoFail, Sink, Source};

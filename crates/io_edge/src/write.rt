@@ -2,8 +2,7 @@
 
 ghost use Rattle.std.specs.Prelude.{◌≤◌, OnOk, IsErrOf};
 ghost use Rattle.std.specs.Io.KnownBytes.{Appends};
-ghost use Rattle.io_edge.specs.Faults.{Rose};
-ghost use Rattle.io_edge.specs.Streams.{AppendsFront};
+ghost use Rattle.io_edge.specs.Edge.{Rose, AppendsFront};
 
 use crate::{Sink, WriteError};
 
@@ -23,39 +22,4 @@ pub fn write_all_of<K: Sink>(sink: &mut K, bytes: &[u8]) -> Result<(), WriteErro
         rest = rest.split_at(count).1;
     }
     Ok(())
-}
-
-#[cfg(test)]
-mod tests {
-    use crate::{MemorySink, SteadySink, WriteError, write_all_of};
-    use std::test::Fail;
-
-    const LETTERS: &[u8] = b"abcdefghijklmnopqrst";
-
-    #[test]
-    fn a_fault_leaves_what_the_earlier_calls_took(rt: HostRuntime) -> Result<(), Fail> {
-        let mut sink = MemorySink::new(rt.alloc(), &[2], 7)?;
-        assert_eq!(rt;
-            write_all_of(&mut sink, LETTERS),
-            Err(WriteError::WriteFault)
-        );
-        assert_eq!(rt; sink.bytes(), b"abcdefghijklmn".as_slice());
-        write_all_of(&mut sink, b"!")?;
-        assert_eq!(rt; sink.bytes(), b"abcdefghijklmn!".as_slice());
-        Ok(())
-    }
-
-    #[test]
-    fn short_writes_are_gone_on_with(rt: HostRuntime) -> Result<(), Fail> {
-        let alloc = rt.alloc();
-        for most in [1, 7, 20, 100] {
-            let mut sink = MemorySink::new(alloc, &[], most)?;
-            write_all_of(&mut sink, LETTERS)?;
-            assert_eq!(rt; sink.bytes(), LETTERS, "at {most}");
-        }
-        let mut sink = SteadySink::new(alloc);
-        write_all_of(&mut sink, LETTERS)?;
-        assert_eq!(rt; sink.bytes(), LETTERS);
-        Ok(())
-    }
 }

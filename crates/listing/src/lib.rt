@@ -5,6 +5,3 @@ mod lines;
 mod listing;
 
 pub use listing::write_listing;
-
-#[cfg(test)]
-mod tests;

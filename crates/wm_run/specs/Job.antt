@@ -1,14 +1,12 @@
 -- The job: which bytes are due for words and an input, with which status, and what stands after a run.
-use Rattle.std.specs.Prelude.{◌≡◌, ◌⊎◌, ℕ, ◌<◌, ◌≤◌, List, ◌++◌, length, drop, codes, decimal, false, Option, Result, Ok, Err, ⊤}
+use Rattle.std.specs.Prelude.{◌≡◌, ◌⊎◌, ℕ, ◌<◌, ◌≤◌, List, length, drop, codes, false, Option, Result, Ok, Err, ⊤}
 use Rattle.std.specs.Io.KnownBytes.{Appends, Keeps}
-use Rattle.io_edge.specs.Streams.{AppendsFront}
+use Rattle.io_edge.specs.Edge.{AppendsFront}
 use Rattle.io_edge.specs.declared.error.WriteError.{WriteError}
 use Rattle.io_edge.specs.declared.error.WriteError.TheVariants as write_errors
 use Rattle.wm_units.specs.declared.view.View.{View}
 use Rattle.wm_modes.specs.declared.mode.WritingMode.{WritingMode}
 use Rattle.reading.specs.Readers.{Read, ReadOr}
-use Rattle.html_read.specs.declared.error.Refusal.{Refusal}
-use Rattle.html_read.specs.declared.error.Refusal.TheVariants as kinds
 use Rattle.html_read.specs.Faults.{Fault, syntax, place_in}
 use Rattle.html_read.specs.Reading as reading
 use Rattle.html_read.specs.Values.{Whole}
@@ -17,6 +15,7 @@ use Rattle.early_tree.specs.Early.{IsEarly}
 use Rattle.early_flow.specs.Page.{page_of}
 use Rattle.listing.specs.Listing.{listing}
 use Rattle.wm_run.specs.Command.{IsCommand, IsNoCommand}
+use Rattle.wm_run.specs.Due.{refusal, kind_word}
 use Rattle.wm_run.specs.declared.status.Status.{Status}
 use Rattle.wm_run.specs.declared.status.Status.TheVariants.{Done, Usage, Refused, Memory, ReadFault, WriteFault}
 
@@ -24,23 +23,9 @@ use Rattle.wm_run.specs.declared.status.Status.TheVariants.{Done, Usage, Refused
 unfoldable pub usage_line : List ℕ
 usage_line = codes "usage: wm_layout layout|edit|modes|gen [--view-inline N] [--view-block N] [--count N]\n"
 
--- the line of a refusal, with its place in bytes
-unfoldable pub refusal : (kind : List ℕ) → (place : ℕ) → List ℕ
-refusal kind place = codes "refused " ++ kind ++ codes " " ++ decimal place ++ codes "\n"
-
 -- the greatest length of an input, in bytes
 abbrev pub longest_input : ℕ
 longest_input = 1048576
-
--- the word of what is wrong with a document
-unfoldable pub kind_word : Refusal → List ℕ
-kind_word kinds.Utf8 = codes "Utf8"
-kind_word kinds.Character = codes "Character"
-kind_word kinds.Syntax = codes "Syntax"
-kind_word kinds.UnknownTag = codes "UnknownTag"
-kind_word kinds.UnknownAttribute = codes "UnknownAttribute"
-kind_word kinds.Nesting = codes "Nesting"
-kind_word kinds.Unsupported = codes "Unsupported"
 
 -- the line of a fault in an input of this size
 abbrev pub IsDueOfFault : (size : ℕ) → Fault → Status → List ℕ → Type 0

@@ -1,3 +1,4 @@
 pub mod Command
+pub mod Due
 pub mod Job
 pub mod Reading

@@ -3,13 +3,13 @@
 #![tactic(auto)]
 
 mod command;
-mod program;
+mod due;
+mod job;
+mod layout;
 mod status;
+mod tell;
 mod words;
 
-pub use program::run;
+pub use job::run;
 pub use status::Status;
 pub use words::Words;
-
-#[cfg(test)]
-mod tests;

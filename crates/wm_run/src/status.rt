@@ -1,3 +1,5 @@
+//! How a run ends.
+
 /// How a run ended. The program ends with these as its status, 0 to 5 in this order.
 #[derive(Clone, Copy, Debug, PartialEq, Eq)]
 pub enum Status {

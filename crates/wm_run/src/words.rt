@@ -1,3 +1,5 @@
+//! The words of a command line.
+
 ghost use Rattle.std.specs.Prelude.{◌≡◌, [], ◌∷◌, ◌++◌, map, string_bytes, OnOk, OnErr};
 
 use std::alloc::{AllocError, Global};

@@ -1,5 +1,5 @@
 use Rattle.std.proofs.Common.{ℕ, ◌≤◌, List, length, Option}
-use Rattle.io_edge.specs.Streams.{AppendsUpTo}
+use Rattle.io_edge.specs.Edge.{AppendsUpTo}
 use Rattle.io_edge.proofs.write.write_all_of.Given as goal
 
 -- what is not written yet is the rest

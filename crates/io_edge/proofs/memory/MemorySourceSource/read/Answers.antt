@@ -1,6 +1,6 @@
 use Rattle.std.proofs.Common.{◌≡◌, ℕ, ◌+◌, ◌<◌, List, [], ◌++◌, length, min, take, drop, ap, sym, ◌∙◌, arith, take-append-drop, drop-drop}
 use Rattle.std.proofs.lemmas.List.{drop_all}
-use Rattle.io_edge.specs.InMemory.{InMemory}
+use Rattle.io_edge.specs.Memory.{InMemory}
 use Rattle.io_edge.proofs.memory.MemorySourceSource.read.Goals as goal
 
 -- what goes to the buffer is the front of what was left, and it is nothing only where nothing was left

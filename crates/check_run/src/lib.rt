@@ -1,0 +1,9 @@
+//! Tests of the top call and of what stands next to it: whole runs, listings, sources and sinks.
+#![tactic(auto)]
+
+#[cfg(test)]
+mod listings;
+#[cfg(test)]
+mod runs;
+#[cfg(test)]
+mod streams;

@@ -1,0 +1,21 @@
+use Rattle.std.proofs.Common.{◌∙◌, ap, Err, subst, sym, length}
+use Rattle.html_read.specs.declared.error.HtmlError.{HtmlError}
+use Rattle.html_read.specs.declared.error.Refusal.{Refusal}
+use Rattle.html_read.specs.Faults.{IsRefused}
+use Rattle.html_read.specs.Reading as reading
+use Rattle.html_read.specs.Values.{whole_of}
+use Rattle.wm_run.specs.declared.due.Due.{Due}
+use Rattle.wm_run.specs.Due.{IsDueAlone}
+use Rattle.wm_run.specs.Job.{IsDueOfDocument}
+use Rattle.wm_run.proofs.JobLaws.{only_refused}
+use Rattle.wm_run.proofs.Documents.{document_ends}
+use Rattle.wm_run.proofs.layout.layout.Goals as goal
+
+pub whole_input-requires-clause-utf8 : goal.whole_input-requires-clause-utf8
+whole_input-requires-clause-utf8 c = (document_ends c.args.input.now (whole_of c.in-Ok.read) c.in-Ok.ensures.found).utf8
+
+pub returns-in-Err-Refused : goal.returns-in-Err-Refused
+returns-in-Err-Refused c =
+    let told = subst (λ (e : HtmlError). IsRefused (length c.args.input.now) e (reading.input c.args.input.now)) c.in-Err-Refused.field-0-is c.in-Err-Refused.ensures.read in
+    subst (λ (due : Due). IsDueAlone (IsDueOfDocument c.args.view c.args.input.now) due) (sym c.refused.ensures)
+    (only_refused c.args.view c.args.input.now _ told.0 _ (told.1 ∙ ap (λ (k : Refusal). Err (k, told.0)) (sym c.in-Err-Refused.kind-is)) (c.in-Err-Refused.place-is ∙ told.2))
