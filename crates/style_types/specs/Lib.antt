@@ -3,3 +3,4 @@ pub mod Keywords
 pub mod Laws
 pub mod Properties
 pub mod Reaches
+pub mod Value
