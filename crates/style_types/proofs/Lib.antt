@@ -1,2 +1,6 @@
 mod Listed
 mod PairLaws
+mod PropertyRows
+mod RefusalRows
+mod ShorthandRows
+mod WordRows
