@@ -1,3 +1,5 @@
+//! What a container and its children bring to a stack (CSS 2, 8.3.1).
+
 use margin_collapse::Margins;
 
 /// Which edges of a container adjoin those of its children. An edge adjoins where the container isn't a

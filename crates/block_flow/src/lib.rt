@@ -7,8 +7,6 @@ mod laws;
 mod reached;
 mod stacked;
 mod stacking;
-#[cfg(test)]
-mod tests;
 
 pub use boxes::{ChildBox, ParentEdges};
 pub use laws::{

@@ -1,3 +1,5 @@
+//! How far the stacking of children has come (CSS 2, 8.3.1 and 9.4.1).
+
 ghost use Rattle.std.specs.Prelude.{◌≡◌, ◌+◌, ◌≤◌, ◌^◌, ℤ, pos, ◌≤ℤ◌, ◌&&◌, true, List, ◌++◌, unsigned_abs};
 ghost use Rattle.margin_collapse.specs.Margins.{collapsed};
 ghost use Rattle.margin_collapse.specs.Pairs.{IsPairOf};

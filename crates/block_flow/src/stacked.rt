@@ -1,3 +1,5 @@
+//! What a stack of children tells.
+
 ghost use Rattle.std.specs.Prelude.{◌≡◌};
 
 use margin_collapse::Margins;

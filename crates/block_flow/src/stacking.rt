@@ -1,3 +1,5 @@
+//! The stacking of children (CSS 2, 8.3.1 and 9.4.1).
+
 ghost use Rattle.std.specs.Prelude.{◌≡◌, ◌+◌, ◌≤◌, ◌^◌, List, length, IfOk, sum_by};
 ghost use Rattle.block_flow.specs.Children.{Child, AreChildren, lengths_of};
 ghost use Rattle.block_flow.specs.Stacked.{IsStackOf, IsWithin};

@@ -1,3 +1,5 @@
+//! Grapheme clusters and where they stand (UAX 29, 3.1.1).
+
 ghost use Rattle.std.specs.Prelude.{◌≡◌, ◌+◌, ◌≤◌, ◌^◌, length, slice_index_or};
 ghost use Rattle.std.specs.Str.{chars};
 ghost use Rattle.cluster_units.specs.Clusters as clusters;

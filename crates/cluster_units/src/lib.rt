@@ -4,8 +4,6 @@
 mod cluster;
 mod plain;
 mod single;
-#[cfg(test)]
-mod tests;
 mod text;
 mod unit;
 

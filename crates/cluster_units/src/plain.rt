@@ -1,3 +1,5 @@
+//! Latin text, in which each character is a cluster (UAX 29, 3.1.1).
+
 ghost use Rattle.std.specs.Prelude.{◌≡◌, ◌≤◌, pos, ◌≤ℤ◌, length, true, IfOk};
 ghost use Rattle.std.specs.List.{list_all};
 ghost use Rattle.std.specs.Str.{chars};

@@ -1,3 +1,5 @@
+//! The unit of one cluster: its orientation, its advance, its break class (CSS Writing Modes 4, 5.1; UAX 50).
+
 ghost use Rattle.std.specs.Prelude.{◌≡◌, ◌≤◌, pos, ◌≤ℤ◌, unsigned_abs, IfSome, []};
 ghost use Rattle.wm_chars.specs.Repertoire.{break_class};
 ghost use Rattle.cluster_units.specs.Units as spec;

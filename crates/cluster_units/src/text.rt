@@ -1,3 +1,5 @@
+//! The units of a text, and its combined runs (CSS Writing Modes 4, 9.1).
+
 ghost use Rattle.std.specs.Prelude.{◌≡◌, ◌+◌, ◌*◌, ◌≤◌, ◌^◌, ℕ, ℤ, pos, ◌≤ℤ◌, ◌&&◌, length, unsigned_abs, All, IfOk, OnOk, [], ◌∷◌};
 ghost use Rattle.std.specs.Str.{chars};
 ghost use Rattle.face_api.specs.Living.{used_table};

@@ -1,3 +1,5 @@
+//! Units: pieces of text that no line divides (CSS Writing Modes 4, 5.1 and 9.1).
+
 use wm_chars::BreakClass;
 
 /// How a unit stands on its line (CSS Writing Modes 4, 5.1 and 9.1).

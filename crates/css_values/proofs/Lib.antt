@@ -3,6 +3,7 @@ mod Eaches
 mod Examples
 mod Families
 mod Listing
+mod NameRows
 mod Openings
 mod Pieces
 mod Valuing

@@ -9,7 +9,8 @@ use Rattle.wm_modes.specs.declared.mode.WritingMode.TheVariants.{HorizontalTb, V
 use Rattle.wm_modes.specs.Near.{IsNear, IsNearFlow}
 use Rattle.early_tree.specs.Boxes.{Boxes, none, box, count}
 use Rattle.early_flow.specs.Divs.{used_size, total, all_through, rects, root_block, all_rects}
-use Rattle.early_flow.specs.Page.{IsView, page_area}
+use Rattle.wm_units.specs.View.{IsView}
+use Rattle.early_flow.specs.Page.{page_area}
 
 pub all-append : {A : Type 0} (P : A → Type 0) (xs ys : List A) → AllByRecursion P xs → AllByRecursion P ys → AllByRecursion P (xs ++ ys)
 all-append P [] ys x y = y

@@ -1,6 +1,6 @@
 -- The boxes on the page: each stands by the mode and used direction of its containing block.
 -- CSS Writing Modes 4, 6.4, 7.4 and 8.1.
-use Rattle.std.specs.Prelude.{ℕ, List, [], ◌∷◌, ◌++◌, false, ◌^◌, pos, ◌≤ℤ◌}
+use Rattle.std.specs.Prelude.{ℕ, List, [], ◌∷◌, ◌++◌, false, pos}
 use Rattle.wm_units.specs.Numbers.{fixed}
 use Rattle.wm_units.specs.declared.view.View.{View}
 use Rattle.wm_modes.specs.declared.mode.WritingMode.{WritingMode}
@@ -23,13 +23,6 @@ placed mode dir area nothing = []
 placed mode dir area (fragment rect inner next) =
     let page = map_of mode dir area rect in
     page ∷ (placed mode dir page inner ++ placed mode dir area next)
-
--- the sizes of a view are from 0 to 2^32 units
-pub record IsView (view : View) : Type 0 where
-  pub inline_low : pos 0 ≤ℤ view.inline
-  pub inline_high : view.inline ≤ℤ pos (2 ^ 32)
-  pub block_low : pos 0 ≤ℤ view.block
-  pub block_high : view.block ≤ℤ pos (2 ^ 32)
 
 -- the page is the view, whose sizes are those on the root's inline and block axes
 abbrev pub page_area : WritingMode → View → Rect

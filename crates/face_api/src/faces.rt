@@ -1,3 +1,5 @@
+//! The faces of a document, which can be retired.
+
 ghost use Rattle.std.specs.Prelude.{None, slice_index_or, IsSome};
 
 use crate::Face;

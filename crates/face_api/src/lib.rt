@@ -9,8 +9,6 @@ mod living;
 mod row;
 mod rows;
 mod table;
-#[cfg(test)]
-mod tests;
 
 pub use error::{FaceError, FacesError};
 pub use face::Face;

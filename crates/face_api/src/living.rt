@@ -1,3 +1,5 @@
+//! Which face is used, set and retired (CSS 2, 15.3, narrowed).
+
 ghost use Rattle.std.specs.Prelude.{◌≡◌, ◌≤◌, ◌↔◌, true, Some, None, length, slice_index_or, IsSome, IsErrOf, IsSomeAnd, IfOk, OnOk, OnErr, IsOkUnless, option_map};
 ghost use Rattle.std.specs.Option.{option_copied};
 ghost use Rattle.face_api.specs.Living.{living, used_table, set_table, retired};

@@ -1,3 +1,5 @@
+//! What a face says of itself and of a character.
+
 /// How far a face reaches over and under its baseline, in thousandths of the font size. Each is at most
 /// 4,000.
 #[derive(Clone, Copy, Debug, PartialEq, Eq)]

@@ -1,3 +1,5 @@
+//! The table that a face means.
+
 ghost use Rattle.std.specs.Prelude.{◌≡◌, ◌≤◌, [], true, false, IfOk};
 ghost use Rattle.face_api.specs.Tables.{Table, IsTable, default_of};
 

@@ -4,8 +4,6 @@
 
 mod laws;
 mod margins;
-#[cfg(test)]
-mod tests;
 
 pub use laws::{extremes_are_members, pairs_stand_for_lists};
 pub use margins::Margins;

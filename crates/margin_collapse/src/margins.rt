@@ -1,3 +1,5 @@
+//! Lists of adjoining margins, as pairs of numbers (CSS 2, 8.3.1).
+
 ghost use Rattle.std.specs.Prelude.{◌≡◌, ◌≤◌, ◌^◌, List, [], ◌∷◌, ◌++◌, ℤ, ◌+ℤ◌, unsigned_abs};
 ghost use Rattle.std.specs.Int.{int_max, int_min};
 ghost use Rattle.margin_collapse.specs.Margins.{collapsed};

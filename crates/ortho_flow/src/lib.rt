@@ -3,7 +3,5 @@
 #![tactic(auto)]
 
 mod orthogonal;
-#[cfg(test)]
-mod tests;
 
 pub use orthogonal::{available, contribution};

@@ -1,3 +1,5 @@
+//! What an orthogonal box has available, and what it asks of its container (CSS Writing Modes 4, 7.3).
+
 ghost use Rattle.std.specs.Prelude.{◌≡◌, ◌+◌, ◌≤◌, ◌^◌, unsigned_abs};
 ghost use Rattle.ortho_flow.specs.Orthogonal as orthogonal;
 ghost use Rattle.ortho_flow.specs.Orthogonal.{length_of};

@@ -6,8 +6,6 @@ mod definite;
 mod equation;
 mod laws;
 mod limits;
-#[cfg(test)]
-mod tests;
 
 pub use definite::definite_block;
 pub use equation::{Used, inline_equation};

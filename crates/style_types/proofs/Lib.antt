@@ -1,4 +1,5 @@
 mod Listed
+mod PageRows
 mod PairLaws
 mod PropertyRows
 mod RefusalRows

@@ -19,7 +19,7 @@ use Rattle.style_types.specs.declared.reach.FlowAxis as flow_axis
 use Rattle.style_types.specs.declared.reach.FlowAxis.TheVariants.{Inline, Block}
 use Rattle.style_types.specs.declared.reach.Reach.TheVariants.{PhysicalSide, FlowSide, PhysicalAxis, FlowAxis}
 use Rattle.style_types.specs.Laws.{HasOne}
-use Rattle.style_types.specs.Reaches.{on_page}
+use Rattle.style_types.specs.Reach.{on_page}
 
 pub one_physical_side : (family : SideFamily) (s : side.Side) → HasOne (PhysicalSide family s)
 one_physical_side Margin Top = (_, refl)

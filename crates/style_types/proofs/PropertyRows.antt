@@ -26,21 +26,23 @@ use Rattle.style_types.specs.declared.value.Value.TheVariants as values
 -- the name; the property; its keywords, lengths, percentages and other values; the initial one; whether it is
 -- inherited; what of a box it is about
 abbrev row : List ℕ → Property → Keywords → Range → Range → More → Value → Bool → Reach → List ℕ × PropertyRow
-row name property keywords lengths percentages others initial inherited reach =
-    (name, record {
-      property = property;
-      values = record { keywords = keywords; lengths = lengths; percentages = percentages; more = others };
-      initial = initial;
-      inherited = inherited;
-      reach = reach;
-    })
+row name property keywords lengths percentages others initial inherited reach = (
+  name,
+  record {
+    property = property;
+    values = record { keywords = keywords; lengths = lengths; percentages = percentages; more = others };
+    initial = initial;
+    inherited = inherited;
+    reach = reach;
+  },
+)
 
 abbrev table : List (List ℕ × PropertyRow)
 table = map (λ named. (named.0.now, named.1)) PROPERTIES
 
 -- the properties of the whole box
 of_the_whole_box : take 11 table ≡
-    ( row (codes "display") properties.Display groups.Displays ranges.Nowhere ranges.Nowhere more.Nothing (values.Keyword words.Inline) false Whole
+    (row (codes "display") properties.Display groups.Displays ranges.Nowhere ranges.Nowhere more.Nothing (values.Keyword words.Inline) false Whole
     ∷ row (codes "writing-mode") properties.WritingMode groups.Modes ranges.Nowhere ranges.Nowhere more.Nothing (values.Keyword words.HorizontalTb) true Whole
     ∷ row (codes "direction") properties.Direction groups.Directions ranges.Nowhere ranges.Nowhere more.Nothing (values.Keyword words.Ltr) true Whole
     ∷ row (codes "text-orientation") properties.TextOrientation groups.Orientations ranges.Nowhere ranges.Nowhere more.Nothing (values.Keyword words.Mixed) true Whole
@@ -56,7 +58,7 @@ of_the_whole_box = refl
 
 -- sizes, minima and maxima
 of_sizes : take 12 (drop 11 table) ≡
-    ( row (codes "width") properties.Width groups.Auto ranges.NotNegative ranges.NotNegative more.Nothing (values.Keyword words.Auto) false (PhysicalAxis Size Horizontal)
+    (row (codes "width") properties.Width groups.Auto ranges.NotNegative ranges.NotNegative more.Nothing (values.Keyword words.Auto) false (PhysicalAxis Size Horizontal)
     ∷ row (codes "height") properties.Height groups.Auto ranges.NotNegative ranges.NotNegative more.Nothing (values.Keyword words.Auto) false (PhysicalAxis Size Vertical)
     ∷ row (codes "inline-size") properties.InlineSize groups.Auto ranges.NotNegative ranges.NotNegative more.Nothing (values.Keyword words.Auto) false (FlowAxis Size Inline)
     ∷ row (codes "block-size") properties.BlockSize groups.Auto ranges.NotNegative ranges.NotNegative more.Nothing (values.Keyword words.Auto) false (FlowAxis Size Block)
@@ -73,7 +75,7 @@ of_sizes = refl
 
 -- margins and paddings
 of_margins_and_paddings : take 16 (drop 23 table) ≡
-    ( row (codes "margin-top") properties.MarginTop groups.Auto ranges.Anywhere ranges.Anywhere more.Nothing (values.Px (pos 0)) false (PhysicalSide Margin Top)
+    (row (codes "margin-top") properties.MarginTop groups.Auto ranges.Anywhere ranges.Anywhere more.Nothing (values.Px (pos 0)) false (PhysicalSide Margin Top)
     ∷ row (codes "margin-right") properties.MarginRight groups.Auto ranges.Anywhere ranges.Anywhere more.Nothing (values.Px (pos 0)) false (PhysicalSide Margin Right)
     ∷ row (codes "margin-bottom") properties.MarginBottom groups.Auto ranges.Anywhere ranges.Anywhere more.Nothing (values.Px (pos 0)) false (PhysicalSide Margin Bottom)
     ∷ row (codes "margin-left") properties.MarginLeft groups.Auto ranges.Anywhere ranges.Anywhere more.Nothing (values.Px (pos 0)) false (PhysicalSide Margin Left)
@@ -94,7 +96,7 @@ of_margins_and_paddings = refl
 
 -- borders
 of_borders : drop 39 table ≡
-    ( row (codes "border-top-width") properties.BorderTopWidth groups.Nowhere ranges.NotNegative ranges.Nowhere more.Widths (values.Px (pos 300)) false (PhysicalSide BorderWidth Top)
+    (row (codes "border-top-width") properties.BorderTopWidth groups.Nowhere ranges.NotNegative ranges.Nowhere more.Widths (values.Px (pos 300)) false (PhysicalSide BorderWidth Top)
     ∷ row (codes "border-right-width") properties.BorderRightWidth groups.Nowhere ranges.NotNegative ranges.Nowhere more.Widths (values.Px (pos 300)) false (PhysicalSide BorderWidth Right)
     ∷ row (codes "border-bottom-width") properties.BorderBottomWidth groups.Nowhere ranges.NotNegative ranges.Nowhere more.Widths (values.Px (pos 300)) false (PhysicalSide BorderWidth Bottom)
     ∷ row (codes "border-left-width") properties.BorderLeftWidth groups.Nowhere ranges.NotNegative ranges.Nowhere more.Widths (values.Px (pos 300)) false (PhysicalSide BorderWidth Left)

@@ -9,7 +9,7 @@ abbrev row : List ℕ → Refused → List (List ℕ) → List ℕ × Refused ×
 row property which names = (property, which, names)
 
 all : map (λ row. (row.0.now, row.1, map (λ name. name.now) row.2.now)) REFUSALS ≡
-    ( row (codes "display") refused.Names (codes "list-item" ∷ codes "contents" ∷ codes "flex" ∷ codes "inline-flex" ∷ codes "grid" ∷ codes "inline-grid" ∷ codes "ruby" ∷ codes "run-in" ∷ codes "table" ∷ codes "inline-table" ∷ [])
+    (row (codes "display") refused.Names (codes "list-item" ∷ codes "contents" ∷ codes "flex" ∷ codes "inline-flex" ∷ codes "grid" ∷ codes "inline-grid" ∷ codes "ruby" ∷ codes "run-in" ∷ codes "table" ∷ codes "inline-table" ∷ [])
     ∷ row (codes "display") refused.Beginning (codes "table-" ∷ [])
     ∷ row (codes "float") refused.Names (codes "left" ∷ codes "right" ∷ codes "inline-start" ∷ codes "inline-end" ∷ [])
     ∷ row (codes "position") refused.Names (codes "absolute" ∷ codes "fixed" ∷ codes "sticky" ∷ codes "relative" ∷ [])

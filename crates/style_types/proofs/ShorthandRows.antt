@@ -38,7 +38,7 @@ abbrev border : List ℕ → (widths styles : Longhands) → List ℕ × Shortha
 border name widths styles = (name, shorthands.Border widths styles)
 
 all : map (λ row. (row.0.now, row.1)) SHORTHANDS ≡
-    ( round (codes "margin") of_margins (sides properties.MarginTop properties.MarginRight properties.MarginBottom properties.MarginLeft)
+    (round (codes "margin") of_margins (sides properties.MarginTop properties.MarginRight properties.MarginBottom properties.MarginLeft)
     ∷ round (codes "padding") of_paddings (sides properties.PaddingTop properties.PaddingRight properties.PaddingBottom properties.PaddingLeft)
     ∷ round (codes "border-width") of_widths (sides properties.BorderTopWidth properties.BorderRightWidth properties.BorderBottomWidth properties.BorderLeftWidth)
     ∷ round (codes "border-style") of_styles (sides properties.BorderTopStyle properties.BorderRightStyle properties.BorderBottomStyle properties.BorderLeftStyle)

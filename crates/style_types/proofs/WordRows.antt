@@ -13,7 +13,7 @@ abbrev row : List ℕ → Keyword → List ℕ × Keyword
 row word keyword = (word, keyword)
 
 words : spelled ≡
-    ( row (codes "block") keywords.Block
+    (row (codes "block") keywords.Block
     ∷ row (codes "inline") keywords.Inline
     ∷ row (codes "inline-block") keywords.InlineBlock
     ∷ row (codes "flow-root") keywords.FlowRoot

@@ -25,7 +25,7 @@ use Rattle.style_types.specs.declared.style.Align.{Align}
 use Rattle.style_types.specs.declared.style.Align.TheVariants as aligns
 use Rattle.style_types.specs.declared.style.Size.{Size}
 use Rattle.style_types.specs.declared.style.Size.TheVariants as sizes
-use Rattle.style_types.specs.Properties.{HasInitial}
+use Rattle.style_types.specs.Table.{HasInitial}
 
 -- ---- what values that need no other one compute to, where they are values of the property; lengths in units
 

@@ -19,8 +19,8 @@ use Rattle.style_types.specs.declared.reach.Reach as reach
 use Rattle.style_types.specs.declared.reach.Reach.TheVariants.{Whole, PhysicalSide, FlowSide, PhysicalAxis, FlowAxis}
 use Rattle.style_types.specs.declared.property.Property.TheVariants as properties
 use Rattle.style_types.specs.declared.table.PropertyRow.{PropertyRow}
-use Rattle.style_types.specs.Properties.{rows, IsRowOf}
-use Rattle.style_types.specs.Reaches.{on_page}
+use Rattle.style_types.specs.Table.{rows, IsRowOf}
+use Rattle.style_types.specs.Reach.{on_page}
 
 -- ---- whether two are the same
 
@@ -96,6 +96,10 @@ pub record PairUp : Type 0 where
 -- each property has a row
 abbrev pub AllListed : Type 0
 AllListed = (property : Property) → (row : PropertyRow) × IsRowOf property row
+
+-- and no other
+abbrev pub OnlyRows : Type 0
+OnlyRows = (property : Property) (a b : PropertyRow) → IsRowOf property a → IsRowOf property b → a ≡ b
 
 -- the inherited ones are those that say how text is set
 abbrev pub TextInherited : Type 0

@@ -1,6 +1,9 @@
 pub mod Initial
 pub mod Keywords
 pub mod Laws
-pub mod Properties
-pub mod Reaches
+pub mod Page
+pub mod Property
+pub mod Reach
+pub mod Style
+pub mod Table
 pub mod Value

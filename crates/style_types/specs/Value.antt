@@ -14,7 +14,7 @@ use Rattle.style_types.specs.declared.table.Values.{Values}
 use Rattle.style_types.specs.declared.value.Value.{Value}
 use Rattle.style_types.specs.declared.value.Value.TheVariants.{Initial, Inherit, Keyword, Px, Em, Percent, Number, Face, Digits}
 use Rattle.style_types.specs.Keywords.{words_of}
-use Rattle.style_types.specs.Properties.{IsRowOf}
+use Rattle.style_types.specs.Table.{IsRowOf}
 
 -- ---- by the columns of the table
 

@@ -1,10 +1,15 @@
 //! Laws of the table of properties. These functions do nothing: their contracts are the laws.
 
-ghost use Rattle.style_types.specs.Laws.{AllListed, PairUp, TextInherited};
+ghost use Rattle.style_types.specs.Laws.{AllListed, OnlyRows, PairUp, TextInherited};
 
 /// Each property has a row.
 pub fn all_are_listed()
     ensures { AllListed }
+{}
+
+/// Each property has no other row.
+pub fn rows_are_the_only_ones()
+    ensures { OnlyRows }
 {}
 
 /// The inherited properties are those that say how text is set.

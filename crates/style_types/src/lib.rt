@@ -3,9 +3,11 @@
 #![tactic(auto)]
 
 mod constraint;
+mod initial;
 mod keyword;
-mod laws;
+pub mod laws;
 mod lists;
+mod page;
 mod property;
 mod reach;
 mod refusal;
@@ -13,15 +15,13 @@ mod rule;
 mod shorthand;
 mod style;
 mod table;
-#[cfg(test)]
-mod tests;
 mod tree;
 mod value;
 
 pub use constraint::Constraint;
 pub use keyword::{Keyword, Keywords, WIDTH_NAMES, WORDS};
-pub use laws::{all_are_listed, flow_and_page_pair_up, text_is_inherited};
 pub use lists::{Declarations, LetterList, Letters, Parts, Rules, StyledNodes, Styles, Winners};
+pub use page::page_property;
 pub use property::Property;
 pub use reach::{Axis, AxisFamily, FlowAxis, Reach, SideFamily, on_page};
 pub use refusal::{REFUSALS, Refused};

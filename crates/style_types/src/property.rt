@@ -1,5 +1,12 @@
-/// A property that the profile keeps (docs/PROFILE/properties.md): one for each longhand, in the order of
-/// the table.
+//! The properties that the profile keeps, and their rows in the table (docs/PROFILE/properties.md).
+
+ghost use Rattle.std.specs.Prelude.{◌≡◌, ◌<◌, length, map, Some, slice_get};
+ghost use Rattle.style_types.specs.Table.{IsRowOf};
+ghost use Rattle.style_types.specs.Property.{place_of};
+
+use crate::table::{PROPERTIES, PropertyRow};
+
+/// A property that the profile keeps: one for each longhand, in the order of the table.
 #[derive(Clone, Copy, Debug, PartialEq, Eq)]
 pub enum Property {
     Display,
@@ -57,4 +64,28 @@ pub enum Property {
     BorderBlockEndStyle,
     BorderInlineStartStyle,
     BorderInlineEndStyle,
+}
+
+impl Property {
+    /// The row of the property in the table of properties, which is its only one. Takes no memory.
+    pub fn row(self) -> PropertyRow
+        ensures { IsRowOf self result }
+    {
+        row_at(&PROPERTIES, self.place())
+    }
+
+    // The place of its row in the table, whose rows stand in the order of the variants.
+    fn place(self) -> usize
+        ensures { result ≡ place_of self }
+    {
+        self as usize
+    }
+}
+
+// The row at this place of a table.
+fn row_at(table: &[(&str, PropertyRow)], place: usize) -> PropertyRow
+    requires { place < length table.now }
+    ensures { slice_get (map (λ named. named.1) table.now) place ≡ Some result }
+{
+    table[place].1
 }

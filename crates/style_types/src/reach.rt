@@ -2,7 +2,7 @@
 //! (CSS Logical Properties 1, 4; CSS Writing Modes 4, 6 and 7.4).
 
 ghost use Rattle.std.specs.Prelude.{◌≡◌};
-ghost use Rattle.style_types.specs.Reaches as reaches;
+ghost use Rattle.style_types.specs.Reach as reaches;
 
 use wm_modes::{Direction, FlowSide, Side, WritingMode, side_of};
 
@@ -68,20 +68,8 @@ pub fn on_page(reach: Reach, mode: WritingMode, dir: Direction) -> Reach
 fn axis_of(mode: WritingMode, axis: FlowAxis) -> Axis
     ensures { result ≡ reaches.axis_of mode axis }
 {
-    match (is_horizontal(mode), axis) {
+    match (mode.is_horizontal(), axis) {
         (true, FlowAxis::Inline) | (false, FlowAxis::Block) => Axis::Horizontal,
         (true, FlowAxis::Block) | (false, FlowAxis::Inline) => Axis::Vertical,
-    }
-}
-
-fn is_horizontal(mode: WritingMode) -> bool
-    ensures { result ≡ reaches.is_horizontal mode }
-{
-    match mode {
-        WritingMode::HorizontalTb => true,
-        WritingMode::VerticalRl
-        | WritingMode::VerticalLr
-        | WritingMode::SidewaysRl
-        | WritingMode::SidewaysLr => false,
     }
 }

@@ -1,3 +1,5 @@
+//! Selectors and rules, and all that a document says of styles (Selectors 3; CSS 2, 4.1.7).
+
 use crate::lists::{Declarations, LetterList, Letters, Parts, Rules, Styles};
 
 /// How a compound selector is joined to the one on its left (Selectors 3, 8).

@@ -1,6 +1,10 @@
-ghost use Rattle.std.specs.Prelude.{◌≡◌};
+//! Computed styles (CSS 2, 6.1.2).
 
-use wm_modes::{Direction, WritingMode};
+ghost use Rattle.std.specs.Prelude.{◌≡◌};
+ghost use Rattle.wm_modes.specs.Sides as sides;
+ghost use Rattle.style_types.specs.Style.{is_upright};
+
+use wm_modes::{Direction, WritingMode, used_direction};
 
 /// `display` (CSS 2, 9.2.4). `Hidden` is `none`.
 #[derive(Clone, Copy, Debug, PartialEq, Eq)]
@@ -111,45 +115,22 @@ pub struct Style {
 }
 
 impl Style {
-    ghost use Rattle.style_types.specs.Initial.{IsInitial};
-
-    /// The style of the root's parent: each field has the initial value of its property in the table of
-    /// properties. Takes no memory.
-    pub fn initial() -> Style
-        ensures { IsInitial result }
+    /// The used direction: `Ltr` where upright text stands in vertical lines, else the computed one (CSS Writing
+    /// Modes 4, 5.1). Takes no memory.
+    pub fn used_direction(&self) -> Direction
+        ensures { result ≡ sides.used_direction self.now.mode (is_upright self.now.orientation) self.now.direction }
     {
-        let none = SideSizes {
-            top: Size::Length(0),
-            right: Size::Length(0),
-            bottom: Size::Length(0),
-            left: Size::Length(0),
-        };
-        Style {
-            display: Display::Inline,
-            mode: WritingMode::HorizontalTb,
-            direction: Direction::Ltr,
-            orientation: TextOrientation::Mixed,
-            combine: Combine::Never,
-            bidi: UnicodeBidi::Normal,
-            font_size: 1024,
-            face: 0,
-            line_height: LineHeight::Normal,
-            align: Align::Start,
-            shift: 0,
-            width: Size::Auto,
-            height: Size::Auto,
-            min_width: Size::Auto,
-            min_height: Size::Auto,
-            max_width: Size::Auto,
-            max_height: Size::Auto,
-            margin: none,
-            padding: none,
-            border: SideWidths {
-                top: 0,
-                right: 0,
-                bottom: 0,
-                left: 0,
-            },
+        used_direction(self.mode, self.orientation.is_upright(), self.direction)
+    }
+}
+
+impl TextOrientation {
+    fn is_upright(self) -> bool
+        ensures { result ≡ is_upright self }
+    {
+        match self {
+            TextOrientation::Upright => true,
+            TextOrientation::Mixed | TextOrientation::Sideways => false,
         }
     }
 }

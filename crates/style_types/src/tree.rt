@@ -1,3 +1,5 @@
+//! Nodes with their computed styles, as a tree.
+
 use crate::lists::{Letters, StyledNodes};
 use crate::style::Style;
 

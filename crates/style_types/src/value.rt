@@ -1,3 +1,5 @@
+//! Values and declarations, as a style sheet gives them (docs/PROFILE/properties.md).
+
 use crate::keyword::Keyword;
 use crate::property::Property;
 

@@ -1,5 +1,6 @@
 pub mod Laws
 pub mod Map
+pub mod Mode
 pub mod Near
 pub mod Sides
 pub mod Words

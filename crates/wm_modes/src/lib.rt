@@ -2,16 +2,14 @@
 //! the page with its inverse (CSS Writing Modes 4, 3.2 and 6).
 #![tactic(auto)]
 
-mod laws;
+pub mod laws;
 mod map;
 mod mode;
 mod rects;
 mod sides;
-#[cfg(test)]
-mod tests;
+mod words;
 
-pub use laws::{maps_are_inverse, places_add_up, rectangles_stand_by_sides};
 pub use map::{to_flow, to_physical};
 pub use mode::{Direction, WritingMode};
 pub use rects::{FlowRect, Rect};
-pub use sides::{FlowSide, Side, side_of};
+pub use sides::{FlowSide, Side, side_of, used_direction};

@@ -1,3 +1,5 @@
+//! From a flow to the page and back (CSS Writing Modes 4, 6.4).
+
 ghost use Rattle.std.specs.Prelude.{◌≡◌, ◌≤◌, ◌*◌, ◌^◌, unsigned_abs};
 ghost use Rattle.wm_modes.specs.Map as map;
 ghost use Rattle.wm_modes.specs.Near.{IsNear, IsNearFlow};

@@ -1,4 +1,7 @@
-ghost use Rattle.std.specs.Prelude.{◌≡◌, ◌≤◌, length};
+//! Writing modes and directions (CSS Writing Modes 4, 2.1, 3.2 and 5.1).
+
+ghost use Rattle.std.specs.Prelude.{◌≡◌};
+ghost use Rattle.wm_modes.specs.Mode as modes;
 
 /// The writing mode of a box (CSS Writing Modes 4, 3.2).
 #[derive(Clone, Copy, Debug, PartialEq, Eq)]
@@ -18,36 +21,34 @@ pub enum Direction {
 }
 
 impl WritingMode {
-    ghost use Rattle.wm_modes.specs.Words.{mode_word};
-
-    /// The keyword of the mode, as a style sheet and a listing write it (CSS Writing Modes 4, 3.2).
-    #[tactic(auto, unfolding(crate::specs::Words::mode_word))]
-    pub fn word(self) -> &'static str
-        ensures value { result.now ≡ mode_word self }
-        ensures short { length result.now ≤ 13 }
+    /// Whether lines run across the page (CSS Writing Modes 4, 3.2).
+    pub fn is_horizontal(self) -> bool
+        ensures { result ≡ modes.is_horizontal self }
     {
         match self {
-            WritingMode::HorizontalTb => "horizontal-tb",
-            WritingMode::VerticalRl => "vertical-rl",
-            WritingMode::VerticalLr => "vertical-lr",
-            WritingMode::SidewaysRl => "sideways-rl",
-            WritingMode::SidewaysLr => "sideways-lr",
+            WritingMode::HorizontalTb => true,
+            WritingMode::VerticalRl
+            | WritingMode::VerticalLr
+            | WritingMode::SidewaysRl
+            | WritingMode::SidewaysLr => false,
         }
     }
-}
 
-impl Direction {
-    ghost use Rattle.wm_modes.specs.Words.{direction_word};
-
-    /// The keyword of the direction, as a style sheet and a listing write it (CSS Writing Modes 4, 2.1).
-    #[tactic(auto, unfolding(crate::specs::Words::direction_word))]
-    pub fn word(self) -> &'static str
-        ensures value { result.now ≡ direction_word self }
-        ensures short { length result.now ≤ 3 }
+    /// Whether text can stand upright in the lines (CSS Writing Modes 4, 5.1).
+    pub fn has_upright_text(self) -> bool
+        ensures { result ≡ modes.has_upright_text self }
     {
         match self {
-            Direction::Ltr => "ltr",
-            Direction::Rtl => "rtl",
+            WritingMode::VerticalRl | WritingMode::VerticalLr => true,
+            WritingMode::HorizontalTb | WritingMode::SidewaysRl | WritingMode::SidewaysLr => false,
         }
+    }
+
+    /// Whether the inline axes of both modes are one axis of the page; boxes of other modes are orthogonal (CSS
+    /// Writing Modes 4, 7.3).
+    pub fn is_parallel(self, other: WritingMode) -> bool
+        ensures { result ≡ modes.are_parallel self other }
+    {
+        self.is_horizontal() == other.is_horizontal()
     }
 }

@@ -1,3 +1,5 @@
+//! Rectangles of a flow and of the page (CSS Writing Modes 4, 6.1 and 6.2).
+
 /// A rectangle in flow coordinates, in units of 1/64 px: `i` and `b` are the distances from the
 /// inline-start and block-start edges of the containing block's content area, `inline` and `block` the
 /// extents (CSS Writing Modes 4, 6.1 and 6.2).

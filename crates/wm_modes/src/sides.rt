@@ -1,3 +1,5 @@
+//! The sides of the page and of a flow (CSS Writing Modes 4, 6.1 to 6.4).
+
 ghost use Rattle.std.specs.Prelude.{◌≡◌};
 ghost use Rattle.wm_modes.specs.Sides as sides;
 
@@ -38,6 +40,18 @@ pub fn side_of(mode: WritingMode, dir: Direction, side: FlowSide) -> Side
         FlowSide::LineUnder => opposite(line_over(mode)),
         FlowSide::LineLeft => line_left(mode),
         FlowSide::LineRight => opposite(line_left(mode)),
+    }
+}
+
+/// The used direction of a box whose text is upright or not: `Ltr` where upright text stands in the lines of
+/// `vertical-rl` or `vertical-lr`, else the computed one (CSS Writing Modes 4, 5.1).
+pub fn used_direction(mode: WritingMode, is_upright: bool, computed: Direction) -> Direction
+    ensures { result ≡ sides.used_direction mode is_upright computed }
+{
+    if is_upright && mode.has_upright_text() {
+        Direction::Ltr
+    } else {
+        computed
     }
 }
 

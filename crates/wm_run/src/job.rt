@@ -2,7 +2,7 @@
 
 ghost use Rattle.std.specs.Prelude.{◌≡◌, ◌≢◌, ◌≤◌, List, ℕ, Some, length, IfOk, IsErrOf};
 ghost use Rattle.std.specs.Io.KnownBytes.{Appends, Keeps, IsAtEnd};
-ghost use Rattle.early_flow.specs.Page.{IsView};
+ghost use Rattle.wm_units.specs.View.{IsView};
 ghost use Rattle.io_edge.specs.Edge.{Rose};
 ghost use Rattle.wm_run.specs.Command.{IsNoCommand, IsCommand};
 ghost use Rattle.wm_run.specs.Due.{IsDueAlone, status_of};

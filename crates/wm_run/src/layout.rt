@@ -2,7 +2,7 @@
 
 ghost use Rattle.std.specs.Prelude.{◌≤◌, length, drop, false, IfOk};
 ghost use Rattle.std.specs.Str.{IsUtf8};
-ghost use Rattle.early_flow.specs.Page.{IsView};
+ghost use Rattle.wm_units.specs.View.{IsView};
 ghost use Rattle.html_read.specs.Reading as reading;
 ghost use Rattle.html_read.specs.Tree.{AreNodes};
 ghost use Rattle.html_read.specs.Values.{nodes_of, whole_of};

@@ -2,14 +2,11 @@
 //! 4.3.3), the view, and a counter of steps that contracts see as a number.
 #![tactic(auto)]
 
-mod laws;
+pub mod laws;
 mod numbers;
 mod steps;
-#[cfg(test)]
-mod tests;
 mod view;
 
-pub use laws::{caps_hold, half_is_cut_downwards, nearest_is_near, percent_is_cut};
 pub use numbers::{cap, cap_size, fixed, half, percent, scaled};
 pub use steps::Steps;
 pub use view::View;

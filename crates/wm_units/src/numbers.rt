@@ -1,3 +1,5 @@
+//! How numbers of a style sheet become lengths, and how far lengths reach (CSS 2, 4.3.2 and 4.3.3).
+
 ghost use Rattle.std.specs.Prelude.{◌≡◌, ◌≤◌, ◌^◌, unsigned_abs, pos, ◌≤ℤ◌};
 ghost use Rattle.wm_units.specs.Numbers as numbers;
 

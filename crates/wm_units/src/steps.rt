@@ -1,3 +1,5 @@
+//! A counter of steps, which has no bytes when the program runs.
+
 ghost use Rattle.std.specs.Prelude.{◌≡◌, ℕ, ◌+◌, ◌<◌, ◌≤◌};
 
 use std::marker::Model;

@@ -1,5 +1,5 @@
 use Rattle.wm_modes.specs.Sides.{side_of}
-use Rattle.style_types.specs.Reaches.{axis_of}
+use Rattle.style_types.specs.Reach.{axis_of}
 use Rattle.style_types.proofs.PairLaws.{one_physical_side, one_physical_axis, each_side, each_axis}
 use Rattle.style_types.proofs.laws.flow_and_page_pair_up.Goals as goal
 

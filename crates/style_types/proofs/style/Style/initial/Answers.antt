@@ -1,8 +1,8 @@
 use Rattle.std.proofs.Common.{refl}
 use Rattle.style_types.proofs.style.Style.initial.Goals as goal
 
-pub returns : goal.returns
-returns c = record {
+pub returns-clause-initial : goal.returns-clause-initial
+returns-clause-initial c = record {
   display = (_, (_, ((0, refl, refl)), refl), refl);
   mode = (_, (_, ((1, refl, refl)), refl), refl);
   direction = (_, (_, ((2, refl, refl)), refl), refl);

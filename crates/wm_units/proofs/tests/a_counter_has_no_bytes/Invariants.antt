@@ -1,5 +1,0 @@
-use Rattle.wm_units.proofs.tests.a_counter_has_no_bytes.Given as goal
-
--- the ledger of the counter is that of the blank
-abbrev pub ghosts-counted : goal.ghosts-counted
-ghosts-counted g a = record { name = a.blank.name; parts = a.blank.parts }
