@@ -7,7 +7,7 @@ use Rattle.std.proofs.lemmas.Int.{ints, clamps}
 use Rattle.std.proofs.lemmas.List.Sums.{fold-append}
 use Rattle.block_flow.specs.Children.{Child}
 use Rattle.block_flow.specs.Stacking.{Progress, begin, margins_of, place_in, joined_margins, adjoin, after, stacked, places_from}
-use Rattle.block_flow.specs.Adjoining.{AllThrough, all_margins, before_first, behind_last, StandByAdjoining, AdjoinOutside, EndByAdjoining, HasFirst, HasLast, AreTakenApart}
+use Rattle.block_flow.specs.Laws.{AllThrough, all_margins, before_first, behind_last, StandByAdjoining, AdjoinOutside, EndByAdjoining, HasFirst, HasLast, AreTakenApart}
 
 both_true : (a b : Bool) → a && b ≡ true → (a ≡ true) × (b ≡ true)
 both_true true b e = (refl, e)

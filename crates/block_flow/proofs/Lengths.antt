@@ -1,5 +1,5 @@
 -- Lengths without their signs, and the code's 64 bits, which hold them.
-use Rattle.std.proofs.Common.{◌≡◌, arith, ◌+◌, ◌^◌, ◌≤◌, ℤ, pos, ◌+ℤ◌, unsigned_abs, to_z, of_z, w64, FitsSigned}
+use Rattle.std.proofs.Common.{◌≡◌, arith, ◌+◌, ◌^◌, ◌≤◌, ℤ, ◌+ℤ◌, unsigned_abs, to_z, of_z, w64, FitsSigned}
 use Rattle.std.specs.Int.{int_max, int_min}
 use Rattle.std.proofs.lemmas.Int.{ints, clamps}
 
@@ -11,9 +11,6 @@ abs_max a b = omega (arith, ints, clamps)
 
 pub abs_min : (a b : ℤ) → unsigned_abs (int_min a b) ≤ unsigned_abs a + unsigned_abs b
 abs_min a b = omega (arith, ints, clamps)
-
-pub abs_from_zero : (a : ℤ) → unsigned_abs (int_max (pos 0) a) ≤ unsigned_abs a
-abs_from_zero a = omega (arith, ints, clamps)
 
 pub fits : (z : ℤ) → unsigned_abs z ≤ 2 ^ 62 → FitsSigned w64 z
 fits z h = omega (arith, ints)

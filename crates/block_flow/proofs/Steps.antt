@@ -1,5 +1,5 @@
 -- One step of the code's pairs is one step of the definition's lists.
-use Rattle.std.proofs.Common.{◌≡◌, ◌∙◌, refl, arith, Bool, true, false, ◌&&◌, ◌++◌, ◌+◌, ◌≤◌, ◌^◌, to_z, of_z, w64, ℤ, pos, ◌+ℤ◌, unsigned_abs}
+use Rattle.std.proofs.Common.{◌≡◌, ◌∙◌, refl, arith, true, false, ◌++◌, ◌+◌, ◌≤◌, ◌^◌, to_z, of_z, w64, ℤ, pos, ◌+ℤ◌, unsigned_abs}
 use Rattle.std.specs.Int.{int_max, int_min}
 use Rattle.margin_collapse.specs.Margins.{collapsed}
 use Rattle.margin_collapse.specs.declared.margins.Margins.{Margins}
@@ -53,10 +53,6 @@ pair_join a b r rp rn =
     let z : unsigned_abs r.positive ≤ unsigned_abs a.positive + unsigned_abs b.positive = rw rp (abs_max a.positive b.positive) in
     let w : unsigned_abs r.negative ≤ unsigned_abs a.negative + unsigned_abs b.negative = rw rn (abs_min a.negative b.negative) in
     omega arith
-
-pub and_true : (b : Bool) → b ≡ b && true
-and_true true = refl
-and_true false = refl
 
 -- a child that is collapsed through
 pub passed_over : (progress : Progress) (child : Child) (r : Reached) → child.through ≡ true → r.y ≡ progress.y → IsPairOf r.pending (progress.pending ++ margins_of child) → r.joined ≡ progress.joined

@@ -1,16 +1,16 @@
 -- What the loop over the children keeps.
-use Rattle.std.proofs.Common.{◌≡◌, ◌∙◌, refl, sym, arith, Bool, true, false, ◌&&◌, List, [], ◌∷◌, ◌++◌, append_assoc, append-nil, ℕ, ◌+◌, ◌≤◌, ◌<◌, ◌^◌, to_z, of_z, w64, ℤ, unsigned_abs, length, length-append, get_or, drop}
+use Rattle.std.proofs.Common.{◌≡◌, ◌∙◌, refl, sym, arith, Bool, ◌&&◌, List, [], ◌∷◌, ◌++◌, append_assoc, append-nil, ℕ, ◌+◌, ◌≤◌, ◌<◌, ◌^◌, to_z, of_z, w64, ℤ, unsigned_abs, length, length-append, get_or, drop}
 use Rattle.std.specs.Prelude.{fold}
 use Rattle.std.specs.List.{list_all, sum_by, All}
 use Rattle.std.proofs.lemmas.List.{drop_more}
 use Rattle.std.proofs.lemmas.List.Elements.{All-push}
 use Rattle.std.proofs.lemmas.List.Sums.{sum_by-drop_more}
 use Rattle.block_flow.specs.Children.{Child, StandsFor, AreChildren, lengths_of, margin_lengths}
-use Rattle.block_flow.specs.Stacking.{Progress, begin, after, place_in, places_from, places_of, stacked, handed, extent}
+use Rattle.block_flow.specs.Stacking.{Progress, after, place_in, places_from, places_of, stacked, handed, extent}
 use Rattle.block_flow.specs.Stacked.{Stacked, IsStackOf}
 use Rattle.margin_collapse.specs.Pairs.{IsPairOf}
 use Rattle.block_flow.proofs.Lengths.{held}
-use Rattle.block_flow.proofs.Steps.{and_true}
+use Rattle.std.proofs.Math.Bool.{and_assoc, and-true}
 use Rattle.block_flow.specs.Reached.{IsReached, span_of}
 use Rattle.block_flow.specs.declared.boxes.ChildBox.{ChildBox}
 use Rattle.block_flow.specs.declared.boxes.ParentEdges.{ParentEdges}
@@ -25,22 +25,6 @@ pub record Walks (start_joins : Bool) (list : List Child) (places : List ℤ) (r
   pub placed : places ++ places_from progress rest ≡ places_of start_joins list
   pub stacked_are : fold after progress rest ≡ stacked start_joins list
   pub through : (reached.through && list_all (λ c. c.through) rest) ≡ list_all (λ c. c.through) list
-
-pub walk_begins : (start_joins : Bool) (list : List Child) (boxes : List ChildBox) (reached : Reached) → IsReached reached (begin start_joins) → reached.through ≡ true → AreChildren boxes list
-    → Walks start_joins list [] reached boxes
-walk_begins start_joins list boxes reached at through are = record {
-  progress = begin start_joins;
-  rest = list;
-  at = at;
-  left_are = are;
-  placed = refl;
-  stacked_are = refl;
-  through = rw through refl;
-}
-
-and_assoc : (a b c : Bool) → ((a && b) && c) ≡ (a && (b && c))
-and_assoc true b c = refl
-and_assoc false b c = refl
 
 -- one child further
 pub walks_on : (start_joins : Bool) (list : List Child) (places : List ℤ) (reached next : Reached) (box : ChildBox) (left : List ChildBox) (place : ℤ)
@@ -112,5 +96,5 @@ walk_ends parent list places reached boxes stack none shown extents starts ends 
         extent_is = rw (← last) (extents walks.progress walks.at);
         start_is = rw (← last) (rw starts walks.at.start);
         end_is = rw (← last) (ends walks.progress walks.at);
-        through_is = through ∙ and_true reached.through ∙ (rw e at walks.through);
+        through_is = through ∙ sym (and-true reached.through) ∙ (rw e at walks.through);
       }

@@ -1,7 +1,7 @@
 //! Laws of stacks: what their answers are by the margins that adjoin, taken from where the children stand
 //! among each other. The functions do nothing: their contracts are the laws.
 
-ghost use Rattle.block_flow.specs.Adjoining.{StandByAdjoining, AdjoinOutside, EndByAdjoining, AreTakenApart};
+ghost use Rattle.block_flow.specs.Laws.{StandByAdjoining, AdjoinOutside, EndByAdjoining, AreTakenApart, AdjoinWhereCollapsed};
 
 /// Each child stands where the margins say that adjoin its start.
 pub fn children_stand_by_adjoining_margins()
@@ -22,4 +22,9 @@ pub fn extents_end_by_adjoining_margins()
 /// laws have a case for all of them.
 pub fn children_are_taken_apart()
     ensures { AreTakenApart }
+{}
+
+/// A box of auto size that is collapsed through adjoins its children at both ends.
+pub fn collapsed_boxes_adjoin_their_children()
+    ensures { AdjoinWhereCollapsed }
 {}

@@ -1,9 +1,11 @@
+//! Block sizes that are known before the contents are laid out (CSS 2, 10.5).
+
 ghost use Rattle.std.specs.Prelude.{◌≡◌, ◌≤◌, ◌^◌, unsigned_abs, ℤ, pos, ◌≤ℤ◌, Some};
 ghost use Rattle.style_types.specs.declared.style.Size.TheVariants.{Percent};
 ghost use Rattle.size_rules.specs.Definite as definite;
 
+use crate::resolving::resolved;
 use style_types::Size;
-use wm_units::{cap, percent};
 
 /// A block size that is known before the contents are laid out, or None exactly where it is auto or a
 /// percentage of a size that isn't known (CSS 2, 10.5).
@@ -13,9 +15,5 @@ pub fn definite_block(size: Size, containing: Option<i64>) -> Option<i64>
     requires limit { (base : ℤ) → containing ≡ Some base → base ≤ℤ pos (2 ^ 32) }
     ensures { result ≡ definite.definite_block size containing }
 {
-    match size {
-        Size::Auto => None,
-        Size::Length(length) => Some(length),
-        Size::Percent(hundredths) => Some(cap(percent(hundredths, containing?))),
-    }
+    resolved(size, containing)
 }

@@ -1,6 +1,6 @@
 //! The inline equation (CSS 2, 10.3.3).
 
-ghost use Rattle.std.specs.Prelude.{◌≡◌, ◌+◌, ◌≤◌, ◌^◌, unsigned_abs, ◌-ℤ◌};
+ghost use Rattle.std.specs.Prelude.{◌≡◌, ◌+◌, ◌≤◌, ◌^◌, unsigned_abs, pos, ◌-ℤ◌, ◌≤ℤ◌};
 ghost use Rattle.size_rules.specs.Equation as equation;
 ghost use Rattle.size_rules.specs.Equation.{length_of};
 
@@ -29,7 +29,11 @@ pub fn inline_equation(
     end: Option<i64>,
 ) -> Used
     requires { unsigned_abs available + unsigned_abs edges + length_of start + length_of end ≤ 2 ^ 60 }
-    ensures { result ≡ equation.equation available edges size min max start end }
+    ensures value { result ≡ equation.equation available edges size min max start end }
+    ensures size_low { pos 0 ≤ℤ result.size }
+    ensures size_high { result.size ≤ℤ pos (2 ^ 32) }
+    ensures start_near { unsigned_abs result.start ≤ unsigned_abs available + unsigned_abs edges + length_of start + length_of end }
+    ensures end_near { unsigned_abs result.end ≤ unsigned_abs available + unsigned_abs edges + length_of start + length_of end + 2 ^ 32 }
 {
     let size = used_size(asked(available - edges, size, start, end), min, max);
     settled(available - edges - size, size, start, end)

@@ -1,13 +1,14 @@
-//! The sizes of boxes: a size within its limits, a size that fits its contents, definite block sizes, and the
-//! inline equation (CSS 2, 10.3.3, 10.3.5, 10.4 and 10.5). No call takes memory.
+//! The sizes of boxes: what they come to by the size of the containing block, within their limits and by their
+//! contents, and the inline equation (CSS 2, 10.3.3, 10.3.5, 10.4 and 10.5). No call takes memory.
 #![tactic(auto)]
 
 mod definite;
 mod equation;
-mod laws;
+pub mod laws;
 mod limits;
+mod resolving;
 
 pub use definite::definite_block;
 pub use equation::{Used, inline_equation};
-pub use laws::{equation_fills, margins_are_kept};
-pub use limits::{fit, held};
+pub use limits::{fit, held, used_size};
+pub use resolving::{resolved, resolved_margin, resolved_or_zero};

@@ -1,4 +1,6 @@
-ghost use Rattle.std.specs.Prelude.{◌≡◌, ◌≤◌, ◌^◌, unsigned_abs};
+//! Sizes between their limits, and sizes that fit their contents (CSS 2, 10.3.5, 10.4 and 10.7).
+
+ghost use Rattle.std.specs.Prelude.{◌≡◌, ◌^◌, pos, ◌≤ℤ◌};
 ghost use Rattle.size_rules.specs.Limits as limits;
 
 use wm_units::cap_size;
@@ -21,10 +23,11 @@ pub fn fit(min: i64, max: i64, available: i64) -> i64
     min.max(available).min(max)
 }
 
-// A size within its limits and those of all used sizes.
-pub(crate) fn used_size(size: i64, min: i64, max: Option<i64>) -> i64
+/// A used size: within its minimum and its maximum, and then within 0 and 2^32 units (CSS 2, 10.4 and 10.7).
+pub fn used_size(size: i64, min: i64, max: Option<i64>) -> i64
     ensures value { result ≡ limits.used_size size min max }
-    ensures near { unsigned_abs result ≤ 2 ^ 32 }
+    ensures low { pos 0 ≤ℤ result }
+    ensures high { result ≤ℤ pos (2 ^ 32) }
 {
     cap_size(held(size, min, max))
 }

@@ -1,6 +1,7 @@
 use Rattle.std.proofs.Common.{◌∙◌, refl, sym, arith, ◌++◌}
 use Rattle.block_flow.proofs.Lengths.{held, sum_held, sum_fits}
-use Rattle.block_flow.proofs.Steps.{and_true, moved_on, passed_over, both_span, pair_join}
+use Rattle.std.proofs.Math.Bool.{and-true}
+use Rattle.block_flow.proofs.Steps.{moved_on, passed_over, both_span, pair_join}
 use Rattle.block_flow.proofs.reached.Reached.after.Goals as goal
 
 pub overflow_add-result : goal.overflow_add-result
@@ -27,7 +28,7 @@ returns-then-child-clause-span c =
     rw y (omega arith)
 
 pub returns-then-child-clause-through : goal.returns-then-child-clause-through
-returns-then-child-clause-through c = rw c.if-child.true (and_true c.args.self.through)
+returns-then-child-clause-through c = rw c.if-child.true (sym (and-true c.args.self.through))
 
 pub returns-else-child-clause-reached : goal.returns-else-child-clause-reached
 returns-else-child-clause-reached c = λ progress next at is.
