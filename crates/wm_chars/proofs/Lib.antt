@@ -1,6 +1,7 @@
 pub mod Ascending
 pub mod Blocks
 pub mod Examples
+pub mod Facts
 pub mod Outside
 pub mod PairLaws
 pub mod Standing

@@ -3,7 +3,7 @@
 #![tactic(auto)]
 
 mod classes;
-mod laws;
+pub mod laws;
 mod pairs;
 mod repertoire;
 mod rows;
@@ -11,10 +11,5 @@ mod rows;
 mod tests;
 
 pub use classes::{BidiClass, Bracket, BreakClass, Orient};
-pub use laws::{
-    brackets_are_partners, brackets_break_as_they_open, characters_stand_in_one_row,
-    mirrors_are_partners, nothing_is_told_outside, pairs_are_neutral, rows_ascend,
-    upright_from_u_3000,
-};
 pub use pairs::{bracket, mirror};
 pub use repertoire::{bidi_class, break_class, orientation};

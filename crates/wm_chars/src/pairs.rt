@@ -1,3 +1,5 @@
+//! Brackets (UAX 9, 3.1.3) and mirrors (UAX 9, rule L4), by two tables of pairs.
+
 ghost use Rattle.std.specs.Prelude.{◌≡◌, ◌||◌, eqb};
 ghost use Rattle.wm_chars.specs.Pairs as pairs;
 

@@ -1,3 +1,5 @@
+//! What the table of the repertoire says of a character: bidi class (UAX 9, table 4), orientation (UAX 50), break class.
+
 ghost use Rattle.std.specs.List.{AllWithin};
 ghost use Rattle.std.specs.Prelude.{◌≡◌, ◌<◌, ltb};
 ghost use Rattle.wm_chars.specs.Repertoire as repertoire;

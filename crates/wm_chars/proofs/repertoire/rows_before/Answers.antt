@@ -1,4 +1,4 @@
-use Rattle.std.proofs.Common.{◌≡◌, ◌/◌, arith}
+use Rattle.std.proofs.Common.{◌/◌, arith}
 use Rattle.wm_chars.proofs.Blocks.{ascii_rows_end, block_rows_end}
 use Rattle.wm_chars.proofs.repertoire.rows_before.Goals as goal
 
