@@ -8,8 +8,9 @@ use Rattle.std.proofs.lemmas.List.Elements.{All-nil, All-cons}
 use Rattle.wm_chars.specs.declared.classes.BidiClass.{BidiClass}
 use Rattle.wm_chars.specs.declared.classes.BidiClass.TheVariants.{L, R, B, LRE, LRO, RLE, RLO, PDF, LRI, RLI, PDI}
 use Rattle.bidi_explicit.specs.declared.machine.Entry.{Entry}
-use Rattle.bidi_explicit.specs.Bounds.{IsBetween}
-use Rattle.bidi_explicit.specs.Explicit.{State, begin, next_odd, next_even, has_room, pushed, embedded, isolated, standing_on, below_isolate, closed, left, plain, entered, taken, entries, is_removed, level_at, levels_by, classes_by, explicit_levels, explicit_classes, removed_marks}
+use Rattle.bidi_explicit.specs.Paragraph.{IsBetween}
+use Rattle.wm_chars.specs.Classes.{is_removed}
+use Rattle.bidi_explicit.specs.Explicit.{State, begin, next_odd, next_even, has_room, pushed, embedded, isolated, standing_on, below_isolate, closed, left, plain, entered, taken, entries, level_at, levels_by, classes_by, explicit_levels, explicit_classes, removed_marks}
 
 module _ (base : ℕ) where
   abbrev AllBetween : List Entry → Type 0

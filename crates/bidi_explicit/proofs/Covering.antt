@@ -11,7 +11,7 @@ use Rattle.wm_chars.specs.declared.classes.BidiClass.{BidiClass}
 use Rattle.bidi_explicit.specs.Sequences.{kept_from, match_at, joined, beginning_with, others_than, level_in, level_runs, sequences, with_sides, isolating_runs}
 use Rattle.bidi_explicit.specs.Links.{first_of, followed, chains, sequence_of}
 use Rattle.bidi_explicit.specs.declared.paragraph.Run.{Run}
-use Rattle.bidi_explicit.specs.Cover.{Rises, IsRunOf, kept_places}
+use Rattle.bidi_explicit.specs.Sequences.{Rises, IsRunOf, kept_places}
 use Rattle.bidi_explicit.proofs.Chains.{by_place}
 use Rattle.bidi_explicit.proofs.Matches.{AreWithin}
 use Rattle.bidi_explicit.proofs.Walking.{kept_within}

@@ -2,7 +2,7 @@
 use Rattle.std.specs.Prelude.{◌≡◌, refl, List, [], ◌∷◌, ◌++◌, replicate, Some}
 use Rattle.wm_chars.specs.declared.classes.BidiClass.{BidiClass}
 use Rattle.wm_chars.specs.declared.classes.BidiClass.TheVariants.{L, R, AL, EN, AN, B, ON, LRE, LRI, RLE, RLI, RLO, FSI, PDF, PDI}
-use Rattle.bidi_explicit.specs.Isolates.{first_strong}
+use Rattle.bidi_explicit.specs.Base.{first_strong}
 use Rattle.bidi_explicit.specs.Explicit.{explicit_levels, explicit_classes, removed_marks}
 use Rattle.bidi_explicit.specs.Sequences.{isolating_runs}
 

@@ -4,7 +4,7 @@ use Rattle.std.proofs.lemmas.Bool.{lt-ltb, le-ltb, eqb-true, eq-eqb, ne_eqb, cas
 use Rattle.bidi_explicit.specs.declared.links.Link.{Link}
 use Rattle.bidi_explicit.specs.declared.paragraph.Levels.{Levels}
 use Rattle.bidi_explicit.specs.Sequences.{Sequence, kept_from, last_of, level_before, level_at_end, level_in, level_runs, sequences, with_sides, isolating_runs}
-use Rattle.bidi_explicit.specs.Bounds.{AreAligned}
+use Rattle.bidi_explicit.specs.Paragraph.{AreAligned}
 use Rattle.bidi_explicit.specs.Links.{begins_at, behind_at, is_first, Follows, AreChains, Hold, HasChain, IsLinkedWhole, kept_behind, sequence_by}
 use Rattle.bidi_explicit.proofs.Matches.{AreWithin}
 use Rattle.bidi_explicit.proofs.Linking.{low_is_not_first}

@@ -3,9 +3,11 @@ use Rattle.std.proofs.Common.{◌≡◌, ◌∙◌, refl, ℕ, zero, suc, Bool, 
 use Rattle.std.proofs.lemmas.List.{drop_more}
 use Rattle.std.specs.Option.{option_map}
 use Rattle.wm_chars.specs.declared.classes.BidiClass.{BidiClass}
-use Rattle.bidi_explicit.specs.declared.kind.Kind.{Kind}
-use Rattle.bidi_explicit.specs.declared.kind.Kind.TheVariants.{Strong, Opens, Closes, Other}
-use Rattle.bidi_explicit.specs.Isolates.{kind_of, closing, closing_at, up_to, strong_from, strong_at, is_one, turns_right}
+use Rattle.bidi_explicit.specs.declared.isolates.Kind.{Kind}
+use Rattle.bidi_explicit.specs.declared.isolates.Kind.TheVariants.{Strong, Opens, Closes, Other}
+use Rattle.bidi_explicit.specs.Base.{is_one, turns_right}
+use Rattle.bidi_explicit.proofs.Strong.{counted, counted_at, count_finds}
+use Rattle.bidi_explicit.specs.Isolates.{kind_of, closing, closing_at, up_to}
 use Rattle.bidi_explicit.specs.Ahead.{Ahead, ahead, ahead_at, rest_of, is_right}
 
 -- what it finds `depth` closing PDIs on
@@ -27,17 +29,17 @@ ones (suc zero) = refl
 ones (suc (suc n)) = refl
 
 abbrev Finds : List BidiClass → Type 0
-Finds cs = (d : ℕ) → is_one (strong_from (up_to (closing cs d) cs) d) ≡ at_depth d (ahead cs)
+Finds cs = (d : ℕ) → is_one (counted (up_to (closing cs d) cs) d) ≡ at_depth d (ahead cs)
 
 module _ (c : BidiClass) (cs : List BidiClass) (found : Finds cs) where
-  shown : (k : Kind) → kind_of c ≡ k → (o : Option ℕ) (d : ℕ) → is_one (strong_from (up_to (option_map suc o) (c ∷ cs)) d) ≡ is_one (strong_at k (strong_from (up_to o cs)) d)
+  shown : (k : Kind) → kind_of c ≡ k → (o : Option ℕ) (d : ℕ) → is_one (counted (up_to (option_map suc o) (c ∷ cs)) d) ≡ is_one (counted_at k (counted (up_to o cs)) d)
   shown k e o d = rw (up_to_suc o c cs) (rw e refl)
 
   behind : (d : ℕ) → at_depth d (ahead cs) ≡ get_or ((ahead cs).found ∷ (ahead cs).pending) d false
   behind zero = refl
   behind (suc d) = refl
 
-  step : (k : Kind) → kind_of c ≡ k → (d : ℕ) → is_one (strong_from (up_to (closing_at k (closing cs) d) (c ∷ cs)) d) ≡ at_depth d (ahead_at k (ahead cs))
+  step : (k : Kind) → kind_of c ≡ k → (d : ℕ) → is_one (counted (up_to (closing_at k (closing cs) d) (c ∷ cs)) d) ≡ at_depth d (ahead_at k (ahead cs))
   step (Strong level) e zero = shown (Strong level) e (closing cs 0) 0 ∙ ones level
   step (Strong level) e (suc d) = shown (Strong level) e (closing cs (suc d)) (suc d) ∙ found (suc d)
   step Opens e zero = shown Opens e (closing cs 1) 0 ∙ found 1
@@ -53,7 +55,7 @@ finds [] (suc d) = refl
 finds (c ∷ cs) d = step c cs (finds cs) (kind_of c) refl d
 
 pub turns_right_found : (cs : List BidiClass) → turns_right cs ≡ (ahead cs).found
-turns_right_found cs = finds cs 0
+turns_right_found cs = rw (← count_finds (up_to (closing cs 0) cs)) (finds cs 0)
 
 -- one step of a loop from the end
 pub drop_less : {X : Type 0} (xs : List X) (i j : ℕ) (d : X) → j + 1 ≡ i → j < length xs → drop j xs ≡ get_or xs j d ∷ drop i xs

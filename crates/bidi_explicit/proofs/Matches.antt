@@ -3,8 +3,8 @@ use Rattle.std.proofs.Common.{◌≡◌, ◌∙◌, sym, refl, ap, ℕ, zero, su
 use Rattle.std.specs.Option.{option_map}
 use Rattle.wm_chars.specs.declared.classes.BidiClass.{BidiClass}
 use Rattle.wm_chars.specs.declared.classes.BidiClass.TheVariants.{L}
-use Rattle.bidi_explicit.specs.declared.kind.Kind.{Kind}
-use Rattle.bidi_explicit.specs.declared.kind.Kind.TheVariants.{Strong, Opens, Closes, Other}
+use Rattle.bidi_explicit.specs.declared.isolates.Kind.{Kind}
+use Rattle.bidi_explicit.specs.declared.isolates.Kind.TheVariants.{Strong, Opens, Closes, Other}
 use Rattle.bidi_explicit.specs.Isolates.{kind_of, closing, closing_at}
 use Rattle.bidi_explicit.specs.Sequences.{distance, match_at}
 use Rattle.bidi_explicit.specs.Links.{first_of, rest_of, closers, closers_at, matched_by}

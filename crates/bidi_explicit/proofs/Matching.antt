@@ -6,10 +6,11 @@ use Rattle.std.proofs.lemmas.List.{get_or-drop, length-drop}
 use Rattle.std.proofs.lemmas.Bool.{eqb-true, eq-eqb, ne_eqb, and_parts}
 use Rattle.wm_chars.specs.declared.classes.BidiClass.{BidiClass}
 use Rattle.wm_chars.specs.declared.classes.BidiClass.TheVariants.{L, R, LRE, LRO, RLE, RLO, PDF, LRI, RLI, FSI, PDI}
-use Rattle.bidi_explicit.specs.declared.kind.Kind.{Kind}
-use Rattle.bidi_explicit.specs.declared.kind.Kind.TheVariants.{Strong, Opens, Closes, Other}
+use Rattle.bidi_explicit.specs.declared.isolates.Kind.{Kind}
+use Rattle.bidi_explicit.specs.declared.isolates.Kind.TheVariants.{Strong, Opens, Closes, Other}
 use Rattle.bidi_explicit.specs.declared.machine.Entry.{Entry}
-use Rattle.bidi_explicit.specs.Isolates.{kind_of, closing, closing_at, turns_right}
+use Rattle.bidi_explicit.specs.Base.{turns_right}
+use Rattle.bidi_explicit.specs.Isolates.{kind_of, closing, closing_at}
 use Rattle.bidi_explicit.specs.Sequences.{match_at, distance, level_in}
 use Rattle.bidi_explicit.proofs.Between.{entries_length}
 use Rattle.bidi_explicit.specs.Explicit.{explicit_levels, State, begin, next_odd, next_even, has_room, pushed, embedded, isolated, standing_on, below_isolate, closed, left, plain, entered, taken, entries, level_at, levels_by}

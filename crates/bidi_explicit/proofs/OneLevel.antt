@@ -7,11 +7,11 @@ use Rattle.std.proofs.lemmas.List.Elements.{All-nil, All-cons, All-head, All-tai
 use Rattle.wm_chars.specs.declared.classes.BidiClass.{BidiClass}
 use Rattle.bidi_explicit.specs.declared.paragraph.Levels.{Levels}
 use Rattle.bidi_explicit.specs.declared.paragraph.Run.{Run}
-use Rattle.bidi_explicit.specs.Bounds.{AreAligned}
+use Rattle.bidi_explicit.specs.Paragraph.{AreAligned}
 use Rattle.bidi_explicit.specs.Explicit.{explicit_levels}
 use Rattle.bidi_explicit.specs.Sequences.{match_at, joined, beginning_with, others_than, level_in, level_runs, sequences, isolating_runs}
 use Rattle.bidi_explicit.specs.Links.{first_of, followed, chains, sequence_of}
-use Rattle.bidi_explicit.specs.Cover.{HasOneLevel, kept_places}
+use Rattle.bidi_explicit.specs.Sequences.{HasOneLevel, kept_places}
 use Rattle.bidi_explicit.proofs.Chains.{by_place}
 use Rattle.bidi_explicit.proofs.Covering.{places_of}
 use Rattle.bidi_explicit.proofs.Matches.{AreWithin}

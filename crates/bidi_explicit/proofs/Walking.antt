@@ -6,13 +6,13 @@ use Rattle.std.proofs.Math.Nat.{add-zero}
 use Rattle.std.proofs.lemmas.Bool.{lt-ltb, le-ltb, eq-eqb, cases_order}
 use Rattle.std.proofs.lemmas.List.{drop_more, drop_all, get_or_past, length-replicate, length-set, length-drop}
 use Rattle.wm_chars.specs.declared.classes.BidiClass.TheVariants.{L}
-use Rattle.bidi_explicit.specs.declared.kind.Kind.TheVariants.{Strong, Opens, Closes, Other}
-use Rattle.bidi_explicit.specs.declared.kind.Kind.{Kind}
+use Rattle.bidi_explicit.specs.declared.isolates.Kind.TheVariants.{Strong, Opens, Closes, Other}
+use Rattle.bidi_explicit.specs.declared.isolates.Kind.{Kind}
 use Rattle.bidi_explicit.specs.declared.links.Link.{Link}
 use Rattle.bidi_explicit.specs.declared.paragraph.Levels.{Levels}
 use Rattle.bidi_explicit.specs.Isolates.{kind_of}
 use Rattle.bidi_explicit.specs.Sequences.{is_open_at, match_at, kept_from, level_behind, level_at_end, level_in}
-use Rattle.bidi_explicit.specs.Bounds.{AreAligned}
+use Rattle.bidi_explicit.specs.Paragraph.{AreAligned}
 use Rattle.bidi_explicit.specs.Links.{no_link, first_of, closers, closers_at, matched_by, followed, chains, behind_of, behind_at, linked, skipped, kept_behind, GoesOn, IsLinked, IsLinkedWhole}
 use Rattle.bidi_explicit.proofs.Chains.{by_place}
 use Rattle.bidi_explicit.proofs.Matches.{matched, AreWithin, closers_within}

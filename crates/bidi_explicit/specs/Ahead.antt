@@ -2,10 +2,11 @@
 use Rattle.std.specs.Prelude.{ℕ, zero, suc, Bool, true, false, List, [], ◌∷◌, slice_index_or}
 use Rattle.wm_chars.specs.declared.classes.BidiClass.{BidiClass}
 use Rattle.wm_chars.specs.declared.classes.BidiClass.TheVariants.{FSI}
-use Rattle.bidi_explicit.specs.declared.kind.Kind.{Kind}
-use Rattle.bidi_explicit.specs.declared.kind.Kind.TheVariants.{Strong, Opens, Closes, Other}
+use Rattle.bidi_explicit.specs.declared.isolates.Kind.{Kind}
+use Rattle.bidi_explicit.specs.declared.isolates.Kind.TheVariants.{Strong, Opens, Closes, Other}
 use Rattle.bidi_explicit.specs.declared.ahead.Scan.{Scan}
-use Rattle.bidi_explicit.specs.Isolates.{kind_of, turns_right}
+use Rattle.bidi_explicit.specs.Base.{turns_right}
+use Rattle.bidi_explicit.specs.Isolates.{kind_of}
 
 -- `found` is whether P2 and P3 give 1 for the text up to the PDI that closes it, and `pending` the same for the text
 -- behind that PDI, behind the PDI that closes that one, and so on

@@ -1,10 +1,11 @@
 -- The explicit levels (UAX 9, 3.3.2): the rules X1 to X8 on the directional status stack, and X9.
 use Rattle.std.specs.Prelude.{ℕ, ◌+◌, ◌-◌, ◌%◌, Bool, true, false, ◌&&◌, cond, eqb, leb, List, [], ◌∷◌, map, Option, Some, None}
 use Rattle.std.specs.Option.{unwrap_or}
+use Rattle.wm_chars.specs.Classes.{is_removed}
 use Rattle.wm_chars.specs.declared.classes.BidiClass.{BidiClass}
 use Rattle.wm_chars.specs.declared.classes.BidiClass.TheVariants.{L, R, B, LRE, LRO, RLE, RLO, PDF, LRI, RLI, FSI, PDI}
 use Rattle.bidi_explicit.specs.declared.machine.Entry.{Entry}
-use Rattle.bidi_explicit.specs.Isolates.{turns_right}
+use Rattle.bidi_explicit.specs.Base.{turns_right}
 
 -- the stack and the three counts; the last entry stands apart, and those below it follow, the nearest first
 pub record State : Type 0 where
@@ -108,15 +109,6 @@ taken _ before behind = before.top
 abbrev pub entries : State → List BidiClass → List Entry
 entries s [] = []
 entries s (c ∷ after) = taken c s (entered (plain c after) s) ∷ entries (entered (plain c after) s) after
-
--- X9: what is removed
-abbrev pub is_removed : BidiClass → Bool
-is_removed RLE = true
-is_removed LRE = true
-is_removed RLO = true
-is_removed LRO = true
-is_removed PDF = true
-is_removed _ = false
 
 -- the level of a character by its entry: a B has the base level, and what X9 removes the level of the character
 -- before it

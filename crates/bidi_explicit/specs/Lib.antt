@@ -1,9 +1,9 @@
 pub mod Ahead
-pub mod Bounds
-pub mod Cover
+pub mod Base
 pub mod Explicit
 pub mod Isolates
 pub mod Laws
 pub mod Links
 pub mod Machine
+pub mod Paragraph
 pub mod Sequences

@@ -2,8 +2,8 @@
 -- sequence, and whether it begins one.
 use Rattle.std.specs.Prelude.{ℕ, max, ◌+◌, ◌<◌, ◌≤◌, ◌≡◌, Bool, true, false, ◌||◌, cond, eqb, List, [], ◌∷◌, drop, length, slice_index_or, slice_set, Option, Some, None}
 use Rattle.wm_chars.specs.declared.classes.BidiClass.{BidiClass}
-use Rattle.bidi_explicit.specs.declared.kind.Kind.{Kind}
-use Rattle.bidi_explicit.specs.declared.kind.Kind.TheVariants.{Opens, Closes}
+use Rattle.bidi_explicit.specs.declared.isolates.Kind.{Kind}
+use Rattle.bidi_explicit.specs.declared.isolates.Kind.TheVariants.{Opens, Closes}
 use Rattle.bidi_explicit.specs.declared.links.Link.{Link}
 use Rattle.bidi_explicit.specs.declared.paragraph.Levels.{Levels}
 use Rattle.bidi_explicit.specs.declared.paragraph.Run.{Run}

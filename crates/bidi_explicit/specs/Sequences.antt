@@ -1,10 +1,11 @@
 -- Isolating run sequences (UAX 9, BD7, BD13, X10).
-use Rattle.std.specs.Prelude.{ℕ, ◌+◌, ◌%◌, max, Bool, true, false, cond, eqb, ltb, List, [], ◌∷◌, ◌++◌, map, drop, slice_index_or, Option, Some, None}
+use Rattle.std.specs.Prelude.{◌≡◌, ℕ, ◌+◌, ◌%◌, ◌<◌, ⊤, max, Bool, true, false, cond, eqb, ltb, List, [], ◌∷◌, ◌++◌, length, map, drop, slice_index_or, Option, Some, None}
+use Rattle.std.specs.List.{All}
 use Rattle.std.specs.Option.{option_map}
 use Rattle.wm_chars.specs.declared.classes.BidiClass.{BidiClass}
 use Rattle.wm_chars.specs.declared.classes.BidiClass.TheVariants.{L, R}
-use Rattle.bidi_explicit.specs.declared.kind.Kind.{Kind}
-use Rattle.bidi_explicit.specs.declared.kind.Kind.TheVariants.{Opens}
+use Rattle.bidi_explicit.specs.declared.isolates.Kind.{Kind}
+use Rattle.bidi_explicit.specs.declared.isolates.Kind.TheVariants.{Opens}
 use Rattle.bidi_explicit.specs.Isolates.{kind_of, closing}
 
 -- the places of what isn't removed, where the first mark is that of the place `at`
@@ -115,3 +116,25 @@ level_in levels p = slice_index_or levels p 0
 unfoldable pub isolating_runs : ℕ → List ℕ → List BidiClass → List Bool → List Sequence
 isolating_runs base levels classes marks =
     map (with_sides base (level_in levels) classes (kept_from 0 marks)) (sequences classes (level_runs (level_in levels) (kept_from 0 marks)))
+
+-- ---- what the runs of a paragraph are for the rules that follow
+
+-- the places of what isn't removed
+abbrev pub kept_places : List Bool → List ℕ
+kept_places marks = kept_from 0 marks
+
+-- the places rise
+abbrev pub Rises : List ℕ → Type 0
+Rises [] = ⊤
+Rises (p ∷ places) = All (λ q. p < q) places × Rises places
+
+-- the places of one run: they rise, and are places of characters that aren't removed
+pub record IsRunOf (marks : List Bool) (places : List ℕ) : Type 0 where
+  pub rise : Rises places
+  pub within : All (λ p. p < length marks) places
+  pub kept : All (λ p. slice_index_or marks p true ≡ false) places
+
+-- all of them have the level of the first
+abbrev pub HasOneLevel : List ℕ → List ℕ → Type 0
+HasOneLevel levels [] = ⊤
+HasOneLevel levels (p ∷ places) = All (λ q. slice_index_or levels q 0 ≡ slice_index_or levels p 0) places

@@ -1,8 +1,10 @@
+//! What P2 and P3 find in each isolate that an FSI begins (UAX 9, X5c), in one pass from the end.
+
 ghost use Rattle.std.specs.Prelude.{◌≡◌, [], ◌∷◌, List, false, OnOk, IfOk};
-ghost use Rattle.bidi_explicit.specs.Isolates.{turns_right};
+ghost use Rattle.bidi_explicit.specs.Base.{turns_right};
 ghost use Rattle.bidi_explicit.specs.Ahead.{ahead_of, ahead_at, rights};
 
-use crate::kind::{Kind, kind_of};
+use crate::isolates::{Kind, kind_of};
 use std::alloc::{AllocError, Global};
 use std::collections::VecDeque;
 use wm_chars::BidiClass;

@@ -1,9 +1,11 @@
+//! The explicit levels and classes of a paragraph (UAX 9, X1 to X9).
+
 ghost use Rattle.std.specs.Prelude.{ℕ, ◌≡◌, ◌+◌, ◌<◌, ◌≤◌, ◌^◌, ◌∷◌, true, length, set, IfOk, OnOk};
 ghost use Rattle.std.specs.List.{All};
 ghost use Rattle.std.specs.Option.{unwrap_or};
 ghost use Rattle.bidi_explicit.specs.Ahead.{rights};
-ghost use Rattle.bidi_explicit.specs.Bounds.{AreAligned, IsBetween};
-ghost use Rattle.bidi_explicit.specs.Explicit.{plain, entered, taken, entries, begin, is_removed, level_at, levels_by, class_at, classes_by, explicit_levels, explicit_classes, removed_marks};
+ghost use Rattle.bidi_explicit.specs.Paragraph.{AreAligned, IsBetween};
+ghost use Rattle.bidi_explicit.specs.Explicit.{plain, entered, taken, entries, begin, level_at, levels_by, class_at, classes_by, explicit_levels, explicit_classes, removed_marks};
 ghost use Rattle.bidi_explicit.specs.Machine.{state_of, total};
 
 use crate::ahead;
@@ -188,7 +190,13 @@ fn level_at(base: u8, last: u8, class: BidiClass, entry: Entry) -> u8
 {
     match class {
         BidiClass::B => base,
-        _ => { if is_removed(class) { last } else { entry.level } }
+        _ => {
+            if class.is_removed() {
+                last
+            } else {
+                entry.level
+            }
+        }
     }
 }
 
@@ -198,23 +206,12 @@ fn class_at(class: BidiClass, entry: Entry) -> BidiClass
     match class {
         BidiClass::B => class,
         _ => {
-            if is_removed(class) {
+            if class.is_removed() {
                 class
             } else {
                 entry.instead.unwrap_or(class)
             }
         }
-    }
-}
-
-/// Does X9 (UAX 9) remove a character of this class? Embeddings, overrides and their PDF take no part in the rules behind
-/// it. BN, which it removes too, is not among the classes.
-pub fn is_removed(class: BidiClass) -> bool
-    ensures { result ≡ is_removed class }
-{
-    match class {
-        BidiClass::LRE | BidiClass::LRO | BidiClass::RLE | BidiClass::RLO | BidiClass::PDF => true,
-        _ => false,
     }
 }
 
@@ -232,6 +229,6 @@ fn mark(marks: &mut [bool], classes: &[BidiClass])
     ensures { marks.new ≡ removed_marks classes.now }
 {
     for i in 0..classes.len() {
-        marks[i] = is_removed(classes[i]);
+        marks[i] = classes[i].is_removed();
     }
 }

@@ -5,17 +5,14 @@
 mod ahead;
 mod base;
 mod explicit;
-mod kind;
-mod laws;
+mod isolates;
+pub mod laws;
 mod links;
 mod machine;
 mod paragraph;
 mod sequences;
-#[cfg(test)]
-mod tests;
 
-pub use base::base_level;
-pub use explicit::{is_removed, levels};
-pub use laws::matching_pdis_have_one_level;
+pub use base::{base_level, base_of};
+pub use explicit::levels;
 pub use paragraph::{ClassList, LevelList, Levels, MarkList, PlaceList, Run, Runs};
 pub use sequences::runs;

@@ -1,9 +1,11 @@
+//! Each place of a paragraph linked with the one behind it in its sequence (UAX 9, BD13), in one pass from the end.
+
 ghost use Rattle.std.specs.Prelude.{◌≡◌, ◌+◌, ◌<◌, length, slice_index, true, IfSome, IfOk, OnOk};
 ghost use Rattle.bidi_explicit.specs.Sequences.{level_in};
-ghost use Rattle.bidi_explicit.specs.Bounds.{AreAligned};
+ghost use Rattle.bidi_explicit.specs.Paragraph.{AreAligned};
 ghost use Rattle.bidi_explicit.specs.Links.{GoesOn, MatchesNone, IsLinked, IsLinkedWhole, begins_at, behind_of, closers_at, followed, freed, linked, matched_by, skipped};
 
-use crate::kind::{Kind, kind_of};
+use crate::isolates::{Kind, kind_of};
 use crate::paragraph::Levels;
 use std::alloc::{AllocError, Global};
 use std::collections::VecDeque;

@@ -1,3 +1,5 @@
+//! The directional status stack (UAX 9, X1 to X7).
+
 ghost use Rattle.std.specs.Prelude.{◌≡◌, ◌+◌, ◌<◌, ◌≤◌, ◌^◌, OnOk};
 ghost use Rattle.bidi_explicit.specs.Explicit.{begin, next_odd, next_even, has_room, pushed, embedded, isolated, standing_on, below_isolate, closed, left, entered};
 ghost use Rattle.bidi_explicit.specs.Machine.{state_of, total};

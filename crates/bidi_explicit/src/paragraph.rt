@@ -1,3 +1,5 @@
+//! A paragraph behind X1 to X9, and its isolating run sequences (UAX 9, BD13).
+
 use wm_chars::BidiClass;
 
 /// Embedding levels, one for each character.

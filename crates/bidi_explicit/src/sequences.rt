@@ -1,10 +1,12 @@
+//! The isolating run sequences of a paragraph, with sos and eos (UAX 9, BD13 and X10).
+
 ghost use Rattle.std.specs.Prelude.{◌≡◌, ◌∷◌, ◌++◌, ◌<◌, [], List, true, false, cond, length, map, max, slice_index_or, IfOk, OnOk};
 ghost use Rattle.std.specs.List.{All, concat};
 ghost use Rattle.std.specs.List.Sorted.{IsPermutation};
-ghost use Rattle.bidi_explicit.specs.Cover.{HasOneLevel, IsRunOf, kept_places};
+ghost use Rattle.bidi_explicit.specs.Sequences.{HasOneLevel, IsRunOf, kept_places};
 ghost use Rattle.bidi_explicit.specs.Explicit.{explicit_levels};
 ghost use Rattle.bidi_explicit.specs.Sequences.{direction, isolating_runs, last_of, level_in};
-ghost use Rattle.bidi_explicit.specs.Bounds.{AreAligned};
+ghost use Rattle.bidi_explicit.specs.Paragraph.{AreAligned};
 ghost use Rattle.bidi_explicit.specs.Links.{Follows, HasChain, IsLinkedWhole, begins_at, sequence_by, sequence_of};
 
 use crate::links::{self, Link};

@@ -4,10 +4,10 @@ use Rattle.std.specs.List.{All, range_with_len}
 use Rattle.std.specs.List.Sorted.{IsPermutation}
 use Rattle.std.proofs.lemmas.List.{drop_more, drop_all, take_more, take_at, drop_at, length-take-le, length-drop, length-append, length-reverse, reverse-append, take-append-drop, drop-drop, get_or-drop, map-id}
 use Rattle.std.proofs.lemmas.List.FromFn.{length-range_with_len, get_or-range_with_len, map-range_with_len_more}
-use Rattle.std.proofs.lemmas.List.Sorted.{IsPermutation-refl, length_permutation, IsPermutation-trans, IsPermutation-reverse, IsPermutation-append_left, IsPermutation-append_right}
+use Rattle.std.proofs.lemmas.List.Sorted.{All-permutation, IsPermutation-refl, length_permutation, IsPermutation-trans, IsPermutation-reverse, IsPermutation-append_left, IsPermutation-append_right}
 use Rattle.std.specs.Prelude.{leb, slice_index}
 use Rattle.std.proofs.Math.Numerals.{add-one}
-use Rattle.bidi_order.specs.Order.{reverse_runs, reversals}
+use Rattle.bidi_order.specs.Reversals.{reverse_runs, reversals}
 
 -- the elements from `start` up to `end`, reversed in place
 abbrev pub reversed_part : {X : Type 0} → List X → ℕ → ℕ → List X
@@ -109,6 +109,13 @@ range_more a n b e = sym (map-id (range_with_len a (n + 1))) ∙ map-range_with_
 
 pub range_below : (n : ℕ) → All (λ p. p < n) (range_with_len 0 n)
 range_below n = λ k d l. let h : length (range_with_len 0 n) ≡ n = length-range_with_len 0 n in let g : get_or (range_with_len 0 n) k d ≡ 0 + k = get_or-range_with_len 0 n k d (omega arith) in omega arith
+
+-- what is a rearrangement of the first n numbers has none behind them, and n of them
+pub all_below : (n : ℕ) (places : List ℕ) → IsPermutation (range_with_len 0 n) places → All (λ p. p < n) places
+all_below n places perm = All-permutation (λ p. p < n) (range_with_len 0 n) places perm (range_below n)
+
+pub all_there : (n : ℕ) (places : List ℕ) → IsPermutation (range_with_len 0 n) places → length places ≡ n
+all_there n places perm = length_permutation (range_with_len 0 n) places perm ∙ length-range_with_len 0 n
 
 pub reversals_more : (levels : List ℕ) (least m n : ℕ) (places places' : List ℕ) → m + 1 ≡ n → places' ≡ reverse_runs (λ p. leb (least + m) (slice_index levels p)) [] places
     → reversals levels least m places' ≡ reversals levels least n places

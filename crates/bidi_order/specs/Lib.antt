@@ -1,2 +1,4 @@
-pub mod Order
-pub mod Reset
+pub mod Blanks
+pub mod Line
+pub mod Paragraph
+pub mod Reversals

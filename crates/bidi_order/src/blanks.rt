@@ -1,12 +1,14 @@
+//! The levels at the ends of a line and of its segments (UAX 9, 3.4, L1).
+
 ghost use Rattle.std.specs.Prelude.{◌≡◌, ◌||◌, ◌&&◌, cond, length};
-ghost use Rattle.bidi_order.specs.Reset.{separates, is_blank, reset};
+ghost use Rattle.bidi_order.specs.Blanks.{separates, is_blank, reset};
 
 use wm_chars::BidiClass;
 
 /// Gives the base level to separators, and to blanks before a separator or before the line's end (UAX 9, L1).
 /// The levels and the classes are those of one line, one of each for a character; the classes are those that the
 /// characters had before any rule. It takes no memory.
-#[tactic(auto, unfolding(crate::specs::Reset::reset))]
+#[tactic(auto, unfolding(crate::specs::Blanks::reset))]
 pub fn reset(levels: &mut [u8], classes: &[BidiClass], base: u8)
     requires { length levels.old ≡ length classes.now }
     ensures { levels.new ≡ reset base levels.old classes.now }
@@ -45,17 +47,5 @@ fn separates(class: BidiClass) -> bool
 fn is_blank(class: BidiClass) -> bool
     ensures { result ≡ is_blank class }
 {
-    match class {
-        BidiClass::WS
-        | BidiClass::LRI
-        | BidiClass::RLI
-        | BidiClass::FSI
-        | BidiClass::PDI
-        | BidiClass::LRE
-        | BidiClass::LRO
-        | BidiClass::RLE
-        | BidiClass::RLO
-        | BidiClass::PDF => true,
-        _ => false,
-    }
+    class == BidiClass::WS || class.is_isolate_formatting() || class.is_removed()
 }

@@ -1,21 +1,23 @@
+//! The order of a line by its levels (UAX 9, 3.4, L2).
+
 ghost use Rattle.std.specs.Prelude.{◌≡◌, ◌+◌, ◌-◌, ◌%◌, ◌<◌, ◌≤◌, ◌++◌, [], cond, eqb, leb, length, take, drop, reverse, slice_index, IfOk, IsPermutation};
 ghost use Rattle.std.specs.List.{All, range_with_len};
-ghost use Rattle.bidi_order.specs.Order.{reverse_runs, greatest, lesser, least_odd, reversals, order};
+ghost use Rattle.bidi_order.specs.Reversals.{reverse_runs, greatest, lesser, least_odd, reversals, from_least_odd, order};
 
 use crate::places::Order;
 use std::alloc::{AllocError, Global};
 
 /// The places of a line's characters in the order in which they stand from left to right, by their levels (UAX 9,
 /// L2).
-#[tactic(auto, using(crate::proofs::Runs::range_below), unfolding(crate::specs::Order::order))]
+#[tactic(auto, using(crate::proofs::Runs::range_below), unfolding(crate::specs::Reversals::order))]
 pub fn order(alloc: Global, levels: &[u8]) -> Result<Order, AllocError>
     ensures order { IfOk result (λ places. places.items ≡ order levels.now) }
     ensures rearranged { IfOk result (λ places. IsPermutation (range_with_len 0 (length levels.now)) places.items) }
+    ensures below { IfOk result (λ places. All (λ p. p < length levels.now) places.items) }
+    ensures length { IfOk result (λ places. length places.items ≡ length levels.now) }
 {
     let mut places = all_places(alloc, levels.len())?;
-    if let Some(least) = least_odd(levels) {
-        reverse_levels(&mut places, levels, least, greatest(levels));
-    }
+    reverse_from_least_odd(&mut places, levels);
     Ok(places)
 }
 
@@ -66,7 +68,18 @@ fn lesser_odd(level: u8, least: Option<u8>) -> Option<u8>
     }
 }
 
-// The reversals from the greatest level down to the least odd one.
+// The reversals from the greatest level down to the least odd one, if there is an odd one.
+fn reverse_from_least_odd(places: &mut Order, levels: &[u8])
+    requires { All (λ p. p < length levels.now) places.old.items }
+    ensures reversed { places.new.items ≡ from_least_odd levels.now (least_odd levels.now) places.old.items }
+    ensures rearranged { IsPermutation places.old.items places.new.items }
+{
+    if let Some(least) = least_odd(levels) {
+        reverse_levels(places, levels, least, greatest(levels));
+    }
+}
+
+// The reversals from one level down to another.
 fn reverse_levels(places: &mut [usize], levels: &[u8], least: u8, greatest: u8)
     requires { All (λ p. p < length levels.now) places.old }
     ensures reversed { places.new ≡ reversals levels.now least (greatest + 1 - least) places.old }

@@ -5,10 +5,7 @@ use Rattle.wm_chars.specs.Repertoire.{bidi_class, row_of}
 use Rattle.wm_chars.specs.declared.classes.BidiClass.TheVariants.{L, R, AL, EN, ES, ET, AN, CS, NSM, S, WS, ON, LRI, PDI}
 use Rattle.bidi_explicit.specs.Explicit.{explicit_levels, explicit_classes}
 use Rattle.bidi_explicit.specs.Sequences.{isolating_runs}
-use Rattle.bidi_order.specs.Order.{order}
-use Rattle.bidi_order.specs.Reset.{reset}
 use Rattle.bidi_resolve.specs.Brackets.{n0}
-use Rattle.bidi_resolve.specs.Line.{line_order, text_line_order}
 use Rattle.bidi_resolve.specs.Neutral.{n1, i1_i2}
 use Rattle.bidi_resolve.specs.Paragraph.{paragraph_levels, text_levels}
 use Rattle.bidi_resolve.specs.Sequence.{weak, resolved, sequence_classes, sequence_levels}
@@ -98,29 +95,3 @@ arabic_digit = refl
 first_strong : text_levels (0x2068 ∷ 0x61 ∷ 0x2069 ∷ 0x28 ∷ 0x5D0 ∷ 0x29 ∷ []) None ≡ (1 ∷ 2 ∷ 1 ∷ 1 ∷ 1 ∷ 1 ∷ [])
 unfolding bidi_class row_of bracket weak resolved sequence_classes sequence_levels explicit_levels explicit_classes isolating_runs paragraph_levels text_levels
 first_strong = refl
-
--- ---- lines of a text
-
--- the number in the isolate keeps its order, and the Hebrew letters round it stand from right to left
-line_with_isolate : text_line_order (0x78 ∷ 0x2067 ∷ 0x5D0 ∷ 0x5D1 ∷ 0x28 ∷ 0x31 ∷ 0x29 ∷ 0x2069 ∷ 0x32 ∷ []) (Some 0) 0 9 ≡ (0 ∷ 1 ∷ 6 ∷ 5 ∷ 4 ∷ 3 ∷ 2 ∷ 7 ∷ 8 ∷ [])
-unfolding bidi_class row_of bracket weak resolved sequence_classes sequence_levels explicit_levels explicit_classes isolating_runs paragraph_levels text_levels reset order line_order text_line_order
-line_with_isolate = refl
-
--- a space between two Hebrew letters, in one line with both of them, and at the end of a line
-line_with_space : text_line_order (0x61 ∷ 0x5D0 ∷ 0x20 ∷ 0x5D1 ∷ 0x62 ∷ []) (Some 0) 0 5 ≡ (0 ∷ 3 ∷ 2 ∷ 1 ∷ 4 ∷ [])
-unfolding bidi_class row_of bracket weak resolved sequence_classes sequence_levels explicit_levels explicit_classes isolating_runs paragraph_levels text_levels reset order line_order text_line_order
-line_with_space = refl
-
-line_before_space : text_line_order (0x61 ∷ 0x5D0 ∷ 0x20 ∷ 0x5D1 ∷ 0x62 ∷ []) (Some 0) 0 3 ≡ (0 ∷ 1 ∷ 2 ∷ [])
-unfolding bidi_class row_of bracket weak resolved sequence_classes sequence_levels explicit_levels explicit_classes isolating_runs paragraph_levels text_levels reset order line_order text_line_order
-line_before_space = refl
-
--- a line from the middle of a text on
-line_behind : text_line_order (0x5D0 ∷ 0x20 ∷ 0x31 ∷ 0x32 ∷ 0x20 ∷ 0x5D1 ∷ []) None 2 6 ≡ (5 ∷ 4 ∷ 2 ∷ 3 ∷ [])
-unfolding bidi_class row_of bracket weak resolved sequence_classes sequence_levels explicit_levels explicit_classes isolating_runs paragraph_levels text_levels reset order line_order text_line_order
-line_behind = refl
-
--- what X9 removes doesn't part the two letters, though it has the base level
-line_without_removed : text_line_order (0x5D0 ∷ 0x202B ∷ 0x5D1 ∷ []) (Some 0) 0 3 ≡ (2 ∷ 0 ∷ [])
-unfolding bidi_class row_of bracket weak resolved sequence_classes sequence_levels explicit_levels explicit_classes isolating_runs paragraph_levels text_levels reset order line_order text_line_order
-line_without_removed = refl

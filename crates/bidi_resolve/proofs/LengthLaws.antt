@@ -6,7 +6,8 @@ use Rattle.std.proofs.lemmas.Bool.{cases_Bool}
 use Rattle.wm_chars.specs.declared.classes.BidiClass.{BidiClass}
 use Rattle.wm_chars.specs.declared.classes.BidiClass.TheVariants.{L, R}
 use Rattle.bidi_resolve.specs.Brackets.{Reading, begin, read, read_all, read_one, both_become, become, resolve_at, resolve_pairs, n0}
-use Rattle.bidi_resolve.specs.Neutral.{is_neutral, is_even, n1, n2_class}
+use Rattle.wm_chars.specs.Classes.{is_neutral}
+use Rattle.bidi_resolve.specs.Neutral.{is_even, n1, n2_class}
 use Rattle.bidi_resolve.specs.Pairing.{IsWithin}
 use Rattle.bidi_resolve.specs.Passes.{each}
 use Rattle.bidi_resolve.specs.Sequence.{weak, resolved}

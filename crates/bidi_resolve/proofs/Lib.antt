@@ -1,7 +1,6 @@
 pub mod BracketLaws
 pub mod Examples
 pub mod LengthLaws
-pub mod LineLaws
 pub mod NeutralLaws
 pub mod PairingLaws
 pub mod ParagraphLaws

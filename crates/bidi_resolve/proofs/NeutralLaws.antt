@@ -3,7 +3,8 @@ use Rattle.std.proofs.Common.{◌≡◌, ◌∙◌, refl, sym, ap, false, List, 
 use Rattle.wm_chars.specs.declared.classes.BidiClass.{BidiClass}
 use Rattle.wm_chars.specs.declared.classes.BidiClass.TheVariants.{L, R}
 use Rattle.bidi_resolve.proofs.Passes.{pass, each_is_pass}
-use Rattle.bidi_resolve.specs.Neutral.{is_neutral, n1, n1_class, n1_after, n2, n2_class, side}
+use Rattle.wm_chars.specs.Classes.{is_neutral}
+use Rattle.bidi_resolve.specs.Neutral.{n1, n1_class, n1_after, n2, n2_class, side}
 
 map_pass : {S X : Type 0} (f : X → X) (out : S → X → List X → X) (next : S → X → S) (s : S) (xs : List X) → map f (pass out next s xs) ≡ pass (λ s x a. f (out s x a)) next s xs
 map_pass f out next s [] = refl

@@ -1,11 +1,11 @@
 -- What the levels of a paragraph rest on.
-use Rattle.std.proofs.Common.{◌≡◌, arith, inl, inr, ℕ, zero, suc, ◌+◌, ◌<◌, ◌≤◌, List, [], ◌∷◌, length, get_or, set, map}
+use Rattle.std.proofs.Common.{◌≡◌, arith, inl, inr, ℕ, zero, suc, ◌+◌, ◌%◌, ◌<◌, ◌≤◌, List, [], ◌∷◌, length, get_or, set, map}
 use Rattle.std.specs.Prelude.{All, IfOk, Result, Ok, Err, slice_index}
-use Rattle.std.proofs.lemmas.Bool.{cases_Bool}
+use Rattle.std.proofs.lemmas.Bool.{cases_Bool, eqb-true}
 use Rattle.std.proofs.lemmas.List.Elements.{All-set}
 use Rattle.wm_chars.specs.declared.classes.BidiClass.{BidiClass}
 use Rattle.wm_chars.specs.declared.classes.BidiClass.TheVariants.{L, R, EN, AN}
-use Rattle.bidi_explicit.specs.Bounds.{IsBetween}
+use Rattle.bidi_explicit.specs.Paragraph.{IsBetween}
 use Rattle.bidi_resolve.specs.Neutral.{is_even, i1, i2, raised, i1_i2}
 use Rattle.bidi_explicit.specs.Links.{sequence_of}
 use Rattle.bidi_explicit.specs.declared.paragraph.Run.{Run}
@@ -28,16 +28,28 @@ i1_two AN = omega arith
 i1_two EN = omega arith
 i1_two c = omega arith
 
-i2_two : (c : BidiClass) → i2 c ≤ 2
-i2_two L = omega arith
-i2_two AN = omega arith
-i2_two EN = omega arith
-i2_two c = omega arith
+i2_one : (c : BidiClass) → i2 c ≤ 1
+i2_one L = omega arith
+i2_one AN = omega arith
+i2_one EN = omega arith
+i2_one c = omega arith
 
 by_two : (level : ℕ) (c : BidiClass) → (level ≤ raised level c) × (raised level c ≤ level + 2)
 by_two level c = elim (cases_Bool (is_even level)) [
   | inl even ↦ rw even (two (i1 c) (i1_two c) level)
-  | inr odd ↦ rw odd (two (i2 c) (i2_two c) level)
+  | inr odd ↦ rw odd (two (i2 c) (let up : i2 c ≤ 1 = i2_one c in omega arith) level)
+]
+
+-- an even level is 124 at most
+most_raised : (level : ℕ) (c : BidiClass) → level ≤ 125 → raised level c ≤ 126
+most_raised level c most = elim (cases_Bool (is_even level)) [
+  | inl even ↦
+      let parity : level % 2 ≡ 0 = eqb-true (level % 2) 0 even in
+      let up : i1 c ≤ 2 = i1_two c in
+      rw even (omega arith)
+  | inr odd ↦
+      let up : i2 c ≤ 1 = i2_one c in
+      rw odd (omega arith)
 ]
 
 raised_between : (base level : ℕ) (c : BidiClass) → IsBetween base level → IsResolvedLevel base (raised level c)
@@ -46,8 +58,7 @@ raised_between base level c between =
     let high = between.high in
     let rise = by_two level c in
     let up = rise.0 in
-    let most = rise.1 in
-    record { low = omega arith; high = omega arith }
+    record { low = omega arith; high = most_raised level c high }
 
 set_between : (base : ℕ) (p level : ℕ) (out : List ℕ) → IsResolvedLevel base level → All (IsResolvedLevel base) out → All (IsResolvedLevel base) (set out p level)
 set_between base p level out is all = All-set (IsResolvedLevel base) out p level is all

@@ -3,7 +3,7 @@ use Rattle.std.proofs.Common.{◌≡◌, ◌≢◌, ◌∙◌, refl, ap, arith, 
 use Rattle.std.specs.Prelude.{All}
 use Rattle.std.proofs.lemmas.List.{length-set, get_or-set_same, get_or-set_other, reverse-append}
 use Rattle.wm_chars.specs.declared.classes.BidiClass.{BidiClass}
-use Rattle.bidi_explicit.specs.Cover.{Rises}
+use Rattle.bidi_explicit.specs.Sequences.{Rises}
 use Rattle.bidi_resolve.specs.Passes.{each}
 use Rattle.bidi_resolve.specs.Places.{gathered, scattered}
 

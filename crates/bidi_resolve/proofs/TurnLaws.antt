@@ -8,7 +8,7 @@ use Rattle.std.proofs.lemmas.List.{get_or_append_left, get_or-append-add}
 use Rattle.std.proofs.lemmas.Map.Keys.{IsDistinct-IsPermutation}
 use Rattle.wm_chars.specs.declared.classes.BidiClass.{BidiClass}
 use Rattle.wm_chars.specs.declared.classes.BidiClass.TheVariants.{L}
-use Rattle.bidi_explicit.specs.Cover.{kept_places}
+use Rattle.bidi_explicit.specs.Sequences.{kept_places}
 use Rattle.bidi_explicit.specs.Sequences.{Sequence, kept_from}
 use Rattle.bidi_resolve.specs.Laws.{Lists, resolved_next, AreApartFrom, AreApart}
 use Rattle.bidi_resolve.specs.Paragraph.{resolved_from}

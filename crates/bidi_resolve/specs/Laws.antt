@@ -4,11 +4,12 @@ use Rattle.std.specs.List.Sorted.{IsPermutation}
 use Rattle.std.specs.Prelude.{fold, map, Bool, ⊤, ◌∷◌, ◌≡◌, ◌≢◌, ℕ, ◌+◌, ◌<◌, ◌≤◌, false, List, [], ◌∷◌, ⊤, length, get_or, take, drop, reverse, All}
 use Rattle.wm_chars.specs.declared.classes.BidiClass.{BidiClass}
 use Rattle.wm_chars.specs.declared.classes.BidiClass.TheVariants.{L}
-use Rattle.bidi_explicit.specs.Cover.{Rises, kept_places}
+use Rattle.bidi_explicit.specs.Sequences.{Rises, kept_places}
 use Rattle.bidi_explicit.specs.Sequences.{Sequence}
 use Rattle.bidi_explicit.specs.declared.paragraph.Levels.{Levels}
 use Rattle.bidi_explicit.specs.declared.paragraph.Run.{Run}
-use Rattle.bidi_resolve.specs.Neutral.{is_neutral, raised}
+use Rattle.wm_chars.specs.Classes.{is_neutral}
+use Rattle.bidi_resolve.specs.Neutral.{raised}
 use Rattle.bidi_resolve.specs.Passes.{each}
 use Rattle.bidi_resolve.specs.Paragraph.{resolved_from}
 use Rattle.bidi_resolve.specs.Places.{gathered, scattered}

@@ -1,6 +1,5 @@
 pub mod Brackets
 pub mod Laws
-pub mod Line
 pub mod Neutral
 pub mod Pairing
 pub mod Paragraph

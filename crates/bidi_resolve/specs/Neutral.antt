@@ -1,8 +1,9 @@
 -- Neutrals and isolates by their sides, and the levels: rules N1, N2, I1 and I2 of UAX 9, 3.3.5 and 3.3.6, each
 -- over the classes of one whole isolating run sequence.
-use Rattle.std.specs.Prelude.{ℕ, ◌+◌, ◌%◌, Bool, true, false, cond, eqb, List, [], ◌∷◌, map}
+use Rattle.std.specs.Prelude.{ℕ, ◌+◌, ◌%◌, Bool, cond, eqb, List, [], ◌∷◌, map}
+use Rattle.wm_chars.specs.Classes.{is_neutral}
 use Rattle.wm_chars.specs.declared.classes.BidiClass.{BidiClass}
-use Rattle.wm_chars.specs.declared.classes.BidiClass.TheVariants.{L, R, EN, AN, B, S, WS, ON, LRI, RLI, FSI, PDI}
+use Rattle.wm_chars.specs.declared.classes.BidiClass.TheVariants.{L, R, EN, AN}
 use Rattle.bidi_resolve.specs.Passes.{each}
 
 abbrev pub is_even : (level : ℕ) → Bool
@@ -11,18 +12,6 @@ is_even level = eqb (level % 2) 0
 -- the embedding direction
 abbrev pub direction : (level : ℕ) → BidiClass
 direction level = cond (is_even level) L R
-
--- neutral, or an isolate initiator or PDI
-abbrev pub is_neutral : BidiClass → Bool
-is_neutral B = true
-is_neutral S = true
-is_neutral WS = true
-is_neutral ON = true
-is_neutral LRI = true
-is_neutral RLI = true
-is_neutral FSI = true
-is_neutral PDI = true
-is_neutral c = false
 
 -- ---- N1: a run of neutrals takes the direction of its two sides where they agree; numbers count as R
 

@@ -1,11 +1,11 @@
 -- The resolved levels of a bidi paragraph: all rules of UAX 9 up to I2, in their order.
-use Rattle.std.specs.Prelude.{ℕ, ◌≤◌, List, fold, map, Option, Some, None}
+use Rattle.std.specs.Prelude.{ℕ, ◌≤◌, List, fold, map, Option}
 use Rattle.std.specs.Option.{unwrap_or}
 use Rattle.wm_chars.specs.Repertoire.{bidi_class}
 use Rattle.wm_chars.specs.declared.classes.BidiClass.{BidiClass}
 use Rattle.wm_chars.specs.declared.classes.BidiClass.TheVariants.{ON}
 use Rattle.bidi_explicit.specs.Explicit.{explicit_levels, explicit_classes, removed_marks}
-use Rattle.bidi_explicit.specs.Isolates.{first_strong}
+use Rattle.bidi_explicit.specs.Base.{base_of}
 use Rattle.bidi_explicit.specs.Sequences.{Sequence, isolating_runs}
 use Rattle.bidi_resolve.specs.Places.{scattered}
 use Rattle.bidi_resolve.specs.Sequence.{sequence_levels}
@@ -26,16 +26,11 @@ paragraph_levels chars classes base =
 abbrev pub classes_of : (chars : List ℕ) → List BidiClass
 classes_of chars = map (λ c. unwrap_or (bidi_class c) ON) chars
 
--- a base level that was given, or by P2 and P3
-abbrev pub base_of : Option ℕ → List BidiClass → ℕ
-base_of (Some base) classes = base
-base_of None classes = unwrap_or (first_strong classes) 0
-
 -- the levels of a text
 unfoldable pub text_levels : (chars : List ℕ) → (base : Option ℕ) → List ℕ
 text_levels chars base = paragraph_levels chars (classes_of chars) (base_of base (classes_of chars))
 
--- the bounds of a resolved level: two above those of an explicit one
+-- the bounds of a resolved level: I1 raises an even one, which is 124 at most, by two, and I2 an odd one by one
 pub record IsResolvedLevel (base level : ℕ) : Type 0 where
   pub low : base ≤ level
-  pub high : level ≤ 127
+  pub high : level ≤ 126

@@ -1,24 +1,17 @@
 -- The weak types: rules W1 to W7 of UAX 9, 3.3.4, each over the classes of one whole isolating run sequence.
 use Rattle.std.specs.Prelude.{Bool, true, false, ◌||◌, cond, List, [], ◌∷◌, map}
+use Rattle.wm_chars.specs.Classes.{is_isolate_formatting, is_strong}
 use Rattle.wm_chars.specs.declared.classes.BidiClass.{BidiClass}
-use Rattle.wm_chars.specs.declared.classes.BidiClass.TheVariants.{L, R, AL, EN, ES, ET, AN, CS, NSM, ON, LRI, RLI, FSI, PDI}
+use Rattle.wm_chars.specs.declared.classes.BidiClass.TheVariants.{L, R, AL, EN, ES, ET, AN, CS, NSM, ON}
 use Rattle.bidi_resolve.specs.Passes.{each}
 
 -- ---- W1: a nonspacing mark takes the class of the character before it, or ON behind an isolate initiator or
 -- PDI, or sos at the start
 
--- an isolate initiator or PDI
-abbrev pub is_isolate : BidiClass → Bool
-is_isolate LRI = true
-is_isolate RLI = true
-is_isolate FSI = true
-is_isolate PDI = true
-is_isolate c = false
-
 -- what a character hands to a mark behind it, where `last` was handed to itself
 abbrev pub w1_after : (last : BidiClass) → BidiClass → BidiClass
 w1_after last NSM = last
-w1_after last c = cond (is_isolate c) ON c
+w1_after last c = cond (is_isolate_formatting c) ON c
 
 -- looks back over further marks
 abbrev pub w1_before : (sos : BidiClass) → (before : List BidiClass) → BidiClass
@@ -35,10 +28,7 @@ w1 sos classes = each (λ before c after. w1_class (w1_before sos before) c) [] 
 -- ---- W2: a European number becomes an Arabic one where the last L, R, AL or sos before it is AL
 
 abbrev pub w2_after : (last : BidiClass) → BidiClass → BidiClass
-w2_after last L = L
-w2_after last R = R
-w2_after last AL = AL
-w2_after last c = last
+w2_after last c = cond (is_strong c) c last
 
 abbrev pub last_strong : (sos : BidiClass) → (before : List BidiClass) → BidiClass
 last_strong sos [] = sos

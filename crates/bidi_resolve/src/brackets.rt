@@ -1,3 +1,5 @@
+//! Paired brackets in one isolating run sequence (UAX 9, 3.3.5, N0).
+
 ghost use Rattle.bidi_resolve.specs.Brackets as brackets;
 ghost use Rattle.bidi_resolve.specs.Pairing.{IsWithin, reading_of};
 ghost use Rattle.bidi_resolve.specs.Places.{gathered};

@@ -1,3 +1,5 @@
+//! Neutral and isolate formatting types (UAX 9, 3.3.5, N1 and N2), and the implicit levels (3.3.6, I1 and I2).
+
 ghost use Rattle.bidi_resolve.specs.Neutral as neutral;
 ghost use Rattle.bidi_resolve.specs.Sides.{Sees};
 ghost use Rattle.std.specs.Prelude.{◌≡◌, ◌+◌, ◌<◌, ◌≤◌, drop, false, get_or, length, set, true};
@@ -5,19 +7,13 @@ ghost use Rattle.wm_chars.specs.declared.classes.BidiClass.{BidiClass};
 
 use crate::sides::Ahead;
 use wm_chars::BidiClass;
-use wm_chars::BidiClass::{AN, B, EN, FSI, L, LRI, ON, PDI, R, RLI, S, WS};
+use wm_chars::BidiClass::{AN, EN, L, R};
 
 /// The embedding direction.
 pub(crate) fn direction(level: u8) -> BidiClass
     ensures { result ≡ neutral.direction level }
 {
     if level % 2 == 0 { L } else { R }
-}
-
-fn is_neutral(class: BidiClass) -> bool
-    ensures { result ≡ neutral.is_neutral class }
-{
-    matches!(class, B | S | WS | ON | LRI | RLI | FSI | PDI)
 }
 
 /// N1 and N2: a run of neutrals takes the direction of its two sides where they agree, and else the embedding
@@ -53,7 +49,7 @@ fn neutral_at(
     ensures sees { Sees (neutral.side eos) classes.old (place + 1) result }
 {
     let class = classes[place];
-    if !is_neutral(class) {
+    if !class.is_neutral() {
         return ahead;
     }
     let ahead = n1_ahead(classes, place + 1, eos, ahead);
@@ -106,7 +102,7 @@ fn has_direction(class: BidiClass) -> bool
 fn n1_class(before: BidiClass, class: BidiClass, after: BidiClass) -> BidiClass
     ensures { result ≡ neutral.n1_class before class after }
 {
-    if !is_neutral(class) {
+    if !class.is_neutral() {
         return class;
     }
     match (before, after) {
@@ -130,7 +126,7 @@ pub(crate) fn n1_after(last: BidiClass, class: BidiClass) -> BidiClass
 fn n2_class(level: u8, class: BidiClass) -> BidiClass
     ensures { result ≡ neutral.n2_class level class }
 {
-    if is_neutral(class) {
+    if class.is_neutral() {
         direction(level)
     } else {
         class

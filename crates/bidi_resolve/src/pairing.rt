@@ -1,3 +1,5 @@
+//! Which brackets of an isolating run sequence are pairs (UAX 9, BD14 to BD16).
+
 ghost use Rattle.bidi_resolve.specs.Brackets as brackets;
 ghost use Rattle.bidi_resolve.specs.Pairing.{IsWithin, reading_of};
 ghost use Rattle.bidi_resolve.specs.Places.{gathered};

@@ -1,4 +1,7 @@
-ghost use Rattle.bidi_explicit.specs.Bounds.{IsBetween};
+//! The resolved levels of a bidi paragraph, by all rules of UAX 9 up to I2.
+
+ghost use Rattle.bidi_explicit.specs.Paragraph.{IsBetween};
+ghost use Rattle.bidi_explicit.specs.Base.{base_of};
 ghost use Rattle.bidi_explicit.specs.Links.{sequence_of};
 ghost use Rattle.bidi_resolve.specs.Paragraph as paragraph;
 ghost use Rattle.bidi_resolve.specs.Paragraph.{IsResolvedLevel, resolved_from};
@@ -8,7 +11,7 @@ ghost use Rattle.std.specs.Prelude.{ℕ, ◌≡◌, ◌<◌, ◌≤◌, All, IfO
 
 use crate::places::{level_of, write_levels};
 use crate::sequence::{Scratch, resolve_classes};
-use bidi_explicit::{ClassList, LevelList, Levels, Run, base_level, levels, runs};
+use bidi_explicit::{ClassList, LevelList, Levels, Run, base_of, levels, runs};
 use std::alloc::{AllocError, Global};
 use wm_chars::{BidiClass, bidi_class};
 
@@ -19,14 +22,14 @@ pub fn text_levels(alloc: Global, chars: &[char], base: Option<u8>) -> Result<Le
     requires { IfSome base (λ base. base ≤ 1) }
     ensures levels { IfOk result (λ levels. levels.items ≡ paragraph.text_levels chars.now base) }
     ensures length { IfOk result (λ levels. length levels.items ≡ length chars.now) }
-    ensures between { IfOk result (λ levels. All (IsResolvedLevel (paragraph.base_of base (paragraph.classes_of chars.now))) levels.items) }
+    ensures between { IfOk result (λ levels. All (IsResolvedLevel (base_of base (paragraph.classes_of chars.now))) levels.items) }
 {
-    let classes = classes_of_text(alloc, chars)?;
+    let classes = text_classes(alloc, chars)?;
     paragraph_levels(alloc, chars, &classes, base_of(base, &classes))
 }
 
-/// The classes of characters.
-pub(crate) fn classes_of_text(alloc: Global, chars: &[char]) -> Result<ClassList, AllocError>
+/// The bidi classes of characters. What isn't in the repertoire counts as ON.
+pub fn text_classes(alloc: Global, chars: &[char]) -> Result<ClassList, AllocError>
     ensures classes { IfOk result (λ classes. classes.items ≡ paragraph.classes_of chars.now) }
     ensures length { IfOk result (λ classes. length classes.items ≡ length chars.now) }
 {
@@ -35,18 +38,6 @@ pub(crate) fn classes_of_text(alloc: Global, chars: &[char]) -> Result<ClassList
         classes.push(bidi_class(*c).unwrap_or(BidiClass::ON))?;
     }
     Ok(classes)
-}
-
-/// A base level that was given, or by P2 and P3.
-pub(crate) fn base_of(base: Option<u8>, classes: &[BidiClass]) -> u8
-    requires { IfSome base (λ base. base ≤ 1) }
-    ensures is { result ≡ paragraph.base_of base classes.now }
-    ensures most { result ≤ 1 }
-{
-    match base {
-        Some(base) => base,
-        None => base_level(classes).unwrap_or(0),
-    }
 }
 
 /// The resolved levels of a bidi paragraph of these characters and classes with this base level, 0 or 1, by the rules

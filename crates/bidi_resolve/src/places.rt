@@ -1,3 +1,5 @@
+//! The places of an isolating run sequence in the lists of its paragraph.
+
 ghost use Rattle.bidi_resolve.specs.Neutral.{i1_i2};
 ghost use Rattle.bidi_resolve.specs.Places.{gathered, run_level, scattered};
 ghost use Rattle.std.specs.Prelude.{◌≡◌, ◌<◌, ◌≤◌, All, OnOk, length, slice_index};

@@ -1,6 +1,8 @@
+//! One isolating run sequence by all rules (UAX 9, 3.3.4 to 3.3.6).
+
 ghost use Rattle.bidi_resolve.specs.Places.{gathered, run_level};
 ghost use Rattle.bidi_resolve.specs.Sequence as sequence;
-ghost use Rattle.std.specs.Prelude.{◌≡◌, ◌<◌, ◌≤◌, All, IfOk, OnOk, length, slice_index};
+ghost use Rattle.std.specs.Prelude.{◌≡◌, ◌<◌, ◌≤◌, All, IfOk, OnErr, OnOk, length, slice_index};
 ghost use Rattle.wm_chars.specs.declared.classes.BidiClass.TheVariants.{L};
 
 use crate::brackets::n0;
@@ -14,7 +16,7 @@ use wm_chars::BidiClass;
 
 /// Resolves one isolating run sequence (UAX 9, 3.3.4 to 3.3.6): the rules W1 to W7, N0 to N2, I1 and I2. The
 /// characters and each list in `levels` have one length, and the places of the sequence stand below it and have
-/// levels of at most 125. The classes and levels at other places stay as they are.
+/// levels of at most 125. The classes and levels at other places stay as they are, and all of them where memory is short.
 #[tactic(auto, unfolding(crate::specs::Sequence::sequence_levels))]
 pub fn resolve(
     alloc: Global,
@@ -32,6 +34,7 @@ pub fn resolve(
     ensures base { levels.new.base ≡ levels.old.base }
     ensures original { levels.new.original.items ≡ levels.old.original.items }
     ensures removed { levels.new.removed.items ≡ levels.old.removed.items }
+    ensures unresolved { OnErr result ((levels.new.class.items ≡ levels.old.class.items) × (levels.new.level.items ≡ levels.old.level.items)) }
     ensures level_len { length levels.new.level.items ≡ length levels.old.level.items }
     ensures class_len { length levels.new.class.items ≡ length levels.old.class.items }
 {

@@ -1,3 +1,5 @@
+//! The weak types (UAX 9, 3.3.4): the rules W1 to W7 on the classes of one isolating run sequence.
+
 ghost use Rattle.std.specs.Prelude.{◌≡◌, ◌+◌, ◌<◌, ◌≤◌, true, false, length, get_or, drop, set};
 ghost use Rattle.bidi_resolve.specs.Sides.{Sees};
 ghost use Rattle.wm_chars.specs.declared.classes.BidiClass.{BidiClass};
@@ -5,7 +7,7 @@ ghost use Rattle.bidi_resolve.specs.Weak as weak;
 
 use crate::sides::Ahead;
 use wm_chars::BidiClass;
-use wm_chars::BidiClass::{AL, AN, CS, EN, ES, ET, FSI, L, LRI, NSM, ON, PDI, R, RLI};
+use wm_chars::BidiClass::{AL, AN, CS, EN, ES, ET, L, NSM, ON, R};
 
 /// W1: a nonspacing mark takes the class of the character before it.
 #[tactic(auto, using(crate::proofs::Passes::pass_more, crate::proofs::WeakLaws::w1_starts))]
@@ -31,8 +33,13 @@ fn w1_after(handed: BidiClass, class: BidiClass) -> BidiClass
 {
     match class {
         NSM => handed,
-        LRI | RLI | FSI | PDI => ON,
-        _ => class,
+        _ => {
+            if class.is_isolate_formatting() {
+                ON
+            } else {
+                class
+            }
+        }
     }
 }
 
@@ -61,10 +68,7 @@ fn w2_class(last: BidiClass, class: BidiClass) -> BidiClass
 fn w2_after(last: BidiClass, class: BidiClass) -> BidiClass
     ensures { result ≡ weak.w2_after last class }
 {
-    match class {
-        L | R | AL => class,
-        _ => last,
-    }
+    if class.is_strong() { class } else { last }
 }
 
 /// W3: an Arabic letter becomes R.

@@ -7,8 +7,6 @@ pub mod laws;
 mod pairs;
 mod repertoire;
 mod rows;
-#[cfg(test)]
-mod tests;
 
 pub use classes::{BidiClass, Bracket, BreakClass, Orient};
 pub use pairs::{bracket, mirror};

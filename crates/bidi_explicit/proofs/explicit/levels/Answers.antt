@@ -1,6 +1,6 @@
 use Rattle.std.proofs.Common.{◌≡◌, ◌∙◌, sym, ap, length}
 use Rattle.std.proofs.lemmas.List.Elements.{All-same}
-use Rattle.bidi_explicit.specs.Bounds.{IsBetween}
+use Rattle.bidi_explicit.specs.Paragraph.{IsBetween}
 use Rattle.bidi_explicit.specs.Explicit.{explicit_levels}
 use Rattle.bidi_explicit.proofs.Between.{explicit_between, explicit_levels_length, explicit_classes_length, removed_marks_length}
 use Rattle.bidi_explicit.proofs.explicit.levels.Goals as goal

@@ -1,5 +1,5 @@
 use Rattle.std.proofs.Common.{◌≡◌, max, drop}
-use Rattle.bidi_order.specs.Order.{greatest}
+use Rattle.bidi_order.specs.Reversals.{greatest}
 use Rattle.bidi_order.proofs.reversals.greatest.Given as goal
 
 abbrev pub invariant-loop-level : goal.invariant-loop-level

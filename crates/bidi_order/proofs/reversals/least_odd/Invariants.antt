@@ -1,5 +1,5 @@
 use Rattle.std.proofs.Common.{◌≡◌, ◌≤◌, drop, length}
-use Rattle.bidi_order.specs.Order.{least_odd}
+use Rattle.bidi_order.specs.Reversals.{least_odd}
 use Rattle.bidi_order.proofs.reversals.least_odd.Given as goal
 
 abbrev pub invariant-loop-i : goal.invariant-loop-i

@@ -1,6 +1,6 @@
 use Rattle.std.proofs.Common.{◌≡◌, ◌≤◌}
 use Rattle.std.specs.List.Sorted.{IsPermutation}
-use Rattle.bidi_order.specs.Order.{reversals}
+use Rattle.bidi_order.specs.Reversals.{reversals}
 use Rattle.bidi_order.proofs.reversals.reverse_levels.Given as goal
 
 abbrev pub invariant-loop-count : goal.invariant-loop-count

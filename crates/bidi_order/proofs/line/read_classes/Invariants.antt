@@ -1,0 +1,7 @@
+use Rattle.std.proofs.Common.{◌≡◌, take}
+use Rattle.wm_chars.specs.declared.classes.BidiClass.TheVariants.{L}
+use Rattle.bidi_resolve.specs.Places.{gathered}
+use Rattle.bidi_order.proofs.line.read_classes.Given as goal
+
+abbrev pub invariant-loop-place : goal.invariant-loop-place
+invariant-loop-place l = l.out.items ≡ gathered L l.classes (take l.place-index l.places)

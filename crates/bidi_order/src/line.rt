@@ -1,0 +1,126 @@
+//! The order of a line of a bidi paragraph (UAX 9, 3.4), by the levels of the whole paragraph.
+
+ghost use Rattle.wm_chars.specs.Classes.{is_removed};
+ghost use Rattle.bidi_order.specs.Line as line;
+ghost use Rattle.bidi_order.specs.Line.{line_places};
+ghost use Rattle.bidi_resolve.specs.Places.{gathered};
+ghost use Rattle.wm_chars.specs.Classes.{is_removed};
+ghost use Rattle.wm_chars.specs.declared.classes.BidiClass.TheVariants.{L};
+ghost use Rattle.std.specs.Prelude.{◌≡◌, ◌<◌, ◌≤◌, ◌++◌, [], ◌∷◌, cond, All, IfOk, OnOk, IsPermutation, length};
+
+use crate::blanks::reset;
+use crate::places::Order;
+use crate::reversals::order;
+use bidi_explicit::{ClassList, LevelList, PlaceList};
+use std::alloc::{AllocError, Global};
+use wm_chars::BidiClass;
+
+/// The order of one line of a bidi paragraph (UAX 9, L1 and L2): the places of its characters in the paragraph, from left
+/// to right. The line has the places from `start` up to `stop` but those of what X9 removes. The levels are the resolved
+/// ones of the whole paragraph with this base level, and the classes are those that its characters had before any rule.
+#[tactic(auto, unfolding(crate::specs::Line::line_order))]
+pub fn line_order(
+    alloc: Global,
+    levels: &[u8],
+    classes: &[BidiClass],
+    base: u8,
+    start: usize,
+    stop: usize,
+) -> Result<Order, AllocError>
+    requires start { start ≤ stop }
+    requires stop { stop ≤ length levels.now }
+    requires classes { length levels.now ≡ length classes.now }
+    ensures order { IfOk result (λ places. places.items ≡ line.line_order base levels.now classes.now start stop) }
+    ensures rearranged { IfOk result (λ places. IsPermutation (line_places classes.now start stop) places.items) }
+{
+    let places = line_places(alloc, classes, start, stop)?;
+    let line = levels_at(alloc, levels, classes, base, &places)?;
+    let mut order = order(alloc, &line)?;
+    look_up(&mut order, &places);
+    Ok(order)
+}
+
+// The places of what X9 leaves in the line.
+fn line_places(
+    alloc: Global,
+    classes: &[BidiClass],
+    start: usize,
+    stop: usize,
+) -> Result<PlaceList, AllocError>
+    requires start { start ≤ stop }
+    requires stop { stop ≤ length classes.now }
+    ensures places { IfOk result (λ places. places.items ≡ line_places classes.now start stop) }
+    ensures within { IfOk result (λ places. All (λ p. p < length classes.now) places.items) }
+{
+    let mut places = Vec::with_capacity(alloc, stop - start)?;
+    for place in start..stop {
+        keep(&mut places, classes[place], place)?;
+    }
+    Ok(places)
+}
+
+// Takes the place of a character of this class, where it stays in the line.
+fn keep(places: &mut PlaceList, class: BidiClass, place: usize) -> Result<(), AllocError>
+    ensures { OnOk result (places.new.items ≡ places.old.items ++ cond (is_removed class) [] (place ∷ [])) }
+{
+    if !class.is_removed() {
+        places.push(place)?;
+    }
+    Ok(())
+}
+
+// L1 at these places.
+fn levels_at(
+    alloc: Global,
+    levels: &[u8],
+    classes: &[BidiClass],
+    base: u8,
+    places: &[usize],
+) -> Result<LevelList, AllocError>
+    requires classes { length levels.now ≡ length classes.now }
+    requires within { All (λ p. p < length classes.now) places.now }
+    ensures levels { IfOk result (λ out. out.items ≡ line.levels_at base levels.now classes.now places.now) }
+    ensures length { IfOk result (λ out. length out.items ≡ length places.now) }
+{
+    let own = read_classes(alloc, classes, places)?;
+    let mut line = read_levels(alloc, levels, places)?;
+    reset(&mut line, &own, base);
+    Ok(line)
+}
+
+fn read_classes(
+    alloc: Global,
+    classes: &[BidiClass],
+    places: &[usize],
+) -> Result<ClassList, AllocError>
+    requires { All (λ p. p < length classes.now) places.now }
+    ensures { IfOk result (λ out. out.items ≡ gathered L classes.now places.now) }
+{
+    let mut out = Vec::with_capacity(alloc, places.len())?;
+    for place in places {
+        out.push(classes[*place])?;
+    }
+    Ok(out)
+}
+
+fn read_levels(alloc: Global, levels: &[u8], places: &[usize]) -> Result<LevelList, AllocError>
+    requires { All (λ p. p < length levels.now) places.now }
+    ensures { IfOk result (λ out. out.items ≡ gathered 0 levels.now places.now) }
+{
+    let mut out = Vec::with_capacity(alloc, places.len())?;
+    for place in places {
+        out.push(levels[*place])?;
+    }
+    Ok(out)
+}
+
+// From places in the line to places in the paragraph.
+#[tactic(auto, using(bidi_resolve::proofs::Passes::map_more))]
+fn look_up(order: &mut Order, places: &[usize])
+    requires { All (λ k. k < length places.now) order.old.items }
+    ensures { order.new.items ≡ gathered 0 places.now order.old.items }
+{
+    for i in 0..order.len() {
+        order[i] = places[order[i]];
+    }
+}
