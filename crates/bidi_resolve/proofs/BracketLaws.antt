@@ -1,11 +1,10 @@
 -- The loops over brackets, step by step.
 use Rattle.std.proofs.Common.{◌≡◌, ◌∙◌, Bool, refl, sym, ap, arith, inl, inr, ℕ, suc, ◌+◌, ◌<◌, ◌≤◌, true, false, List, [], ◌∷◌, ◌++◌, append_assoc, length, get_or, take, drop, set, drop_of_length-le, length-append, length-drop, Option, Some, None}
 use Rattle.std.proofs.lemmas.List.{take_more_set, drop-set-lt, drop_more, take-append-drop, take-append-le, length-take-le, length-map, get_or-map}
-use Rattle.std.proofs.lemmas.List.Sums.{fold_more}
 use Rattle.std.proofs.lemmas.Bool.{cases_Bool}
 use Rattle.wm_chars.specs.declared.classes.BidiClass.{BidiClass}
-use Rattle.bidi_resolve.specs.Brackets.{is_mark, follow, become, both_become, resolve_at, resolve_pairs, context}
-use Rattle.bidi_resolve.specs.Neutral.{n1_after}
+use Rattle.bidi_resolve.specs.Brackets.{is_mark, follow, become, both_become}
+use Rattle.bidi_resolve.specs.Pairing.{resolve_at, resolve_read}
 use Rattle.bidi_resolve.specs.Places.{gathered}
 use Rattle.wm_chars.specs.declared.classes.BidiClass.TheVariants.{L}
 
@@ -75,10 +74,10 @@ resolve_at_before level sos k opening (Some closing) originals cs le behind = le
 -- one pair further
 pub pairs_more : (level : ℕ) (sos : BidiClass) (openings : List ℕ) (closings : List (Option ℕ)) (originals cs : List BidiClass) (k opening : ℕ) (closing : Option ℕ) → k < length openings → k < length closings →
     opening ≡ get_or openings k opening → closing ≡ get_or closings k closing →
-    resolve_pairs level sos (drop (k + 1) openings) (drop (k + 1) closings) originals (resolve_at level sos opening closing originals cs) ≡ resolve_pairs level sos (drop k openings) (drop k closings) originals cs
+    resolve_read level sos (drop (k + 1) openings) (drop (k + 1) closings) originals (resolve_at level sos opening closing originals cs) ≡ resolve_read level sos (drop k openings) (drop k closings) originals cs
 pairs_more level sos openings closings originals cs k opening closing lt lt' is_opening is_closing =
-    ap (λ (o : ℕ). resolve_pairs level sos (drop (k + 1) openings) (drop (k + 1) closings) originals (resolve_at level sos o closing originals cs)) is_opening
-    ∙ ap (λ (c : Option ℕ). resolve_pairs level sos (drop (k + 1) openings) (drop (k + 1) closings) originals (resolve_at level sos (get_or openings k opening) c originals cs)) is_closing
+    ap (λ (o : ℕ). resolve_read level sos (drop (k + 1) openings) (drop (k + 1) closings) originals (resolve_at level sos o closing originals cs)) is_opening
+    ∙ ap (λ (c : Option ℕ). resolve_read level sos (drop (k + 1) openings) (drop (k + 1) closings) originals (resolve_at level sos (get_or openings k opening) c originals cs)) is_closing
     ∙ rw (drop_more openings k opening lt, drop_more closings k closing lt') refl
 
 -- a class read by its place in the paragraph
@@ -87,7 +86,3 @@ mark_at originals places k b lt e = ap is_mark (get_or-map (λ p. get_or origina
 
 pub length_gathered : (originals : List BidiClass) (places : List ℕ) → length (gathered L originals places) ≡ length places
 length_gathered originals places = length-map places (λ p. get_or originals p L)
-
--- the context so far, one character further
-pub context_more : (sos last : BidiClass) (cs : List BidiClass) (k : ℕ) (d : BidiClass) → k < length cs → last ≡ context sos (take k cs) → n1_after last (get_or cs k d) ≡ context sos (take (k + 1) cs)
-context_more sos last cs k d lt is = ap (λ s. n1_after s (get_or cs k d)) is ∙ sym (fold_more n1_after sos cs k d lt)

@@ -1,11 +1,12 @@
 -- Each rule leaves as many classes as it takes.
-use Rattle.std.proofs.Common.{◌≡◌, ◌∙◌, refl, ap, arith, inl, inr, ℕ, zero, suc, ◌+◌, ◌<◌, Bool, true, false, cond, List, [], ◌∷◌, length, get_or, map, Option, Some, None}
+use Rattle.std.proofs.Common.{◌≡◌, ◌∙◌, refl, sym, ap, arith, inl, inr, ℕ, zero, suc, ◌+◌, ◌<◌, Bool, true, false, cond, List, [], ◌∷◌, length, get_or, map, Option, Some, None}
 use Rattle.std.specs.Prelude.{All}
 use Rattle.std.proofs.lemmas.List.{length-map}
 use Rattle.std.proofs.lemmas.Bool.{cases_Bool}
 use Rattle.wm_chars.specs.declared.classes.BidiClass.{BidiClass}
 use Rattle.wm_chars.specs.declared.classes.BidiClass.TheVariants.{L, R}
-use Rattle.bidi_resolve.specs.Brackets.{Reading, begin, read, read_all, read_one, both_become, become, resolve_at, resolve_pairs, n0}
+use Rattle.bidi_resolve.specs.Brackets.{both_become, become, n0}
+use Rattle.bidi_resolve.specs.Pairing.{Reading, begin, read, read_all, read_one, resolve_at, resolve_read}
 use Rattle.wm_chars.specs.Classes.{is_neutral}
 use Rattle.bidi_resolve.specs.Neutral.{is_even, n1, n2_class}
 use Rattle.bidi_resolve.specs.Pairing.{IsWithin}
@@ -13,6 +14,7 @@ use Rattle.bidi_resolve.specs.Passes.{each}
 use Rattle.bidi_resolve.specs.Sequence.{weak, resolved}
 use Rattle.bidi_resolve.specs.Weak.{w1, w2, w3, w3_class, w4, w5, w6, w6_class}
 use Rattle.bidi_resolve.proofs.BracketLaws.{length_become}
+use Rattle.bidi_resolve.proofs.SortedPairs.{resolved_read}
 use Rattle.bidi_resolve.proofs.PairingLaws.{read_within, within_wider, begin_within}
 
 length_each : (rule : List BidiClass → BidiClass → List BidiClass → BidiClass) (before xs : List BidiClass) → length (each rule before xs) ≡ length xs
@@ -43,7 +45,7 @@ length_at level sos opening None originals cs behind = refl
 length_at level sos opening (Some closing) originals cs behind = let both = behind closing refl in length_both _ opening closing originals cs both.0 both.1
 
 length_pairs : (level : ℕ) (sos : BidiClass) (openings : List ℕ) (closings : List (Option ℕ)) (originals cs : List BidiClass)
-    → ((k b : ℕ) → get_or closings k None ≡ Some b → (get_or openings k 0 < b) × (b < length cs)) → length (resolve_pairs level sos openings closings originals cs) ≡ length cs
+    → ((k b : ℕ) → get_or closings k None ≡ Some b → (get_or openings k 0 < b) × (b < length cs)) → length (resolve_read level sos openings closings originals cs) ≡ length cs
 length_pairs level sos [] closings originals cs behind = refl
 length_pairs level sos (opening ∷ openings) [] originals cs behind = refl
 length_pairs level sos (opening ∷ openings) (closing ∷ closings) originals cs behind =
@@ -53,7 +55,8 @@ length_pairs level sos (opening ∷ openings) (closing ∷ closings) originals c
 length_n0 : (level : ℕ) (sos : BidiClass) (chars : List ℕ) (originals classes : List BidiClass) → length (n0 level sos chars originals classes) ≡ length classes
 length_n0 level sos chars originals classes =
     let within = all_within chars classes in
-    length_pairs level sos (read_all chars classes).openings (read_all chars classes).closings originals classes (λ k b e. (within.behind k b e, within.closed k b e))
+    ap length (sym (resolved_read level sos chars originals classes))
+    ∙ length_pairs level sos (read_all chars classes).openings (read_all chars classes).closings originals classes (λ k b e. (within.behind k b e, within.closed k b e))
 
 length_weak : (sos : BidiClass) (classes : List BidiClass) → length (weak sos classes) ≡ length classes
 unfolding weak

@@ -7,5 +7,6 @@ pub mod ParagraphLaws
 pub mod Passes
 pub mod PlaceLaws
 pub mod Seeing
+pub mod SortedPairs
 pub mod TurnLaws
 pub mod WeakLaws

@@ -2,11 +2,13 @@
 use Rattle.std.proofs.Common.{◌≡◌, ◌⊎◌, ◌∙◌, refl, sym, arith, inl, inr, ℕ, zero, suc, ◌+◌, ◌<◌, ◌≤◌, true, false, Bool, eqb, ltb, cond, List, [], ◌∷◌, ◌++◌, length, length-append, get_or, drop, set, Option, Some, None}
 use Rattle.std.specs.Prelude.{All, IfSome}
 use Rattle.std.proofs.lemmas.List.{drop_more, length-set, length-map, get_or-map, get_or-set_same, get_or-set_other, get_or_past, get_or_push, get_or_append_left, get_or_default}
+use Rattle.std.proofs.lemmas.List.Elements.{All-tail}
 use Rattle.std.proofs.lemmas.Bool.{cases_Bool, cases_lt, cases_eq}
 use Rattle.wm_chars.specs.declared.classes.BidiClass.{BidiClass}
 use Rattle.wm_chars.specs.declared.classes.Bracket.{Bracket}
 use Rattle.bidi_resolve.specs.declared.pairing.Opened.{Opened}
-use Rattle.bidi_resolve.specs.Brackets.{Reading, Found, bracket_of, open_, found, close_with, read_bracket, read_one, read, begin}
+use Rattle.bidi_resolve.specs.Brackets.{bracket_of}
+use Rattle.bidi_resolve.specs.Pairing.{Reading, Found, open_, found, close_with, read_bracket, read_one, read, begin}
 use Rattle.bidi_resolve.specs.Pairing.{IsWithin}
 use Rattle.bidi_resolve.specs.Places.{gathered}
 
@@ -38,14 +40,11 @@ abbrev IsOpen : ℕ → Option Found → Type 0
 IsOpen many None = Unit {0}
 IsOpen many (Some found) = (found.number < many) × All (λ opened. opened.number < many) found.below
 
-pub all_below : (many : ℕ) (o : Opened) (below : List Opened) → All (λ opened. opened.number < many) (o ∷ below) → All (λ opened. opened.number < many) below
-all_below many o below all k d lt = all (suc k) d (omega arith)
-
 found_open : (char many : ℕ) (opened : List Opened) → All (λ o. o.number < many) opened → IsOpen many (found char opened)
 found_open char many [] all = tt
 found_open char many (o ∷ below) all = elim (cases_Bool (eqb o.partner char)) [
-  | inl here ↦ rw here (all zero o (omega arith), all_below many o below all)
-  | inr other ↦ rw other (found_open char many below (all_below many o below all))
+  | inl here ↦ rw here (all zero o (omega arith), All-tail (λ opened. opened.number < many) o below all)
+  | inr other ↦ rw other (found_open char many below (All-tail (λ opened. opened.number < many) o below all))
 ]
 
 -- the place that a closing bracket writes, or one that stood there before

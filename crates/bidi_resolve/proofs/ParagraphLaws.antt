@@ -2,7 +2,7 @@
 use Rattle.std.proofs.Common.{◌≡◌, arith, inl, inr, ℕ, zero, suc, ◌+◌, ◌%◌, ◌<◌, ◌≤◌, List, [], ◌∷◌, length, get_or, set, map}
 use Rattle.std.specs.Prelude.{All, IfOk, Result, Ok, Err, slice_index}
 use Rattle.std.proofs.lemmas.Bool.{cases_Bool, eqb-true}
-use Rattle.std.proofs.lemmas.List.Elements.{All-set}
+use Rattle.std.proofs.lemmas.List.Elements.{All-set, All-tail}
 use Rattle.wm_chars.specs.declared.classes.BidiClass.{BidiClass}
 use Rattle.wm_chars.specs.declared.classes.BidiClass.TheVariants.{L, R, EN, AN}
 use Rattle.bidi_explicit.specs.Paragraph.{IsBetween}
@@ -89,9 +89,6 @@ explicit_between base levels between k d lt =
     let high = h.high in
     record { low = omega arith; high = omega arith }
 
-tail_all : {X : Type 0} (P : X → Type 0) (x : X) (xs : List X) → All P (x ∷ xs) → All P xs
-tail_all P x xs all k d lt = all (suc k) d (omega arith)
-
 -- and so they stay, sequence by sequence
 from_between : (base : ℕ) (chars : List ℕ) (originals : List BidiClass) (levels : List ℕ) (classes : List BidiClass) (runs : List Run) (out : List ℕ) → All (IsBetween base) levels
     → All (λ run. All (λ p. p < length levels) run.places.items) runs → All (IsResolvedLevel base) out → All (IsResolvedLevel base) (resolved_from chars originals levels classes (map sequence_of runs) out)
@@ -99,7 +96,7 @@ unfolding sequence_levels
 from_between base chars originals levels classes [] out between within all = all
 from_between base chars originals levels classes (run ∷ runs) out between within all =
     from_between base chars originals levels classes runs (scattered run.places.items (sequence_levels chars originals levels classes (sequence_of run)) out) between
-    (tail_all (λ r. All (λ p. p < length levels) r.places.items) run runs within)
+    (All-tail (λ r. All (λ p. p < length levels) r.places.items) run runs within)
     (written_between base levels run.places.items out (sequence_classes chars originals levels classes (sequence_of run)) between (within zero run (omega arith)) all)
 
 pub all_between : (base : ℕ) (chars : List ℕ) (originals : List BidiClass) (levels : List ℕ) (classes : List BidiClass) (runs : List Run) → All (IsBetween base) levels

@@ -1,77 +1,72 @@
 -- Paired brackets: BD14 to BD16 of UAX 9, 3.1.3, and its rule N0, 3.3.5, over one whole isolating run sequence.
-use Rattle.std.specs.Prelude.{ℕ, ◌+◌, Bool, true, false, cond, eqb, ltb, List, [], ◌∷◌, ◌++◌, take, drop, set, length, fold, Option, Some, None}
+use Rattle.std.specs.Prelude.{ℕ, ◌+◌, Bool, true, false, cond, eqb, ltb, List, [], ◌∷◌, ◌++◌, take, drop, length, fold, Option, Some, None}
 use Rattle.std.specs.List.{list_any, slice_range}
 use Rattle.wm_chars.specs.Pairs.{bracket}
 use Rattle.wm_chars.specs.declared.classes.BidiClass.{BidiClass}
 use Rattle.wm_chars.specs.declared.classes.BidiClass.TheVariants.{L, R, EN, AN, NSM, ON}
 use Rattle.wm_chars.specs.declared.classes.Bracket.{Bracket}
-use Rattle.bidi_resolve.specs.declared.pairing.Opened.{Opened}
 use Rattle.bidi_resolve.specs.Neutral.{is_even, direction, n1_after}
 
--- ---- BD16: which bracket closes which
-
--- how far the reading has come: the brackets that are open, the last one first, each with its number among the
--- opening brackets and the character that closes it; the places of the opening brackets so far, in their order;
--- for each of them the place of its closing bracket, where that has come; and whether the reading has stopped
--- for want of room
-pub record Reading : Type 0 where
-  pub opened : List Opened
-  pub openings : List ℕ
-  pub closings : List (Option ℕ)
-  pub stopped : Bool
+-- ---- BD16: which brackets are pairs
 
 -- the bracket that a character is: only one whose class is ON counts
 abbrev pub bracket_of : BidiClass → (char : ℕ) → Option Bracket
 bracket_of ON char = bracket char
 bracket_of class char = None
 
--- an opening bracket, where the stack of 63 places has room
-abbrev pub open_ : (place partner : ℕ) → Reading → Reading
-open_ place partner reading = cond (ltb (length reading.opened) 63)
-    (record {
-      opened = (record { number = length reading.openings; partner = partner }) ∷ reading.opened;
-      openings = reading.openings ++ place ∷ [];
-      closings = reading.closings ++ None ∷ [];
-      stopped = false;
-    })
-    (record { opened = reading.opened; openings = reading.openings; closings = reading.closings; stopped = true })
+-- an opening bracket on the stack: the character that closes it, and its place
+pub record Waiting : Type 0 where
+  pub partner : ℕ
+  pub place : ℕ
 
--- the last one opened of this bracket's pair, and those that it lies on
-pub record Found : Type 0 where
-  pub number : ℕ
-  pub below : List Opened
+-- two brackets that are a pair, by their places
+pub record BracketPair : Type 0 where
+  pub opening : ℕ
+  pub closing : ℕ
 
-abbrev pub found : (char : ℕ) → List Opened → Option Found
-found char [] = None
-found char (last ∷ below) = cond (eqb last.partner char) (Some (record { number = last.number; below = below })) (found char below)
+-- the place of the nearest bracket on the stack that the character closes, and what lies below it
+pub record Match : Type 0 where
+  pub opening : ℕ
+  pub below : List Waiting
 
--- a closing bracket: its partner is popped with all that lies on it; without one it is passed over
-abbrev pub close_with : (place : ℕ) → Option Found → Reading → Reading
-close_with place None reading = reading
-close_with place (Some found) reading =
-    record { opened = found.below; openings = reading.openings; closings = set reading.closings found.number (Some place); stopped = false }
+abbrev pub matching : (char : ℕ) → List Waiting → Option Match
+matching char [] = None
+matching char (last ∷ below) = cond (eqb last.partner char) (Some (record { opening = last.place; below = below })) (matching char below)
 
-abbrev pub close : (place char : ℕ) → Reading → Reading
-close place char reading = close_with place (found char reading.opened) reading
+-- an opening bracket is put on the stack, where it has room for it; else the reading stops
+abbrev pub opened : (has_room : Bool) → (stack : List Waiting) → (from : List Waiting → List BracketPair) → List BracketPair
+opened true stack from = from stack
+opened false stack from = []
 
-abbrev pub read_bracket : (place char : ℕ) → Option Bracket → Reading → Reading
-read_bracket place char None reading = reading
-read_bracket place char (Some b) reading = cond b.opens (open_ place b.partner reading) (close place char reading)
+-- a closing bracket and its match are a pair, and the match is popped with all that lies on it; without one it is
+-- passed over
+abbrev pub closed : (place : ℕ) → Option Match → (stack : List Waiting) → (from : List Waiting → List BracketPair) → List BracketPair
+closed place None stack from = from stack
+closed place (Some match_) stack from = record { opening = match_.opening; closing = place } ∷ from match_.below
 
-abbrev pub read_one : (place char : ℕ) → BidiClass → Reading → Reading
-read_one place char class reading = cond reading.stopped reading (read_bracket place char (bracket_of class char) reading)
+abbrev pub bracket_at : (opens : Bool) → (place char partner : ℕ) → (stack : List Waiting) → (from : List Waiting → List BracketPair) → List BracketPair
+bracket_at true place char partner stack from = opened (ltb (length stack) 63) (record { partner = partner; place = place } ∷ stack) from
+bracket_at false place char partner stack from = closed place (matching char stack) stack from
 
--- the characters from this place on
-abbrev pub read : (place : ℕ) → (chars : List ℕ) → List BidiClass → Reading → Reading
-read place [] classes reading = reading
-read place (char ∷ chars) [] reading = reading
-read place (char ∷ chars) (class ∷ classes) reading = read (place + 1) chars classes (read_one place char class reading)
+-- the pairs that close from this place on, which holds that character, if any; `from` reads on behind it
+abbrev pub pairs_at : (place char : ℕ) → Option Bracket → (stack : List Waiting) → (from : List Waiting → List BracketPair) → List BracketPair
+pairs_at place char None stack from = from stack
+pairs_at place char (Some b) stack from = bracket_at b.opens place char b.partner stack from
 
-abbrev pub begin : Reading
-begin = record { opened = []; openings = []; closings = []; stopped = false }
+-- in the order of their closing brackets, where the first character has this place and the stack holds what is open
+abbrev pub pairs_from : (place : ℕ) → (chars : List ℕ) → List BidiClass → (stack : List Waiting) → List BracketPair
+pairs_from place [] classes stack = []
+pairs_from place (char ∷ chars) [] stack = []
+pairs_from place (char ∷ chars) (class ∷ classes) stack = pairs_at place char (bracket_of class char) stack (pairs_from (place + 1) chars classes)
 
-abbrev pub read_all : (chars : List ℕ) → List BidiClass → Reading
-read_all chars classes = read 0 chars classes begin
+-- one pair more, in the order of the opening brackets
+abbrev pub inserted : BracketPair → List BracketPair → List BracketPair
+inserted pair [] = pair ∷ []
+inserted pair (other ∷ pairs) = cond (ltb pair.opening other.opening) (pair ∷ other ∷ pairs) (other ∷ inserted pair pairs)
+
+-- the pairs of a sequence, sorted by their opening brackets
+abbrev pub bracket_pairs : (chars : List ℕ) → List BidiClass → List BracketPair
+bracket_pairs chars classes = fold (λ sorted pair. inserted pair sorted) [] (pairs_from 0 chars classes [])
 
 -- ---- N0: what a pair becomes. Numbers count as R.
 
@@ -130,17 +125,10 @@ abbrev pub resolve_pair : (level : ℕ) → (sos : BidiClass) → (opening closi
 resolve_pair level sos opening closing originals classes =
     both_become (pair_class level (context sos (take opening classes)) (slice_range classes (opening + 1) closing)) opening closing originals classes
 
--- the pair of an opening bracket, if it was closed
-abbrev pub resolve_at : (level : ℕ) → (sos : BidiClass) → (opening : ℕ) → (closing : Option ℕ) → (originals : List BidiClass) → List BidiClass → List BidiClass
-resolve_at level sos opening None originals classes = classes
-resolve_at level sos opening (Some closing) originals classes = resolve_pair level sos opening closing originals classes
-
 -- the pairs in the order of their opening brackets
-abbrev pub resolve_pairs : (level : ℕ) → (sos : BidiClass) → (openings : List ℕ) → (closings : List (Option ℕ)) → (originals : List BidiClass) → List BidiClass → List BidiClass
-resolve_pairs level sos [] closings originals classes = classes
-resolve_pairs level sos (opening ∷ openings) [] originals classes = classes
-resolve_pairs level sos (opening ∷ openings) (closing ∷ closings) originals classes =
-    resolve_pairs level sos openings closings originals (resolve_at level sos opening closing originals classes)
+abbrev pub resolve_pairs : (level : ℕ) → (sos : BidiClass) → List BracketPair → (originals : List BidiClass) → List BidiClass → List BidiClass
+resolve_pairs level sos [] originals classes = classes
+resolve_pairs level sos (pair ∷ pairs) originals classes = resolve_pairs level sos pairs originals (resolve_pair level sos pair.opening pair.closing originals classes)
 
 abbrev pub n0 : (level : ℕ) → (sos : BidiClass) → (chars : List ℕ) → (originals : List BidiClass) → List BidiClass → List BidiClass
-n0 level sos chars originals classes = resolve_pairs level sos (read_all chars classes).openings (read_all chars classes).closings originals classes
+n0 level sos chars originals classes = resolve_pairs level sos (bracket_pairs chars classes) originals classes

@@ -1,14 +1,21 @@
 -- The resolved levels of a bidi paragraph: all rules of UAX 9 up to I2, in their order.
-use Rattle.std.specs.Prelude.{ℕ, ◌≤◌, List, fold, map, Option}
+use Rattle.std.specs.Prelude.{◌≡◌, ℕ, ◌≤◌, length, List, fold, map, Option}
 use Rattle.std.specs.Option.{unwrap_or}
 use Rattle.wm_chars.specs.Repertoire.{bidi_class}
 use Rattle.wm_chars.specs.declared.classes.BidiClass.{BidiClass}
 use Rattle.wm_chars.specs.declared.classes.BidiClass.TheVariants.{ON}
 use Rattle.bidi_explicit.specs.Explicit.{explicit_levels, explicit_classes, removed_marks}
+use Rattle.bidi_explicit.specs.declared.paragraph.Levels.{Levels}
 use Rattle.bidi_explicit.specs.Base.{base_of}
 use Rattle.bidi_explicit.specs.Sequences.{Sequence, isolating_runs}
 use Rattle.bidi_resolve.specs.Places.{scattered}
 use Rattle.bidi_resolve.specs.Sequence.{sequence_levels}
+
+-- each list of a paragraph has this length
+pub record AreAsMany (levels : Levels) (n : ℕ) : Type 0 where
+  pub level : length levels.level.items ≡ n
+  pub class : length levels.class.items ≡ n
+  pub original : length levels.original.items ≡ n
 
 -- the levels, where these sequences are resolved, each by itself, on the levels and classes as X1 to X9 leave them
 abbrev pub resolved_from : (chars : List ℕ) → (originals : List BidiClass) → (levels : List ℕ) → (classes : List BidiClass) → List Sequence → List ℕ → List ℕ

@@ -1,6 +1,7 @@
 //! Paired brackets in one isolating run sequence (UAX 9, 3.3.5, N0).
 
 ghost use Rattle.bidi_resolve.specs.Brackets as brackets;
+ghost use Rattle.bidi_resolve.specs.Pairing as readings;
 ghost use Rattle.bidi_resolve.specs.Pairing.{IsWithin, reading_of};
 ghost use Rattle.bidi_resolve.specs.Places.{gathered};
 ghost use Rattle.wm_chars.specs.declared.classes.BidiClass.TheVariants.{L};
@@ -54,7 +55,7 @@ fn resolve_pairs(
     requires places { length places.now ≡ length classes.old }
     requires originals { All (λ place. place < length originals.now) places.now }
     requires within { IsWithin (length classes.old) (reading_of pairs.now) }
-    ensures { classes.new ≡ brackets.resolve_pairs level sos pairs.now.openings.items pairs.now.closings.items (gathered L originals.now places.now) classes.old }
+    ensures { classes.new ≡ readings.resolve_read level sos pairs.now.openings.items pairs.now.closings.items (gathered L originals.now places.now) classes.old }
 {
     let mut context = Context { seen: 0, last: sos };
     for k in 0..pairs.openings.len() {
@@ -85,7 +86,7 @@ fn resolve_at(
     requires originals { All (λ place. place < length originals.now) places.now }
     requires seen { context.old.seen ≤ opening }
     requires behind { IfSome closing (λ closing. (opening < closing) × (closing < length classes.old)) }
-    ensures classes { (sos : BidiClass) → context.old.last ≡ brackets.context sos (take context.old.seen classes.old) → classes.new ≡ brackets.resolve_at level sos opening closing (gathered L originals.now places.now) classes.old }
+    ensures classes { (sos : BidiClass) → context.old.last ≡ brackets.context sos (take context.old.seen classes.old) → classes.new ≡ readings.resolve_at level sos opening closing (gathered L originals.now places.now) classes.old }
     ensures context { (sos : BidiClass) → context.old.last ≡ brackets.context sos (take context.old.seen classes.old) → context.new.last ≡ brackets.context sos (take context.new.seen classes.old) }
     ensures seen { context.new.seen ≤ opening }
 {

@@ -1,6 +1,6 @@
 //! Which brackets of an isolating run sequence are pairs (UAX 9, BD14 to BD16).
 
-ghost use Rattle.bidi_resolve.specs.Brackets as brackets;
+ghost use Rattle.bidi_resolve.specs.Pairing as readings;
 ghost use Rattle.bidi_resolve.specs.Pairing.{IsWithin, reading_of};
 ghost use Rattle.bidi_resolve.specs.Places.{gathered};
 ghost use Rattle.std.specs.Option.{is_some};
@@ -43,7 +43,7 @@ pub(crate) fn read_pairs(
 ) -> Result<(), AllocError>
     requires places { length places.now ≡ length classes.now }
     requires within { All (λ place. place < length chars.now) places.now }
-    ensures pairs { OnOk result (reading_of pairing.new ≡ brackets.read_all (gathered 0 chars.now places.now) classes.now) }
+    ensures pairs { OnOk result (reading_of pairing.new ≡ readings.read_all (gathered 0 chars.now places.now) classes.now) }
     ensures within { OnOk result (IsWithin (length classes.now) (reading_of pairing.new)) }
 {
     pairing.begin();
@@ -64,7 +64,7 @@ impl Pairing {
     }
 
     fn begin(&mut self)
-        ensures { reading_of self.new ≡ brackets.begin }
+        ensures { reading_of self.new ≡ readings.begin }
     {
         self.opened.clear();
         self.openings.clear();
@@ -83,7 +83,7 @@ impl Pairing {
         requires places { length places.now ≡ length classes.now }
         requires within { All (λ place. place < length chars.now) places.now }
         requires opened { All (λ opened. opened.number < length self.old.closings.items) self.old.opened.items }
-        ensures { IfOk result (λ _. reading_of self.new ≡ brackets.read_one k (get_or chars.now (get_or places.now k 0) 0) (get_or classes.now k L) (reading_of self.old)) }
+        ensures { IfOk result (λ _. reading_of self.new ≡ readings.read_one k (get_or chars.now (get_or places.now k 0) 0) (get_or classes.now k L) (reading_of self.old)) }
     {
         if self.stopped || classes[k] != ON {
             return Ok(());
@@ -98,7 +98,7 @@ impl Pairing {
     fn read_bracket(&mut self, place: usize, char: char, bracket: Bracket) -> Result<(), AllocError>
         requires running { self.old.stopped ≡ false }
         requires opened { All (λ opened. opened.number < length self.old.closings.items) self.old.opened.items }
-        ensures { IfOk result (λ _. reading_of self.new ≡ brackets.read_bracket place char (Some bracket) (reading_of self.old)) }
+        ensures { IfOk result (λ _. reading_of self.new ≡ readings.read_bracket place char (Some bracket) (reading_of self.old)) }
     {
         if bracket.opens {
             self.open(place, bracket.partner)
@@ -110,7 +110,7 @@ impl Pairing {
 
     fn open(&mut self, place: usize, partner: char) -> Result<(), AllocError>
         requires running { self.old.stopped ≡ false }
-        ensures { IfOk result (λ _. reading_of self.new ≡ brackets.open_ place partner (reading_of self.old)) }
+        ensures { IfOk result (λ _. reading_of self.new ≡ readings.open_ place partner (reading_of self.old)) }
     {
         if self.opened.len() >= ROOM {
             self.stopped = true;
@@ -128,7 +128,7 @@ impl Pairing {
     fn close(&mut self, place: usize, char: char)
         requires running { self.old.stopped ≡ false }
         requires opened { All (λ opened. opened.number < length self.old.closings.items) self.old.opened.items }
-        ensures { reading_of self.new ≡ brackets.close place char (reading_of self.old) }
+        ensures { reading_of self.new ≡ readings.close place char (reading_of self.old) }
     {
         if !self.holds(char) {
             return;
@@ -143,7 +143,7 @@ impl Pairing {
 
     // Whether a bracket is open that the character closes.
     fn holds(&self, char: char) -> bool
-        ensures { result ≡ is_some (brackets.found char self.now.opened.items) }
+        ensures { result ≡ is_some (readings.found char self.now.opened.items) }
     {
         for i in 0..self.opened.len() {
             if self.opened[i].partner == char {

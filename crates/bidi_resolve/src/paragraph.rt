@@ -4,7 +4,7 @@ ghost use Rattle.bidi_explicit.specs.Paragraph.{IsBetween};
 ghost use Rattle.bidi_explicit.specs.Base.{base_of};
 ghost use Rattle.bidi_explicit.specs.Links.{sequence_of};
 ghost use Rattle.bidi_resolve.specs.Paragraph as paragraph;
-ghost use Rattle.bidi_resolve.specs.Paragraph.{IsResolvedLevel, resolved_from};
+ghost use Rattle.bidi_resolve.specs.Paragraph.{AreAsMany, IsResolvedLevel, resolved_from};
 ghost use Rattle.bidi_resolve.specs.Places.{scattered};
 ghost use Rattle.bidi_resolve.specs.Sequence.{run_levels};
 ghost use Rattle.std.specs.Prelude.{ℕ, ◌≡◌, ◌<◌, ◌≤◌, All, IfOk, IfSome, length, map};
@@ -67,9 +67,7 @@ fn with_runs(
     levels: &Levels,
     runs: &[Run],
 ) -> Result<LevelList, AllocError>
-    requires level { length levels.now.level.items ≡ length chars.now }
-    requires class { length levels.now.class.items ≡ length chars.now }
-    requires original { length levels.now.original.items ≡ length chars.now }
+    requires lists { AreAsMany levels.now (length chars.now) }
     requires places { All (λ run. All (λ place. place < length chars.now) run.places.items) runs.now }
     requires most { All (λ level. level ≤ 125) levels.now.level.items }
     ensures levels { IfOk result (λ out. out.items ≡ resolved_from chars.now levels.now.original.items levels.now.level.items levels.now.class.items (map sequence_of runs.now) levels.now.level.items) }
@@ -88,9 +86,7 @@ fn write_runs(
     runs: &[Run],
     out: &mut [u8],
 ) -> Result<(), AllocError>
-    requires level { length levels.now.level.items ≡ length chars.now }
-    requires class { length levels.now.class.items ≡ length chars.now }
-    requires original { length levels.now.original.items ≡ length chars.now }
+    requires lists { AreAsMany levels.now (length chars.now) }
     requires out { length out.old ≡ length chars.now }
     requires places { All (λ run. All (λ place. place < length chars.now) run.places.items) runs.now }
     requires most { All (λ level. level ≤ 125) levels.now.level.items }
@@ -112,9 +108,7 @@ fn write_run(
     run: &Run,
     out: &mut [u8],
 ) -> Result<(), AllocError>
-    requires level { length levels.now.level.items ≡ length chars.now }
-    requires class { length levels.now.class.items ≡ length chars.now }
-    requires original { length levels.now.original.items ≡ length chars.now }
+    requires lists { AreAsMany levels.now (length chars.now) }
     requires out { length out.old ≡ length chars.now }
     requires places { All (λ place. place < length chars.now) run.now.places.items }
     requires most { All (λ level. level ≤ 125) levels.now.level.items }

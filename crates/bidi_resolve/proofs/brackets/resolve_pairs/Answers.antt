@@ -1,6 +1,7 @@
 use Rattle.std.proofs.Common.{rules, ◌≡◌, ◌∙◌, sym, ap, arith, ◌+◌, ◌<◌, length, take, drop}
 use Rattle.std.proofs.lemmas.List.{get_or_default}
-use Rattle.bidi_resolve.specs.Brackets.{context, resolve_at, resolve_pairs}
+use Rattle.bidi_resolve.specs.Brackets.{context}
+use Rattle.bidi_resolve.specs.Pairing.{resolve_at, resolve_read}
 use Rattle.bidi_resolve.specs.Pairing.{reading_of}
 use Rattle.bidi_resolve.specs.Places.{gathered}
 use Rattle.bidi_resolve.proofs.BracketLaws.{resolve_at_before, pairs_more}
@@ -38,7 +39,7 @@ loop-k-preserved c =
           let rise = c.requires.within.rises c.loop-k.k j (omega arith) high in
           let h = c.resolve_at.ensures.seen in
           omega arith;
-      rest = ap (resolve_pairs c.args.level c.args.sos (drop (c.loop-k.k + 1) pairs.openings.items) (drop (c.loop-k.k + 1) pairs.closings.items) originals) is
+      rest = ap (resolve_read c.args.level c.args.sos (drop (c.loop-k.k + 1) pairs.openings.items) (drop (c.loop-k.k + 1) pairs.closings.items) originals) is
           ∙ pairs_more c.args.level c.args.sos pairs.openings.items pairs.closings.items originals c.loop-k.classes c.loop-k.k opening closing lt lt' c.index-opening.ensures c.index.ensures
           ∙ c.loop-k.invariant.rest;
     }

@@ -1,5 +1,5 @@
 use Rattle.std.proofs.Common.{rules, ◌∙◌, ap, ◌+◌, drop}
-use Rattle.bidi_resolve.specs.Brackets.{read}
+use Rattle.bidi_resolve.specs.Pairing.{read}
 use Rattle.bidi_resolve.specs.Pairing.{reading_of}
 use Rattle.bidi_resolve.specs.Places.{gathered}
 use Rattle.bidi_resolve.proofs.PairingLaws.{read_more, read_within}

@@ -1,5 +1,5 @@
 use Rattle.std.proofs.Common.{◌≡◌, drop}
-use Rattle.bidi_resolve.specs.Brackets.{read, read_all}
+use Rattle.bidi_resolve.specs.Pairing.{read, read_all}
 use Rattle.bidi_resolve.specs.Pairing.{reading_of, IsWithin}
 use Rattle.bidi_resolve.specs.Places.{gathered}
 use Rattle.bidi_resolve.proofs.pairing.read_pairs.Given as goal

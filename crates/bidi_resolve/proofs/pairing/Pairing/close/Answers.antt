@@ -1,6 +1,8 @@
-use Rattle.std.proofs.Common.{rules, ◌≡◌, ◌∙◌, sym, ap, false, ◌∷◌, eqb}
+use Rattle.std.proofs.Common.{rules, ◌≡◌, ◌<◌, length, ◌∙◌, sym, ap, false, ◌∷◌, eqb}
 use Rattle.std.specs.Option.{is_some}
-use Rattle.bidi_resolve.proofs.PairingLaws.{found_below, all_below}
+use Rattle.std.proofs.lemmas.List.Elements.{All-tail}
+use Rattle.bidi_resolve.specs.declared.pairing.Opened.{Opened}
+use Rattle.bidi_resolve.proofs.PairingLaws.{found_below}
 use Rattle.bidi_resolve.proofs.pairing.Pairing.close.Goals as goal
 
 pub loop-last-preserved : goal.loop-last-preserved
@@ -11,7 +13,7 @@ loop-last-preserved c =
     record {
       first = sym below ∙ c.loop-last.invariant.first;
       some = ap is_some (sym below) ∙ c.loop-last.invariant.some;
-      within = all_below _ c.in-Some.last c.pop_front.new.self.items (rw is at c.loop-last.invariant.within);
+      within = All-tail (λ (opened : Opened). opened.number < length c.loop-last.self.closings.items) c.in-Some.last c.pop_front.new.self.items (rw is at c.loop-last.invariant.within);
       openings = c.loop-last.invariant.openings;
       closings = c.loop-last.invariant.closings;
       stopped = c.loop-last.invariant.stopped;

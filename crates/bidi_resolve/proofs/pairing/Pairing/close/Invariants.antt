@@ -1,6 +1,6 @@
 use Rattle.std.proofs.Common.{◌≡◌, ◌<◌, true, length, All}
 use Rattle.std.specs.Option.{is_some}
-use Rattle.bidi_resolve.specs.Brackets.{found}
+use Rattle.bidi_resolve.specs.Pairing.{found}
 use Rattle.bidi_resolve.proofs.pairing.Pairing.close.Given as goal
 
 abbrev pub invariant-loop-last : goal.invariant-loop-last

@@ -1,5 +1,5 @@
 use Rattle.std.proofs.Common.{◌≡◌, drop}
-use Rattle.bidi_resolve.specs.Brackets.{found}
+use Rattle.bidi_resolve.specs.Pairing.{found}
 use Rattle.bidi_resolve.proofs.pairing.Pairing.holds.Given as goal
 
 abbrev pub invariant-loop-i : goal.invariant-loop-i
