@@ -7,7 +7,7 @@ ghost use Rattle.reading.proofs.DecimalLaws.{decimal_spells, decimal_local, deci
 ghost use Rattle.reading.proofs.SpellLaws.{strip_spells, mapped_spells};
 
 use super::*;
-use reading::{
+use reading::laws::{
     Behind, PlacedRule, Rule, RuleBehind, choices_spell, enclosed_spells, none_goes_further,
     repetitions_spell, sequences_spell, views_spell,
 };

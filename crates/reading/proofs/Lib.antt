@@ -21,3 +21,4 @@ pub mod Names
 pub mod Shorter
 pub mod Chains
 pub mod TurnLaws
+mod Seeking

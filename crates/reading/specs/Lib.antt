@@ -9,3 +9,5 @@ pub mod Closings
 pub mod Names
 pub mod White
 pub mod Cuts
+pub mod Stop
+pub mod Endings
