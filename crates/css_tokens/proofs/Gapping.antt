@@ -1,11 +1,11 @@
 -- White space and comments, piece by piece.
-use Rattle.std.proofs.Common.{◌≡◌, ℕ, ◌<◌, ◌≤◌, Bool, true, false, List, length, codes, Ok, Err, arith}
+use Rattle.std.proofs.Common.{◌≡◌, ℕ, ◌<◌, ◌≤◌, Bool, true, false, List, length, codes, Ok, Err, refl, arith}
 use Rattle.std.specs.Prelude.{IfOk, Result}
 use denote.Bor.{Bor}
-use Rattle.reading.specs.Readers.{strip}
+use Rattle.reading.specs.Readers.{strip, up_to}
 use Rattle.reading.proofs.Shorter.{strip_shortens}
 use Rattle.reading.proofs.Turns.{IsTurning, turning_starts, turning_goes_on, turning_stops, turning_ends}
-use Rattle.css_tokens.specs.Lexing.{in_gap, gap_piece, gap}
+use Rattle.css_tokens.specs.Lexing.{in_gap, gap_piece, gap, comment_end}
 
 -- whether there was white space, and what is left
 abbrev pub IsSkipping : (text : List ℕ) → (was_white : Bool) → (rest : List ℕ) → Type 0
@@ -28,3 +28,9 @@ pub comment_shorter : (text inside : List ℕ) (result : Result (Bor (List ℕ))
     → IfOk result (λ rest. length rest.now < length text)
 comment_shorter text inside (Ok rest) e le = omega (arith, le, strip_shortens (codes "/*") text inside e)
 comment_shorter text inside (Err left) e le = tt
+
+pub comment_ends : (text : List ℕ) (r : List ℕ × List ℕ) → up_to (strip (codes "*/")) text ≡ Ok (r.0, r.1) → comment_end text ≡ Ok (tt, r.1)
+comment_ends text r e = rw e refl
+
+pub comment_open : (text left : List ℕ) → up_to (strip (codes "*/")) text ≡ Err left → comment_end text ≡ Err left
+comment_open text left e = rw e refl

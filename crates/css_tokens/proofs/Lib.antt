@@ -1,4 +1,3 @@
-mod Seeking
 mod Running
 mod Counting
 mod Stringing

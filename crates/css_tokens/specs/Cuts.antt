@@ -19,11 +19,6 @@ abbrev pub ReadsString : (quote : ℕ) → (text : List ℕ) → Result (Bor (Li
 ReadsString quote text (Ok rest) = (inside : List ℕ) × (joined (in_string quote) string_piece text ≡ Ok (inside, rest.now)) × (text ≡ inside ++ rest.now) × (in_string quote rest.now ≡ false)
 ReadsString quote text (Err left) = joined (in_string quote) string_piece text ≡ Err left.now
 
--- what f reads can be read at this place of the text: what stands behind it
-abbrev pub EndsHere : Reader ⊤ → (text : List ℕ) → Option (Bor (List ℕ)) → Type 0
-EndsHere f text None = can_read f text ≡ false
-EndsHere f text (Some rest) = f text ≡ Ok (tt, rest.now)
-
 -- digits were read, and counted so
 abbrev pub Counts : (List ℕ → ℕ) → Read (List ℕ) → (count : ℕ) → (rest : List ℕ) → Type 0
 Counts view read count rest = (digits : List ℕ) × (read ≡ Ok (digits, rest)) × (count ≡ view digits)

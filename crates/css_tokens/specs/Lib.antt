@@ -1,5 +1,6 @@
 pub mod Characters
 pub mod Cuts
+pub mod Gaps
 pub mod Grammar
 pub mod Lexing
 pub mod Numbers

@@ -1,12 +1,13 @@
 //! What may stand between tokens (CSS Syntax 3, 4.3.2).
 
-ghost use Rattle.std.specs.Prelude.{◌≡◌, ◌<◌, ◌≤◌, codes, length, drop, IfOk, IfSome};
+ghost use Rattle.std.specs.Prelude.{◌≡◌, ◌<◌, ◌≤◌, codes, length, IfOk};
+ghost use Rattle.std.proofs.Common.{rules};
 ghost use Rattle.reading.specs.Readers as reading;
 ghost use Rattle.reading.specs.Readers.{Answers};
-ghost use Rattle.css_tokens.specs.Cuts.{EndsHere};
 ghost use Rattle.css_tokens.specs.Lexing as readers;
+ghost use Rattle.css_tokens.specs.Gaps.{begins_with_a_star, is_some};
 
-use reading::{starts, strip, white, white_ahead};
+use reading::{Ending, starts, strip, up_to_end, white, white_ahead};
 
 /// White space and comments, as many as come next, and the text behind them; whether there is white space among them.
 /// A comment that nothing ends is refused at the end of the text.
@@ -52,30 +53,33 @@ pub fn comment(text: &str) -> Result<&str, &[u8]>
 }
 
 // What stands behind the first `*/`.
-#[tactic(auto, using(crate::proofs::Seeking::at_start, crate::proofs::Seeking::at_here, crate::proofs::Seeking::at_not_here, crate::proofs::Seeking::at_nothing))]
+#[tactic(auto, using(crate::proofs::Gapping::comment_ends, crate::proofs::Gapping::comment_open))]
 fn behind_end(text: &str) -> Result<&str, &[u8]>
     ensures read { Answers (λ rest. (tt, rest.now)) result (readers.comment_end text.now) }
     ensures shorter { IfOk result (λ rest. length rest.now ≤ length text.now) }
 {
-    for at in 0..text.len() {
-        if let Some(rest) = end_at(text, at) {
-            return Ok(rest);
-        }
-    }
-    Err(text.as_bytes().split_at(text.len()).1)
+    Ok(up_to_end(&CommentEnd, text)?.1)
 }
 
-// What stands behind a `*/` at this place.
-fn end_at(text: &str, at: usize) -> Option<&str>
-    requires { at < length text.now }
-    ensures read { EndsHere (reading.strip (codes "*/")) (drop at text.now) result }
-    ensures shorter { IfSome result (λ rest. length rest.now ≤ length text.now) }
-{
-    if text.as_bytes()[at] != b'*' {
-        return None;
+/// The `*/` that ends a comment.
+struct CommentEnd;
+
+impl Ending for CommentEnd {
+    ghost reads = { λ _. reading.strip (codes "*/") };
+
+    ghost mark = { λ _. 42 };
+
+    fn first_byte(&self) -> u8 {
+        b'*'
     }
-    match strip("*/", text.split_at(at).1) {
-        Ok(rest) => Some(rest),
-        Err(_) => None,
+
+    fn strip_from<'a>(&self, text: &'a str) -> Result<&'a str, &'a [u8]> {
+        strip("*/", text)
     }
+
+    ghost ascii = { λ _. Prim.search rules };
+
+    ghost begins = { λ _. begins_with_a_star };
+
+    ghost some = { λ _. is_some };
 }

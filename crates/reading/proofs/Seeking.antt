@@ -1,7 +1,8 @@
 -- The end of bytes that may be any, looked for place by place.
-use Rattle.std.proofs.Common.{◌≡◌, ℕ, ◌<◌, ◌≤◌, ◌+◌, Bool, true, false, List, [], ◌∷◌, ◌++◌, length, take, drop, get_or, Ok, Err, refl, sym, ap, subst, ◌∙◌, append_assoc, arith}
+use Rattle.std.proofs.Common.{◌≡◌, ℕ, ◌<◌, ◌≤◌, ◌+◌, Bool, true, false, eqb, List, [], ◌∷◌, ◌++◌, length, take, drop, get_or, Ok, Err, refl, sym, ap, subst, ◌∙◌, append_assoc, arith}
 use denote.Bor.{Bor}
 use Rattle.std.specs.Prelude.{Some, None, ⊤, ◌≢◌}
+use Rattle.std.proofs.lemmas.Bool.{ne_eqb}
 use Rattle.std.proofs.lemmas.List.{drop_all, take_more, drop_more}
 use Rattle.std.proofs.Common.{slice_index_or}
 use Rattle.reading.specs.Readers.{Reader, until, with_byte, can_read, up_to}
@@ -69,10 +70,10 @@ at_not_here f text at now lt none =
     }
 
 -- it doesn't begin with another byte than its mark
-pub not_begun : (f : Reader ⊤) (text bytes : List ℕ) (at mark : ℕ) → ((byte : ℕ) (after : List ℕ) → byte ≢ mark → can_read f (byte ∷ after) ≡ false)
+pub not_begun : (f : Reader ⊤) (text bytes : List ℕ) (at mark : ℕ) → ((byte : ℕ) (after : List ℕ) → eqb byte mark ≡ false → can_read f (byte ∷ after) ≡ false)
     → bytes ≡ text → at < length text → slice_index_or bytes at 0 ≢ mark → can_read f (drop at text) ≡ false
 not_begun f text bytes at mark begins same lt other =
-    rw (drop_more text at 0 lt) (begins (get_or text at 0) (drop (at + 1) text) (λ e. other (rw same e)))
+    rw (drop_more text at 0 lt) (begins (get_or text at 0) (drop (at + 1) text) (ne_eqb (get_or text at 0) mark (λ e. other (rw same e))))
 
 read_by : (f : Reader ⊤) (text inside here rest : List ℕ) → until (can_read f) text ≡ Ok (inside, here) → f here ≡ Ok (tt, rest) → up_to f text ≡ Ok (inside, rest)
 unfolding up_to

@@ -1,6 +1,6 @@
 //! Bytes that may be any, up to the first place where their end can be read.
 
-ghost use Rattle.std.specs.Prelude.{◌≡◌, ◌≢◌, ◌≤◌, ◌<◌, ℕ, List, [], ◌∷◌, false, drop, length, IfOk, IfSome, ⊤};
+ghost use Rattle.std.specs.Prelude.{◌≡◌, ◌==◌, ◌≤◌, ◌<◌, ℕ, List, [], ◌∷◌, false, drop, length, IfOk, IfSome, ⊤};
 ghost use Rattle.reading.specs.Readers as readers;
 ghost use Rattle.reading.specs.Readers.{Answers, Reader};
 ghost use Rattle.reading.specs.Endings.{EndsHere};
@@ -22,7 +22,7 @@ pub trait Ending {
 
     ghost ascii: { (end_ : Self) → mark end_ < 128 };
 
-    ghost begins: { (end_ : Self) (byte : ℕ) (after : List ℕ) → byte ≢ mark end_ → readers.can_read (reads end_) (byte ∷ after) ≡ false };
+    ghost begins: { (end_ : Self) (byte : ℕ) (after : List ℕ) → (byte == mark end_) ≡ false → readers.can_read (reads end_) (byte ∷ after) ≡ false };
 
     ghost some: { (end_ : Self) → readers.can_read (reads end_) [] ≡ false };
 }
