@@ -6,11 +6,12 @@ use Rattle.reading.specs.Readers.{ReadOr, give, mapped}
 use Rattle.reading.proofs.SpellLaws.{Stopped, at_first, at_second, bind_ok, bind_err, same_answer}
 use Rattle.css_values.specs.declared.error.CssError.{CssError}
 use Rattle.css_values.specs.declared.error.CssError.TheVariants as errors
-use Rattle.css_values.specs.Faults.{Fault, Told, end_of}
+use Rattle.reading.specs.Stop.{end_of}
+use Rattle.css_values.specs.Error.{Fault, Told}
 use Rattle.css_sheet.specs.Answered.{IsTheSheet, IsWholeSheet, RefusesSheet}
 use Rattle.css_sheet.specs.Grammar.{IsSheet}
-use Rattle.css_sheet.specs.Rules.{Ruling}
-use Rattle.css_sheet.specs.Sheets.{Sheet, empty, sheet}
+use Rattle.style_types.specs.Rule.{Ruling}
+use Rattle.css_sheet.specs.Sheet.{Sheet, empty, sheet}
 use Rattle.css_sheet.proofs.HeadLaws.{good}
 use Rattle.css_sheet.proofs.SheetLaws.{sheet_spells}
 

@@ -10,11 +10,11 @@ use Rattle.reading.specs.Spelling.{Anything, Spells}
 use Rattle.reading.proofs.SpellLaws.{bind_ok, same_answer, starts_so, strip_spells, mapped_spells, choice_spells, telling_spells}
 use Rattle.reading.proofs.PlacedLaws.{anywhere_spells, placed_as, placed_follow, placed_mapped, placed_telling}
 use Rattle.css_tokens.specs.Grammar.{IsGap}
-use Rattle.css_values.specs.Faults.{Fault, syntax}
+use Rattle.css_values.specs.Error.{Fault, syntax}
 use Rattle.css_values.specs.declared.error.Refusal.TheVariants.{TooManyRules}
-use Rattle.css_sheet.specs.Rules.{Compound}
-use Rattle.css_sheet.specs.Selectors.{selector}
-use Rattle.css_sheet.specs.Sheets.{Heads, behind_selector, cannot, counted, head_turn, heads, heads_go_on, next_selector, no_heads, opening}
+use Rattle.style_types.specs.Rule.{Compound}
+use Rattle.css_sheet.specs.Selector.{selector}
+use Rattle.css_sheet.specs.Sheet.{Heads, behind_selector, cannot, counted, head_turn, heads, heads_go_on, next_selector, no_heads, opening}
 use Rattle.css_sheet.specs.Grammar.{AreSelectors, IsSelector}
 use Rattle.css_tokens.proofs.Spelling.{gap_spells}
 use Rattle.reading.proofs.Chains.{Chain, AreTurns, IsTurn, turns_spell}

@@ -3,10 +3,11 @@ use Rattle.std.proofs.Common.{◌≡◌, ℕ, ◌<◌, true, false, List, length
 use Rattle.std.specs.Prelude.{not}
 use Rattle.reading.specs.Readers.{ReadOr, repeat}
 use Rattle.reading.proofs.Turns.{IsTurning, turning_starts, turning_goes_on, turning_stops, turning_ends}
-use Rattle.css_values.specs.declared.error.Stop.{Stop}
-use Rattle.css_values.specs.declared.error.Stop.TheVariants as stops
-use Rattle.css_values.specs.Faults.{Fault, Stops}
-use Rattle.css_sheet.specs.Sheets.{Heads, head_turn, heads, heads_go_on, no_heads}
+use Rattle.css_values.specs.Error.{Stop}
+use Rattle.reading.specs.declared.stop.Stop.TheVariants as stops
+use Rattle.reading.specs.Stop.{Stops}
+use Rattle.css_values.specs.Error.{Fault}
+use Rattle.css_sheet.specs.Sheet.{Heads, head_turn, heads, heads_go_on, no_heads}
 
 abbrev pub total_of : (rules : ℕ) → List ℕ → ReadOr Fault Heads
 total_of rules text = repeat heads_go_on (head_turn rules) no_heads text

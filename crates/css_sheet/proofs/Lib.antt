@@ -7,3 +7,4 @@ mod SheetLaws
 mod Sheeting
 mod Styling
 mod Turning
+mod DefaultRows

@@ -17,8 +17,8 @@ use Rattle.css_tokens.specs.Lexing.{comment, gap, hash, hash_ahead, name, name_a
 use Rattle.css_tokens.specs.Numbers.{number_ahead}
 use Rattle.css_values.specs.Value.{no_items}
 use Rattle.css_tokens.specs.Grammar.{IsComment, IsGap, IsHash, IsName}
-use Rattle.css_sheet.specs.Rules.{Compound}
-use Rattle.css_sheet.specs.Selectors.{Begun, bare, class, comments, comments_go_on, compound, goes_on, id, is_dot_or_hash, selector, selector_ends, selector_goes_on, selector_name, simple, turn, type_name, typed, with_class, with_compound, with_id}
+use Rattle.style_types.specs.Rule.{Compound}
+use Rattle.css_sheet.specs.Selector.{Begun, bare, class, comments, comments_go_on, compound, goes_on, id, is_dot_or_hash, selector, selector_ends, selector_goes_on, selector_name, simple, turn, type_name, typed, with_class, with_compound, with_id}
 use Rattle.css_sheet.specs.Grammar.{AreComments, AreCompounds, AreSimples, IsCompound, IsJoint, IsSelector, IsSimple, IsType, Simple, with_simple, with_simples}
 use Rattle.css_sheet.specs.Grammar as grammar
 use Rattle.css_tokens.proofs.Spelling.{comment_spells, gap_spells, name_spells, hash_spells}

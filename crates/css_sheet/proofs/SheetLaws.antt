@@ -7,12 +7,12 @@ use Rattle.reading.specs.Spelling.{Anything}
 use Rattle.reading.proofs.SpellLaws.{strip_spells, mapped_spells, telling_spells}
 use Rattle.reading.proofs.PlacedLaws.{anywhere_spells, placed_as, placed_follow, placed_mapped, placed_telling}
 use Rattle.css_tokens.specs.Grammar.{IsGap}
-use Rattle.css_values.specs.Faults.{syntax}
+use Rattle.css_values.specs.Error.{syntax}
 use Rattle.css_values.specs.Grammar.{AreDeclarations}
 use Rattle.css_values.specs.Value.{no_items}
 use Rattle.css_values.specs.declared.within.Within.TheVariants.{Rule}
-use Rattle.css_sheet.specs.Rules.{Compound}
-use Rattle.css_sheet.specs.Sheets.{Sheet, block, goes_on, rule, sheet, turn, with_rules}
+use Rattle.style_types.specs.Rule.{Compound}
+use Rattle.css_sheet.specs.Sheet.{Sheet, block, goes_on, rule, sheet, turn, with_rules}
 use Rattle.css_sheet.specs.Grammar.{AreRules, AreSelectors, Block, IsRule, IsSheet, with_block, with_blocks}
 use Rattle.css_tokens.proofs.Spelling.{gap_spells}
 use Rattle.css_values.proofs.DeclarationLaws.{declarations_spells}

@@ -8,8 +8,8 @@ use Rattle.html_read.specs.Values.{Node, TextAt, kind_of, node_of, nodes_of, she
 use Rattle.std.specs.declared.vec.Vec.{Vec}
 use Rattle.css_values.specs.declared.error.CssError.{CssError}
 use Rattle.css_values.specs.declared.error.CssError.TheVariants as errors
-use Rattle.css_sheet.specs.Sheets.{Sheet, empty}
-use Rattle.css_sheet.specs.Styles.{Fails, Placed, and_then, attributes, before_others, moved_to, own_of_kind, sheet_at, sheets}
+use Rattle.css_sheet.specs.Sheet.{Sheet, empty}
+use Rattle.css_sheet.specs.Styled.{Fails, Placed, and_then, attributes, before_others, moved_to, own_of_kind, sheet_at, sheets}
 
 -- ---- declarations at one place
 

@@ -3,12 +3,11 @@ use Rattle.std.proofs.Common.{◌≡◌, ℕ, ◌<◌, true, false, List, length
 use Rattle.std.specs.Prelude.{Bool, not, codes}
 use Rattle.reading.specs.Readers.{Read, Reader, mapped, next_is, repeat, starts}
 use Rattle.reading.proofs.Turns.{IsTurning, turning_starts, turning_goes_on, turning_stops, turning_ends}
-use Rattle.css_sheet.specs.declared.halt.Halt.{Halt}
-use Rattle.css_sheet.specs.declared.halt.Halt.TheVariants as halts
+use Rattle.reading.specs.declared.stop.Stop.TheVariants as halts
 use Rattle.css_tokens.specs.Lexing.{comment}
-use Rattle.css_sheet.specs.Halts.{Halts}
-use Rattle.css_sheet.specs.Rules.{Compound}
-use Rattle.css_sheet.specs.Selectors.{Begun, comments, comments_go_on, goes_on, is_dot_or_hash, selector_ends, selector_goes_on, simple, turn}
+use Rattle.css_sheet.specs.Halt.{Halt, Halts}
+use Rattle.style_types.specs.Rule.{Compound}
+use Rattle.css_sheet.specs.Selector.{Begun, comments, comments_go_on, goes_on, is_dot_or_hash, selector_ends, selector_goes_on, simple, turn}
 
 -- the turns of a loop from `begun` on
 abbrev pub IsFrom : {S : Type 0} → (S → List ℕ → Bool) → (S → Reader S) → (begun : S) → (text : List ℕ) → (now : S) → (rest : List ℕ) → Type 0
@@ -16,7 +15,7 @@ IsFrom goes turn begun text now rest = IsTurning goes turn (repeat goes turn beg
 
 pub stops : {S : Type 0} (goes : S → List ℕ → Bool) (turn : S → Reader S) (begun now : S) (text rest : List ℕ) (halt : Halt) → IsFrom goes turn begun text now rest → goes now rest ≡ true
     → Halts halt (turn now rest) → Halts halt (repeat goes turn begun text)
-stops goes turn begun now text rest (halts.Left left) is g e = turning_stops left.now is g e
+stops goes turn begun now text rest (halts.Refused stuck left) is g e = turning_stops left.now is g e
 stops goes turn begun now text rest halts.Memory is g e = tt
 
 -- ---- comments
@@ -71,7 +70,7 @@ pub joining_goes_on : (begun now more : Begun) (text rest after : List ℕ) → 
 joining_goes_on begun now more text rest after is g e lt = turning_goes_on more after is g e lt
 
 pub joining_stops : (begun now : Begun) (text rest : List ℕ) (halt : Halt) → IsJoining begun text now rest → not (selector_ends rest) ≡ true → Halts halt (turn now rest) → Halts halt (joined_of begun text)
-joining_stops begun now text rest (halts.Left left) is g e =
+joining_stops begun now text rest (halts.Refused stuck left) is g e =
     let all : repeat selector_goes_on turn begun text ≡ Err left.now = turning_stops left.now is g e in
     rw all refl
 joining_stops begun now text rest halts.Memory is g e = tt

@@ -2,10 +2,10 @@
 use Rattle.std.specs.Prelude.{◌≡◌, ℕ, List, [], ⊤}
 use Rattle.css_values.specs.declared.error.CssError.{CssError}
 use Rattle.css_values.specs.declared.error.CssError.TheVariants as errors
-use Rattle.css_values.specs.Faults.{end_of}
+use Rattle.reading.specs.Stop.{end_of}
 use Rattle.css_sheet.specs.Grammar.{IsSheet}
-use Rattle.css_sheet.specs.Rules.{Ruling}
-use Rattle.css_sheet.specs.Sheets.{Sheet, empty}
+use Rattle.style_types.specs.Rule.{Ruling}
+use Rattle.css_sheet.specs.Sheet.{Sheet, empty}
 
 -- the text, whose first byte is at the place `start`, is a sheet from its first byte to its last
 abbrev pub IsWholeSheet : (start : ℕ) → (text : List ℕ) → Sheet → Type 0

@@ -22,9 +22,9 @@ use Rattle.css_tokens.specs.Grammar.{IsComment, IsGap, IsHash, IsName}
 use Rattle.css_values.specs.Grammar.{AreDeclarations}
 use Rattle.css_values.specs.Value.{no_items}
 use Rattle.css_values.specs.declared.within.Within.TheVariants.{Rule}
-use Rattle.css_sheet.specs.Rules.{Compound}
-use Rattle.css_sheet.specs.Selectors.{bare, is_dot_or_hash, selector_ends, with_class, with_id}
-use Rattle.css_sheet.specs.Sheets.{Sheet, with_rules}
+use Rattle.style_types.specs.Rule.{Compound}
+use Rattle.css_sheet.specs.Selector.{bare, is_dot_or_hash, selector_ends, with_class, with_id}
+use Rattle.css_sheet.specs.Sheet.{Sheet, with_rules}
 
 -- ---- compounds
 

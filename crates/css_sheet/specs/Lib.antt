@@ -1,10 +1,9 @@
 pub mod Answered
 pub mod Default
 pub mod Grammar
-pub mod Halts
-pub mod Rules
-pub mod Selectors
-pub mod Sheets
+pub mod Halt
+pub mod Selector
+pub mod Sheet
 pub mod Specificity
-pub mod Styles
+pub mod Styled
 pub mod Views

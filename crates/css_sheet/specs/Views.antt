@@ -2,13 +2,12 @@
 use Rattle.std.specs.Prelude.{◌≡◌, ℕ, Bool, List, [], ◌∷◌, ◌++◌, map, Result, Ok, Err, ⊤}
 use Rattle.style_types.specs.declared.rule.Selector as code_selector
 use Rattle.style_types.specs.declared.rule.Rule as code_rule
-use Rattle.css_values.specs.declared.error.Stop.{Stop}
-use Rattle.css_values.specs.declared.error.Stop.TheVariants as stops
+use Rattle.css_values.specs.Error.{Stop}
+use Rattle.reading.specs.declared.stop.Stop.TheVariants as stops
 use Rattle.css_sheet.specs.declared.sheet.Sheet as code_sheet
-use Rattle.css_sheet.specs.declared.halt.Halt.{Halt}
-use Rattle.css_sheet.specs.declared.halt.Halt.TheVariants as halts
-use Rattle.css_sheet.specs.Rules.{Ruling, selector_of, rulings_of}
-use Rattle.css_sheet.specs.Sheets.{Heads, Sheet, cannot}
+use Rattle.css_sheet.specs.Halt.{Halt}
+use Rattle.style_types.specs.Rule.{Ruling, selector_of, rulings_of}
+use Rattle.css_sheet.specs.Sheet.{Heads, Sheet, cannot}
 
 abbrev pub heads_of : List code_selector.Selector → (opened : Bool) → Heads
 heads_of selectors opened = record { selectors = map selector_of selectors; opened = opened }
@@ -19,8 +18,8 @@ IsCannot left stops.Memory = ⊥
 
 -- where a selector stopped, told as a refusal
 abbrev pub TellsCannot : Halt → Stop → Type 0
-TellsCannot (halts.Left left) stop = IsCannot left.now stop
-TellsCannot halts.Memory stop = stop ≡ stops.Memory
+TellsCannot (stops.Refused stuck left) stop = IsCannot left.now stop
+TellsCannot stops.Memory stop = stop ≡ stops.Memory
 
 abbrev pub sheet_of : code_sheet.Sheet → Sheet
 sheet_of s = record { rules = rulings_of s.rules.items; declared = s.declared }

@@ -1,10 +1,10 @@
-//! Compound selectors (Selectors 3, 5 and 6).
+//! Compound selectors (Selectors 3, 4 and 6).
 
 ghost use Rattle.std.specs.Prelude.{◌≡◌, ◌≤◌, ◌<◌, IfOk, length};
 ghost use Rattle.reading.specs.Readers.{Answers, repeat};
-ghost use Rattle.css_sheet.specs.Halts.{Reads, TellsBare, TellsLowered};
-ghost use Rattle.css_sheet.specs.Rules.{compound_of};
-ghost use Rattle.css_sheet.specs.Selectors as readers;
+ghost use Rattle.css_sheet.specs.Halt.{Reads, TellsBare, TellsLowered};
+ghost use Rattle.style_types.specs.Rule.{compound_of};
+ghost use Rattle.css_sheet.specs.Selector as readers;
 
 use crate::halt::Halt;
 use crate::names::{class, class_or_id_ahead, id, type_name};
@@ -14,7 +14,7 @@ use std::alloc::Global;
 use style_types::{Joint, LetterList, Letters, Part};
 
 /// A compound: it begins with a class or an id, or with a type or `*`. Comments may stand between its parts.
-#[tactic(auto, unfolding(crate::specs::Selectors::compound))]
+#[tactic(auto, unfolding(crate::specs::Selector::compound))]
 pub(crate) fn next_compound(
     alloc: Global,
     joint: Joint,

@@ -1,8 +1,8 @@
 //! The default sheet (docs/PROFILE/sheets.md).
 
-ghost use Rattle.std.specs.Prelude.{IfOk};
-ghost use Rattle.css_sheet.specs.Default.{AreDefault, IsRead};
-ghost use Rattle.css_sheet.specs.Rules.{rulings_of};
+ghost use Rattle.std.specs.Prelude.{◌≡◌, IfOk};
+ghost use Rattle.css_sheet.specs.Default.{IsDefault, default_rules};
+ghost use Rattle.style_types.specs.Rule.{rulings_of};
 
 use crate::sheet::{empty, read_into};
 use std::alloc::{AllocError, Global};
@@ -25,8 +25,9 @@ h6 { font-size: 0.67em; margin-block: 2.33em }
 ";
 
 /// The rules of the default sheet. The places of their declarations are in its text. Only want of memory is an error.
+/// It reads the text: a caller that asks often keeps the rules.
 pub fn default_sheet(alloc: Global) -> Result<Rules, AllocError>
-    ensures { IfOk result (λ rules. AreDefault (rulings_of rules.items)) }
+    ensures { IfOk result (λ rules. rulings_of rules.items ≡ default_rules) }
 {
     let mut sheet = empty(alloc);
     match read_into(alloc, DEFAULT_SHEET.len(), &mut sheet, DEFAULT_SHEET) {
@@ -35,7 +36,7 @@ pub fn default_sheet(alloc: Global) -> Result<Rules, AllocError>
     }
 }
 
-/// A law: the text of the default sheet is read without a refusal.
+/// A law: the text of the default sheet is read as exactly its rules.
 pub fn default_is_read()
-    ensures { IsRead }
+    ensures { IsDefault }
 {}

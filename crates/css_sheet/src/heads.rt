@@ -2,10 +2,10 @@
 
 ghost use Rattle.std.specs.Prelude.{◌≡◌, Bool, ◌≤◌, ◌<◌, IfOk, length, map};
 ghost use Rattle.reading.specs.Readers.{Answers, next_is, telling};
-ghost use Rattle.css_values.specs.Faults.{Gives};
-ghost use Rattle.css_sheet.specs.Rules.{selector_of};
-ghost use Rattle.css_sheet.specs.Selectors as selectors_read;
-ghost use Rattle.css_sheet.specs.Sheets as readers;
+ghost use Rattle.reading.specs.Stop.{Gives};
+ghost use Rattle.style_types.specs.Rule.{selector_of};
+ghost use Rattle.css_sheet.specs.Selector as selectors_read;
+ghost use Rattle.css_sheet.specs.Sheet as readers;
 ghost use Rattle.css_sheet.specs.Views.{heads_of, TellsCannot};
 
 use crate::halt::Halt;
@@ -20,7 +20,7 @@ use style_types::Selector;
 const MOST_RULES: usize = 4_096;
 
 /// The selectors, where `rules` rules stand before them.
-#[tactic(auto, unfolding(crate::specs::Sheets::heads))]
+#[tactic(auto, unfolding(crate::specs::Sheet::heads))]
 pub(crate) fn heads(
     alloc: Global,
     rules: usize,
@@ -90,8 +90,11 @@ fn cannot(halt: Halt<'_>) -> Stop<'_>
     ensures { TellsCannot halt.entry result }
 {
     match halt {
-        Halt::Left(left) if of_others_ahead(left) => Stop::Refused(Refusal::Unsupported, left),
-        Halt::Left(left) => Stop::Refused(Refusal::CssSyntax, left),
+        Halt::Refused(_, left) if of_others_ahead(left) => Stop::Refused(
+            Refusal::Unsupported,
+            left,
+        ),
+        Halt::Refused(_, left) => Stop::Refused(Refusal::CssSyntax, left),
         Halt::Memory => Stop::Memory,
     }
 }

@@ -4,9 +4,9 @@ ghost use Rattle.std.specs.Prelude.{ℕ};
 ghost use Rattle.reading.specs.Placed.{SpellsPlaced};
 ghost use Rattle.reading.specs.Spelling.{Anything};
 ghost use Rattle.css_sheet.specs.Grammar as grammar;
-ghost use Rattle.css_sheet.specs.Selectors as readers;
-ghost use Rattle.css_sheet.specs.Sheets as sheets;
-ghost use Rattle.css_sheet.specs.Sheets.{Sheet};
+ghost use Rattle.css_sheet.specs.Selector as readers;
+ghost use Rattle.css_sheet.specs.Sheet as sheets;
+ghost use Rattle.css_sheet.specs.Sheet.{Sheet};
 
 /// Selectors and sheets are read as they are spelled.
 pub fn sheets_spell()

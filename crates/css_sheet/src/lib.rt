@@ -6,7 +6,7 @@ mod counts;
 mod default;
 mod halt;
 mod heads;
-mod laws;
+pub mod laws;
 mod names;
 mod selector;
 mod sheet;
@@ -15,10 +15,6 @@ mod weighing;
 
 pub use counts::Specificity;
 pub use default::{DEFAULT_SHEET, default_is_read, default_sheet};
-pub use laws::sheets_spell;
 pub use sheet::read_sheet;
 pub use styled::read_styled;
 pub use weighing::specificity;
-
-#[cfg(test)]
-mod tests;

@@ -1,15 +1,15 @@
-//! The names in selectors (Selectors 3, 5 and 6).
+//! The names in selectors (Selectors 3, 6).
 
 ghost use Rattle.std.specs.Prelude.{◌≡◌, ◌≤◌, ◌<◌, IfOk, length};
 ghost use Rattle.reading.specs.Readers.{Answers, next_is};
-ghost use Rattle.css_sheet.specs.Halts.{IsBehindPoint, lowered_text};
-ghost use Rattle.css_sheet.specs.Selectors as readers;
+ghost use Rattle.css_sheet.specs.Halt.{IsBehindPoint, lowered_text};
+ghost use Rattle.css_sheet.specs.Selector as readers;
 
 use css_tokens::{hash, hash_ahead, name, name_ahead};
 use reading::{first, strip};
 
 /// A name. A `-` before a number begins one that stops at the number's first digit.
-#[tactic(auto, unfolding(crate::specs::Selectors::selector_name, reading::specs::Readers::starts))]
+#[tactic(auto, unfolding(crate::specs::Selector::selector_name, reading::specs::Readers::starts))]
 fn selector_name(text: &str) -> Result<(&str, &str), &[u8]>
     ensures read { Answers (λ n. (n.0.now, n.1.now)) result (readers.selector_name text.now) }
     ensures shorter { IfOk result (λ n. length n.1.now < length text.now) }
@@ -34,7 +34,7 @@ fn behind_point(text: &str) -> &str
 }
 
 /// A type as it is written, or none for `*`.
-#[tactic(auto, unfolding(crate::specs::Selectors::type_name, reading::specs::Readers::starts), using(reading::proofs::Shorter::strip_strict))]
+#[tactic(auto, unfolding(crate::specs::Selector::type_name, reading::specs::Readers::starts), using(reading::proofs::Shorter::strip_strict))]
 pub(crate) fn type_name(text: &str) -> Result<(Option<&str>, &str), &[u8]>
     ensures read { Answers (λ n. (lowered_text n.0, n.1.now)) result (readers.type_name text.now) }
     ensures shorter { IfOk result (λ n. length n.1.now < length text.now) }

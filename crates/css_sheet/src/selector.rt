@@ -2,19 +2,19 @@
 
 ghost use Rattle.std.specs.Prelude.{◌≡◌, ◌≤◌, ◌<◌, ◌||◌, ◌==◌, IfOk, length};
 ghost use Rattle.reading.specs.Readers.{mapped, repeat};
-ghost use Rattle.css_sheet.specs.Halts.{Reads, begun_of};
-ghost use Rattle.css_sheet.specs.Rules.{compounds_of, selector_of};
-ghost use Rattle.css_sheet.specs.Selectors as readers;
+ghost use Rattle.css_sheet.specs.Halt.{Reads, begun_of};
+ghost use Rattle.style_types.specs.Rule.{compounds_of, selector_of};
+ghost use Rattle.css_sheet.specs.Selector as readers;
 
 use crate::compound::next_compound;
-use crate::halt::Halt;
+use crate::halt::{Halt, Stuck};
 use css_tokens::gap;
 use reading::{first, starts, strip};
 use std::alloc::Global;
 use style_types::{Joint, Parts, Selector};
 
 /// A selector, and the text from its `,` or `{` on.
-#[tactic(auto, unfolding(crate::specs::Selectors::selector))]
+#[tactic(auto, unfolding(crate::specs::Selector::selector))]
 pub(crate) fn next_selector(alloc: Global, text: &str) -> Result<(Selector, &str), Halt<'_>>
     ensures read { Reads (λ s. (selector_of s.0, s.1.now)) result (readers.selector text.now) }
     ensures shorter { IfOk result (λ s. length s.1.now ≤ length text.now) }
@@ -70,7 +70,7 @@ fn turn<'a>(
     } else if white {
         with_compound(alloc, Joint::Descendant, parts, text)
     } else {
-        Err(Halt::Left(text.as_bytes()))
+        Err(Halt::Refused(Stuck::Stuck, text.as_bytes()))
     }
 }
 

@@ -2,11 +2,12 @@
 
 ghost use Rattle.std.specs.Prelude.{◌≡◌, ◌<◌, IfErr, IfOk, length, map, not};
 ghost use Rattle.reading.specs.Readers.{mapped, repeat};
-ghost use Rattle.css_values.specs.Faults.{Gives, Told, end_of};
+ghost use Rattle.reading.specs.Stop.{Gives, end_of};
+ghost use Rattle.css_values.specs.Error.{Told};
 ghost use Rattle.css_values.specs.Value.{no_items};
 ghost use Rattle.css_sheet.specs.Answered.{IsTheSheet, RefusesSheet};
-ghost use Rattle.css_sheet.specs.Rules.{rulings_of, selector_of};
-ghost use Rattle.css_sheet.specs.Sheets as readers;
+ghost use Rattle.style_types.specs.Rule.{rulings_of, selector_of};
+ghost use Rattle.css_sheet.specs.Sheet as readers;
 ghost use Rattle.css_sheet.specs.Views.{sheet_of, PutsRule, PutsRules};
 
 use crate::heads::heads;
@@ -25,7 +26,7 @@ pub(crate) struct Sheet {
 }
 
 /// Reads a sheet whose text ends at `end`, behind the rules of others.
-#[tactic(auto, unfolding(crate::specs::Sheets::sheet))]
+#[tactic(auto, unfolding(crate::specs::Sheet::sheet))]
 pub(crate) fn read_into<'a>(
     alloc: Global,
     end: usize,

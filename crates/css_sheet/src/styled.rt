@@ -2,10 +2,10 @@
 
 ghost use Rattle.std.specs.Prelude.{map, Ok};
 ghost use Rattle.html_read.specs.Values.{kind_of, nodes_of, sheets_of, text_at, whole_of};
-ghost use Rattle.css_sheet.specs.Rules.{rulings_of};
-ghost use Rattle.css_sheet.specs.Sheets as readers;
-ghost use Rattle.css_sheet.specs.Styles as styles;
-ghost use Rattle.css_sheet.specs.Styles.{Placing, styled_of};
+ghost use Rattle.style_types.specs.Rule.{styled_of};
+ghost use Rattle.css_sheet.specs.Sheet as readers;
+ghost use Rattle.css_sheet.specs.Styled as styles;
+ghost use Rattle.css_sheet.specs.Styled.{Placing};
 ghost use Rattle.css_sheet.specs.Views.{sheet_of};
 
 use crate::sheet::{Sheet, empty, read_into};
@@ -17,7 +17,7 @@ use style_types::{Declaration, Declarations, Styled, Styles};
 /// Reads all sheets of a document in order, then the style attributes of its nodes. The limits on rules and
 /// declarations count over all sheets together. In a style attribute the place of a refusal, and of each declaration,
 /// is that of the attribute's name.
-#[tactic(auto, unfolding(crate::specs::Styles::styling))]
+#[tactic(auto, unfolding(crate::specs::Styled::styling))]
 pub fn read_styled(alloc: Global, read: &ReadDocument) -> Result<Styled, CssError>
     ensures { Placing styled_of result (styles.styling (whole_of read.now)) }
 {

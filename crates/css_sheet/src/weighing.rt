@@ -1,7 +1,7 @@
 //! How specific selectors are.
 
 ghost use Rattle.std.specs.Prelude.{◌≡◌, ◌+◌, length};
-ghost use Rattle.css_sheet.specs.Rules.{compound_of, compounds_of, selector_of};
+ghost use Rattle.style_types.specs.Rule.{compound_of, compounds_of, selector_of};
 ghost use Rattle.css_sheet.specs.Specificity as definitions;
 
 use crate::counts::Specificity;

@@ -1,12 +1,12 @@
 -- Numbers, digit by digit.
-use Rattle.std.proofs.Common.{◌≡◌, ℕ, ◌<◌, ◌≤◌, ◌+◌, ◌*◌, ◌-◌, Bool, true, false, cond, List, [], ◌∷◌, ◌++◌, length, codes, Ok, Err, refl, sym, ap, ◌∙◌, append_assoc, arith}
+use Rattle.std.proofs.Common.{◌≡◌, ℕ, ◌<◌, ◌≤◌, ◌+◌, ◌*◌, ◌-◌, Bool, true, false, cond, List, [], ◌∷◌, ◌++◌, length, codes, Ok, Err, refl, sym, ap, ◌∙◌, append_assoc, append-nil, arith}
 use Rattle.std.specs.Prelude.{ℤ, min, nat_lt, ⊤}
 use Rattle.std.specs.Char.{is_ascii_digit, digit_value}
 use Rattle.reading.specs.Readers.{follow, choice, strip, one_of, run_of, with_byte, next_is, can_read}
 use Rattle.reading.specs.Cuts.{ReadsFront}
 use Rattle.reading.proofs.SpellLaws.{ok, stop, one_of_spells, bind_ok, same_answer}
 use Rattle.reading.proofs.Shorter.{strip_shortens}
-use Rattle.reading.proofs.Running.{with_front, no_front, longer_front, append_none, IsRunning, running_goes_on}
+use Rattle.reading.proofs.Running.{with_front, no_front, longer_front, IsRunning, running_goes_on}
 use Rattle.css_tokens.proofs.Running.{run_shorter, run_strict}
 use Rattle.css_tokens.specs.Cuts.{Counts}
 use Rattle.css_tokens.specs.Numbers.{sign, point, number_ahead, number_from, first_decimals, decimals, hundredths_of, signed, number}
@@ -89,7 +89,7 @@ run_over (byte ∷ after) e = rw e refl
 
 front_over : (front rest : List ℕ) → with_front front (Ok ([], rest)) ≡ Ok (front, rest)
 unfolding with_front
-front_over front rest = ap (λ (run : List ℕ). Ok (run, rest)) (append_none front)
+front_over front rest = ap (λ (run : List ℕ). Ok (run, rest)) (append-nil front)
 
 pub counting_ends : (text rest left : List ℕ) (value : ℕ) → IsCounting text value rest → one_of is_ascii_digit rest ≡ Err left → Counts (λ digits. min (number_from 0 digits) 10000000) (run_of is_ascii_digit text) value rest
 counting_ends text rest left value now e =

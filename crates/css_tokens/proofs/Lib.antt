@@ -8,3 +8,4 @@ pub mod StringLaws
 pub mod NumberLaws
 pub mod TokenLaws
 pub mod Spelling
+pub mod NumberBounds

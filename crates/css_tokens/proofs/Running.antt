@@ -4,44 +4,12 @@ use Rattle.std.proofs.lemmas.List.{append_cancel_right}
 use Rattle.std.specs.Prelude.{◌&&◌, not}
 use Rattle.reading.specs.Readers.{run_of, next_is}
 use Rattle.reading.specs.Cuts.{ReadsFront}
-use Rattle.reading.proofs.Running.{IsRunning, with_front, append_none}
 use Rattle.reading.proofs.RunLaws.{run_is}
 use Rattle.css_tokens.specs.Characters.{is_name_byte, is_name_start}
 use Rattle.css_tokens.specs.Lexing.{name, name_ahead}
 use Rattle.css_tokens.specs.Numbers.{number_ahead}
-use Rattle.css_tokens.specs.Cuts.{BeginsInAscii}
-
-run_nil : (test : ℕ → Bool) → run_of test [] ≡ Ok ([], [])
-unfolding run_of
-run_nil test = refl
-
-front_nil : (front rest : List ℕ) → with_front front (Ok ([], rest)) ≡ Ok (front ++ [], rest)
-unfolding with_front
-front_nil front rest = refl
-
-nothing : (rest : List ℕ) → length rest ≡ 0 → rest ≡ []
-nothing [] e = refl
-nothing (byte ∷ after) e = absurd (omega arith)
-
--- a run goes on to the end of the text
-pub running_to_end : {test : ℕ → Bool} {text rest : List ℕ} → IsRunning test text rest → length rest ≡ 0 → ReadsFront (run_of test text) text rest
-running_to_end {test = test} {text = text} {rest = rest} now zero_ =
-    let none : rest ≡ [] = nothing rest zero_ in
-    let read : run_of test text ≡ Ok (now.front, rest) =
-    now.same ∙ ap (λ (r : List ℕ). with_front now.front (run_of test r)) none ∙ ap (with_front now.front) (run_nil test) ∙ front_nil now.front []
-    ∙ ap (λ (run : List ℕ). Ok (run, [])) (append_none now.front) ∙ ap (λ (r : List ℕ). Ok (now.front, r)) (sym none) in
-    (now.front, read, now.parts)
 
 -- ---- names
-
-low : (byte : ℕ) → is_name_byte byte ≡ false → byte < 128
-low byte e = grind arith
-
-pub name_ends_low : (byte : ℕ) (after rest : List ℕ) → rest ≡ byte ∷ after → is_name_byte byte ≡ false → BeginsInAscii rest
-name_ends_low byte after rest first e = rw first (low byte e)
-
-pub nothing_is_low : (rest : List ℕ) → length rest ≡ 0 → BeginsInAscii rest
-nothing_is_low rest none = rw (nothing rest none) tt
 
 -- what was read is what stands before the rest
 pub name_cut : (text bytes front rest end_ : List ℕ) → bytes ≡ text → ReadsFront (run_of is_name_byte bytes) bytes end_ → text ≡ front ++ rest → rest ≡ end_ → name text ≡ Ok (front, rest)
@@ -79,10 +47,6 @@ unfolding name name_ahead
 name_strict text run rest ahead e =
     let start : next_is is_name_start text ≡ true = first_of_two (next_is is_name_start text) (not (number_ahead text)) ahead in
     run_strict is_name_byte text run rest (starts_name text start) e
-
-pub name_shorter : (text run rest : List ℕ) → name text ≡ Ok (run, rest) → length rest ≤ length text
-unfolding name
-name_shorter text run rest e = run_shorter is_name_byte text run rest e
 
 first_is_not : (a b : Bool) → b ≡ false → (a && not b) ≡ false → a ≡ false
 first_is_not true b e f = absurd (cc (sym f ∙ ap not e))

@@ -1,12 +1,10 @@
 -- Strings, piece by piece.
-use Rattle.std.proofs.Common.{◌≡◌, ℕ, ◌<◌, Bool, true, false, eqb, List, [], ◌∷◌, ◌++◌, length, Ok, Err, refl, sym, ap, ◌∙◌, append_assoc, length-append, arith}
-use Rattle.std.specs.Prelude.{not}
-use Rattle.std.proofs.lemmas.Bool.{ne_eqb, eqb-true, eq-eqb}
+use Rattle.std.proofs.Common.{◌≡◌, ℕ, ◌<◌, true, false, eqb, List, [], ◌∷◌, ◌++◌, length, Ok, Err, refl, sym, ap, ◌∙◌, append_assoc, length-append, arith}
+use Rattle.std.proofs.lemmas.Bool.{ne_eqb, eq-eqb}
 use Rattle.std.proofs.lemmas.List.{append_cancel_right}
 use Rattle.reading.specs.Readers.{Read, ◌>>=◌, give, joined, mapped, one_of, strip, starts}
 use Rattle.reading.proofs.Turns.{IsTurning, turning_starts, turning_goes_on, turning_stops, turning_ends}
 use Rattle.css_tokens.specs.Characters.{is_line_break, is_quote}
-use Rattle.css_tokens.specs.Cuts.{BeginsInAscii}
 use Rattle.css_tokens.specs.Lexing.{in_string, string_piece, string}
 
 -- a piece was read: what stands before the rest
@@ -86,18 +84,6 @@ pub in_ends : (quote : ℕ) (text rest : List ℕ) → IsIn quote text rest → 
 in_ends quote text rest now ends = (now.front, turning_ends now.turning ends, now.parts, ends)
 
 -- ---- where a string ends
-
-quote_low : (quote : ℕ) → is_quote quote ≡ true → quote < 128
-quote_low quote e = grind arith
-
-not_not : (b : Bool) → not b ≡ false → b ≡ true
-not_not true e = refl
-not_not false e = absurd cc
-
--- a text is cut before a quote
-pub quote_cut : (quote : ℕ) (rest : List ℕ) → is_quote quote ≡ true → in_string quote rest ≡ false → BeginsInAscii rest
-quote_cut quote [] low e = tt
-quote_cut quote (byte ∷ after) low e = rw (eqb-true byte quote (not_not (eqb byte quote) e)) (quote_low quote low)
 
 string_by : (quote : ℕ) (text inside after : List ℕ) → is_quote quote ≡ true → joined (in_string quote) string_piece text ≡ Ok (inside, quote ∷ after) → string (quote ∷ text) ≡ Ok (inside, after)
 unfolding string one_of

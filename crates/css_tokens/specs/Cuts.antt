@@ -1,7 +1,7 @@
 -- Where a text is cut: before a byte of ASCII.
-use Rattle.std.specs.Prelude.{◌≡◌, ℕ, ◌<◌, false, List, [], ◌∷◌, ◌++◌, length, Option, Some, None, Result, Ok, Err, ⊤}
+use Rattle.std.specs.Prelude.{◌≡◌, ℕ, ◌<◌, false, List, [], ◌∷◌, ◌++◌, length, Result, Ok, Err, ⊤}
 use denote.Bor.{Bor}
-use Rattle.reading.specs.Readers.{Read, Reader, joined, can_read}
+use Rattle.reading.specs.Readers.{Read, joined}
 use Rattle.css_tokens.specs.Lexing.{in_string, string_piece}
 
 -- the bytes begin with ASCII, or there are none

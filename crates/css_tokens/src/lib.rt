@@ -3,7 +3,7 @@
 
 mod cuts;
 mod gaps;
-mod laws;
+pub mod laws;
 mod names;
 mod numbers;
 mod strings;
@@ -11,11 +11,7 @@ mod token;
 mod tokens;
 
 pub use gaps::{comment, gap};
-pub use laws::tokens_spell;
 pub use names::{hash, hash_ahead, name, name_ahead};
 pub use numbers::{number, number_ahead};
 pub use token::Token;
 pub use tokens::next_token;
-
-#[cfg(test)]
-mod tests;

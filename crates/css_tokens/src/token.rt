@@ -1,3 +1,5 @@
+//! What a token is (CSS Syntax 3, 4).
+
 /// A token of a value (CSS Syntax 3, 4). Numbers are in hundredths, cut after the second decimal; one of more than
 /// seven digits before the point counts as 9,999,999.99.
 #[derive(Clone, Copy, Debug, PartialEq, Eq)]

@@ -8,7 +8,8 @@ use Rattle.style_types.specs.declared.value.Declaration.{Declaration}
 use Rattle.css_tokens.specs.Lexing.{gap}
 use Rattle.css_values.specs.Answered.{RefusesAttribute, IsWithinLimit}
 use Rattle.css_values.specs.Declarations.{Stated, before_rest, declaration, declarations, declared, goes_on, item, judged, stated, turn}
-use Rattle.css_values.specs.Faults.{Fault, Stops, Tells, place_before, spelled, syntax}
+use Rattle.reading.specs.Stop.{Stops, place_before}
+use Rattle.css_values.specs.Error.{Fault, Tells, spelled, syntax}
 use Rattle.css_values.specs.Grammar.{AreDeclarations}
 use Rattle.css_values.specs.Judging.{is_unsupported}
 use Rattle.css_values.specs.Value.{no_items}
@@ -16,8 +17,8 @@ use Rattle.css_values.specs.declared.error.CssError.{CssError}
 use Rattle.css_values.specs.declared.error.CssError.TheVariants as errors
 use Rattle.css_values.specs.declared.error.Refusal.{Refusal}
 use Rattle.css_values.specs.declared.error.Refusal.TheVariants.{Unsupported, TooManyRules}
-use Rattle.css_values.specs.declared.error.Stop.{Stop}
-use Rattle.css_values.specs.declared.error.Stop.TheVariants as stops
+use Rattle.css_values.specs.Error.{Stop}
+use Rattle.reading.specs.declared.stop.Stop.TheVariants as stops
 use Rattle.css_values.specs.declared.within.Within.TheVariants.{Attribute}
 use Rattle.css_values.proofs.DeclarationLaws.{declarations_spells}
 

@@ -13,7 +13,7 @@ use Rattle.style_types.specs.declared.value.Declaration.{Declaration}
 use Rattle.css_tokens.specs.Grammar.{IsGap, IsName}
 use Rattle.css_tokens.specs.Lexing.{gap, name, name_ahead}
 use Rattle.css_values.specs.Declarations.{Stated, property_name, stated, with_stated, before_rest, judged, at_rule_ahead, unsupported, declaration, item, turn, list_ends, goes_on, declarations}
-use Rattle.css_values.specs.Faults.{Fault, syntax, spelled}
+use Rattle.css_values.specs.Error.{Fault, syntax, spelled}
 use Rattle.css_values.specs.Grammar.{IsValue, IsStated, IsItem, AreItems, AreDeclarations, then_judged, with_kept}
 use Rattle.css_values.specs.Value.{Written, value}
 use Rattle.css_values.specs.declared.within.Within.{Within}

@@ -6,7 +6,7 @@ use Rattle.css_tokens.specs.declared.token.Token.{Token}
 use Rattle.css_tokens.specs.Tokens as tokens
 use Rattle.css_tokens.specs.Tokens.{Lexeme, lexeme_of}
 use Rattle.css_values.specs.Longhand.{before_others, entry, entries, face_number, family, first_face, number_or}
-use Rattle.css_values.specs.Families.{first_of, found_behind, is_comma, meant_behind, meant_before_comma, meant_from}
+use Rattle.css_values.specs.Family.{first_of, found_behind, is_comma, meant_behind, meant_before_comma, meant_from}
 use Rattle.css_values.specs.Views.{lexemes_of}
 use Rattle.style_types.specs.declared.value.Value.TheVariants as values
 

@@ -3,7 +3,6 @@ mod Eaches
 mod Examples
 mod Families
 mod Listing
-mod NameRows
 mod Openings
 mod Pieces
 mod Valuing
@@ -11,3 +10,4 @@ mod TokenFirsts
 pub mod ComponentLaws
 pub mod DeclarationLaws
 mod AnsweredLaws
+mod NameRows

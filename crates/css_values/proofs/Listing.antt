@@ -5,10 +5,11 @@ use Rattle.reading.specs.Readers.{ReadOr, repeat}
 use Rattle.reading.proofs.Turns.{IsTurning, turning_starts, turning_goes_on, turning_stops, turning_ends}
 use Rattle.style_types.specs.declared.value.Declaration.{Declaration}
 use Rattle.css_values.specs.declared.within.Within.{Within}
-use Rattle.css_values.specs.declared.error.Stop.{Stop}
-use Rattle.css_values.specs.declared.error.Stop.TheVariants as stops
+use Rattle.css_values.specs.Error.{Stop}
+use Rattle.reading.specs.declared.stop.Stop.TheVariants as stops
 use Rattle.css_values.specs.Declarations.{goes_on, list_ends, turn}
-use Rattle.css_values.specs.Faults.{Fault, Stops}
+use Rattle.reading.specs.Stop.{Stops}
+use Rattle.css_values.specs.Error.{Fault}
 
 abbrev pub total_of : Within → (end_ : ℕ) → List ℕ → ReadOr Fault (List Declaration)
 total_of within end_ text = repeat (goes_on within) (turn within end_) [] text

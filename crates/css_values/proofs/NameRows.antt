@@ -1,11 +1,12 @@
--- The functions that are colours, and the values that take a declaration back. docs/PROFILE/properties.md has the
--- same.
-use Rattle.std.specs.Prelude.{◌≡◌, List, [], ◌∷◌, map, codes}
+-- The names that mean the same in many properties. docs/PROFILE/properties.md has the same.
+use Rattle.std.specs.Prelude.{◌≡◌, [], ◌∷◌, codes}
 use Rattle.std.proofs.Common.{refl}
-use Rattle.css_values.specs.declared.names.TheConstants.{COLOURS, RESETS}
+use Rattle.css_values.specs.Tables.{colours, resets}
 
-colours : map (λ name. name.now) COLOURS ≡ codes "rgb" ∷ codes "rgba" ∷ codes "hsl" ∷ codes "hsla" ∷ []
-colours = refl
+functions_that_are_colours : colours ≡ codes "rgb" ∷ codes "rgba" ∷ codes "hsl" ∷ codes "hsla" ∷ []
+unfolding colours
+functions_that_are_colours = refl
 
-resets : map (λ name. name.now) RESETS ≡ codes "unset" ∷ codes "revert" ∷ codes "revert-layer" ∷ []
-resets = refl
+values_that_take_back : resets ≡ codes "unset" ∷ codes "revert" ∷ codes "revert-layer" ∷ []
+unfolding resets
+values_that_take_back = refl

@@ -6,7 +6,7 @@ use Rattle.std.proofs.lemmas.Bool.{eq-eqb}
 use Rattle.reading.specs.Readers.{strip, one_of}
 use Rattle.reading.proofs.SpellLaws.{ok, stop, strip_takes}
 use Rattle.css_values.specs.declared.begun.Bracket.{Bracket}
-use Rattle.css_values.specs.Faults.{spelled}
+use Rattle.css_values.specs.Error.{spelled}
 use Rattle.css_values.specs.Reading.{closing_of, closings_of}
 use Rattle.css_values.specs.Value.{Begun, closes, closed, behind_first, piece}
 
@@ -39,13 +39,6 @@ pub not_closed : (open_ front : List Bracket) (bracket : Bracket) (closer text l
 not_closed open_ front bracket closer text left last is e =
     let read : strip (closing_of bracket ∷ []) text ≡ Err left = rw is at e in
     rw (last, innermost front bracket) (not_closed_by (closing_of bracket) (closings_of front) text left read)
-
-nothing : (open_ : List Bracket) → length open_ ≡ 0 → open_ ≡ []
-nothing [] e = refl
-nothing (bracket ∷ open_) e = absurd (omega arith)
-
-pub none_open : (open_ : List Bracket) (text : List ℕ) → length open_ ≡ 0 → closes (closings_of open_) text ≡ false
-none_open open_ text none = rw (nothing open_ none) refl
 
 -- ---- the innermost one is taken away
 

@@ -8,9 +8,11 @@ use Rattle.css_tokens.specs.declared.token.Token.{Token}
 use Rattle.css_tokens.specs.Lexing.{gap}
 use Rattle.css_tokens.specs.Tokens.{Lexeme, lexeme_of}
 use Rattle.css_values.specs.declared.within.Within.{Within}
-use Rattle.css_values.specs.declared.error.Stop.{Stop}
-use Rattle.css_values.specs.declared.error.Stop.TheVariants as stops
-use Rattle.css_values.specs.Faults.{Fault, IsStopAt, Stops, spelled, syntax}
+use Rattle.css_values.specs.Error.{Stop}
+use Rattle.reading.specs.declared.stop.Stop.TheVariants as stops
+use Rattle.css_values.specs.declared.error.Refusal.TheVariants.{CssSyntax}
+use Rattle.reading.specs.Stop.{IsStopAt, Stops}
+use Rattle.css_values.specs.Error.{Fault, spelled, syntax}
 use Rattle.css_values.specs.Value.{Written, Begun, begun, goes_on, turn, finished, value, ends_important, is_important, without_mark}
 
 -- ---- the mark
@@ -93,7 +95,7 @@ no_value : (within : Within) (text left : List ℕ) → gap text ≡ Err left �
 unfolding value
 no_value within text left e = rw e refl
 
-pub gap_stops : (within : Within) (text left : List ℕ) (stop_ : Stop) → gap text ≡ Err left → IsStopAt left stop_ → Stops stop_ (spelled (value within) text)
+pub gap_stops : (within : Within) (text left : List ℕ) (stop_ : Stop) → gap text ≡ Err left → IsStopAt CssSyntax left stop_ → Stops stop_ (spelled (value within) text)
 gap_stops within text left (stops.Refused kind at) e is = rw (is.0, is.1) (ap (read_or syntax) (no_value within text left e))
 gap_stops within text left stops.Memory e is = tt
 

@@ -6,7 +6,8 @@ use Rattle.css_tokens.specs.Lexing.{gap, name, name_ahead}
 use Rattle.css_values.specs.declared.error.Refusal.TheVariants.{Unsupported, TooManyRules}
 use Rattle.css_values.specs.declared.within.Within.{Within}
 use Rattle.css_values.specs.declared.within.Within.TheVariants as within_
-use Rattle.css_values.specs.Faults.{Fault, Judged, spelled, place_before}
+use Rattle.reading.specs.Stop.{place_before}
+use Rattle.css_values.specs.Error.{Fault, Judged, spelled}
 use Rattle.css_values.specs.Judging.{is_unsupported, expanded, placed}
 use Rattle.css_values.specs.Value.{Written, value, no_items}
 

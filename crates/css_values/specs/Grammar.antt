@@ -14,7 +14,7 @@ use Rattle.css_tokens.specs.Tokens as tokens
 use Rattle.css_tokens.specs.Tokens.{Lexeme}
 use Rattle.css_values.specs.Components.{Components, none, preserved, block, lexemes_in, have_var, first_at}
 use Rattle.css_values.specs.Declarations.{Stated, list_ends, with_stated}
-use Rattle.css_values.specs.Faults.{Fault}
+use Rattle.css_values.specs.Error.{Fault}
 use Rattle.css_values.specs.Value.{Written, closers_of, ends_important, no_items, value_ends, without_mark}
 use Rattle.css_values.specs.declared.within.Within.{Within}
 

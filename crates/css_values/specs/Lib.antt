@@ -2,9 +2,9 @@ pub mod Answered
 pub mod Border
 pub mod Components
 pub mod Declarations
-pub mod Families
+pub mod Family
 pub mod Grammar
-pub mod Faults
+pub mod Error
 pub mod Judging
 pub mod Longhand
 pub mod Reading

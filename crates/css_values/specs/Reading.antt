@@ -6,8 +6,8 @@ use Rattle.css_values.specs.declared.begun.Begun as code_begun
 use Rattle.css_values.specs.declared.begun.Bracket.{Bracket}
 use Rattle.css_values.specs.declared.begun.Bracket.TheVariants as brackets
 use Rattle.css_values.specs.declared.value.Written as code
-use Rattle.css_values.specs.declared.error.Stop.{Stop}
-use Rattle.css_values.specs.declared.error.Stop.TheVariants.{Memory}
+use Rattle.css_values.specs.Error.{Stop}
+use Rattle.reading.specs.declared.stop.Stop.TheVariants.{Memory}
 use Rattle.css_values.specs.Value.{Begun, Written, closes}
 
 -- what closes a bracket

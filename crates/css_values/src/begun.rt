@@ -2,7 +2,8 @@
 
 ghost use Rattle.std.specs.Prelude.{◌≡◌, ◌<◌, [], ◌∷◌, length, IfOk};
 ghost use Rattle.css_tokens.specs.Tokens.{lexeme_of};
-ghost use Rattle.css_values.specs.Faults.{Gives, spelled};
+ghost use Rattle.reading.specs.Stop.{Gives};
+ghost use Rattle.css_values.specs.Error.{spelled};
 ghost use Rattle.css_values.specs.Reading.{begun_of, closing_of, closings_of, openings_of, text_of, IsClosing, Puts};
 ghost use Rattle.css_values.specs.Value as values;
 

@@ -4,7 +4,8 @@ ghost use Rattle.std.specs.Prelude.{◌≡◌, ◌≤◌, ◌<◌, List, [], IfE
 ghost use Rattle.reading.specs.Readers.{Answers, repeat};
 ghost use Rattle.css_values.specs.Answered.{IsWithinLimit, RefusesAttribute};
 ghost use Rattle.css_values.specs.Declarations as readers;
-ghost use Rattle.css_values.specs.Faults.{Gives, Tells, Told, end_of, spelled};
+ghost use Rattle.reading.specs.Stop.{Gives, end_of};
+ghost use Rattle.css_values.specs.Error.{Tells, Told, spelled};
 ghost use Rattle.css_values.specs.Grammar as grammar;
 ghost use Rattle.css_values.specs.Reading.{text_of};
 ghost use Rattle.css_values.specs.Views.{stated_of};

@@ -1,10 +1,10 @@
 //! Why a style sheet or a style attribute could not be read.
 
 ghost use Rattle.std.specs.Prelude.{◌≡◌};
-ghost use Rattle.css_values.specs.Faults.{IsStopAt};
 ghost use Rattle.css_values.specs.declared.error.CssError.TheVariants.{Memory as NoMemory};
-ghost use Rattle.css_values.specs.declared.error.Stop.TheVariants.{Memory};
+ghost use Rattle.css_values.specs.declared.error.Refusal.TheVariants.{CssSyntax};
 
+use reading::Kind;
 use std::alloc::{AllocError, AllocFailed};
 use thiserror::Error;
 
@@ -30,37 +30,16 @@ pub enum CssError {
     Memory,
 }
 
-/// Where reading stopped: by a refusal, with the bytes from its place on, or without memory.
-#[derive(Clone, Copy, Debug, Drop)]
-pub enum Stop<'a> {
-    Refused(Refusal, &'a [u8]),
-    Memory,
-}
+impl Kind for Refusal {
+    ghost syntax = { CssSyntax };
 
-// What is left where the grammar doesn't go on.
-impl<'a> From<&'a [u8]> for Stop<'a> {
-    ghost from_gives = { λ left stop. IsStopAt left.now stop };
-
-    fn from(left: &'a [u8]) -> Stop<'a> {
-        Stop::Refused(Refusal::CssSyntax, left)
+    fn syntax() -> Refusal {
+        Refusal::CssSyntax
     }
 }
 
-impl<'a> From<AllocError> for Stop<'a> {
-    ghost from_gives = { λ _ stop. stop ≡ Memory };
-
-    fn from(_e: AllocError) -> Stop<'a> {
-        Stop::Memory
-    }
-}
-
-impl<'a, T: Drop> From<AllocFailed<T>> for Stop<'a> {
-    ghost from_gives = { λ _ stop. stop ≡ Memory };
-
-    fn from(_e: AllocFailed<T>) -> Stop<'a> {
-        Stop::Memory
-    }
-}
+/// Where reading stopped.
+pub type Stop<'a> = reading::Stop<'a, Refusal>;
 
 impl From<AllocError> for CssError {
     ghost from_gives = { λ _ error. error ≡ NoMemory };

@@ -3,7 +3,7 @@
 ghost use Rattle.std.specs.Prelude.{◌≡◌};
 ghost use Rattle.css_tokens.specs.Tokens.{lexeme_of};
 ghost use Rattle.css_values.specs.Longhand as definitions;
-ghost use Rattle.css_values.specs.Families.{first_of, found_behind};
+ghost use Rattle.css_values.specs.Family.{first_of, found_behind};
 ghost use Rattle.css_values.specs.Views.{lexemes_of};
 
 use css_tokens::Token;

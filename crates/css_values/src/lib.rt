@@ -7,7 +7,7 @@ mod declarations;
 mod error;
 mod family;
 mod judging;
-mod laws;
+pub mod laws;
 mod longhand;
 mod names;
 mod refused;
@@ -18,10 +18,4 @@ mod words;
 
 pub use declarations::{declarations_within, read_declarations, told};
 pub use error::{CssError, Refusal, Stop};
-pub use laws::declarations_spell;
 pub use within::Within;
-
-#[cfg(test)]
-mod tests;
-#[cfg(test)]
-mod value_tests;

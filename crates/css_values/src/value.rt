@@ -3,7 +3,8 @@
 ghost use Rattle.std.specs.Prelude.{◌≡◌, ◌≤◌, ◌||◌, ◌==◌, length, map, IfOk};
 ghost use Rattle.reading.specs.Readers as reading;
 ghost use Rattle.css_tokens.specs.Tokens.{lexeme_of};
-ghost use Rattle.css_values.specs.Faults.{Gives, spelled};
+ghost use Rattle.reading.specs.Stop.{Gives};
+ghost use Rattle.css_values.specs.Error.{spelled};
 ghost use Rattle.css_values.specs.Reading.{begun_of, as_written};
 ghost use Rattle.css_values.specs.Value as values;
 

@@ -1,3 +1,5 @@
+//! Where declarations stand: in a style attribute, or in a rule of a sheet.
+
 /// Where declarations stand.
 #[derive(Clone, Copy, Debug, PartialEq, Eq)]
 pub enum Within {

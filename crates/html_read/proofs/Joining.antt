@@ -1,5 +1,5 @@
 -- Texts read by pieces, of which the code takes several at once.
-use Rattle.std.proofs.Common.{◌≡◌, ℕ, ◌<◌, ◌≤◌, ◌+◌, true, false, cond, eqb, List, [], ◌∷◌, ◌++◌, length, drop, get_or, Ok, Err, refl, sym, ap, subst, ◌∙◌, append_assoc, length-append, length-drop, arith}
+use Rattle.std.proofs.Common.{◌≡◌, ℕ, ◌<◌, ◌≤◌, ◌+◌, true, false, cond, eqb, List, [], ◌∷◌, ◌++◌, length, drop, get_or, Ok, Err, refl, sym, ap, subst, ◌∙◌, append_assoc, append-nil, length-append, length-drop, arith}
 use Rattle.std.specs.Prelude.{Bool, zero, suc, not, ◌&&◌, ◌==◌, is_ok, IfOk, Result, ⊤}
 use denote.Bor.{Bor}
 use Rattle.std.specs.Char.{encode_utf8}
@@ -9,7 +9,6 @@ use Rattle.std.proofs.lemmas.Str.{IsCharBoundary-before_ascii}
 use Rattle.std.proofs.lemmas.List.{drop_all, append_cancel_right, drop_more}
 use Rattle.reading.specs.Readers.{Read, ReadOr, Reader, ◌>>=◌, give, follow, mapped, joined, repeat, turns, one_of, starts, strip, read_or}
 use Rattle.reading.proofs.Turns.{turning_starts, turning_goes_on, turning_stops, turning_ends}
-use Rattle.reading.proofs.Running.{append_none}
 use Rattle.reading.proofs.SpellLaws.{ok, stop}
 use Rattle.html_read.specs.declared.error.Stop.{Stop}
 use Rattle.html_read.specs.declared.error.Stop.TheVariants as stops
@@ -40,7 +39,7 @@ joining_ends test f total so_far rest now t = turning_ends now t
 -- ---- runs of pieces
 
 pub run_starts : (test : List ℕ → Bool) (f : Judged (List ℕ)) (text : List ℕ) → JoinsRun test f text text
-run_starts test f text = ([], refl, λ total so_far now. subst (λ (s : List ℕ). IsJoining test f total s text) (sym (append_none so_far)) now)
+run_starts test f text = ([], refl, λ total so_far now. subst (λ (s : List ℕ). IsJoining test f total s text) (sym (append-nil so_far)) now)
 
 pub run_goes_on : (test : List ℕ → Bool) (f : Judged (List ℕ)) (text rest piece after : List ℕ) → JoinsRun test f text rest → rest ≡ piece ++ after → 0 < length piece
     → test rest ≡ true → f rest ≡ Ok (piece, after) → JoinsRun test f text after

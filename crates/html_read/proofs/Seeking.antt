@@ -1,5 +1,5 @@
 -- The end of characters that may be any, looked for place by place.
-use Rattle.std.proofs.Common.{◌≡◌, ℕ, ◌<◌, ◌≤◌, ◌+◌, Bool, true, false, eqb, List, [], ◌∷◌, ◌++◌, length, take, drop, get_or, Ok, Err, refl, sym, ap, subst, ◌∙◌, append_assoc, arith}
+use Rattle.std.proofs.Common.{◌≡◌, ℕ, ◌<◌, ◌≤◌, ◌+◌, Bool, true, false, eqb, List, [], ◌∷◌, ◌++◌, length, take, drop, get_or, Ok, Err, refl, sym, ap, subst, ◌∙◌, append_assoc, append-nil, arith}
 use denote.Bor.{Bor}
 use Rattle.std.specs.Prelude.{Some, None}
 use Rattle.html_read.specs.Cuts.{EndsHere}
@@ -10,7 +10,7 @@ use Rattle.reading.specs.Readers.{until, with_byte, can_read, up_to, strip}
 use Rattle.html_read.specs.declared.raw.RawEnd.{RawEnd}
 use Rattle.html_read.specs.declared.raw.RawEnd.TheVariants as ends
 use Rattle.html_read.specs.Lexing.{raw, raw_end, raw_mark, end_of}
-use Rattle.reading.proofs.Running.{with_front, no_front, longer_front, append_none}
+use Rattle.reading.proofs.Running.{with_front, no_front, longer_front}
 
 -- nothing was found in the front
 pub record IsSeeking (test : List ℕ → Bool) (text front rest : List ℕ) : Type 0 where
@@ -41,7 +41,7 @@ front_ok front run rest = refl
 
 found : (test : List ℕ → Bool) (text front rest : List ℕ) → IsSeeking test text front rest → test rest ≡ true → until test text ≡ Ok (front, rest)
 found test text front rest now e =
-    now.same ∙ ap (with_front front) (until_here test rest e) ∙ front_ok front [] rest ∙ ap (λ (run : List ℕ). Ok (run, rest)) (append_none front)
+    now.same ∙ ap (with_front front) (until_here test rest e) ∙ front_ok front [] rest ∙ ap (λ (run : List ℕ). Ok (run, rest)) (append-nil front)
 
 until_nil : (test : List ℕ → Bool) → test [] ≡ false → until test [] ≡ Err []
 unfolding until

@@ -23,9 +23,6 @@ run_some test last = record { more = last; value = tt; is = ([], [], last, (refl
 word_some : (word : List ℕ) (test : ℕ → Bool) (last : List ℕ) → map to_ascii_lowercase word ≡ word → GoesOnFrom (Seq (EitherCase word) (λ _. Seq (RunOf test) (λ _. Fixed last))) []
 word_some word test last small = record { more = word ++ last; value = tt; is = (tt, word, last, small, ([], [], last, (refl, tt), refl, refl), refl) }
 
-pub closing_some : (opening word : List ℕ) (test : ℕ → Bool) (last : List ℕ) → map to_ascii_lowercase word ≡ word → GoesOnFrom (Closing opening word test last) []
-closing_some opening word test last small = record { more = opening ++ (word ++ last); value = tt; is = (tt, opening, word ++ last, refl, (tt, word, last, small, ([], [], last, (refl, tt), refl, refl), refl), refl) }
-
 -- where the word's own letters are small
 pub closing_viable : (opening word : List ℕ) (test : ℕ → Bool) (last : List ℕ) → map to_ascii_lowercase word ≡ word → IsViable (closing opening word test last) (Closing opening word test last)
 closing_viable opening word test last small =

@@ -13,9 +13,6 @@ name_step word x others name e = rw e refl
 name_is : {T : Type 0} (word : List ℕ) (x : T) (others : List (List ℕ × T)) (name : List ℕ) → bytes_eq (lowered word) name ≡ true → named ((word, x) ∷ others) name ≡ Some x
 name_is word x others name e = rw e refl
 
-pub names_start : {T : Type 0} (table : List (Bor (List ℕ) × T)) (name : List ℕ) → named (words_of (drop 0 table)) name ≡ named (words_of table) name
-names_start table name = refl
-
 pub names_go_on : {T : Type 0} (table : List (Bor (List ℕ) × T)) (i : ℕ) (d : Bor (List ℕ) × T) (name : List ℕ) (total : Option T) → i < length table
     → bytes_eq (lowered (get_or table i d).0.now) name ≡ false → named (words_of (drop i table)) name ≡ total → named (words_of (drop (i + 1) table)) name ≡ total
 names_go_on table i d name total lt e so_far =

@@ -1,5 +1,6 @@
 -- Runs of bytes, as loops read them one by one.
-use Rattle.std.proofs.Common.{◌≡◌, ℕ, ◌≤◌, ◌-◌, None, Bool, true, false, List, [], ◌∷◌, ◌++◌, length, Ok, Err, refl, sym, ap, ◌∙◌, append_assoc, length-append, arith}
+use Rattle.std.proofs.Common.{◌≡◌, ℕ, ◌≤◌, ◌-◌, None, Bool, true, false, List, [], ◌∷◌, ◌++◌, length, Ok, Err, refl, sym, ap, ◌∙◌, append_assoc, append-nil, length-append, arith}
+use Rattle.std.proofs.lemmas.List.{nil_from_length}
 use Rattle.std.proofs.lemmas.Str.{IsCharBoundary-at_seam}
 use Rattle.std.specs.Str.{IsUtf8, IsCharBoundary}
 use Rattle.reading.specs.Readers.{Read, run_of, next_is, with_byte, IsAsciiFirst}
@@ -52,20 +53,20 @@ front_nil : (front rest : List ℕ) → with_front front (Ok ([], rest)) ≡ Ok 
 unfolding with_front
 front_nil front rest = refl
 
-pub append_none : (xs : List ℕ) → xs ++ [] ≡ xs
-append_none [] = refl
-append_none (x ∷ xs) = ap (λ (r : List ℕ). x ∷ r) (append_none xs)
-
 running_is_done : {test : ℕ → Bool} {text rest : List ℕ} → IsRunning test text rest → run_of test rest ≡ Ok ([], rest) → ReadsFront (run_of test text) text rest
 running_is_done {test = test} {text = text} {rest = rest} now done =
     let read : run_of test text ≡ Ok (now.front, rest) =
-    now.same ∙ ap (with_front now.front) done ∙ front_nil now.front rest ∙ ap (λ (run : List ℕ). Ok (run, rest)) (append_none now.front) in
+    now.same ∙ ap (with_front now.front) done ∙ front_nil now.front rest ∙ ap (λ (run : List ℕ). Ok (run, rest)) (append-nil now.front) in
     (now.front, read, now.parts)
 
 pub running_stops : {test : ℕ → Bool} {text rest : List ℕ} (byte : ℕ) (after : List ℕ) → IsRunning test text rest → rest ≡ byte ∷ after → test byte ≡ false → ReadsFront (run_of test text) text rest
 running_stops {test = test} {text = text} {rest = rest} byte after now first e =
     let done : run_of test rest ≡ Ok ([], rest) = rw first (run_none test byte after e) in
     running_is_done now done
+
+-- a run goes on to the end of the text
+pub running_to_end : {test : ℕ → Bool} {text rest : List ℕ} → IsRunning test text rest → length rest ≡ 0 → ReadsFront (run_of test text) text rest
+running_to_end {test = test} {rest = rest} now none = running_is_done now (rw (nil_from_length rest none) (run_nil test))
 
 -- no byte beyond ASCII passes the test
 abbrev pub IsOfAscii : (ℕ → Bool) → Type 0

@@ -1,5 +1,5 @@
 -- The end of bytes that may be any, looked for place by place.
-use Rattle.std.proofs.Common.{◌≡◌, ℕ, ◌<◌, ◌≤◌, ◌+◌, Bool, true, false, eqb, List, [], ◌∷◌, ◌++◌, length, take, drop, get_or, Ok, Err, refl, sym, ap, subst, ◌∙◌, append_assoc, arith}
+use Rattle.std.proofs.Common.{◌≡◌, ℕ, ◌<◌, ◌≤◌, ◌+◌, Bool, true, false, eqb, List, [], ◌∷◌, ◌++◌, length, take, drop, get_or, Ok, Err, refl, sym, ap, subst, ◌∙◌, append_assoc, append-nil, arith}
 use denote.Bor.{Bor}
 use Rattle.std.specs.Prelude.{Some, None, ⊤, ◌≢◌}
 use Rattle.std.proofs.lemmas.Bool.{ne_eqb}
@@ -7,7 +7,7 @@ use Rattle.std.proofs.lemmas.List.{drop_all, take_more, drop_more}
 use Rattle.std.proofs.Common.{slice_index_or}
 use Rattle.reading.specs.Readers.{Reader, until, with_byte, can_read, up_to}
 use Rattle.reading.specs.Endings.{EndsHere}
-use Rattle.reading.proofs.Running.{with_front, no_front, longer_front, append_none}
+use Rattle.reading.proofs.Running.{with_front, no_front, longer_front}
 
 -- nothing was found in the front
 pub record IsSeeking (test : List ℕ → Bool) (text front rest : List ℕ) : Type 0 where
@@ -35,7 +35,7 @@ front_ok front run rest = refl
 
 found : (test : List ℕ → Bool) (text front rest : List ℕ) → IsSeeking test text front rest → test rest ≡ true → until test text ≡ Ok (front, rest)
 found test text front rest now e =
-    now.same ∙ ap (with_front front) (until_here test rest e) ∙ front_ok front [] rest ∙ ap (λ (run : List ℕ). Ok (run, rest)) (append_none front)
+    now.same ∙ ap (with_front front) (until_here test rest e) ∙ front_ok front [] rest ∙ ap (λ (run : List ℕ). Ok (run, rest)) (append-nil front)
 
 until_nil : (test : List ℕ → Bool) → test [] ≡ false → until test [] ≡ Err []
 unfolding until

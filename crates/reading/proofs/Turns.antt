@@ -1,5 +1,5 @@
 -- Turns from state to state: what a loop of the code keeps, and what is read by such turns.
-use Rattle.std.proofs.Common.{◌≡◌, ℕ, zero, suc, ◌<◌, Bool, true, false, List, length, Ok, Err, refl, sym, ap, ◌∙◌, arith}
+use Rattle.std.proofs.Common.{◌≡◌, ℕ, zero, suc, ◌<◌, Bool, true, false, List, length, Ok, Err, refl, sym, ap, subst, ◌∙◌, arith}
 use Rattle.reading.specs.Readers.{ReadOr, ReaderOr, ◌>>=◌, follow, turns, repeat}
 use Rattle.reading.proofs.SpellLaws.{ok, stop, bind_ok, Stopped, at_first, at_second, bind_err, same_answer}
 
@@ -158,3 +158,29 @@ unfolding turns
 turns_stop_back goes turn P told here back zero s bytes e = absurd cc
 turns_stop_back goes turn P told here back (suc fuel) s bytes e =
     stop_back_by goes turn P fuel s bytes told (goes s bytes) refl here back (turns_stop_back goes turn P told here back fuel) e
+
+-- ---- a fact that each turn keeps
+
+keeps_by : {E S : Type 0} (goes : S → List ℕ → Bool) (turn : S → ReaderOr E S) (P : S → Type 0) (fuel : ℕ) (s end_ : S) (bytes rest : List ℕ) (t : Bool) → goes s bytes ≡ t
+    → ((s later : S) (x y : List ℕ) → turn s x ≡ ok (later, y) → P s → P later)
+    → ((s : S) (x : List ℕ) → turns goes turn fuel s x ≡ ok (end_, rest) → P s → P end_)
+    → turns goes turn (suc fuel) s bytes ≡ ok (end_, rest) → P s → P end_
+keeps_by {E = E} {S = S} goes turn P fuel s end_ bytes rest true g keeps later e p =
+    let a = bind_ok (turn s bytes) (λ (x : S × List ℕ). turns goes turn fuel x.0 x.1) (end_, rest) (sym (turn_once goes turn fuel s bytes g) ∙ e) in
+    later a.0.0 a.0.1 a.2 (keeps s a.0.0 bytes a.0.1 a.1 p)
+keeps_by {E = E} goes turn P fuel s end_ bytes rest false g keeps later e p =
+    subst P (same_answer {E = E} s end_ bytes rest (sym (turn_none goes turn fuel s bytes g) ∙ e)).0 p
+
+pub turns_keep : {E S : Type 0} (goes : S → List ℕ → Bool) (turn : S → ReaderOr E S) (P : S → Type 0)
+    → ((s later : S) (x y : List ℕ) → turn s x ≡ ok (later, y) → P s → P later)
+    → (fuel : ℕ) (s end_ : S) (bytes rest : List ℕ) → turns goes turn fuel s bytes ≡ ok (end_, rest) → P s → P end_
+unfolding turns
+turns_keep {E = E} goes turn P keeps zero s end_ bytes rest e p = subst P (same_answer {E = E} s end_ bytes rest e).0 p
+turns_keep goes turn P keeps (suc fuel) s end_ bytes rest e p =
+    keeps_by goes turn P fuel s end_ bytes rest (goes s bytes) refl keeps (λ later x same q. turns_keep goes turn P keeps fuel later end_ x rest same q) e p
+
+pub repeat_keeps : {E S : Type 0} (goes : S → List ℕ → Bool) (turn : S → ReaderOr E S) (P : S → Type 0)
+    → ((s later : S) (x y : List ℕ) → turn s x ≡ ok (later, y) → P s → P later)
+    → (s end_ : S) (bytes rest : List ℕ) → repeat goes turn s bytes ≡ ok (end_, rest) → P s → P end_
+unfolding repeat
+repeat_keeps goes turn P keeps s end_ bytes rest e p = turns_keep goes turn P keeps (suc (length bytes)) s end_ bytes rest e p

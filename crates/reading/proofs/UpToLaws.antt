@@ -194,13 +194,6 @@ cased_on word text there later more small parts =
     ap (λ (s : List ℕ). strip_either_case word (s ++ more)) parts ∙ ap (strip_either_case word) (append_assoc there later more)
     ∙ rw (← small) (cased_again there (later ++ more))
 
-cased_decided_by : (word text : List ℕ) → CasedAt word text → Decided (strip_either_case word) text
-cased_decided_by word text (cased_taken there later small parts) = reads tt later (λ more. cased_on word text there later more small parts)
-cased_decided_by word text (cased_not never) = stops never
-
-pub cased_decided : (word text : List ℕ) → length word ≤ length text → Decided (strip_either_case word) text
-cased_decided word text le = cased_decided_by word text (cased_at word text le)
-
 -- ---- runs before a byte that ends them
 
 pub record RunAt (test : ℕ → Bool) (front ending : List ℕ) : Type 0 where

@@ -1,20 +1,19 @@
 //! Readers of byte texts, built from a few combinators whose laws are proved once.
 #![tactic(auto)]
 
+mod cuts;
 mod decimals;
 mod endings;
 pub mod laws;
-mod runs;
 mod stop;
 mod table;
 mod texts;
+mod white_space;
 
+pub use cuts::front_of;
 pub use decimals::decimal;
 pub use endings::{Ending, up_to_end};
-pub use runs::{front_of, spaces, white, white_ahead};
 pub use stop::{Kind, Stop};
 pub use table::{named, same_name};
 pub use texts::{digit, first, starts, strip, strip_either_case};
-
-#[cfg(test)]
-mod tests;
+pub use white_space::{spaces, white, white_ahead};

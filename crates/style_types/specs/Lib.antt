@@ -4,6 +4,7 @@ pub mod Laws
 pub mod Page
 pub mod Property
 pub mod Reach
+pub mod Rule
 pub mod Style
 pub mod Table
 pub mod Value

@@ -1,6 +1,6 @@
 use Rattle.std.proofs.Common.{rules, arith}
 use Rattle.std.proofs.lemmas.Result.{err_from_is_err_and}
-use Rattle.css_sheet.specs.Halts.{begun_of}
+use Rattle.css_sheet.specs.Halt.{begun_of}
 use Rattle.css_sheet.proofs.Turning.{joining_starts, joining_goes_on, joining_stops, joining_ends, not_ended, now_ended}
 use Rattle.css_sheet.proofs.selector.joined.Goals as goal
 

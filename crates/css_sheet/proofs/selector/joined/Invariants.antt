@@ -1,7 +1,7 @@
 use Rattle.std.proofs.Common.{◌≤◌, length}
 use denote.Text.{Utf8}
 use denote.Shadow.{shadow}
-use Rattle.css_sheet.specs.Halts.{begun_of}
+use Rattle.css_sheet.specs.Halt.{begun_of}
 use Rattle.css_sheet.proofs.Turning.{IsJoining}
 use Rattle.css_sheet.proofs.selector.joined.Given as goal
 

@@ -1,5 +1,5 @@
 use Rattle.std.proofs.Common.{rules, ◌≡◌}
-use Rattle.css_values.specs.Faults.{end_of}
+use Rattle.reading.specs.Stop.{end_of}
 use Rattle.css_sheet.specs.Views.{sheet_of}
 use Rattle.css_sheet.proofs.Sheeting.{rules_read}
 use Rattle.css_sheet.proofs.sheet.answer_sheet.Goals as goal

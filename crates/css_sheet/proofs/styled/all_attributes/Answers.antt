@@ -1,7 +1,7 @@
 use Rattle.std.proofs.Common.{◌≡◌, Ok, map, ap, subst, ◌∙◌}
 use Rattle.std.proofs.lemmas.Result.{err_from_is_err_and}
 use Rattle.html_read.specs.Values.{kind_of}
-use Rattle.css_sheet.specs.Styles.{Fails, own_of_kind}
+use Rattle.css_sheet.specs.Styled.{Fails, own_of_kind}
 use Rattle.css_sheet.proofs.Styling.{attributes_go_on, attributes_stop, owned_more}
 use Rattle.css_sheet.proofs.styled.all_attributes.Goals as goal
 

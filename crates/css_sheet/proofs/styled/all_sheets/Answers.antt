@@ -1,7 +1,7 @@
 use Rattle.std.proofs.Common.{subst}
 use Rattle.std.proofs.lemmas.Result.{err_from_is_err_and}
 use Rattle.html_read.specs.Values.{text_at}
-use Rattle.css_sheet.specs.Styles.{Fails, sheet_at}
+use Rattle.css_sheet.specs.Styled.{Fails, sheet_at}
 use Rattle.css_sheet.specs.Views.{sheet_of}
 use Rattle.css_sheet.proofs.Styling.{sheets_stop}
 use Rattle.css_sheet.proofs.styled.all_sheets.Goals as goal

@@ -1,7 +1,7 @@
 use Rattle.std.proofs.Common.{sym, ◌∙◌}
 use Rattle.css_tokens.specs.Characters.{is_name_byte}
 use Rattle.reading.proofs.Running.{running_starts, running_goes_on, running_stops}
-use Rattle.css_tokens.proofs.Running.{running_to_end}
+use Rattle.reading.proofs.Running.{running_to_end}
 use Rattle.css_tokens.proofs.names.name_end.Goals as goal
 
 pub loop-byte-init : goal.loop-byte-init

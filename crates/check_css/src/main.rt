@@ -1,10 +1,13 @@
-//! The program `css_probe` answers for texts of CSS, one a line, so that the readers of CSS can be compared with others.
+//! The program `check_css` answers for texts of CSS, one a line, so that the readers of CSS can be compared with others;
+//! its tests are those of the public calls of these readers.
+//!
 //! A line has three words: the reader, which is `declarations` or `sheet`, the place of the text's first byte, and the
 //! bytes of the text in hexadecimal, or `-` where it has none. The answer is a line.
 //!
 //! - Declarations stand with `; ` between them, each with its property, its value, `important` where it is, and its
-//!   place, as in `width px 100 at 0; height auto important at 12`. Numbers are in hundredths.
-//! - Rules stand with a space between them, each with its selector, as in `p > *.a#b {width px 100 at 9}`. A compound
+//!   place, as in `Width Px(100) at 0; Height Keyword(Auto) important at 12`. Properties and values have the names of
+//!   their variants, which no table of names plays into. Numbers are in hundredths.
+//! - Rules stand with a space between them, each with its selector, as in `p > *.a#b {Width Px(100) at 9}`. A compound
 //!   has its type or `*`, its classes and its ids.
 //! - What is refused has its cause and place, as in `refused CssSyntax 34`.
 //! - A line that is none of these is `not a case`.
@@ -54,3 +57,12 @@ fn answer_case<W: Write>(alloc: Global, case: &Case, output: &mut W) -> io::Resu
         },
     }
 }
+
+#[cfg(test)]
+mod declaration_tests;
+#[cfg(test)]
+mod reading_tests;
+#[cfg(test)]
+mod sheet_tests;
+#[cfg(test)]
+mod token_tests;

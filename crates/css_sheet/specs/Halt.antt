@@ -5,20 +5,20 @@ use Rattle.std.specs.String.{string_bytes}
 use Rattle.std.specs.declared.string.String.{String}
 use Rattle.style_types.specs.declared.rule.Joint.{Joint}
 use Rattle.style_types.specs.declared.rule.Part as code_part
-use Rattle.css_sheet.specs.Rules.{compound_of, compounds_of}
-use Rattle.css_sheet.specs.Selectors.{Begun, bare}
+use Rattle.style_types.specs.Rule.{compound_of, compounds_of}
+use Rattle.css_sheet.specs.Selector.{Begun, bare}
 use Rattle.reading.specs.Readers.{choice, follow, refuse, starts, strip}
 use Rattle.reading.specs.Names.{lowered}
-use Rattle.css_sheet.specs.declared.halt.Halt.{Halt}
-use Rattle.css_sheet.specs.declared.halt.Halt.TheVariants as halts
+use Rattle.reading.specs.declared.stop.Stop as stop_type
+use Rattle.reading.specs.declared.stop.Stop.TheVariants as halts
+use Rattle.css_sheet.specs.declared.halt.Stuck.{Stuck}
 
--- the code stopped there
-abbrev pub IsHaltAt : List ℕ → Halt → Type 0
-IsHaltAt left (halts.Left at) = at.now ≡ left
-IsHaltAt left halts.Memory = ⊥
+-- what a selector is refused for is told by what is left
+abbrev pub Halt : Type 0
+Halt = stop_type.Stop Stuck
 
 abbrev pub Halts : {Y : Type 0} → Halt → Result Y (List ℕ) → Type 0
-Halts (halts.Left left) read = read ≡ Err left.now
+Halts (halts.Refused stuck left) read = read ≡ Err left.now
 Halts halts.Memory read = ⊤
 
 -- What a function returned, seen by `view`, is this, unless memory ran out.

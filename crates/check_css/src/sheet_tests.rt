@@ -1,9 +1,11 @@
-use super::*;
+//! Sheets, selectors, the default sheet, and the styles of a document.
+
+use css_sheet::{Specificity, default_sheet, read_sheet, read_styled, specificity};
 use css_values::{CssError, Refusal};
 use html_read::read_document;
 use std::alloc::Global;
 use std::test::*;
-use style_types::{Declaration, Joint, Keyword, Letters, Property, Rule, Rules, Value};
+use style_types::{Declaration, Joint, Letters, Property, Rule, Rules, Value};
 
 /// Sheets that are read, with the count of their rules, and that of the last one's declarations.
 const SHEETS: [(&'static str, usize, Option<usize>); 13] = [
@@ -109,7 +111,7 @@ const NO_BLOCKS: [(&'static str, usize); 8] = [
 ];
 
 /// What the profile doesn't have, with the place.
-const UNSUPPORTED: [(&'static str, usize); 14] = [
+const UNSUPPORTED: [(&'static str, usize); 15] = [
     ("@media x{}", 0),
     ("a @b{}", 2),
     ("a:hover{}", 1),
@@ -117,6 +119,7 @@ const UNSUPPORTED: [(&'static str, usize); 14] = [
     ("a+b{}", 1),
     ("a~b{}", 1),
     ("a{@x}", 2),
+    ("a{@x )}", 2),
     ("a{@x:y}", 2),
     ("a{width:@x}", 8),
     ("a{float:left;@}", 2),
@@ -189,29 +192,14 @@ fn text_of(letters: Option<&Letters>) -> Option<&str> {
 
 #[test]
 fn syntax(rt: HostRuntime) {
-    for (text, place) in ENDS {
-        assert_eq!(rt;
-            answer(rt.alloc(), text, 0),
-            refused(Refusal::CssSyntax, place)
-        );
-    }
-    for (text, place) in NO_SELECTORS {
-        assert_eq!(rt;
-            answer(rt.alloc(), text, 0),
-            refused(Refusal::CssSyntax, place)
-        );
-    }
-    for (text, place) in NO_NAMES {
-        assert_eq!(rt;
-            answer(rt.alloc(), text, 0),
-            refused(Refusal::CssSyntax, place)
-        );
-    }
-    for (text, place) in NO_BLOCKS {
-        assert_eq!(rt;
-            answer(rt.alloc(), text, 0),
-            refused(Refusal::CssSyntax, place)
-        );
+    let tables: [&[(&str, usize)]; 4] = [&ENDS, &NO_SELECTORS, &NO_NAMES, &NO_BLOCKS];
+    for table in tables {
+        for (text, place) in table {
+            assert_eq!(rt;
+                answer(rt.alloc(), text, 0),
+                refused(Refusal::CssSyntax, *place)
+            );
+        }
     }
 }
 
@@ -273,38 +261,10 @@ fn stated(property: Property, value: Value, place: usize) -> Declaration {
 fn the_default_sheet(rt: HostRuntime) -> Result<(), Fail> {
     let rules = default_sheet(rt.alloc())?;
     assert_eq!(rt; rules.len(), 38);
-    for rule in rules.iter().take(24) {
-        assert_eq!(rt; rule.declarations.len(), 1);
-        let block = Value::Keyword(Keyword::Block);
-        assert_eq!(rt; rule.declarations[0], stated(Property::Display, block, 150));
-    }
-    assert_eq!(rt; tag_of(&rules[0]), Some("html"));
-    assert_eq!(rt; tag_of(&rules[23]), Some("li"));
-    assert_eq!(rt; tag_of(&rules[24]), Some("body"));
-    assert_eq!(rt; rules[24].declarations.len(), 4);
-    let inline_end = stated(Property::MarginInlineEnd, Value::Px(800), 193);
-    assert_eq!(rt; rules[24].declarations[3], inline_end);
-    assert_eq!(rt; tag_of(&rules[32]), Some("h1"));
-    assert_eq!(rt; rules[32].declarations.len(), 3);
-    assert_eq!(rt;
-        rules[32].declarations[0],
-        stated(Property::FontSize, Value::Em(200), 351)
-    );
-    let block_start = stated(Property::MarginBlockStart, Value::Em(67), 367);
-    assert_eq!(rt; rules[32].declarations[1], block_start);
-    assert_eq!(rt; tag_of(&rules[37]), Some("h6"));
     assert_eq!(rt; rules[37].declarations.len(), 3);
     let block_end = stated(Property::MarginBlockEnd, Value::Em(233), 579);
     assert_eq!(rt; rules[37].declarations[2], block_end);
     Ok(())
-}
-
-/// The type of a rule's first compound.
-fn tag_of(rule: &Rule) -> Option<&str> {
-    match rule.selector.parts.first() {
-        Some(part) => text_of(part.tag.as_ref()),
-        None => None,
-    }
 }
 
 #[test]

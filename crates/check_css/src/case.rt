@@ -1,7 +1,7 @@
 //! The cases that are asked.
 
 ghost use Rattle.std.specs.Prelude.{◌≡◌, Some, None, codes};
-ghost use Rattle.css_probe.specs.declared.case.Reader.TheVariants.{Declarations, Sheet};
+ghost use Rattle.check_css.specs.declared.case.Reader.TheVariants.{Declarations, Sheet};
 
 use hex::FromHexError;
 use std::alloc::Global;

@@ -5,6 +5,7 @@ use Rattle.style_types.specs.declared.rule.Joint.{Joint}
 use Rattle.style_types.specs.declared.rule.Part as code_part
 use Rattle.style_types.specs.declared.rule.Selector as code_selector
 use Rattle.style_types.specs.declared.rule.Rule as code_rule
+use Rattle.style_types.specs.declared.rule.Styled as code_styled
 use Rattle.style_types.specs.declared.value.Declaration.{Declaration}
 
 -- a compound selector, joined to the one on its left; it has a type or none
@@ -33,3 +34,11 @@ ruling_of r = record { selector = selector_of r.selector; declarations = r.decla
 
 abbrev pub rulings_of : List code_rule.Rule → List Ruling
 rulings_of = map ruling_of
+
+-- the author's rules of a document, and each node's own declarations
+pub record Styling : Type 0 where
+  pub rules : List Ruling
+  pub own : List (List Declaration)
+
+abbrev pub styled_of : code_styled.Styled → Styling
+styled_of s = record { rules = rulings_of s.rules.items; own = map (λ own. own.items) s.styles.items }

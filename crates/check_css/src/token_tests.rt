@@ -1,4 +1,8 @@
-use super::*;
+//! Tokens of style sheets, and what may stand between them.
+
+use css_tokens::{
+    Token, gap, hash, hash_ahead, name, name_ahead, next_token, number, number_ahead,
+};
 use std::test::*;
 
 /// Texts that begin with a number, with the token and what stands behind it.

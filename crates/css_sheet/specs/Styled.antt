@@ -1,22 +1,17 @@
 -- All the styles of a document: its sheets, then the style attributes of its nodes. CSS Style Attributes, 3.
 use Rattle.std.specs.Prelude.{◌≡◌, ℕ, List, [], ◌∷◌, map, Option, Some, None, Result, Ok, Err, ⊤}
 use Rattle.style_types.specs.declared.value.Declaration.{Declaration}
-use Rattle.style_types.specs.declared.rule.Styled as code
 use Rattle.html_read.specs.Values.{TextAt, Kind, Node, Whole, element, text}
 use Rattle.css_values.specs.declared.error.Refusal.{Refusal}
 use Rattle.css_values.specs.declared.error.CssError.{CssError}
 use Rattle.css_values.specs.declared.error.CssError.TheVariants as errors
 use Rattle.css_values.specs.declared.within.Within.TheVariants.{Attribute}
 use Rattle.css_values.specs.Declarations.{declarations}
-use Rattle.css_values.specs.Faults.{Fault, end_of, place_before}
+use Rattle.reading.specs.Stop.{end_of, place_before}
+use Rattle.css_values.specs.Error.{Fault}
 use Rattle.reading.specs.Readers.{ReadOr}
-use Rattle.css_sheet.specs.Rules.{Ruling, rulings_of}
-use Rattle.css_sheet.specs.Sheets.{Sheet, empty, sheet}
-
--- the author's rules of a document, and each node's own declarations
-pub record Styling : Type 0 where
-  pub rules : List Ruling
-  pub own : List (List Declaration)
+use Rattle.style_types.specs.Rule.{Styling}
+use Rattle.css_sheet.specs.Sheet.{Sheet, empty, sheet}
 
 -- a value, or a refusal with its place in the document
 abbrev pub Placed : Type 0 → Type 0
@@ -68,9 +63,6 @@ attributes (node ∷ others) = and_then (own_of_kind node.kind) (λ own. before_
 
 unfoldable pub styling : Whole → Placed Styling
 styling read = and_then (sheets read.sheets empty) (λ s. and_then (attributes read.nodes) (λ own. Ok (record { rules = s.rules; own = own })))
-
-abbrev pub styled_of : code.Styled → Styling
-styled_of s = record { rules = rulings_of s.rules.items; own = map (λ own. own.items) s.styles.items }
 
 abbrev pub Fails : {Y : Type 0} → CssError → Placed Y → Type 0
 Fails (errors.Refused kind place) due = due ≡ Err (kind, place)

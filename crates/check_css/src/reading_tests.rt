@@ -1,4 +1,6 @@
-use super::*;
+//! Texts, numbers and names.
+
+use reading::{decimal, named, same_name, starts, strip, strip_either_case};
 use std::test::*;
 
 #[test]
@@ -32,22 +34,6 @@ fn texts_in_either_case(rt: HostRuntime) {
 }
 
 #[test]
-fn first_bytes(rt: HostRuntime) {
-    assert_eq!(rt; first("<a"), Some((b'<', "a")));
-    assert_eq!(rt; first("<\u{e9}"), Some((b'<', "\u{e9}")));
-    assert_eq!(rt; first("\u{e9}<"), None);
-    assert_eq!(rt; first(""), None);
-}
-
-#[test]
-fn digits(rt: HostRuntime) {
-    assert_eq!(rt; digit("07"), Ok((b'0', "7")));
-    assert_eq!(rt; digit("/"), Err(b"/".as_slice()));
-    assert_eq!(rt; digit(":"), Err(b":".as_slice()));
-    assert_eq!(rt; digit(""), Err(b"".as_slice()));
-}
-
-#[test]
 fn numbers(rt: HostRuntime) {
     assert_eq!(rt; decimal(5, "0"), Ok((0, "")));
     assert_eq!(rt; decimal(5, "00420px"), Ok((420, "px")));
@@ -69,24 +55,4 @@ fn names(rt: HostRuntime) {
     assert!(rt; same_name("Title", "tITLE"));
     assert!(rt; !same_name("title", "titles"));
     assert!(rt; !same_name("\u{e9}", "\u{c9}"));
-}
-
-#[test]
-fn white_spaces(rt: HostRuntime) {
-    assert_eq!(rt; spaces("\t\n\u{c}\r a b"), "a b");
-    assert_eq!(rt; spaces("\u{b}a"), "\u{b}a");
-    assert_eq!(rt; spaces("\u{a0}"), "\u{a0}");
-    assert_eq!(rt; spaces(""), "");
-    assert_eq!(rt; white("\u{c} a"), Ok(" a"));
-    assert_eq!(rt; white("a "), Err(b"a ".as_slice()));
-    assert_eq!(rt; white(""), Err(b"".as_slice()));
-    assert!(rt; white_ahead("\ra"));
-    assert!(rt; !white_ahead("a\r"));
-    assert!(rt; !white_ahead("\u{a0}"));
-    assert!(rt; !white_ahead(""));
-}
-
-#[test]
-fn fronts(rt: HostRuntime) {
-    assert_eq!(rt; front_of("ab", "b"), "a");
 }

@@ -1,21 +1,12 @@
-//! White space, and the fronts that loops read.
+//! White space (Infra, 4.6: ASCII whitespace).
 
-ghost use Rattle.std.specs.Prelude.{◌≡◌, ◌++◌, ◌≤◌, ◌<◌, length, IfOk, Ok};
+ghost use Rattle.std.specs.Prelude.{◌≡◌, ◌≤◌, ◌<◌, length, IfOk, Ok};
 ghost use Rattle.reading.specs.Readers as readers;
 ghost use Rattle.reading.specs.Readers.{Answers};
 ghost use Rattle.reading.specs.White as blanks;
 ghost use Rattle.reading.specs.White.{is_white};
-ghost use Rattle.reading.specs.Cuts.{EndsWith};
 
 use crate::texts::first;
-
-/// The front of the text that `rest` leaves, where the text ends with `rest`.
-pub fn front_of<'a>(text: &'a str, rest: &str) -> &'a str
-    requires { EndsWith text.now rest.now }
-    ensures { text.now ≡ result.now ++ rest.now }
-{
-    text.split_at(text.len() - rest.len()).0
-}
 
 /// The text behind the white space that it begins with: tab, LF, FF, CR and space.
 #[tactic(auto, unfolding(crate::specs::White::spaces, crate::specs::Readers::skip))]

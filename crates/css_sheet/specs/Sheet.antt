@@ -6,10 +6,10 @@ use Rattle.css_tokens.specs.Lexing.{gap}
 use Rattle.css_values.specs.declared.error.Refusal.TheVariants.{CssSyntax, Unsupported, TooManyRules}
 use Rattle.css_values.specs.declared.within.Within.TheVariants as within_
 use Rattle.css_values.specs.Declarations.{declarations}
-use Rattle.css_values.specs.Faults.{Fault, Judged, spelled}
+use Rattle.css_values.specs.Error.{Fault, Judged, spelled}
 use Rattle.css_values.specs.Value.{no_items}
-use Rattle.css_sheet.specs.Rules.{Compound, Ruling}
-use Rattle.css_sheet.specs.Selectors.{selector}
+use Rattle.style_types.specs.Rule.{Compound, Ruling}
+use Rattle.css_sheet.specs.Selector.{selector}
 
 -- what is read of the sheets so far: their rules, and the count of their declarations, each counted for each selector
 pub record Sheet : Type 0 where

@@ -1,4 +1,6 @@
-use crate::{CssError, Refusal, read_declarations};
+//! Declarations of style attributes.
+
+use css_values::{CssError, Refusal, read_declarations};
 use std::test::*;
 use style_types::{Declaration, Keyword, Property, Value};
 
