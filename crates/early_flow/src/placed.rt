@@ -1,3 +1,5 @@
+//! The page of an early document: rectangles with the numbers of their nodes.
+
 ghost use Rattle.std.specs.Prelude.{◌≡◌, List};
 
 use early_tree::NodeNumbers;
