@@ -1,4 +1,5 @@
 pub mod Blanks
+pub mod Laws
 pub mod Line
 pub mod Paragraph
 pub mod Reversals

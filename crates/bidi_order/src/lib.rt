@@ -3,6 +3,7 @@
 #![tactic(auto)]
 
 mod blanks;
+pub mod laws;
 mod line;
 mod paragraph;
 mod places;
