@@ -1,7 +1,7 @@
 -- The units of some texts, computed. The right sides are from outside.
 use Rattle.std.specs.Prelude.{◌≡◌, refl, ℕ, [], ◌∷◌, ℤ, pos}
 use Rattle.face_api.specs.Kinds.{mono_table, first_table}
-use Rattle.face_api.specs.Tables.{advance_of}
+use Rattle.face_api.specs.Table.{advance_of}
 use Rattle.style_types.specs.declared.style.Style.{Style}
 use Rattle.style_types.specs.declared.style.TextOrientation.{TextOrientation}
 use Rattle.style_types.specs.declared.style.TextOrientation.TheVariants.{Mixed, Sideways, Upright as set_upright}
@@ -19,8 +19,8 @@ use Rattle.wm_modes.specs.declared.mode.Direction.TheVariants.{Ltr}
 use Rattle.wm_chars.specs.declared.classes.BreakClass.{BreakClass}
 use Rattle.wm_chars.specs.declared.classes.BreakClass.TheVariants.{Space, Ideographic, Other}
 use Rattle.wm_chars.specs.Repertoire.{row_of, break_class, orientation}
-use Rattle.cluster_units.specs.Clusters.{unit_clusters}
-use Rattle.cluster_units.specs.Units.{units_of}
+use Rattle.cluster_units.specs.Cluster.{unit_clusters}
+use Rattle.cluster_units.specs.Unit.{units_of}
 use Rattle.cluster_units.specs.declared.unit.Unit.{Unit}
 use Rattle.cluster_units.specs.declared.unit.UnitKind.{UnitKind}
 use Rattle.cluster_units.specs.declared.unit.UnitKind.TheVariants.{Along, Turned, Upright, Combined}

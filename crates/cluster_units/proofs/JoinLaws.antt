@@ -3,7 +3,7 @@ use Rattle.std.proofs.Common.{◌≡◌, suc, ◌-◌, ◌<◌, Bool, true, fals
 use Rattle.std.specs.Prelude.{◌+ℤ◌, if◌then◌else◌}
 use Rattle.std.proofs.lemmas.Bool.{cases_Bool, and_parts}
 use Rattle.std.proofs.lemmas.Int.{ints}
-use Rattle.cluster_units.specs.Joined.{is_combined, merged, with_unit, joined}
+use Rattle.cluster_units.specs.Text.{is_combined, merged, with_unit, joined}
 use Rattle.cluster_units.specs.declared.unit.Unit.{Unit}
 
 -- ---- one unit more

@@ -1,5 +1,6 @@
 pub mod Examples
 pub mod JoinLaws
+pub mod Order
 pub mod Pieces
 pub mod PlainLaws
 pub mod Walk

@@ -7,7 +7,7 @@ use Rattle.std.proofs.lemmas.Bool.{and_parts}
 use Rattle.std.proofs.lemmas.Str.{chars-encodes, encodes-chars, length-le-encodes, scalars-chars}
 use Rattle.unicode_segmentation.specs.Grapheme.{graphemes, is_grapheme_break}
 use Rattle.unicode_segmentation.specs.Segments.{Rule, cut, prepend, segments}
-use Rattle.cluster_units.specs.Clusters.{clusters}
+use Rattle.cluster_units.specs.Cluster.{clusters}
 
 -- every piece is made of characters
 abbrev are_scalars : List (List ℕ) → Bool

@@ -3,7 +3,7 @@ use Rattle.std.proofs.Common.{◌≡◌, ℕ, ◌+◌, ◌-◌, ◌*◌, ◌^◌
 use Rattle.std.specs.Prelude.{pos, ◌+ℤ◌, if◌then◌else◌}
 use Rattle.std.proofs.lemmas.Bool.{cases_Bool}
 use Rattle.std.proofs.lemmas.Int.{ints}
-use Rattle.face_api.specs.Tables.{Table}
+use Rattle.face_api.specs.Table.{Table}
 use Rattle.style_types.specs.declared.style.Style.{Style}
 use Rattle.style_types.specs.declared.style.TextOrientation.{TextOrientation}
 use Rattle.style_types.specs.declared.style.TextOrientation.TheVariants.{Mixed, Sideways, Upright as set_upright}
@@ -15,10 +15,10 @@ use Rattle.std.specs.List.{last_or}
 use Rattle.std.specs.Prelude.{unwrap_or}
 use Rattle.std.proofs.lemmas.Option.{none-some}
 use Rattle.std.proofs.lemmas.Bool.{and_parts}
-use Rattle.cluster_units.specs.Clusters.{clusters, cluster_of, is_control, placed, uncontrolled, unit_clusters}
-use Rattle.cluster_units.specs.Joined.{is_combined, merged, with_unit, joined, added, AreWithin}
+use Rattle.cluster_units.specs.Cluster.{clusters, cluster_of, is_control, placed, uncontrolled, unit_clusters}
+use Rattle.cluster_units.specs.Text.{is_combined, merged, with_unit, joined, added, AreWithin}
 use Rattle.cluster_units.specs.Runs.{Run, items, last, with_front, runs_of}
-use Rattle.cluster_units.specs.Units.{combines, combined_unit, kind_by, kind_of, is_vertical, plain_advance, single_unit, sum_of, vertical_kind, unit_of, lone_unit, units_of}
+use Rattle.cluster_units.specs.Unit.{combines, combined_unit, kind_by, kind_of, is_vertical, plain_advance, single_unit, sum_of, vertical_kind, unit_of, lone_unit, units_of}
 use Rattle.cluster_units.specs.declared.cluster.Cluster.{Cluster}
 use Rattle.cluster_units.specs.declared.unit.Unit.{Unit}
 use Rattle.cluster_units.proofs.JoinLaws.{with_onto, with_apart, joined_more, joined_none}

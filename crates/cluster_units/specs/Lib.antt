@@ -1,5 +1,6 @@
-pub mod Clusters
-pub mod Joined
+pub mod Cluster
+pub mod Laws
 pub mod Plain
 pub mod Runs
-pub mod Units
+pub mod Text
+pub mod Unit

@@ -2,8 +2,8 @@
 
 ghost use Rattle.std.specs.Prelude.{◌≡◌, ◌+◌, ◌≤◌, ◌^◌, length, slice_index_or};
 ghost use Rattle.std.specs.Str.{chars};
-ghost use Rattle.cluster_units.specs.Clusters as clusters;
-ghost use Rattle.cluster_units.specs.Clusters.{cluster_of};
+ghost use Rattle.cluster_units.specs.Cluster as clusters;
+ghost use Rattle.cluster_units.specs.Cluster.{cluster_of};
 
 /// A grapheme cluster in a text: the place of its first character, the place after its last, and its first
 /// character.

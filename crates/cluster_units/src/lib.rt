@@ -2,6 +2,7 @@
 #![tactic(auto)]
 
 mod cluster;
+pub mod laws;
 mod plain;
 mod single;
 mod text;

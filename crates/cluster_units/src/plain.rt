@@ -4,7 +4,7 @@ ghost use Rattle.std.specs.Prelude.{◌≡◌, ◌≤◌, pos, ◌≤ℤ◌, len
 ghost use Rattle.std.specs.List.{list_all};
 ghost use Rattle.std.specs.Str.{chars};
 ghost use Rattle.cluster_units.specs.Plain.{is_plain};
-ghost use Rattle.cluster_units.specs.Units.{units_of};
+ghost use Rattle.cluster_units.specs.Unit.{units_of};
 
 use crate::Units;
 use crate::cluster::Cluster;

@@ -2,7 +2,7 @@
 
 ghost use Rattle.std.specs.Prelude.{◌≡◌, ◌≤◌, pos, ◌≤ℤ◌, unsigned_abs, IfSome, []};
 ghost use Rattle.wm_chars.specs.Repertoire.{break_class};
-ghost use Rattle.cluster_units.specs.Units as spec;
+ghost use Rattle.cluster_units.specs.Unit as spec;
 
 use crate::cluster::Cluster;
 use crate::{Unit, UnitKind};

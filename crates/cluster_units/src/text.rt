@@ -3,9 +3,10 @@
 ghost use Rattle.std.specs.Prelude.{◌≡◌, ◌+◌, ◌*◌, ◌≤◌, ◌^◌, ℕ, ℤ, pos, ◌≤ℤ◌, ◌&&◌, length, unsigned_abs, All, IfOk, OnOk, [], ◌∷◌};
 ghost use Rattle.std.specs.Str.{chars};
 ghost use Rattle.face_api.specs.Living.{used_table};
-ghost use Rattle.face_api.specs.Seats.{faces_of};
-ghost use Rattle.cluster_units.specs.Units.{lone_unit, units_of};
-ghost use Rattle.cluster_units.specs.Joined.{added, joined, merged, is_combined, AreWithin};
+ghost use Rattle.face_api.specs.Faces.{faces_of};
+ghost use Rattle.cluster_units.specs.Laws.{AreInOrder};
+ghost use Rattle.cluster_units.specs.Unit.{lone_unit, units_of};
+ghost use Rattle.cluster_units.specs.Text.{added, joined, merged, is_combined, AreWithin};
 
 use crate::cluster::{Cluster, cluster_at};
 use crate::plain::{is_plain, plain_units};
@@ -24,13 +25,26 @@ pub fn units(alloc: Global, text: &str, style: &Style, faces: &Faces) -> Result<
     requires bytes { length text.now ≤ 1048576 }
     requires low { pos 0 ≤ℤ style.now.font_size }
     requires high { style.now.font_size ≤ℤ pos 65536 }
-    ensures { IfOk result (λ units. units.items ≡ units_of style.now (used_table (faces_of ⟦<dyn Face as Face>⟧ faces.now) style.now.face) (chars text.now)) }
+    ensures units { IfOk result (λ units. units.items ≡ units_of style.now (used_table (faces_of ⟦<dyn Face as Face>⟧ faces.now) style.now.face) (chars text.now)) }
+    ensures order { IfOk result (λ units. AreInOrder 0 (length (chars text.now)) units.items) }
 {
     units_by(alloc, text, style, faces.used(style.face))
 }
 
-// The units of a text by this face.
+// The units of a text by this face. Each call of a face tells that its table keeps its bounds, on which the lengths
+// rest: so one is made, also where no unit asks for an advance.
 fn units_by(alloc: Global, text: &str, style: &Style, face: &dyn Face) -> Result<Units, AllocError>
+    requires bytes { length text.now ≤ 1048576 }
+    requires low { pos 0 ≤ℤ style.now.font_size }
+    requires high { style.now.font_size ≤ℤ pos 65536 }
+    ensures units { IfOk result (λ units. units.items ≡ units_of style.now (table face.now) (chars text.now)) }
+    ensures order { IfOk result (λ units. AreInOrder 0 (length (chars text.now)) units.items) }
+{
+    let _metrics = face.metrics();
+    all_units(alloc, text, style, face)
+}
+
+fn all_units(alloc: Global, text: &str, style: &Style, face: &dyn Face) -> Result<Units, AllocError>
     requires bytes { length text.now ≤ 1048576 }
     requires low { pos 0 ≤ℤ style.now.font_size }
     requires high { style.now.font_size ≤ℤ pos 65536 }

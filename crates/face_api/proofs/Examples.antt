@@ -2,7 +2,7 @@
 use Rattle.std.specs.Prelude.{◌≡◌, refl, true, false, [], ◌∷◌, Some, None}
 use Rattle.face_api.specs.Kinds.{mono_table, wide_table, first_table}
 use Rattle.face_api.specs.Living.{used_table}
-use Rattle.face_api.specs.Tables.{advance_of, set_row}
+use Rattle.face_api.specs.Table.{advance_of, set_row}
 
 -- `i`, U+2E7F, U+2E80 and upright `i`
 mono : advance_of mono_table 0x69 false ∷ advance_of mono_table 0x2E7F false ∷ advance_of mono_table 0x2E80 false ∷ advance_of mono_table 0x69 true ∷ [] ≡ 500 ∷ 500 ∷ 1000 ∷ 1000 ∷ []

@@ -1,3 +1,4 @@
+pub mod Advances
 pub mod Examples
 pub mod RowLaws
 pub mod SeatLaws

@@ -10,7 +10,7 @@ use Rattle.std.proofs.lemmas.List.{take-append-drop, get_or-take, get_or-drop, s
 use Rattle.std.proofs.lemmas.List.Elements.{filter-append, All-nil, All-cons, All-append, All-filter}
 use Rattle.std.proofs.lemmas.List.Kept.{AllPairs-cons, AllPairs-filter}
 use Rattle.face_api.specs.Rows.{DividesAt}
-use Rattle.face_api.specs.Tables.{Ascend, AreRows, rank, rank_of, row_for, rows_with}
+use Rattle.face_api.specs.Table.{Ascend, AreRows, rank, rank_of, row_for, rows_with}
 use Rattle.face_api.specs.declared.row.Row.{Row}
 
 -- ---- filters on lists that all pass, or of which none does

@@ -4,7 +4,7 @@ use Rattle.std.specs.Prelude.{Bool, option_map, unwrap_or, IsSome}
 use Rattle.std.proofs.lemmas.List.{map-set, set-get_or, get_or_default, append-nil}
 use Rattle.face_api.specs.Kinds.{mono_table}
 use Rattle.face_api.specs.Living.{living, used_table, set_table, retired}
-use Rattle.face_api.specs.Tables.{Table, set_row}
+use Rattle.face_api.specs.Table.{Table, set_row}
 
 module _ {B : Type 0} (table : B → Table) where
   abbrev tables_of : List (Option B) → List (Option Table)

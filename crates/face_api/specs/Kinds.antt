@@ -1,6 +1,6 @@
 -- The tables with which the three kinds of face begin.
 use Rattle.std.specs.Prelude.{true, false, [], ◌∷◌}
-use Rattle.face_api.specs.Tables.{Table}
+use Rattle.face_api.specs.Table.{Table}
 
 -- every character half as wide as high, and wide ones as wide as high
 abbrev pub mono_table : Table

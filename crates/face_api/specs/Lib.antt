@@ -1,6 +1,6 @@
-pub mod Errors
+pub mod Error
+pub mod Faces
 pub mod Kinds
 pub mod Living
 pub mod Rows
-pub mod Seats
-pub mod Tables
+pub mod Table

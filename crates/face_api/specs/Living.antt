@@ -1,6 +1,6 @@
 -- Up to eight tables, each with its mark of life: None is a face that is retired.
 use Rattle.std.specs.Prelude.{ℕ, Bool, List, Option, None, option_map, unwrap_or, slice_index_or, slice_set}
-use Rattle.face_api.specs.Tables.{Table, set_row}
+use Rattle.face_api.specs.Table.{Table, set_row}
 use Rattle.face_api.specs.Kinds.{mono_table}
 
 -- the table of a face that lives; None for one that never was or is retired

@@ -1,6 +1,6 @@
 -- Where the row of a character stands among rows that ascend.
 use Rattle.std.specs.Prelude.{ℕ, ◌<◌, ◌≤◌, List, length, take, drop, All}
-use Rattle.face_api.specs.Tables.{rank_of}
+use Rattle.face_api.specs.Table.{rank_of}
 use Rattle.face_api.specs.declared.row.Row.{Row}
 
 -- the rows below the place stand before this rank, the others do not

@@ -1,7 +1,7 @@
 //! Why an advance was not set, or a face not found.
 
 ghost use Rattle.std.specs.Prelude.{◌≡◌};
-ghost use Rattle.face_api.specs.Errors.{faces_error};
+ghost use Rattle.face_api.specs.Error.{faces_error};
 ghost use Rattle.face_api.specs.declared.error.FaceError.TheVariants.{Memory as face_memory};
 
 use std::alloc::{AllocError, AllocFailed};

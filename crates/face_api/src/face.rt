@@ -1,7 +1,7 @@
 //! What every face answers.
 
 ghost use Rattle.std.specs.Prelude.{◌≡◌, ◌≤◌, true, OnOk, OnErr, IsErrOf};
-ghost use Rattle.face_api.specs.Tables.{Table, IsTable, IsFull, TakesRow, advance_of, set_row};
+ghost use Rattle.face_api.specs.Table.{Table, IsTable, IsFull, TakesRow, advance_of, set_row};
 ghost use Rattle.face_api.specs.declared.error.FaceError.TheVariants.{Fixed, Full};
 
 use crate::{FaceError, Metrics};

@@ -48,7 +48,7 @@ const FIRST_ROWS: [Row; 2] = [
 ];
 
 impl Model for TableFace {
-    ghost use Rattle.face_api.specs.Tables.{Table};
+    ghost use Rattle.face_api.specs.Table.{Table};
 
     ghost Value = { Table };
 
@@ -93,7 +93,7 @@ impl Face for MonoFace {
         }
     }
 
-    #[tactic(auto, unfolding(crate::specs::Tables::advance_of))]
+    #[tactic(auto, unfolding(crate::specs::Table::advance_of))]
     fn advance(&self, c: char, upright: bool) -> u32 {
         MONO.of(c, upright)
     }
@@ -113,7 +113,7 @@ impl Face for WideFace {
         }
     }
 
-    #[tactic(auto, unfolding(crate::specs::Tables::advance_of))]
+    #[tactic(auto, unfolding(crate::specs::Table::advance_of))]
     fn advance(&self, c: char, upright: bool) -> u32 {
         WIDE.of(c, upright)
     }

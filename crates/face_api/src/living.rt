@@ -3,8 +3,8 @@
 ghost use Rattle.std.specs.Prelude.{◌≡◌, ◌≤◌, ◌↔◌, true, Some, None, length, slice_index_or, IsSome, IsErrOf, IsSomeAnd, IfOk, OnOk, OnErr, IsOkUnless, option_map};
 ghost use Rattle.std.specs.Option.{option_copied};
 ghost use Rattle.face_api.specs.Living.{living, used_table, set_table, retired};
-ghost use Rattle.face_api.specs.Seats.{all_living, faces_of, table_in};
-ghost use Rattle.face_api.specs.Tables.{IsFull, TakesRow, set_row};
+ghost use Rattle.face_api.specs.Faces.{all_living, faces_of, table_in};
+ghost use Rattle.face_api.specs.Table.{IsFull, TakesRow, set_row};
 ghost use Rattle.face_api.specs.declared.error.FacesError.TheVariants.{NoFace, Fixed, Full};
 
 use crate::{Face, Faces, FacesError};

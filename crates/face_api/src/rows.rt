@@ -2,7 +2,7 @@
 
 ghost use Rattle.std.specs.Prelude.{◌≡◌, ◌<◌, ◌≤◌, ◌==◌, nat_lt, length, option_map, OnOk, OnErr, IsErrOf, IfSome};
 ghost use Rattle.face_api.specs.Rows.{DividesAt};
-ghost use Rattle.face_api.specs.Tables.{AreRows, Ascend, HasRoom, IsCrowded, rank, rank_of, row_for, rows_with};
+ghost use Rattle.face_api.specs.Table.{AreRows, Ascend, HasRoom, IsCrowded, rank, rank_of, row_for, rows_with};
 ghost use Rattle.face_api.specs.declared.error.FaceError.TheVariants.{Fixed, Full};
 
 use crate::{FaceError, Row};

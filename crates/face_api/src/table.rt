@@ -1,7 +1,7 @@
 //! The table that a face means.
 
 ghost use Rattle.std.specs.Prelude.{◌≡◌, ◌≤◌, [], true, false, IfOk};
-ghost use Rattle.face_api.specs.Tables.{Table, IsTable, default_of};
+ghost use Rattle.face_api.specs.Table.{Table, IsTable, default_of};
 
 use crate::rows::{put, value_of};
 use crate::{Defaults, Face, FaceError, Metrics, Row};
@@ -19,7 +19,7 @@ pub struct FaceTable {
 }
 
 impl Model for FaceTable {
-    ghost use Rattle.face_api.specs.Tables.{Table, IsTable, table_of};
+    ghost use Rattle.face_api.specs.Table.{Table, IsTable, table_of};
 
     ghost Value = { Table };
 
@@ -29,7 +29,7 @@ impl Model for FaceTable {
 }
 
 impl FaceTable {
-    ghost use Rattle.face_api.specs.Tables.{table_of};
+    ghost use Rattle.face_api.specs.Table.{table_of};
 
     /// A table without rows that isn't fixed. Takes no memory. Ascent and descent are at most 4,000, the
     /// defaults at most 10,000.
@@ -99,7 +99,7 @@ impl Face for FaceTable {
         self.metrics
     }
 
-    #[tactic(auto, unfolding(crate::specs::Tables::advance_of))]
+    #[tactic(auto, unfolding(crate::specs::Table::advance_of))]
     fn advance(&self, c: char, upright: bool) -> u32 {
         match value_of(&self.rows, c, upright) {
             Some(value) => value,
@@ -107,7 +107,7 @@ impl Face for FaceTable {
         }
     }
 
-    #[tactic(auto, unfolding(crate::specs::Tables::set_row))]
+    #[tactic(auto, unfolding(crate::specs::Table::set_row))]
     fn set(&mut self, c: char, upright: bool, value: u32) -> Result<(), FaceError> {
         if self.fixed {
             return Err(FaceError::Fixed);

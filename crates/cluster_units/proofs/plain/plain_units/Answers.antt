@@ -1,12 +1,9 @@
-use Rattle.std.proofs.Common.{◌≡◌, ◌∙◌, ◌≤◌, [], ◌∷◌, map, length, sym, ap, subst, arith}
+use Rattle.std.proofs.Common.{◌≡◌, ◌∙◌, ◌≤◌, [], ◌∷◌, length, sym, ap, subst, arith}
 use Rattle.std.specs.Str.{chars, IsUtf8}
 use Rattle.std.specs.Str.Iter.{chars_rest}
 use Rattle.std.proofs.lemmas.List.{length-map}
 use Rattle.std.proofs.lemmas.Str.{IsUtf8-past_char, chars_past_char}
 use Rattle.std.proofs.StrCases.{chars_of_empty}
-use Rattle.cluster_units.specs.Clusters.{cluster_of}
-use Rattle.cluster_units.specs.Joined.{added}
-use Rattle.cluster_units.specs.Units.{lone_unit}
 use Rattle.cluster_units.proofs.Pieces.{fewer_chars}
 use Rattle.cluster_units.proofs.PlainLaws.{pieces, plain_pieces}
 use Rattle.cluster_units.proofs.Walk.{IsUnderway, begins, goes_on, ends, place_within}

@@ -1,5 +1,5 @@
 use Rattle.std.proofs.Common.{◌≡◌, ◌<◌, ◌-◌, ◌∙◌, length, slice_index_or, slice_set, sym, ap, subst, rules}
-use Rattle.cluster_units.specs.Joined.{merged}
+use Rattle.cluster_units.specs.Text.{merged}
 use Rattle.cluster_units.proofs.JoinLaws.{joined_onto, joined_first, joined_apart}
 use Rattle.cluster_units.proofs.text.add_combined.Goals as goal
 use Rattle.cluster_units.proofs.text.add_combined.Goals.{then-count-gt0+else-both_combine, else-count-gt0}

@@ -1,7 +1,7 @@
 use Rattle.std.proofs.Common.{◌≡◌, ◌<◌, ◌≤◌, ◌∙◌, true, false, length, sym, subst, rules}
 use Rattle.std.specs.Prelude.{is_some}
 use Rattle.face_api.specs.Rows.{DividesAt}
-use Rattle.face_api.specs.Tables.{Ascend, rank, rank_of, row_for}
+use Rattle.face_api.specs.Table.{Ascend, rank, rank_of, row_for}
 use Rattle.face_api.proofs.RowLaws.{found_within, replaced, inserted, few_replaced, few_inserted, are_with}
 use Rattle.face_api.proofs.rows.put.Goals as goal
 

@@ -1,7 +1,7 @@
 use Rattle.std.proofs.Common.{◌<◌, ◌≤◌, nat_lt, rules}
 use Rattle.std.proofs.lemmas.Bool.{ltb-true, ltb-false}
 use Rattle.std.proofs.lemmas.List.Sorted.{IsPartitionPoint-from_clause, IsPartitionedBy-ltb}
-use Rattle.face_api.specs.Tables.{rank, rank_of}
+use Rattle.face_api.specs.Table.{rank, rank_of}
 use Rattle.face_api.proofs.RowLaws.{non_decreasing, all_before, all_behind}
 use Rattle.face_api.proofs.rows.rows_before.Goals as goal
 

@@ -2,7 +2,7 @@ use Rattle.std.proofs.Common.{map}
 use Rattle.std.specs.Str.{chars}
 use Rattle.unicode_segmentation.specs.Iter.{graphemes_left}
 use Rattle.cluster_units.proofs.Walk.{IsUnderway}
-use Rattle.cluster_units.proofs.text.units_by.Given as goal
+use Rattle.cluster_units.proofs.text.all_units.Given as goal
 
 abbrev pub invariant-loop-piece : goal.invariant-loop-piece
 invariant-loop-piece g l =

@@ -2,7 +2,7 @@
 -- 5.1 and 9.1).
 use Rattle.std.specs.Prelude.{ℕ, Bool, true, false, ◌&&◌, ◌==◌, not, if◌then◌else◌, List, [], ◌∷◌, map, unwrap_or, Option, Some, None, ℤ, pos, ◌+ℤ◌, ◌*ℤ◌}
 use Rattle.std.specs.Int.{int_div_euclid}
-use Rattle.face_api.specs.Tables.{Table, advance_of}
+use Rattle.face_api.specs.Table.{Table, advance_of}
 use Rattle.style_types.specs.declared.style.Style.{Style}
 use Rattle.style_types.specs.declared.style.TextOrientation.{TextOrientation}
 use Rattle.style_types.specs.declared.style.TextOrientation.TheVariants.{Mixed, Sideways, Upright as set_upright}
@@ -15,7 +15,7 @@ use Rattle.wm_chars.specs.declared.classes.BreakClass.{BreakClass}
 use Rattle.wm_chars.specs.declared.classes.BreakClass.TheVariants.{Ideographic, Other}
 use Rattle.wm_chars.specs.declared.classes.Orient.{Orient}
 use Rattle.wm_chars.specs.declared.classes.Orient.TheVariants.{V}
-use Rattle.cluster_units.specs.Clusters.{is_control, is_several, is_space, unit_clusters}
+use Rattle.cluster_units.specs.Cluster.{is_control, is_several, is_space, unit_clusters}
 use Rattle.cluster_units.specs.declared.cluster.Cluster.{Cluster}
 use Rattle.cluster_units.specs.Runs.{Run, items, last, runs_of}
 use Rattle.cluster_units.specs.declared.unit.Unit.{Unit}
