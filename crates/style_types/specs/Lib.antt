@@ -7,4 +7,5 @@ pub mod Reach
 pub mod Rule
 pub mod Style
 pub mod Table
+pub mod Tree
 pub mod Value
