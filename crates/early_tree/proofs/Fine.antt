@@ -7,8 +7,8 @@ use Rattle.std.specs.Char.{is_ascii_whitespace}
 use Rattle.wm_modes.specs.declared.mode.WritingMode.{WritingMode}
 use Rattle.wm_modes.specs.declared.mode.WritingMode.TheVariants.{HorizontalTb}
 use Rattle.reading.specs.Grammars.{Grammar}
-use Rattle.html_read.specs.declared.tag.Tag.{Tag}
-use Rattle.html_read.specs.declared.tag.Tag.TheVariants.{Html, Body, Div, Section, Article, Header, Footer, Main, Nav, Aside, Address, P, H1, H2, H3, H4, H5, H6, Blockquote, Figure, Figcaption, Ul, Ol, Li, Span, A, B, Strong, I, Em, U, S, Small, Code, Abbr, Cite, Mark, Bdo, Br}
+use Rattle.html_tokens.specs.declared.tag.Tag.{Tag}
+use Rattle.html_tokens.specs.declared.tag.Tag.TheVariants.{Html, Body, Div, Section, Article, Header, Footer, Main, Nav, Aside, Address, P, H1, H2, H3, H4, H5, H6, Blockquote, Figure, Figcaption, Ul, Ol, Li, Span, A, B, Strong, I, Em, U, S, Small, Code, Abbr, Cite, Mark, Bdo, Br}
 use Rattle.html_read.specs.Values.{TextAt, Acting}
 use Rattle.html_read.specs.Tree.{Items, none, pair, line_break}
 use Rattle.early_tree.specs.Boxes as boxes

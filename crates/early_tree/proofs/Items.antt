@@ -3,8 +3,8 @@ use Rattle.std.proofs.Common.{◌≡◌, refl, sym, ap, subst, ◌∙◌, arith,
 use Rattle.std.specs.Prelude.{option_and_then, option_map, is_some, unwrap_or}
 use Rattle.std.specs.List.{list_all, slice_get}
 use Rattle.std.specs.Char.{is_ascii_whitespace}
-use Rattle.html_read.specs.declared.tag.Tag.{Tag}
-use Rattle.html_read.specs.declared.tag.Tag.TheVariants.{Br}
+use Rattle.html_tokens.specs.declared.tag.Tag.{Tag}
+use Rattle.html_tokens.specs.declared.tag.Tag.TheVariants.{Br}
 use Rattle.html_read.specs.Values.{Acting, element, text, Node}
 use Rattle.html_read.specs.Tree.{Items, none, pair, line_break, with_text, with_element, listed, roots}
 use Rattle.early_tree.specs.declared.boxes.EarlyBox.{EarlyBox}

@@ -5,7 +5,7 @@ use Rattle.std.specs.Char.{is_ascii_whitespace}
 use Rattle.wm_modes.specs.declared.mode.WritingMode.{WritingMode}
 use Rattle.wm_modes.specs.declared.mode.WritingMode.TheVariants.{HorizontalTb}
 use Rattle.reading.specs.Grammars.{Grammar, AllPass}
-use Rattle.html_read.specs.declared.tag.Tag.TheVariants.{Div}
+use Rattle.html_tokens.specs.declared.tag.Tag.TheVariants.{Div}
 use Rattle.html_read.specs.Values.{TextAt, Acting, Kind, element, text, Node, Whole}
 use Rattle.html_read.specs.Tree.{Items, none, pair, line_break, with_text, listed, roots}
 use Rattle.early_tree.specs.Boxes as boxes

@@ -4,8 +4,8 @@ use Rattle.std.specs.List.{list_all, slice_get}
 use Rattle.std.specs.Char.{is_ascii_whitespace}
 use Rattle.wm_modes.specs.declared.mode.WritingMode.{WritingMode}
 use Rattle.wm_modes.specs.declared.mode.WritingMode.TheVariants.{HorizontalTb}
-use Rattle.html_read.specs.declared.tag.Tag.{Tag}
-use Rattle.html_read.specs.declared.tag.Tag.TheVariants.{Div}
+use Rattle.html_tokens.specs.declared.tag.Tag.{Tag}
+use Rattle.html_tokens.specs.declared.tag.Tag.TheVariants.{Div}
 use Rattle.html_read.specs.Values.{TextAt, Acting, Kind, element, text, Node, Whole}
 use Rattle.early_tree.specs.declared.boxes.EarlyBox.{EarlyBox}
 use Rattle.early_tree.specs.declared.error.EarlyError.{EarlyError}

@@ -6,13 +6,14 @@ use Rattle.std.proofs.lemmas.List.{append_cancel_right}
 use Rattle.reading.proofs.SpellLaws.{same_answer}
 use Rattle.html_read.specs.declared.error.HtmlError.{HtmlError}
 use Rattle.html_read.specs.declared.error.HtmlError.TheVariants as errors
-use Rattle.html_read.specs.Faults.{Fault, Told}
+use Rattle.html_tokens.specs.Error.{Fault}
+use Rattle.html_read.specs.Error.{Told}
 use Rattle.html_read.specs.Reading.{input, fragment}
 use Rattle.html_read.specs.Values.{Node, Whole}
 use Rattle.html_read.specs.Grammar.{IsDocument, IsFragment}
 use Rattle.html_read.specs.Shape.{IsShaped, IsFragmentShaped}
 use Rattle.html_read.specs.Answered.{IsTheDocument, HaveNoDocument, RefusesDocument, IsTheFragment, RefusesFragment}
-use Rattle.html_read.proofs.TextLaws.{good}
+use Rattle.html_tokens.proofs.TextLaws.{good}
 use Rattle.html_read.proofs.DocumentLaws.{input_takes, input_again, fragment_takes, fragment_again}
 use Rattle.html_read.proofs.ShapeLaws.{document_shaped, fragment_shaped}
 

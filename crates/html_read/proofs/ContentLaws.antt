@@ -8,18 +8,21 @@ use Rattle.reading.specs.Placed.{SpellsPlaced}
 use Rattle.reading.proofs.SpellLaws.{bind_ok, same_answer, mapped_spells}
 use Rattle.reading.proofs.PlacedLaws.{placed_mapped}
 use Rattle.reading.proofs.Turns.{Leads, leads_nowhere, leads_on, one_turn, leads_to_end, turns_back}
-use Rattle.html_read.specs.declared.tag.Tag.{Tag}
-use Rattle.html_read.specs.declared.tag.Tag.TheVariants.{Br}
+use Rattle.html_tokens.specs.declared.tag.Tag.{Tag}
+use Rattle.html_tokens.specs.declared.tag.Tag.TheVariants.{Br}
 use Rattle.html_read.specs.declared.content.Base.{Base}
 use Rattle.html_read.specs.declared.content.Base.TheVariants as bases
-use Rattle.html_read.specs.Characters.{is_letter, tag_named, is_void}
-use Rattle.html_read.specs.Faults.{Fault, syntax}
-use Rattle.html_read.specs.Reading.{Start, Open, Content, content_of, base_parent, parent_in, base_ends, goes_on, begun, ending, markup, with_letters, with_gap, turn, content, in_text, start_tag}
+use Rattle.html_tokens.specs.Characters.{is_letter}
+use Rattle.html_tokens.specs.Tag.{tag_named, is_void}
+use Rattle.html_tokens.specs.Error.{Fault, syntax}
+use Rattle.html_read.specs.Reading.{Start, Open, Content, content_of, base_parent, parent_in, base_ends, goes_on, begun, ending, markup, with_letters, with_gap, turn, content, start_tag}
+use Rattle.html_tokens.specs.Text.{in_text}
 use Rattle.html_read.specs.Tree.{Items, none, pair, line_break, with_text, with_element, listed}
 use Rattle.html_read.specs.Values.{Node}
-use Rattle.html_read.specs.Grammar.{IsStart, IsEndName, IsGap, AreItems, IsContent}
-use Rattle.html_read.proofs.AttributeLaws.{name_named}
-use Rattle.html_read.proofs.TextLaws.{good, NoText, gap_spells}
+use Rattle.html_read.specs.Grammar.{IsStart, AreItems, IsContent}
+use Rattle.html_tokens.specs.Grammar.{IsEndName, IsGap}
+use Rattle.html_tokens.proofs.AttributeLaws.{name_named}
+use Rattle.html_tokens.proofs.TextLaws.{good, NoText, gap_spells}
 use Rattle.html_read.proofs.TagLaws.{start_tag_spells, end_tag_spells}
 
 -- ---- by the first bytes
@@ -461,7 +464,7 @@ closes_break size base (p ∷ opened) nodes start tag gap_ letters y result rest
 
 -- `br` is the tag of that name
 br_named : tag_named (codes "br") ≡ Some Br
-unfolding tag_named Rattle.html_read.specs.Characters.tags
+unfolding tag_named Rattle.html_tokens.specs.Tag.tags
 br_named = refl
 
 void_is_br : (size : ℕ) (text behind : List ℕ) (start : Start) → IsStart size text behind start → is_void start.name ≡ true → start.tag ≡ Br

@@ -14,16 +14,17 @@ use Rattle.reading.specs.Placed.{PlacedGrammar, Anywhere, PlacedSeq, SpellsPlace
 use Rattle.reading.proofs.SpellLaws.{bind_ok, give_spells, strip_spells, follow_spells, mapped_spells, choice_spells, telling_spells, spells_as, spells_before}
 use Rattle.reading.proofs.PlacedLaws.{anywhere_spells, placed_follow}
 use Rattle.html_read.specs.declared.content.Base.TheVariants as bases
-use Rattle.html_read.specs.declared.error.Refusal.TheVariants.{Utf8}
+use Rattle.html_tokens.specs.declared.error.Refusal.TheVariants.{Utf8}
 use Rattle.reading.specs.White.{is_white}
-use Rattle.html_read.specs.Faults.{Fault, syntax, spelled}
-use Rattle.html_read.specs.Lexing.{misc, in_misc, end_of}
+use Rattle.html_tokens.specs.Error.{Fault, syntax, spelled}
+use Rattle.html_tokens.specs.Lexing.{misc, in_misc, end_of}
 use Rattle.html_read.specs.Tree.{roots}
 use Rattle.html_read.specs.Reading.{content, end_tag, mark, maybe_mark, maybe_doctype, prolog, body, html, ended, document, input, fragment}
 use Rattle.html_read.specs.Values.{TextAt, Acting, Node, Whole}
-use Rattle.html_read.specs.Grammar.{IsMiscPiece, IsMisc, IsDoctype, IsEndOf, IsEndName, IsContent, IsMaybeHead, IsBody, IsHtml, IsMark, IsProlog, IsDocument, IsFragment}
-use Rattle.html_read.proofs.MiscLaws.{IsOpening, cased_first, NoMisc, misc_spells, doctype_spells, end_of_spells}
-use Rattle.html_read.proofs.TextLaws.{good}
+use Rattle.html_tokens.specs.Grammar.{IsMiscPiece, IsMisc, IsDoctype, IsEndOf, IsEndName}
+use Rattle.html_read.specs.Grammar.{IsContent, IsMaybeHead, IsBody, IsHtml, IsMark, IsProlog, IsDocument, IsFragment}
+use Rattle.html_tokens.proofs.MiscLaws.{IsOpening, cased_first, NoMisc, misc_spells, doctype_spells, end_of_spells}
+use Rattle.html_tokens.proofs.TextLaws.{good}
 use Rattle.html_read.proofs.TagLaws.{start_of_spells, end_tag_spells}
 use Rattle.html_read.proofs.ContentLaws.{EndsContent, content_spells, content_takes, end_no_text, end_first, end_here}
 use Rattle.html_read.proofs.HeadLaws.{opening_start, opening_front, opening_not_ahead, opening_no_misc, end_no_misc, misc_here, EndsHead, head_opening, maybe_head_spells}

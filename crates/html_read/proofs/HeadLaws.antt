@@ -11,16 +11,17 @@ use Rattle.reading.specs.Placed.{PlacedGrammar, Anywhere, PlacedMapped, PlacedEi
 use Rattle.reading.proofs.SpellLaws.{give_spells, mapped_spells, telling_spells, spells_before}
 use Rattle.reading.proofs.PlacedLaws.{anywhere_spells, placed_before, placed_follow, placed_mapped, placed_choice}
 use Rattle.reading.proofs.Turns.{Leads, leads_nowhere, leads_on, one_turn, leads_to_end, turns_back}
-use Rattle.html_read.specs.declared.raw.RawEnd.TheVariants as ends
+use Rattle.html_tokens.specs.declared.raw_text.RawEnd.TheVariants as ends
 use Rattle.reading.specs.White.{is_white}
-use Rattle.html_read.specs.Faults.{syntax, spelled}
-use Rattle.html_read.specs.Lexing.{raw, in_misc, misc}
+use Rattle.html_tokens.specs.Error.{syntax, spelled}
+use Rattle.html_tokens.specs.Lexing.{raw, in_misc, misc}
 use Rattle.html_read.specs.Reading.{ahead, title, meta, sheet, style, head_turn, head_items, head, maybe_head}
 use Rattle.html_read.specs.Values.{TextAt, Acting}
-use Rattle.html_read.specs.Grammar.{IsWhite, IsEndOf, IsRaw, IsComment, IsMisc, IsStartOf, IsTitle, IsMeta, IsSheet, IsStyle, IsHeadPiece, AreHeadPieces, all_of, IsHead, IsMaybeHead}
-use Rattle.html_read.proofs.MiscLaws.{IsOpening, opening_of, NoMisc, white_spells, raw_spells, comment_spells, misc_spells, end_of_spells}
+use Rattle.html_tokens.specs.Grammar.{IsWhite, IsEndOf, IsRaw, IsComment, IsMisc}
+use Rattle.html_read.specs.Grammar.{IsStartOf, IsTitle, IsMeta, IsSheet, IsStyle, IsHeadPiece, AreHeadPieces, all_of, IsHead, IsMaybeHead}
+use Rattle.html_tokens.proofs.MiscLaws.{IsOpening, opening_of, NoMisc, white_spells, raw_spells, comment_spells, misc_spells, end_of_spells}
 use Rattle.html_read.proofs.TagLaws.{start_of_spells}
-use Rattle.html_read.proofs.TextLaws.{good}
+use Rattle.html_tokens.proofs.TextLaws.{good}
 
 -- ---- what begins with `<` and a byte in either case
 

@@ -9,15 +9,17 @@ use Rattle.std.specs.declared.string.String.{String}
 use Rattle.std.specs.BTreeSet.{BTreeSet, contains, Updates}
 use Rattle.std.proofs.lemmas.Map.Text.{btree_set_updates_text}
 use Rattle.std.proofs.lemmas.List.Folds.{list_any-append}
-use Rattle.html_read.specs.declared.attributes.WrittenAttribute.{WrittenAttribute}
-use Rattle.html_read.specs.declared.error.Stop.{Stop}
-use Rattle.html_read.specs.declared.error.Stop.TheVariants as stops
-use Rattle.html_read.specs.declared.error.Refusal.TheVariants.{Syntax}
-use Rattle.html_read.specs.Characters.{role_of}
-use Rattle.html_read.specs.Faults.{Fault, Stops}
-use Rattle.html_read.specs.Judging.{Attribute, no_attributes, has_name, with_attribute, with_next, and_then, judged_behind, judged}
+use Rattle.html_tokens.specs.declared.written.WrittenAttribute.{WrittenAttribute}
+use Rattle.html_tokens.specs.declared.error.Stop.{Stop}
+use Rattle.html_tokens.specs.declared.error.Stop.TheVariants as stops
+use Rattle.html_tokens.specs.declared.error.Refusal.TheVariants.{Syntax}
+use Rattle.html_tokens.specs.Attribute.{role_of}
+use Rattle.html_tokens.specs.Error.{Fault, Stops}
+use Rattle.html_tokens.specs.Written.{Attribute}
+use Rattle.html_read.specs.Judging.{no_attributes, has_name, with_attribute, with_next, and_then, judged_behind, judged}
 use Rattle.html_read.specs.Values.{Acting}
-use Rattle.html_read.specs.Views.{attribute_of, AreSeen, TellsNew}
+use Rattle.html_tokens.specs.Written.{attribute_of}
+use Rattle.html_read.specs.Views.{AreSeen, TellsNew}
 
 -- ---- the names seen
 

@@ -2,7 +2,7 @@
 use Rattle.std.proofs.Common.{ℕ, List, ◌++◌, length, Ok, Err, sym, subst, IfOk}
 use Rattle.std.specs.Prelude.{Result}
 use Rattle.html_read.specs.declared.error.HtmlError.{HtmlError}
-use Rattle.html_read.specs.Faults.{Told}
+use Rattle.html_read.specs.Error.{Told}
 use Rattle.html_read.specs.Grammar.{IsBody, IsHtml, IsDocument}
 use Rattle.html_read.specs.Reading.{input}
 use Rattle.html_read.specs.Tree.{AreNodes}

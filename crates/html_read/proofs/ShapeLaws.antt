@@ -4,10 +4,10 @@ use Rattle.std.specs.Prelude.{⊤, find, option_map, bytes_eq}
 use Rattle.std.proofs.lemmas.Bool.{and_parts}
 use Rattle.std.proofs.lemmas.List.{append-nil}
 use Rattle.std.proofs.lemmas.Slice.Eq.{bytes_eq-Decides}
-use Rattle.html_read.specs.declared.tag.Tag.{Tag}
-use Rattle.html_read.specs.declared.tag.Tag.TheVariants.{Html, Body, Br}
+use Rattle.html_tokens.specs.declared.tag.Tag.{Tag}
+use Rattle.html_tokens.specs.declared.tag.Tag.TheVariants.{Html, Body, Br}
 use Rattle.reading.specs.Names.{lowered, named}
-use Rattle.html_read.specs.Characters.{tags, tag_named, is_void}
+use Rattle.html_tokens.specs.Tag.{tags, tag_named, is_void}
 use Rattle.html_read.specs.Tree.{Items, none, pair, line_break, with_text, listed}
 use Rattle.html_read.specs.Values.{TextAt, Acting, Node, element, text, Whole}
 use Rattle.html_read.specs.Grammar.{AreItems, IsContent, IsBody, IsHtml, IsDocument, IsFragment}

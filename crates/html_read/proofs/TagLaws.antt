@@ -10,17 +10,19 @@ use Rattle.reading.specs.Placed.{PlacedGrammar, Anywhere, PlacedSeq, SpellsPlace
 use Rattle.reading.proofs.SpellLaws.{ok, bind_ok, strip_takes, after_spells, telling_spells}
 use Rattle.reading.proofs.RunLaws.{either_case_spells}
 use Rattle.reading.proofs.PlacedLaws.{anywhere_spells, placed_follow, placed_telling}
-use Rattle.html_read.specs.declared.tag.Tag.{Tag}
-use Rattle.html_read.specs.Characters.{tag_named, is_void}
-use Rattle.html_read.specs.Faults.{Fault, Judged, syntax, spelled}
-use Rattle.html_read.specs.Judging.{Attribute, judged}
-use Rattle.html_read.specs.Lexing.{name, attributes, tag_end, end_name}
+use Rattle.html_tokens.specs.declared.tag.Tag.{Tag}
+use Rattle.html_tokens.specs.Tag.{tag_named, is_void}
+use Rattle.html_tokens.specs.Error.{Fault, Judged, syntax, spelled}
+use Rattle.html_tokens.specs.Written.{Attribute}
+use Rattle.html_read.specs.Judging.{judged}
+use Rattle.html_tokens.specs.Lexing.{name, attributes, tag_end, end_name}
 use Rattle.html_read.specs.Reading.{Start, said, tag_behind, start_of, start_judged, start_tag, closed, end_tag}
 use Rattle.html_read.specs.Values.{Acting}
-use Rattle.html_read.specs.Grammar.{IsName, AreAttributes, IsTagEnd, IsTagBehind, IsStartOf, IsStart, IsEndName}
-use Rattle.html_read.proofs.MiscLaws.{NoNameByte, name_spells, end_name_spells}
-use Rattle.html_read.proofs.AttributeLaws.{IsTagNext, attributes_spells, attributes_end_name}
-use Rattle.html_read.proofs.TextLaws.{good}
+use Rattle.html_tokens.specs.Grammar.{IsName, AreAttributes, IsTagEnd, IsEndName}
+use Rattle.html_read.specs.Grammar.{IsTagBehind, IsStartOf, IsStart}
+use Rattle.html_tokens.proofs.MiscLaws.{NoNameByte, name_spells, end_name_spells}
+use Rattle.html_tokens.proofs.AttributeLaws.{IsTagNext, attributes_spells, attributes_end_name}
+use Rattle.html_tokens.proofs.TextLaws.{good}
 
 -- ---- the end of a start tag
 

@@ -8,7 +8,7 @@ use Rattle.std.proofs.lemmas.Bool.{eqb-true}
 use Rattle.reading.specs.Readers.{next_is, skip}
 use Rattle.reading.proofs.SpellLaws.{ok}
 use Rattle.reading.specs.White.{is_white, spaces}
-use Rattle.html_read.specs.Cuts.{EndsWord, IsWordNext}
+use Rattle.html_read.specs.Views.{EndsWord, IsWordNext}
 use Rattle.html_read.specs.Judging.{word_before, words_behind, words}
 
 -- ---- white space before a word

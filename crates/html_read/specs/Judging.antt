@@ -3,20 +3,15 @@ use Rattle.std.specs.Prelude.{ℕ, ◌-◌, Bool, List, [], ◌∷◌, ◌++◌,
 use Rattle.std.specs.List.{list_any}
 use Rattle.wm_modes.specs.declared.mode.Direction.{Direction}
 use Rattle.wm_modes.specs.declared.mode.Direction.TheVariants.{Ltr, Rtl}
-use Rattle.html_read.specs.declared.attribute.Role.{Role}
-use Rattle.html_read.specs.declared.attribute.Role.TheVariants.{Id, Class, Style, Dir, Ignored}
-use Rattle.html_read.specs.declared.error.Refusal.TheVariants.{Syntax, UnknownAttribute, Unsupported}
+use Rattle.html_tokens.specs.declared.attribute.Role.{Role}
+use Rattle.html_tokens.specs.declared.attribute.Role.TheVariants.{Id, Class, Style, Dir, Ignored}
+use Rattle.html_tokens.specs.declared.error.Refusal.TheVariants.{Syntax, UnknownAttribute, Unsupported}
 use Rattle.reading.specs.White.{is_white}
 use Rattle.reading.specs.Names.{lowered}
-use Rattle.html_read.specs.Characters.{role_of}
-use Rattle.html_read.specs.Faults.{Fault}
+use Rattle.html_tokens.specs.Attribute.{role_of}
+use Rattle.html_tokens.specs.Error.{Fault}
 use Rattle.html_read.specs.Values.{Acting}
-
--- an attribute as it stands in a tag: its name in small letters, its value with references replaced, and the bytes from its name on
-pub record Attribute : Type 0 where
-  pub name : List ℕ
-  pub value : List ℕ
-  pub left : List ℕ
+use Rattle.html_tokens.specs.Written.{Attribute}
 
 abbrev pub no_attributes : Acting
 no_attributes = record { id = None; classes = []; dir = None; style = None }

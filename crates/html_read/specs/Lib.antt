@@ -1,11 +1,7 @@
 pub mod Answered
-pub mod Characters
-pub mod Cuts
-pub mod Faults
+pub mod Error
 pub mod Grammar
 pub mod Judging
-pub mod Lexing
-pub mod Pieces
 pub mod Reading
 pub mod Shape
 pub mod Tree

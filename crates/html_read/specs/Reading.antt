@@ -1,38 +1,22 @@
 -- Texts, tags, what stands in an element, and documents, with each refusal: a function here for each of the code.
 use Rattle.std.specs.Prelude.{ℕ, ◌-◌, Bool, true, false, not, ◌&&◌, ◌||◌, ◌==◌, List, [], ◌∷◌, ◌++◌, length, drop, bytes_eq, codes, Option, Some, None, Result, Ok, Err, ⊤, if◌then◌else◌}
-use Rattle.std.specs.Char.{encode_utf8}
 use Rattle.std.specs.Str.Lossy.{utf8_valid_len}
-use Rattle.reading.specs.Readers.{ReadOr, Reader, skip, ◌>>=◌, give, refuse, follow, mapped, choice, strip, strip_either_case, starts, next_is, can_read, after, repeat, joined}
-use Rattle.html_read.specs.declared.tag.Tag.{Tag}
-use Rattle.html_read.specs.declared.error.Refusal.TheVariants.{Utf8, Character, UnknownTag, Nesting}
-use Rattle.html_read.specs.declared.raw.RawEnd.TheVariants as ends
+use Rattle.reading.specs.Readers.{ReadOr, Reader, skip, give, refuse, follow, mapped, choice, strip, strip_either_case, starts, next_is, can_read, after, repeat}
+use Rattle.html_tokens.specs.declared.tag.Tag.{Tag}
+use Rattle.html_tokens.specs.declared.error.Refusal.TheVariants.{Utf8, UnknownTag, Nesting}
+use Rattle.html_tokens.specs.declared.raw_text.RawEnd.TheVariants as ends
 use Rattle.html_read.specs.declared.content.Base.{Base}
 use Rattle.html_read.specs.declared.content.Base.TheVariants as bases
 use Rattle.reading.specs.White.{is_white, white}
-use Rattle.html_read.specs.Characters.{tag_named, is_void, in_repertoire}
-use Rattle.html_read.specs.Faults.{Fault, Judged, spelled}
+use Rattle.html_tokens.specs.Tag.{tag_named, is_void}
+use Rattle.html_tokens.specs.Error.{Fault, Judged, spelled}
 use Rattle.html_read.specs.Judging.{judged}
-use Rattle.html_read.specs.Lexing.{name, raw, comment, misc, doctype, reference, attributes, tag_end, end_of, end_name, character}
+use Rattle.html_tokens.specs.Lexing.{name, raw, comment, misc, doctype, attributes, tag_end, end_of, end_name}
 use Rattle.html_read.specs.Tree.{with_text, with_element, roots}
 use Rattle.html_read.specs.Values.{TextAt, Acting, Node, Whole}
+use Rattle.html_tokens.specs.Text.{gap}
 
 -- ---- text, with comments in it
-
--- text goes on here: the bytes are at no tag and not at their end
-abbrev pub in_text : List ℕ → Bool
-in_text [] = false
-in_text (byte ∷ bytes) = not (byte == 60) || starts (codes "!") bytes
-
--- a character of the repertoire, as its bytes
-unfoldable pub checked : Reader ℕ → Judged (List ℕ)
-checked f bytes = spelled f bytes >>= λ c. if in_repertoire c.0 then Ok (encode_utf8 c.0, c.1) else Err (Character, bytes)
-
-unfoldable pub text_piece : Judged (List ℕ)
-text_piece = choice (starts (codes "<")) (spelled (mapped (λ u. []) comment)) (choice (starts (codes "&")) (checked reference) (checked character))
-
--- the letters up to the next tag
-unfoldable pub gap : Judged (List ℕ)
-gap = joined in_text text_piece
 
 -- ---- start tags
 

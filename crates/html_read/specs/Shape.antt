@@ -1,8 +1,8 @@
 -- The shape of a list of nodes: each node but the first stands in a node before it.
 use Rattle.std.specs.Prelude.{◌≡◌, ◌⊎◌, ℕ, ◌<◌, ◌≤◌, List, Some, None}
 use Rattle.std.specs.List.{slice_get}
-use Rattle.html_read.specs.declared.tag.Tag.{Tag}
-use Rattle.html_read.specs.declared.tag.Tag.TheVariants.{Html, Body, Br}
+use Rattle.html_tokens.specs.declared.tag.Tag.{Tag}
+use Rattle.html_tokens.specs.declared.tag.Tag.TheVariants.{Html, Body, Br}
 use Rattle.html_read.specs.Values.{Acting, Node, element}
 
 -- this node has this place in the list

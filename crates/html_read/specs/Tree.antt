@@ -1,7 +1,7 @@
 -- What stands in an element, as a tree and as the list of nodes that is read from it.
 use Rattle.std.specs.Prelude.{◌≡◌, ℕ, List, [], ◌∷◌, ◌++◌, length, Option, Some, None}
-use Rattle.html_read.specs.declared.tag.Tag.{Tag}
-use Rattle.html_read.specs.declared.tag.Tag.TheVariants.{Html, Body, Br}
+use Rattle.html_tokens.specs.declared.tag.Tag.{Tag}
+use Rattle.html_tokens.specs.declared.tag.Tag.TheVariants.{Html, Body, Br}
 use Rattle.html_read.specs.Values.{Acting, Node, element, text}
 
 -- tags one after the other. Behind each start tag, end tag and `br` stands a text, which may be empty: `first` behind

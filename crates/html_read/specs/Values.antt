@@ -2,7 +2,7 @@
 use Rattle.std.specs.Prelude.{ℕ, List, map, Option, option_map}
 use Rattle.std.specs.String.{string_bytes}
 use Rattle.wm_modes.specs.declared.mode.Direction.{Direction}
-use Rattle.html_read.specs.declared.tag.Tag.{Tag}
+use Rattle.html_tokens.specs.declared.tag.Tag.{Tag}
 use Rattle.html_read.specs.declared.node.PlacedText.{PlacedText}
 use Rattle.html_read.specs.declared.node.Attributes.{Attributes}
 use Rattle.html_read.specs.declared.node.ReadKind.{ReadKind}

@@ -2,17 +2,16 @@
 
 ghost use Rattle.std.specs.Prelude.{◌≡◌, ◌≤◌, ◌<◌, List, length, IfOk, IfErr, OnOk};
 ghost use Rattle.std.specs.String.{string_bytes};
-ghost use Rattle.html_read.specs.Faults.{Gives};
+ghost use Rattle.html_tokens.specs.Error.{Gives};
 ghost use Rattle.html_read.specs.Reading as readers;
 ghost use Rattle.html_read.specs.Tree.{with_text};
 ghost use Rattle.html_read.specs.Values.{Node, nodes_of};
 ghost use Rattle.html_read.specs.Views.{start_of, opened_of};
-ghost use Rattle.html_read.specs.declared.error.Stop.TheVariants as Stops;
+ghost use Rattle.html_tokens.specs.declared.error.Stop.TheVariants as Stops;
 
-use crate::error::{Refusal, Stop};
 use crate::node::{ReadKind, ReadNode};
-use crate::tags::{Start, end_tag, is_void, start_tag};
-use crate::text::gap;
+use crate::tags::{Start, end_tag, start_tag};
+use html_tokens::{Refusal, Stop, gap, is_void};
 use reading::{starts, strip};
 use std::alloc::Global;
 use style_types::Letters;

@@ -2,21 +2,21 @@
 
 ghost use Rattle.std.specs.Prelude.{◌≡◌, length, IfOk, IfErr};
 ghost use Rattle.reading.specs.Readers.{Answers};
-ghost use Rattle.html_read.specs.Faults.{Gives, GivesFront, Tells, Told};
+ghost use Rattle.html_tokens.specs.Error.{Gives};
+ghost use Rattle.html_read.specs.Error.{GivesFront, Tells, Told};
 ghost use Rattle.html_read.specs.Answered.{IsTheDocument, IsTheFragment, RefusesDocument, RefusesFragment};
 ghost use Rattle.html_read.specs.Reading as readers;
 ghost use Rattle.html_read.specs.Shape.{IsShaped, IsFragmentShaped};
 ghost use Rattle.html_read.specs.Tree.{AreNodes, roots};
 ghost use Rattle.html_read.specs.Values.{acting_of, nodes_of, sheets_of, whole_of};
-ghost use Rattle.html_read.specs.declared.error.Stop.TheVariants as Stops;
+ghost use Rattle.html_tokens.specs.declared.error.Stop.TheVariants as Stops;
 
 use crate::content::{Base, content};
-use crate::error::{HtmlError, Refusal, Stop};
+use crate::error::HtmlError;
 use crate::head::maybe_head;
-use crate::lexing::{doctype, end_of, misc};
 use crate::node::{Attributes, PlacedText, ReadDocument, ReadKind, ReadNode, ReadNodes};
-use crate::tag::Tag;
 use crate::tags::{end_tag, start_of};
+use html_tokens::{Refusal, Stop, Tag, doctype, end_of, misc};
 use reading::{starts, strip};
 use std::alloc::Global;
 

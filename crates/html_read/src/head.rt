@@ -1,15 +1,13 @@
 //! The head of a document: its style sheets, and what is read and ignored.
 
 ghost use Rattle.std.specs.Prelude.{◌≡◌, ◌<◌, ◌≤◌, length, IfOk};
-ghost use Rattle.html_read.specs.Faults.{Gives};
+ghost use Rattle.html_tokens.specs.Error.{Gives};
 ghost use Rattle.html_read.specs.Reading as readers;
 ghost use Rattle.html_read.specs.Values.{text_at, sheets_of};
 
-use crate::error::{Refusal, Stop};
-use crate::lexing::{comment, end_of, misc};
 use crate::node::PlacedText;
-use crate::raw::{RawEnd, raw};
 use crate::tags::start_of;
+use html_tokens::{RawEnd, Refusal, Stop, comment, end_of, misc, raw};
 use reading::{starts, strip, strip_either_case, white, white_ahead};
 use std::alloc::Global;
 use style_types::Letters;

@@ -2,21 +2,19 @@
 
 ghost use Rattle.std.specs.Prelude.{◌≡◌, ◌<◌, IfOk, IfErr, IfSome, length, map};
 ghost use Rattle.std.specs.String.{string_bytes};
-ghost use Rattle.reading.specs.Readers.{starts};
 ghost use Rattle.reading.specs.Names.{lowered};
-ghost use Rattle.html_read.specs.Characters.{role_of};
-ghost use Rattle.html_read.specs.Cuts.{EndsWord, IsNextWord, IsWordNext};
-ghost use Rattle.html_read.specs.Faults.{Gives};
+ghost use Rattle.html_tokens.specs.Attribute.{role_of};
+ghost use Rattle.html_read.specs.Views.{EndsWord, IsNextWord, IsWordNext};
+ghost use Rattle.html_tokens.specs.Error.{Gives};
 ghost use Rattle.html_read.specs.Judging as judging;
 ghost use Rattle.html_read.specs.Values.{acting_of};
-ghost use Rattle.html_read.specs.Views.{attribute_of, TellsNew};
-ghost use Rattle.html_read.specs.declared.error.Stop.TheVariants as Stops;
+ghost use Rattle.html_tokens.specs.Written.{attribute_of};
+ghost use Rattle.html_read.specs.Views.{TellsNew};
+ghost use Rattle.html_tokens.specs.declared.error.Stop.TheVariants as Stops;
 
-use crate::attribute::{ATTRIBUTES, Role};
-use crate::attributes::WrittenAttribute;
-use crate::error::{Refusal, Stop};
 use crate::node::{Attributes, PlacedText};
-use reading::{front_of, named, same_name, spaces};
+use html_tokens::{Refusal, Role, Stop, WrittenAttribute, role_of};
+use reading::{front_of, same_name, spaces};
 use std::alloc::Global;
 use std::collections::BTreeSet;
 use style_types::{LetterList, Letters};
@@ -82,25 +80,6 @@ fn with_attribute<'a>(
         Some(Role::Ignored) => {}
     }
     Ok(())
-}
-
-// What an attribute of this name is for.
-#[tactic(auto, unfolding(crate::specs::Characters::role_of, crate::specs::Characters::roles))]
-fn role_of(name: &str) -> Option<Role>
-    ensures { result ≡ role_of (lowered name.now) }
-{
-    if begins("data-", name) || begins("aria-", name) {
-        return Some(Role::Ignored);
-    }
-    named(&ATTRIBUTES, name)
-}
-
-// The name, in small letters, begins with this text.
-#[tactic(auto, using(reading::proofs::Names::lowered_starts))]
-fn begins(word: &str, name: &str) -> bool
-    ensures { result ≡ starts word.now (lowered name.now) }
-{
-    reading::strip_either_case(word, name).is_ok()
 }
 
 #[tactic(auto, unfolding(crate::specs::Judging::direction_of))]

@@ -1,6 +1,6 @@
 //! What is read: nodes in document order, and style sheets.
 
-use crate::tag::Tag;
+use html_tokens::Tag;
 use style_types::{LetterList, Letters};
 use wm_modes::Direction;
 

@@ -1,20 +1,17 @@
 //! Start tags and end tags.
 
-ghost use Rattle.std.specs.Prelude.{◌≡◌, ◌<◌, length, IfOk};
+ghost use Rattle.std.specs.Prelude.{◌<◌, length, IfOk};
 ghost use Rattle.reading.specs.Names.{lowered};
-ghost use Rattle.html_read.specs.Characters.{is_void, tag_named};
-ghost use Rattle.html_read.specs.Faults.{Gives};
+ghost use Rattle.html_tokens.specs.Tag.{is_void, tag_named};
+ghost use Rattle.html_tokens.specs.Error.{Gives};
 ghost use Rattle.html_read.specs.Reading as readers;
 ghost use Rattle.html_read.specs.Values.{acting_of};
 ghost use Rattle.html_read.specs.Views.{start_of};
 
-use crate::attributes::attributes;
-use crate::error::{Refusal, Stop};
 use crate::judging::judged;
-use crate::lexing::{end_name, name, tag_end};
 use crate::node::Attributes;
-use crate::tag::{TAGS, Tag};
-use reading::{named, same_name, strip, strip_either_case};
+use html_tokens::{Refusal, Stop, Tag, attributes, end_name, is_void, name, tag_end, tag_named};
+use reading::{same_name, strip, strip_either_case};
 use std::alloc::Global;
 
 /// An element that begins.
@@ -80,20 +77,4 @@ pub(crate) fn end_tag<'a>(open_name: &str, text: &'a str) -> Result<&'a str, Sto
         return Err(Stop::Refused(Refusal::Nesting, text.as_bytes()));
     }
     Ok(rest)
-}
-
-/// `br` has no end tag.
-#[tactic(auto, unfolding(crate::specs::Characters::is_void))]
-pub(crate) fn is_void(name: &str) -> bool
-    ensures { result ≡ is_void (lowered name.now) }
-{
-    same_name(name, "br")
-}
-
-// The tag of a name that may stand in the body.
-#[tactic(auto, unfolding(crate::specs::Characters::tag_named, crate::specs::Characters::tags))]
-fn tag_named(name: &str) -> Option<Tag>
-    ensures { result ≡ tag_named (lowered name.now) }
-{
-    named(&TAGS, name)
 }

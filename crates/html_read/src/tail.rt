@@ -4,11 +4,11 @@ ghost use Rattle.std.specs.Prelude.{◌≡◌, ◌≤◌, length, drop, Ok};
 ghost use Rattle.reading.specs.Readers as reading;
 ghost use Rattle.reading.specs.Readers.{Answers};
 ghost use Rattle.std.specs.Str.{IsUtf8};
-ghost use Rattle.html_read.specs.Faults.{TellsTail};
+ghost use Rattle.html_read.specs.Error.{TellsTail};
 ghost use Rattle.html_read.specs.Reading as readers;
 
-use crate::error::{HtmlError, Refusal};
-use crate::lexing::misc;
+use crate::error::HtmlError;
+use html_tokens::{Refusal, misc};
 use reading::first;
 
 /// Reads what follows a document that ends at the place `end`: before a script the rest of the line,

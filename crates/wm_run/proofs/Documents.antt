@@ -5,7 +5,8 @@ use Rattle.std.specs.Prelude.{codes, ⊤}
 use Rattle.std.specs.Str.{IsUtf8, IsCharBoundary}
 use Rattle.std.proofs.lemmas.Str.{IsUtf8-drop, IsCharBoundary-after_ascii}
 use Rattle.html_read.specs.Values.{Node, TextAt, Whole}
-use Rattle.html_read.specs.Grammar.{IsEndOf, IsHtml, IsDocument}
+use Rattle.html_tokens.specs.Grammar.{IsEndOf}
+use Rattle.html_read.specs.Grammar.{IsHtml, IsDocument}
 use Rattle.html_read.specs.Answered.{IsTheDocument}
 
 -- a text that ends with `>`

@@ -8,9 +8,10 @@ use Rattle.io_edge.proofs.Growth.{front_of_kept}
 use Rattle.wm_units.specs.declared.view.View.{View}
 use Rattle.wm_modes.specs.declared.mode.WritingMode.{WritingMode}
 use Rattle.reading.specs.Readers.{Read, ReadOr}
-use Rattle.html_read.specs.declared.error.Refusal.{Refusal}
-use Rattle.html_read.specs.declared.error.Refusal.TheVariants.{Syntax}
-use Rattle.html_read.specs.Faults.{Fault, place_in}
+use Rattle.html_tokens.specs.declared.error.Refusal.{Refusal}
+use Rattle.html_tokens.specs.declared.error.Refusal.TheVariants.{Syntax}
+use Rattle.html_tokens.specs.Error.{Fault}
+use Rattle.html_read.specs.Error.{place_in}
 use Rattle.html_read.specs.Reading as reading
 use Rattle.html_read.specs.Values.{Whole}
 use Rattle.early_tree.specs.Boxes.{Boxes, in_order}

@@ -1,7 +1,7 @@
 -- What is due for an input, as a status and the bytes to be written.
 use Rattle.std.specs.Prelude.{◌≡◌, ℕ, List, ◌++◌, codes, decimal}
-use Rattle.html_read.specs.declared.error.Refusal.{Refusal}
-use Rattle.html_read.specs.declared.error.Refusal.TheVariants as kinds
+use Rattle.html_tokens.specs.declared.error.Refusal.{Refusal}
+use Rattle.html_tokens.specs.declared.error.Refusal.TheVariants as kinds
 use Rattle.listing.specs.Listing.{listing}
 use Rattle.wm_run.specs.declared.due.Due.{Due}
 use Rattle.wm_run.specs.declared.due.Due.TheVariants as dues

@@ -7,7 +7,8 @@ use Rattle.io_edge.specs.declared.error.WriteError.TheVariants as write_errors
 use Rattle.wm_units.specs.declared.view.View.{View}
 use Rattle.wm_modes.specs.declared.mode.WritingMode.{WritingMode}
 use Rattle.reading.specs.Readers.{Read, ReadOr}
-use Rattle.html_read.specs.Faults.{Fault, syntax, place_in}
+use Rattle.html_tokens.specs.Error.{Fault, syntax}
+use Rattle.html_read.specs.Error.{place_in}
 use Rattle.html_read.specs.Reading as reading
 use Rattle.html_read.specs.Values.{Whole}
 use Rattle.early_tree.specs.Boxes.{Boxes}

@@ -1,7 +1,7 @@
 use Rattle.std.proofs.Common.{◌∙◌, ap, Err, subst, sym, length}
 use Rattle.html_read.specs.declared.error.HtmlError.{HtmlError}
-use Rattle.html_read.specs.declared.error.Refusal.{Refusal}
-use Rattle.html_read.specs.Faults.{IsRefused}
+use Rattle.html_tokens.specs.declared.error.Refusal.{Refusal}
+use Rattle.html_read.specs.Error.{IsRefused}
 use Rattle.html_read.specs.Reading as reading
 use Rattle.html_read.specs.Values.{whole_of}
 use Rattle.wm_run.specs.declared.due.Due.{Due}

@@ -1,6 +1,6 @@
 use Rattle.std.proofs.Common.{◌∙◌, subst, sym, length, drop, false, Err}
 use Rattle.html_read.specs.declared.error.HtmlError.{HtmlError}
-use Rattle.html_read.specs.Faults.{TellsTail}
+use Rattle.html_read.specs.Error.{TellsTail}
 use Rattle.html_read.specs.Reading as reading
 use Rattle.html_read.specs.Values.{whole_of}
 use Rattle.wm_run.specs.declared.due.Due.{Due}

@@ -1,5 +1,0 @@
-use Rattle.html_read.proofs.Joining.{IsPlainTo}
-use Rattle.html_read.proofs.attributes.plain_end.Given as goal
-
-abbrev pub invariant-loop-at : goal.invariant-loop-at
-invariant-loop-at l = IsPlainTo l.quote l.text l.at

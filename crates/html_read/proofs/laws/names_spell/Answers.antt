@@ -1,5 +1,0 @@
-use Rattle.html_read.proofs.MiscLaws.{spaces_spells, name_spells, end_name_spells}
-use Rattle.html_read.proofs.laws.names_spell.Goals as goal
-
-pub returns : goal.returns
-returns c = record { spaces = spaces_spells; names = name_spells; end_names = end_name_spells }

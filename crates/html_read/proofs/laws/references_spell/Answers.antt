@@ -1,6 +1,0 @@
-use Rattle.html_read.proofs.CharacterLaws.{character_spells}
-use Rattle.html_read.proofs.ReferenceLaws.{reference_spells}
-use Rattle.html_read.proofs.laws.references_spell.Goals as goal
-
-pub returns : goal.returns
-returns c = record { characters = character_spells; references = reference_spells }

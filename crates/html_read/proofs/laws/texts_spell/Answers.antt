@@ -1,5 +1,0 @@
-use Rattle.html_read.proofs.TextLaws.{gap_spells}
-use Rattle.html_read.proofs.laws.texts_spell.Goals as goal
-
-pub returns : goal.returns
-returns c = gap_spells

@@ -1,0 +1,19 @@
+mod Attributing
+mod Joining
+mod Letters
+mod Miscellany
+mod Numbers
+mod Runs
+mod Seeking
+mod Tables
+pub mod MiscLaws
+mod CharacterLaws
+mod ReferenceLaws
+mod ValueLaws
+pub mod AttributeLaws
+pub mod TextLaws
+pub mod PlaceLaws
+pub mod MiscPlaces
+mod AttributePlaces
+mod AttributeFronts
+pub mod GapTexts

@@ -1,0 +1,10 @@
+pub mod Attribute
+pub mod Characters
+pub mod Error
+pub mod Grammar
+pub mod Lexing
+pub mod Pieces
+pub mod RawText
+pub mod Tag
+pub mod Text
+pub mod Written
