@@ -298,3 +298,10 @@ fn deep(rt: HostRuntime) -> Result<(), Fail> {
     );
     Ok(())
 }
+
+#[test]
+fn tags_have_names(rt: HostRuntime) {
+    assert_eq!(rt; Tag::Html.name(), "html");
+    assert_eq!(rt; Tag::H6.name(), "h6");
+    assert_eq!(rt; Tag::Br.name(), "br");
+}

@@ -464,7 +464,7 @@ closes_break size base (p ∷ opened) nodes start tag gap_ letters y result rest
 
 -- `br` is the tag of that name
 br_named : tag_named (codes "br") ≡ Some Br
-unfolding tag_named Rattle.html_tokens.specs.Tag.tags
+unfolding tag_named Rattle.html_tokens.specs.Tag.body_tags
 br_named = refl
 
 void_is_br : (size : ℕ) (text behind : List ℕ) (start : Start) → IsStart size text behind start → is_void start.name ≡ true → start.tag ≡ Br

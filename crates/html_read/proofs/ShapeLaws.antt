@@ -7,7 +7,7 @@ use Rattle.std.proofs.lemmas.Slice.Eq.{bytes_eq-Decides}
 use Rattle.html_tokens.specs.declared.tag.Tag.{Tag}
 use Rattle.html_tokens.specs.declared.tag.Tag.TheVariants.{Html, Body, Br}
 use Rattle.reading.specs.Names.{lowered, named}
-use Rattle.html_tokens.specs.Tag.{tags, tag_named, is_void}
+use Rattle.html_tokens.specs.Tag.{body_tags, tag_named, is_void}
 use Rattle.html_read.specs.Tree.{Items, none, pair, line_break, with_text, listed}
 use Rattle.html_read.specs.Values.{TextAt, Acting, Node, element, text, Whole}
 use Rattle.html_read.specs.Grammar.{AreItems, IsContent, IsBody, IsHtml, IsDocument, IsFragment}
@@ -178,14 +178,14 @@ br_found (row ∷ rows) name known e =
     let both = and_parts (not (is_br row.1) || bytes_eq (lowered row.0) (codes "br")) (br_only rows) known in
     br_found_by name row rows (bytes_eq (lowered row.0) name) refl both.0 (br_found rows name both.1) e
 
-tags_known : br_only tags ≡ true
-unfolding tags
+tags_known : br_only body_tags ≡ true
+unfolding body_tags
 tags_known = refl
 
 void_only : (name : List ℕ) (tag : Tag) → tag_named name ≡ Some tag → is_void name ≡ false → tag ≡ Br → ⊥
 unfolding tag_named is_void
 void_only name tag known void_ e =
-    let n : name ≡ codes "br" = br_found tags name tags_known (known ∙ ap (λ (t : Tag). Some t) e) in
+    let n : name ≡ codes "br" = br_found body_tags name tags_known (known ∙ ap (λ (t : Tag). Some t) e) in
     let clash : true ≡ false = sym ((bytes_eq-Decides name (codes "br")).1 n) ∙ void_ in
     absurd cc
 

@@ -17,3 +17,5 @@ pub mod MiscPlaces
 mod AttributePlaces
 mod AttributeFronts
 pub mod GapTexts
+mod TagNames
+mod TableRows

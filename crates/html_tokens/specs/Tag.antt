@@ -1,5 +1,6 @@
 -- The tags, by their names.
-use Rattle.std.specs.Prelude.{ℕ, Bool, List, map, bytes_eq, codes, Option}
+use Rattle.std.specs.Prelude.{◌≡◌, ℕ, Bool, List, map, drop, bytes_eq, codes, Option, Some}
+use Rattle.std.specs.List.{slice_get}
 use Rattle.reading.specs.Names.{named}
 use Rattle.html_tokens.specs.declared.tag.Tag.{Tag}
 use Rattle.html_tokens.specs.declared.tag.TheConstants.{TAGS}
@@ -7,9 +8,17 @@ use Rattle.html_tokens.specs.declared.tag.TheConstants.{TAGS}
 unfoldable pub tags : List (List ℕ × Tag)
 tags = map (λ row. (row.0.now, row.1)) TAGS
 
+-- those that may stand in `body`: all behind `html` and `body`
+unfoldable pub body_tags : List (List ℕ × Tag)
+body_tags = map (λ row. (row.0.now, row.1)) (drop 2 TAGS)
+
+-- the table has the tag by this name
+abbrev pub IsNameOf : List ℕ → Tag → Type 0
+IsNameOf name tag = (place : ℕ) × (slice_get tags place ≡ Some (name, tag))
+
 -- the tag of a name that may stand in the body
 unfoldable pub tag_named : List ℕ → Option Tag
-tag_named name = named tags name
+tag_named name = named body_tags name
 
 -- `br` has no end tag
 unfoldable pub is_void : List ℕ → Bool

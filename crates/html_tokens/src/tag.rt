@@ -1,8 +1,8 @@
 //! The tags of the profile (docs/PROFILE/html.md).
 
-ghost use Rattle.std.specs.Prelude.{◌≡◌};
+ghost use Rattle.std.specs.Prelude.{◌≡◌, ◌<◌, ℕ, List, length, map, get_or};
 ghost use Rattle.reading.specs.Names.{lowered};
-ghost use Rattle.html_tokens.specs.Tag.{is_void, tag_named};
+ghost use Rattle.html_tokens.specs.Tag.{IsNameOf, is_void, tag_named};
 
 use reading::{named, same_name};
 
@@ -50,8 +50,28 @@ pub enum Tag {
     Br,
 }
 
-/// The tags that may stand in `body`, by their names: block tags, inline tags, and `br`.
-pub static TAGS: [(&str, Tag); 37] = [
+impl Tag {
+    /// The name, in small letters.
+    pub fn name(self) -> &'static str
+        ensures { IsNameOf result.now self }
+    {
+        name_at(&TAGS, self as usize)
+    }
+}
+
+// The name that stands at this place of a table.
+fn name_at(table: &[(&'static str, Tag)], place: usize) -> &'static str
+    requires { place < length table.now }
+    ensures { (other : List ℕ × Tag) → result.now ≡ (get_or (map (λ row. (row.0.now, row.1)) table.now) place other).0 }
+{
+    table[place].0
+}
+
+/// The tags by their names, in the order of `Tag`: `html` and `body`, and behind them those that may stand in `body`,
+/// which are block tags, inline tags, and `br`.
+pub static TAGS: [(&str, Tag); 39] = [
+    ("html", Tag::Html),
+    ("body", Tag::Body),
     ("div", Tag::Div),
     ("section", Tag::Section),
     ("article", Tag::Article),
@@ -100,9 +120,9 @@ pub fn is_void(name: &str) -> bool
 }
 
 /// The tag of a name that may stand in `body`.
-#[tactic(auto, unfolding(crate::specs::Tag::tag_named, crate::specs::Tag::tags))]
+#[tactic(auto, unfolding(crate::specs::Tag::tag_named, crate::specs::Tag::body_tags))]
 pub fn tag_named(name: &str) -> Option<Tag>
     ensures { result ≡ tag_named (lowered name.now) }
 {
-    named(&TAGS, name)
+    named(&TAGS[2..], name)
 }
