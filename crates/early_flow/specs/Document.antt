@@ -1,7 +1,6 @@
 -- The boxes of an early document.
-use Rattle.std.specs.Prelude.{◌≡◌, ◌+◌, ◌≤◌, true, false, List, ℤ, pos, Option, None}
+use Rattle.std.specs.Prelude.{true, false, ℤ, pos, Option, None}
 use Rattle.early_tree.specs.Boxes as early
-use Rattle.early_tree.specs.declared.boxes.EarlyBox.{EarlyBox}
 use Rattle.early_flow.specs.Boxes.{Margins, BoxStyle, FlowBoxes, none, box}
 
 -- the same margin on all sides
@@ -25,9 +24,3 @@ document margins boxes =
     box (record { is_root = true; inline = None; block = None; margins = no_margins })
     (box (record { is_root = false; inline = None; block = None; margins = margins }) (divs boxes) none)
     none
-
--- a list in document order of the boxes of an early document, of which there are at most 65,536 nodes with html and body
-pub record AreEarlyBoxes (list : List EarlyBox) : Type 0 where
-  pub boxes : early.Boxes
-  pub is : early.in_order boxes 1 2 ≡ list
-  pub few_nodes : 2 + early.count boxes ≤ 65536

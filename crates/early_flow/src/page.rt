@@ -3,9 +3,8 @@
 ghost use Rattle.std.specs.Prelude.{◌≡◌, ◌^◌, ◌≤ℤ◌, All, IfOk, map, pos};
 ghost use Rattle.wm_modes.specs.Map.{map_of};
 ghost use Rattle.wm_modes.specs.Near.{IsNear, IsNearFlow};
-ghost use Rattle.early_tree.specs.Boxes.{Boxes, in_order};
-ghost use Rattle.early_flow.specs.Document.{AreEarlyBoxes};
 ghost use Rattle.wm_units.specs.View.{IsView};
+ghost use Rattle.early_tree.specs.Boxes.{AreEarlyBoxes, Boxes, in_order};
 ghost use Rattle.early_flow.specs.Page.{page_area, page_of};
 
 use crate::flow::flow_rects;

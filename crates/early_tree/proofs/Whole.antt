@@ -10,7 +10,7 @@ use Rattle.early_tree.specs.declared.boxes.Early.{Early}
 use Rattle.early_tree.specs.declared.boxes.EarlyBox.{EarlyBox}
 use Rattle.early_tree.specs.declared.error.EarlyError.{EarlyError}
 use Rattle.early_tree.specs.declared.error.EarlyError.TheVariants.{NotYet, Memory}
-use Rattle.early_tree.specs.Boxes.{Boxes, none, box, count, in_order}
+use Rattle.early_tree.specs.Boxes.{AreEarlyBoxes, Boxes, none, box, count, in_order}
 use Rattle.early_tree.specs.Early.{SaysStyleAlone, DeclaresMode, is_element, elements_from, IsEarly}
 use Rattle.early_tree.specs.Walking.{is_nil, says_style_alone, declared_mode, Walk, walked, start, is_bare, body_mode, from_roots, early_nodes, early, Refuses}
 use Rattle.early_tree.proofs.Items.{stand, fits, text_walk, text_found, text_boxes, text_numbers, text_keeps, IsFound, Finds, fine, boxes_of, behind, items_found, then_, items_stopped, numbers_behind, boxes_behind}
@@ -200,6 +200,11 @@ document_is document m w shape e =
       same = list;
       few = omega (arith, t.few, counted, ap length list, length_in_order (boxes_of items) 1 2, ap length numbers, fewer 0 document.nodes);
     }
+
+pub boxes_are : (document : Whole) (m : WritingMode) (w : Walk) → IsMade document m w → AreEarlyBoxes w.boxes
+boxes_are document m w made =
+    let counted = length_in_order made.boxes 1 2 in
+    record { boxes = made.boxes; is = sym made.same; few_nodes = omega (arith, made.few, counted, ap length made.same) }
 
 pub record IsThere (document : Whole) (m : WritingMode) (boxes : Boxes) (numbers : List ℕ) : Type 0 where
   pub walk : Walk

@@ -1,5 +1,5 @@
 -- The boxes of an early document, as a tree and as the list in document order that the reader gives.
-use Rattle.std.specs.Prelude.{ℕ, ◌+◌, max, List, [], ◌∷◌, ◌++◌, ℤ, Option}
+use Rattle.std.specs.Prelude.{◌≡◌, ℕ, ◌+◌, ◌≤◌, max, List, [], ◌∷◌, ◌++◌, ℤ, Option}
 use Rattle.early_tree.specs.declared.boxes.EarlyBox.{EarlyBox}
 
 -- boxes that stand one after the other, each with the boxes inside it; a size is in units of 1/64 px, None is auto
@@ -23,3 +23,9 @@ in_order none parent first = []
 in_order (box inline block inner next) parent first =
     record { parent = parent; inline = inline; block = block }
     ∷ (in_order inner first (first + 1) ++ in_order next parent (first + 1 + count inner))
+
+-- a list in document order of the boxes of an early document, of which there are at most 65,536 nodes with html and body
+pub record AreEarlyBoxes (list : List EarlyBox) : Type 0 where
+  pub boxes : Boxes
+  pub is : in_order boxes 1 2 ≡ list
+  pub few_nodes : 2 + count boxes ≤ 65536

@@ -4,7 +4,7 @@ ghost use Rattle.std.specs.Prelude.{◌≡◌, ◌≤◌, List, ℕ, length, IfO
 ghost use Rattle.html_read.specs.Tree.{AreNodes};
 ghost use Rattle.html_read.specs.Values.{node_of, nodes_of, whole_of};
 ghost use Rattle.wm_modes.specs.declared.mode.WritingMode.{WritingMode};
-ghost use Rattle.early_tree.specs.Boxes.{Boxes, in_order};
+ghost use Rattle.early_tree.specs.Boxes.{AreEarlyBoxes, Boxes, in_order};
 ghost use Rattle.early_tree.specs.Early.{IsEarly};
 ghost use Rattle.early_tree.specs.Walking as readers;
 ghost use Rattle.early_tree.specs.Walking.{Reads, walk_of};
@@ -27,7 +27,8 @@ pub fn early_of(alloc: Global, read: &ReadDocument) -> Result<Early, EarlyError>
     requires { AreNodes (nodes_of read.now.nodes.items) }
     // The document is an early one, of this mode, these boxes and these nodes.
     ensures found { IfOk result (λ e. (boxes : Boxes) × IsEarly (whole_of read.now) e.mode boxes e.nodes × (e.boxes ≡ in_order boxes 1 2)) }
-    // With `html` and `body` there are at most 65,536 nodes.
+    // The boxes are those of such a document. With `html` and `body` there are at most 65,536 nodes.
+    ensures boxes { IfOk result (λ e. AreEarlyBoxes e.boxes) }
     ensures few { IfOk result (λ e. length e.boxes ≤ 65534) }
     // It is no other early document.
     ensures only { IfOk result (λ e. (mode : WritingMode) (boxes : Boxes) (numbers : List ℕ) → IsEarly (whole_of read.now) mode boxes numbers

@@ -11,3 +11,7 @@ mod ShapeLaws
 mod AnsweredLaws
 mod NodesLaws
 mod StopLaws
+mod OrderLaws
+mod TextNodes
+mod EndLaws
+mod Tails

@@ -1,5 +1,5 @@
 -- What is read, without where it lies in memory.
-use Rattle.std.specs.Prelude.{ℕ, List, map, Option, option_map}
+use Rattle.std.specs.Prelude.{ℕ, Bool, true, false, List, map, Option, option_map}
 use Rattle.std.specs.String.{string_bytes}
 use Rattle.wm_modes.specs.declared.mode.Direction.{Direction}
 use Rattle.html_tokens.specs.declared.tag.Tag.{Tag}
@@ -25,6 +25,10 @@ pub record Acting : Type 0 where
 pub data Kind : Type 0 where
   element : (tag : Tag) (acting : Acting) → Kind
   text : (letters : List ℕ) → Kind
+
+abbrev pub is_text : Kind → Bool
+is_text (element tag acting) = false
+is_text (text letters) = true
 
 -- a node; its parent is a place in the same list
 pub record Node : Type 0 where

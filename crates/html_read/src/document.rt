@@ -1,12 +1,13 @@
 //! Documents and fragments.
 
-ghost use Rattle.std.specs.Prelude.{◌≡◌, length, IfOk, IfErr};
+ghost use Rattle.std.specs.Prelude.{◌≡◌, ◌≤◌, drop, length, IfOk, IfErr};
+ghost use Rattle.std.specs.Str.{IsUtf8};
 ghost use Rattle.reading.specs.Readers.{Answers};
 ghost use Rattle.html_tokens.specs.Error.{Gives};
 ghost use Rattle.html_read.specs.Error.{GivesFront, Tells, Told};
 ghost use Rattle.html_read.specs.Answered.{IsTheDocument, IsTheFragment, RefusesDocument, RefusesFragment};
 ghost use Rattle.html_read.specs.Reading as readers;
-ghost use Rattle.html_read.specs.Shape.{IsShaped, IsFragmentShaped};
+ghost use Rattle.html_read.specs.Shape.{AreTexts, IsShaped, IsFragmentShaped, IsInDocumentOrder, text_bytes};
 ghost use Rattle.html_read.specs.Tree.{AreNodes, roots};
 ghost use Rattle.html_read.specs.Values.{acting_of, nodes_of, sheets_of, whole_of};
 ghost use Rattle.html_tokens.specs.declared.error.Stop.TheVariants as Stops;
@@ -21,7 +22,7 @@ use reading::{starts, strip};
 use std::alloc::Global;
 
 /// Reads a document, from the first byte to past `</html>`. Bytes may stand behind it.
-#[tactic(auto, using(crate::proofs::AnsweredLaws::told_document, crate::proofs::AnsweredLaws::told_no_document, crate::proofs::AnsweredLaws::told_shape, crate::proofs::NodesLaws::told_nodes))]
+#[tactic(auto, using(crate::proofs::AnsweredLaws::told_document, crate::proofs::AnsweredLaws::told_no_document, crate::proofs::AnsweredLaws::told_shape, crate::proofs::NodesLaws::told_nodes, crate::proofs::EndLaws::told_ordered, crate::proofs::EndLaws::told_texts, crate::proofs::EndLaws::told_bytes, crate::proofs::EndLaws::told_within, crate::proofs::EndLaws::told_behind))]
 pub fn read_document(alloc: Global, bytes: &[u8]) -> Result<ReadDocument, HtmlError>
     // The answer is that of the reading: the document, or the refusal with its place.
     ensures read { Told (length bytes.now) whole_of result (readers.input bytes.now) }
@@ -31,6 +32,13 @@ pub fn read_document(alloc: Global, bytes: &[u8]) -> Result<ReadDocument, HtmlEr
     // `html` stands first, `body` second, and each other node within `body`; they are made of tags and texts in it.
     ensures shaped { IfOk result (λ d. IsShaped (nodes_of d.nodes.items)) }
     ensures nodes { IfOk result (λ d. AreNodes (nodes_of d.nodes.items)) }
+    ensures ordered { IfOk result (λ d. IsInDocumentOrder (nodes_of d.nodes.items)) }
+    // No text is empty, each is of the repertoire, no two are neighbours, and together they aren't longer than the input.
+    ensures texts { IfOk result (λ d. AreTexts (nodes_of d.nodes.items)) }
+    ensures bytes { IfOk result (λ d. text_bytes (nodes_of d.nodes.items) ≤ length bytes.now) }
+    // The document ends within the bytes, and what stands behind it is a text of its own.
+    ensures within { IfOk result (λ d. d.end ≤ length bytes.now) }
+    ensures behind { IfOk result (λ d. IsUtf8 (drop d.end bytes.now)) }
 {
     answer_document(alloc, bytes)
 }
@@ -45,7 +53,7 @@ fn answer_document(alloc: Global, bytes: &[u8]) -> Result<ReadDocument, HtmlErro
 }
 
 /// Reads what may stand in an element, to the end of the text.
-#[tactic(auto, using(crate::proofs::AnsweredLaws::told_fragment, crate::proofs::AnsweredLaws::told_no_fragment, crate::proofs::AnsweredLaws::told_fragment_shape))]
+#[tactic(auto, using(crate::proofs::AnsweredLaws::told_fragment, crate::proofs::AnsweredLaws::told_no_fragment, crate::proofs::AnsweredLaws::told_fragment_shape, crate::proofs::EndLaws::told_fragment_ordered, crate::proofs::EndLaws::told_fragment_texts, crate::proofs::EndLaws::told_fragment_bytes))]
 pub fn read_fragment(alloc: Global, text: &str) -> Result<ReadNodes, HtmlError>
     // The answer is that of the reading: the nodes, or the refusal with its place.
     ensures read { Told (length text.now) (λ nodes. nodes_of nodes.items) result (readers.fragment text.now) }
@@ -54,6 +62,10 @@ pub fn read_fragment(alloc: Global, text: &str) -> Result<ReadNodes, HtmlError>
     ensures refused { IfErr result (λ error. RefusesFragment text.now error) }
     // Each node stands in nothing, or in an element before it.
     ensures shaped { IfOk result (λ nodes. IsFragmentShaped (nodes_of nodes.items)) }
+    ensures ordered { IfOk result (λ nodes. IsInDocumentOrder (nodes_of nodes.items)) }
+    // No text is empty, each is of the repertoire, no two are neighbours, and together they aren't longer than the input.
+    ensures texts { IfOk result (λ nodes. AreTexts (nodes_of nodes.items)) }
+    ensures bytes { IfOk result (λ nodes. text_bytes (nodes_of nodes.items) ≤ length text.now) }
 {
     answer_fragment(alloc, text)
 }

@@ -1,6 +1,6 @@
 //! The laws between what is read and the grammar. These functions do nothing: their contracts are the laws.
 
-ghost use Rattle.std.specs.Prelude.{◌≡◌, ◌↔◌, ℕ, Bool, true, false, List, [], ◌∷◌, ◌++◌, length, Result, Ok, Err, IfOk, IfErr, ◌==◌};
+ghost use Rattle.std.specs.Prelude.{◌≡◌, ◌≤◌, ◌↔◌, ℕ, Bool, true, false, List, [], ◌∷◌, ◌++◌, length, Result, Ok, Err, IfOk, IfErr, ◌==◌};
 ghost use Rattle.reading.specs.Readers.{starts};
 ghost use Rattle.reading.specs.Placed.{SpellsPlaced};
 ghost use Rattle.reading.specs.Places.{IsViable, StopsInPlace};
@@ -12,7 +12,8 @@ ghost use Rattle.html_read.specs.Grammar as grammar;
 ghost use Rattle.html_tokens.specs.Grammar.{IsEndName};
 ghost use Rattle.html_tokens.specs.Text.{in_text};
 ghost use Rattle.html_read.specs.Reading as judging;
-ghost use Rattle.html_read.specs.Shape.{IsFragmentShaped, IsShaped};
+ghost use Rattle.html_read.specs.Shape.{AreTexts, IsFragmentShaped, IsInDocumentOrder, IsShaped, text_bytes};
+ghost use Rattle.html_read.specs.Tree.{AreNodes};
 ghost use Rattle.html_read.specs.Values.{Node, Whole};
 ghost use Rattle.html_read.specs.declared.content.Base.{Base};
 ghost use Rattle.html_read.specs.declared.error.HtmlError.{HtmlError};
@@ -53,6 +54,20 @@ pub fn fragments_spell()
 pub fn nodes_stand_in_place()
     ensures documents { (text behind : List ℕ) (whole : Whole) → grammar.IsDocument text behind whole → IsShaped whole.nodes }
     ensures fragments { (text : List ℕ) (nodes : List Node) → grammar.IsFragment text nodes → IsFragmentShaped nodes }
+{}
+
+/// The nodes of a document and of a fragment stand in document order.
+pub fn nodes_stand_in_order()
+    ensures documents { (nodes : List Node) → AreNodes nodes → IsInDocumentOrder nodes }
+    ensures fragments { (text : List ℕ) (nodes : List Node) → grammar.IsFragment text nodes → IsInDocumentOrder nodes }
+{}
+
+/// The texts of a document and of a fragment.
+pub fn texts_stand_apart()
+    ensures documents { (text behind : List ℕ) (whole : Whole) → grammar.IsDocument text behind whole → AreTexts whole.nodes }
+    ensures document_bytes { (text behind : List ℕ) (whole : Whole) → grammar.IsDocument text behind whole → text_bytes whole.nodes ≤ length text }
+    ensures fragments { (text : List ℕ) (nodes : List Node) → grammar.IsFragment text nodes → AreTexts nodes }
+    ensures fragment_bytes { (text : List ℕ) (nodes : List Node) → grammar.IsFragment text nodes → text_bytes nodes ≤ length text }
 {}
 
 /// What the readers answer of documents: the one that is there, or that there is none.

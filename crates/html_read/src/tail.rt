@@ -1,6 +1,6 @@
 //! What follows a document.
 
-ghost use Rattle.std.specs.Prelude.{◌≡◌, ◌≤◌, length, drop, Ok};
+ghost use Rattle.std.specs.Prelude.{◌≡◌, ◌≤◌, length, drop, Ok, IfOk};
 ghost use Rattle.reading.specs.Readers as reading;
 ghost use Rattle.reading.specs.Readers.{Answers};
 ghost use Rattle.std.specs.Str.{IsUtf8};
@@ -12,11 +12,24 @@ use html_tokens::{Refusal, misc};
 use reading::first;
 
 /// Reads what follows a document that ends at the place `end`: before a script the rest of the line,
-/// without one white space and comments alone.
+/// without one white space and comments alone. The answer is the place behind it.
+#[tactic(auto, using(crate::proofs::Tails::tail_within, crate::proofs::Tails::tail_rest, crate::proofs::Tails::tail_utf8))]
 pub fn read_tail(bytes: &[u8], end: usize, script: bool) -> Result<usize, HtmlError>
     requires end { end ≤ length bytes.now }
     requires utf8 { IsUtf8 (drop end bytes.now) }
     ensures read { TellsTail (length bytes.now) result (readers.tail script (drop end bytes.now)) }
+    // The place lies within the bytes, behind the document. What stands behind it is what was left, a text of its own.
+    ensures within { IfOk result (λ place. (end ≤ place) × (place ≤ length bytes.now)) }
+    ensures rest { IfOk result (λ place. readers.tail script (drop end bytes.now) ≡ Ok (tt, drop place bytes.now)) }
+    ensures behind { IfOk result (λ place. IsUtf8 (drop place bytes.now)) }
+{
+    answer_tail(bytes, end, script)
+}
+
+fn answer_tail(bytes: &[u8], end: usize, script: bool) -> Result<usize, HtmlError>
+    requires end { end ≤ length bytes.now }
+    requires utf8 { IsUtf8 (drop end bytes.now) }
+    ensures { TellsTail (length bytes.now) result (readers.tail script (drop end bytes.now)) }
 {
     let Ok(text) = str::from_utf8(bytes.split_at(end).1) else {
         return Ok(bytes.len());

@@ -1,17 +1,8 @@
-use Rattle.std.proofs.Common.{sym, ap, arith, Err, length}
+use Rattle.std.proofs.Common.{ap, Err}
 use Rattle.html_read.specs.Values.{whole_of}
 use Rattle.early_tree.specs.declared.error.EarlyError.{EarlyError}
-use Rattle.early_flow.proofs.Walk.{length-in_order}
 use Rattle.wm_run.proofs.JobLaws.{only_page, only_not_yet}
 use Rattle.wm_run.proofs.layout.document.Goals as goal
-
-pub lay_out-requires-clause-boxes : goal.lay_out-requires-clause-boxes
-lay_out-requires-clause-boxes c =
-    let found = c.in-Ok.ensures.found in
-    let counted = length-in_order found.0 1 2 in
-    let long = ap length found.2 in
-    let few = c.in-Ok.ensures.few in
-    record { boxes = found.0; is = sym found.2; few_nodes = omega (arith, counted, long, few) }
 
 pub returns-in_ok-lay_out-in-Ok : goal.returns-in_ok-lay_out-in-Ok
 returns-in_ok-lay_out-in-Ok c =

@@ -3,16 +3,11 @@ use Rattle.html_read.specs.declared.error.HtmlError.{HtmlError}
 use Rattle.html_tokens.specs.declared.error.Refusal.{Refusal}
 use Rattle.html_read.specs.Error.{IsRefused}
 use Rattle.html_read.specs.Reading as reading
-use Rattle.html_read.specs.Values.{whole_of}
 use Rattle.wm_run.specs.declared.due.Due.{Due}
 use Rattle.wm_run.specs.Due.{IsDueAlone}
 use Rattle.wm_run.specs.Job.{IsDueOfDocument}
 use Rattle.wm_run.proofs.JobLaws.{only_refused}
-use Rattle.wm_run.proofs.Documents.{document_ends}
 use Rattle.wm_run.proofs.layout.layout.Goals as goal
-
-pub whole_input-requires-clause-utf8 : goal.whole_input-requires-clause-utf8
-whole_input-requires-clause-utf8 c = (document_ends c.args.input.now (whole_of c.in-Ok.read) c.in-Ok.ensures.found).utf8
 
 pub returns-in-Err-Refused : goal.returns-in-Err-Refused
 returns-in-Err-Refused c =
