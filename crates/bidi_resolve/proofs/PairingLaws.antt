@@ -33,6 +33,10 @@ within_wider m n reading le within = record {
   closed = λ k b e. let h = within.closed k b e in omega arith;
 }
 
+-- where the reading stops nothing else changes
+stopped_within : (n : ℕ) (reading : Reading) → IsWithin n reading → IsWithin n (record { opened = reading.opened; openings = reading.openings; closings = reading.closings; stopped = true })
+stopped_within n reading within = record { many = within.many; opened = within.opened; before = within.before; rises = within.rises; behind = within.behind; closed = within.closed }
+
 -- ---- a closing bracket
 
 -- what is found was opened, and what is below it too
@@ -117,14 +121,7 @@ open_within place partner reading within = elim (cases_Bool (ltb (length reading
     behind = behind;
     closed = λ k b e. let h = within.closed k b (none_pushed reading.closings k b e).1 in omega arith;
   })
-  | inr full ↦ rw full (record {
-    many = within.many;
-    opened = within.opened;
-    before = λ k lt. let h = within.before k lt in omega arith;
-    rises = within.rises;
-    behind = within.behind;
-    closed = λ k b e. let h = within.closed k b e in omega arith;
-  })
+  | inr full ↦ rw full (within_wider place (place + 1) _ (omega arith) (stopped_within place reading within))
 ] where
   first : Opened
   first = record { number = length reading.openings; partner = partner }
