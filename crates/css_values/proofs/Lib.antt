@@ -9,5 +9,9 @@ mod Valuing
 mod TokenFirsts
 pub mod ComponentLaws
 pub mod DeclarationLaws
-mod AnsweredLaws
+pub mod AnsweredLaws
 mod NameRows
+mod Sayable
+mod Taking
+mod Declaring
+pub mod Keeping

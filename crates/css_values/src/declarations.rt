@@ -1,8 +1,9 @@
 //! Declarations, one after the other: each is judged once it is wholly read.
 
 ghost use Rattle.std.specs.Prelude.{◌≡◌, ◌≤◌, ◌<◌, List, [], IfErr, IfOk, length};
+ghost use Rattle.std.specs.List.{All};
 ghost use Rattle.reading.specs.Readers.{Answers, repeat};
-ghost use Rattle.css_values.specs.Answered.{IsWithinLimit, RefusesAttribute};
+ghost use Rattle.css_values.specs.Answered.{IsKept, IsWithinLimit, RefusesAttribute};
 ghost use Rattle.css_values.specs.Declarations as readers;
 ghost use Rattle.reading.specs.Stop.{Gives, end_of};
 ghost use Rattle.css_values.specs.Error.{Tells, Told, spelled};
@@ -44,6 +45,8 @@ pub fn read_declarations(alloc: Global, text: &str, start: usize) -> Result<Decl
     // The text is these declarations; where it is refused it is none.
     ensures found { IfOk result (λ all. grammar.AreDeclarations Attribute (end_of start text.now) text.now [] all.items) }
     ensures refused { IfErr result (λ error. RefusesAttribute (end_of start text.now) text.now error) }
+    // Each is a value that its property takes, with numbers that a style sheet can say.
+    ensures kept { IfOk result (λ all. All IsKept all.items) }
     // It is never refused for how many they are.
     ensures few { IfErr result (λ error. IsWithinLimit error) }
 {
@@ -69,8 +72,21 @@ pub fn told(end: usize, stop: Stop<'_>) -> CssError
 
 /// Reads declarations up to where they end, for readers of sheets. `end` is the place of the end of the text in the
 /// input. What is left begins with the `}` of their rule, or is nothing in a style attribute.
-#[tactic(auto, unfolding(crate::specs::Declarations::declarations))]
 pub fn declarations_within(
+    alloc: Global,
+    within: Within,
+    end: usize,
+    text: &str,
+) -> Result<(Declarations, &str), Stop<'_>>
+    ensures read { Gives (λ d. (d.0.items, d.1.now)) result (readers.declarations within end text.now) }
+    ensures kept { IfOk result (λ d. All IsKept d.0.items) }
+    ensures shorter { IfOk result (λ d. length d.1.now ≤ length text.now) }
+{
+    answered(alloc, within, end, text)
+}
+
+#[tactic(auto, unfolding(crate::specs::Declarations::declarations))]
+fn answered(
     alloc: Global,
     within: Within,
     end: usize,
