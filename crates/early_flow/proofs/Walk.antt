@@ -287,18 +287,6 @@ grows_both boxes n mid new above below both g h e =
       high = omega (arith, ints, e, one, two, g.high, h.high);
     }
 
--- a cursor further down, after more rectangles
-pub within_below : (at below : Cursor) (old now boxes : ℕ) (extent : ℤ) → IsWithin at old → Grows boxes old now extent → IsBelow at below extent → IsWithin below now
-within_below at below old now boxes extent w g is =
-    record {
-      i_low = omega (arith, ints, is.i, w.i_low);
-      i_high = omega (arith, ints, is.i, w.i_high);
-      b_low = omega (arith, ints, is.b, w.b_low, g.low);
-      b_high = omega (arith, ints, is.b, w.b_high, g.high, g.no_shorter);
-      available_low = omega (arith, ints, is.available, w.available_low);
-      available_high = omega (arith, ints, is.available, w.available_high);
-    }
-
 pub walks_on : (list : List EarlyBox) (parent : ℕ) (at : Cursor) (old now new : List FlowRect) (stacked one both : Stacked) (first : EarlyBox) (below : Cursor)
     → 2 ≤ length old → parent < length old → next_in (drop (length now - 2) list) parent ≡ Some first
     → IsBelow at below stacked.extent → LaysOne list first below now new one → Grows (length list) (length now) (length new) one.extent

@@ -42,14 +42,6 @@ pub reading_stops : (size : ℕ) (base : Base) (nodes : List Node) (text rest : 
 reading_stops size base nodes text rest now (stops.Refused kind left) is g e = content_err size base nodes text is.1 is.0 (kind, left.now) is.2 (turning_stops (kind, left.now) is.3 g e)
 reading_stops size base nodes text rest now stops.Memory is g e = tt
 
-gap_err : (size : ℕ) (base : Base) (nodes : List Node) (text : List ℕ) (fault : Fault) → with_gap base (content_of [] nodes) text ≡ Err fault → content size base nodes text ≡ Err fault
-unfolding content
-gap_err size base nodes text fault e = rw e refl
-
-pub gap_stops : (size : ℕ) (base : Base) (nodes : List Node) (text : List ℕ) (stop_ : Stop) → Stops stop_ (with_gap base (content_of [] nodes) text) → Stops stop_ (content size base nodes text)
-gap_stops size base nodes text (stops.Refused kind left) e = gap_err size base nodes text (kind, left.now) e
-gap_stops size base nodes text stops.Memory e = tt
-
 pub reading_ends : (size : ℕ) (base : Base) (nodes all : List Node) (text rest : List ℕ) (now : Content) → IsReading size base nodes text now rest → goes_on base now rest ≡ false → now.nodes ≡ all
     → content size base nodes text ≡ Ok (all, rest)
 reading_ends size base nodes all text rest now is g same = rw (← same) (content_ok size base nodes text is.1 rest is.0 now is.2 (turning_ends is.3 g))
@@ -62,11 +54,6 @@ content_begins size base old new text rest opened shown same none e =
     let here : with_gap base (content_of [] old) text ≡ Ok (content_of [] new, rest) =
     subst (λ (o : List CodeOpen). with_gap base (content_of (opened_of o) old) text ≡ Ok (content_of (opened_of o) new, rest)) (same ∙ none) e in
     subst (λ (o : List CodeOpen). IsReading size base old text (content_of (opened_of o) new) rest) (sym none) (reading_starts size base old text rest (content_of [] new) here)
-
-pub begins_not : (size : ℕ) (base : Base) (old : List Node) (text : List ℕ) (opened shown : List CodeOpen) (stop_ : Stop) → shown ≡ opened → opened ≡ []
-    → Stops stop_ (with_gap base (content_of (opened_of shown) old) text) → Stops stop_ (content size base old text)
-begins_not size base old text opened shown stop_ same none e =
-    gap_stops size base old text stop_ (subst (λ (o : List CodeOpen). Stops stop_ (with_gap base (content_of (opened_of o) old) text)) (same ∙ none) e)
 
 pub still : (base : Base) (opened shown : List CodeOpen) (nodes : List Node) (rest : List ℕ) (r t : Bool) → shown ≡ opened → ((n : List Node) → r ≡ goes_on base (content_of (opened_of shown) n) rest) → r ≡ t
     → goes_on base (content_of (opened_of opened) nodes) rest ≡ t

@@ -13,7 +13,6 @@ use Rattle.html_read.specs.Grammar.{IsHtml, IsDocument}
 use Rattle.html_read.specs.Answered.{IsTheDocument}
 use Rattle.html_read.specs.Reading.{input, fragment}
 use Rattle.html_read.specs.Shape.{AreTexts, IsInDocumentOrder, text_bytes}
-use Rattle.html_read.specs.Tree.{AreNodes}
 use Rattle.html_read.proofs.AnsweredLaws.{document_found}
 use Rattle.html_read.proofs.NodesLaws.{document_nodes}
 use Rattle.html_read.proofs.OrderLaws.{nodes_in_order, fragment_in_order}

@@ -1,9 +1,6 @@
 -- Attributes, judged one by one.
 use Rattle.std.proofs.Common.{◌≡◌, ℕ, ◌+◌, true, false, List, [], ◌∷◌, ◌++◌, length, map, Ok, Err, refl, sym, ap, subst, ◌∙◌, arith}
 use Rattle.std.specs.Prelude.{Bool, cond, not, ◌||◌, Result, bytes_eq}
-use Rattle.std.specs.List.{list_any}
-use Rattle.std.specs.Ordering.{is_eq, nat_cmp}
-use Rattle.std.specs.Cmp.Lexicographic.{slice_cmp}
 use Rattle.std.specs.String.{string_bytes, string_cmp}
 use Rattle.std.specs.declared.string.String.{String}
 use Rattle.std.specs.BTreeSet.{BTreeSet, contains, Updates}
@@ -12,11 +9,10 @@ use Rattle.std.proofs.lemmas.List.Folds.{list_any-append}
 use Rattle.html_tokens.specs.declared.written.WrittenAttribute.{WrittenAttribute}
 use Rattle.html_tokens.specs.declared.error.Stop.{Stop}
 use Rattle.html_tokens.specs.declared.error.Stop.TheVariants as stops
-use Rattle.html_tokens.specs.declared.error.Refusal.TheVariants.{Syntax}
 use Rattle.html_tokens.specs.Attribute.{role_of}
 use Rattle.html_tokens.specs.Error.{Fault, Stops}
 use Rattle.html_tokens.specs.Written.{Attribute}
-use Rattle.html_read.specs.Judging.{no_attributes, has_name, with_attribute, with_next, and_then, judged_behind, judged}
+use Rattle.html_read.specs.Judging.{has_name, with_attribute, with_next, and_then, judged_behind, judged}
 use Rattle.html_read.specs.Values.{Acting}
 use Rattle.html_tokens.specs.Written.{attribute_of}
 use Rattle.html_read.specs.Views.{AreSeen, TellsNew}
@@ -32,9 +28,6 @@ or_last false false = refl
 one_more : (names : List (List ℕ)) (name other : List ℕ) → cond (bytes_eq name other) true (has_name other names) ≡ has_name other (names ++ name ∷ [])
 one_more names name other =
     sym (list_any-append (λ (n : List ℕ). bytes_eq n other) names (name ∷ []) ∙ or_last (has_name other names) (bytes_eq name other))
-
-none_seen : {Y : Type 0} (seen : BTreeSet (String Y)) → seen.keys ≡ [] → AreSeen [] seen
-none_seen seen none name = ap (λ (keys : List (String _)). list_any (λ k. is_eq (slice_cmp nat_cmp name (string_bytes k))) keys) none
 
 seen_now : {Y : Type 0} (names : List (List ℕ)) (old new : BTreeSet (String Y)) (key : String Y) → Updates string_cmp old new key true → AreSeen names old → AreSeen (names ++ string_bytes key ∷ []) new
 seen_now names old new key updates are other =
@@ -56,16 +49,6 @@ pub record IsJudging {Y : Type 0} (size : ℕ) (all left : List WrittenAttribute
   pub same : judged_behind size names said (map attribute_of left) ≡ judged size (map attribute_of all)
   pub counted : count ≡ length left
 
-pub judging_starts : {Y : Type 0} (size : ℕ) (all left : List WrittenAttribute) (count : ℕ) (seen : BTreeSet (String Y)) (said : Acting) → left ≡ all → count ≡ length all → seen.keys ≡ [] → said ≡ no_attributes
-    → IsJudging size all left count seen said
-unfolding judged
-judging_starts size all left count seen said whole counted none nothing = record {
-  names = [];
-  are = none_seen seen none;
-  same = rw (whole, nothing) refl;
-  counted = counted ∙ ap length (sym whole);
-}
-
 next_here : {Y : Type 0} (size : ℕ) (all left others : List WrittenAttribute) (a : WrittenAttribute) (count : ℕ) (seen : BTreeSet (String Y)) (said : Acting) (r : Result Acting Fault) (now : IsJudging size all left count seen said)
     → left ≡ a ∷ others → with_next size now.names (attribute_of a) said ≡ r
     → and_then r (λ more. judged_behind size (now.names ++ (attribute_of a).name ∷ []) more (map attribute_of others)) ≡ judged size (map attribute_of all)
@@ -75,25 +58,12 @@ next_here size all left others a count seen said r now first e =
     ap (λ (l : List WrittenAttribute). judged_behind size now.names said (map attribute_of l)) first in
     ap (λ (x : Result Acting Fault). and_then x (λ more. judged_behind size (now.names ++ (attribute_of a).name ∷ []) more (map attribute_of others))) (sym e) ∙ sym here ∙ now.same
 
-seen_twice : (size : ℕ) (seen : List (List ℕ)) (a : Attribute) (said : Acting) → has_name a.name seen ≡ true → with_next size seen a said ≡ Err (Syntax, a.left)
-seen_twice size seen a said e = rw e refl
-
 not_seen : (size : ℕ) (seen : List (List ℕ)) (a : Attribute) (said : Acting) → has_name a.name seen ≡ false → with_next size seen a said ≡ with_attribute size (role_of a.name) a said
 not_seen size seen a said e = rw e refl
-
-is_old : (has is : Bool) → is ≡ not has → is ≡ false → has ≡ true
-is_old true is e f = refl
-is_old false is e f = absurd (cc (sym e ∙ f))
 
 is_new : (has is : Bool) → is ≡ not has → is ≡ true → has ≡ false
 is_new true is e f = absurd (cc (sym e ∙ f))
 is_new false is e f = refl
-
-pub judging_twice : {Y : Type 0} (size : ℕ) (all left others : List WrittenAttribute) (a : WrittenAttribute) (count : ℕ) (old new : BTreeSet (String Y)) (said : Acting) (is : Bool) → IsJudging size all left count old said
-    → left ≡ a ∷ others → TellsNew (attribute_of a).name old new (Ok is) → is ≡ false → judged size (map attribute_of all) ≡ Err (Syntax, a.left.now)
-judging_twice size all left others a count old new said is now first told e =
-    let twice = is_old (has_name (attribute_of a).name now.names) is (told now.names now.are).0 e in
-    sym (next_here size all left others a count old said (Err (Syntax, a.left.now)) now first (seen_twice size now.names (attribute_of a) said twice))
 
 pub judging_goes_on : {Y : Type 0} (size : ℕ) (all left others : List WrittenAttribute) (a : WrittenAttribute) (count less : ℕ) (old new : BTreeSet (String Y)) (said more : Acting) (is : Bool)
     → IsJudging size all left count old said → left ≡ a ∷ others → less + 1 ≡ count → TellsNew (attribute_of a).name old new (Ok is) → is ≡ true
@@ -119,8 +89,3 @@ judging_stops size all left others a count old new said is stops.Memory now firs
 none_left : (left : List WrittenAttribute) → length left ≡ 0 → left ≡ []
 none_left [] e = refl
 none_left (a ∷ left) e = absurd (omega (arith, e))
-
-pub judging_ends : {Y : Type 0} (size : ℕ) (all left : List WrittenAttribute) (count : ℕ) (seen : BTreeSet (String Y)) (said : Acting) → IsJudging size all left count seen said → count ≡ 0
-    → judged size (map attribute_of all) ≡ Ok said
-judging_ends size all left count seen said now none =
-    sym now.same ∙ ap (λ (l : List WrittenAttribute). judged_behind size now.names said (map attribute_of l)) (none_left left (sym now.counted ∙ none))

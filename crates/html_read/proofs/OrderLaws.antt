@@ -1,9 +1,9 @@
 -- The nodes that are listed stand in document order.
-use Rattle.std.proofs.Common.{◌≡◌, ◌≢◌, ℕ, zero, suc, ◌+◌, Bool, true, false, List, [], ◌∷◌, ◌++◌, length, Some, None, refl, sym, ap, subst, ◌∙◌, arith, append_assoc}
-use Rattle.std.specs.Prelude.{⊤, Option}
+use Rattle.std.proofs.Common.{◌≡◌, ◌≢◌, ℕ, suc, ◌+◌, Bool, true, false, List, [], ◌∷◌, ◌++◌, length, Some, None, refl, sym, ap, subst, ◌∙◌, arith, append_assoc}
+use Rattle.std.specs.Prelude.{Option}
 use Rattle.html_tokens.specs.declared.tag.Tag.{Tag}
 use Rattle.html_tokens.specs.declared.tag.Tag.TheVariants.{Html, Body, Br}
-use Rattle.html_read.specs.Values.{Acting, Kind, Node, element, text, is_text}
+use Rattle.html_read.specs.Values.{Acting, Node, element, text, is_text}
 use Rattle.html_read.specs.Tree.{Items, none, pair, line_break, with_text, with_element, listed, roots, AreNodes}
 use Rattle.html_read.specs.Grammar.{IsFragment}
 use Rattle.html_read.specs.Shape.{innermost, with_opened, MayFollow, AreInOrder, IsInDocumentOrder}

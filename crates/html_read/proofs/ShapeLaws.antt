@@ -28,10 +28,6 @@ at_one : (y : Node) (place : ℕ) (node : Node) → IsNodeAt (y ∷ []) place no
 at_one y zero node e = (refl, cc)
 at_one y (suc place) node e = absurd cc
 
-up_one : (place size : ℕ) (P : Type 0) → P ⊎ (place ≡ size) → P ⊎ (suc place ≡ suc size)
-up_one place size P (inl p) = inl p
-up_one place size P (inr e) = inr (ap suc e)
-
 -- a node of a list with one more is one of the list, or that one
 data AtPushed (xs : List Node) (y : Node) (place : ℕ) (node : Node) : Type 0 where
   before : IsNodeAt xs place node → AtPushed xs y place node

@@ -6,11 +6,10 @@ use Rattle.std.proofs.lemmas.Bool.{eqb-true}
 use Rattle.std.specs.Prelude.{Result, ⊤}
 use Rattle.std.specs.Str.{IsUtf8, IsCharBoundary}
 use Rattle.std.proofs.lemmas.Str.{IsUtf8-drop, IsUtf8-nil, IsCharBoundary-after_ascii}
-use Rattle.reading.specs.Readers.{Read, skip, follow}
+use Rattle.reading.specs.Readers.{Read, skip}
 use Rattle.reading.proofs.SpellLaws.{bind_ok, same_answer}
 use Rattle.html_tokens.specs.Lexing.{misc}
 use Rattle.html_read.specs.declared.error.HtmlError.{HtmlError}
-use Rattle.html_read.specs.declared.error.HtmlError.TheVariants as errors
 use Rattle.html_read.specs.Error.{TellsTail}
 use Rattle.html_read.specs.Reading.{is_blank, line_end, nothing, tail}
 

@@ -4,12 +4,11 @@ use Rattle.std.specs.Prelude.{⊤, Option}
 use Rattle.html_tokens.specs.declared.tag.Tag.{Tag}
 use Rattle.html_tokens.specs.declared.tag.Tag.TheVariants.{Br}
 use Rattle.html_tokens.specs.Text.{IsOfRepertoire}
-use Rattle.html_tokens.specs.Grammar.{IsGap}
 use Rattle.html_tokens.proofs.GapTexts.{gap_shorter, gap_of_repertoire}
 use Rattle.html_read.specs.Values.{TextAt, Acting, Kind, Node, Whole, element, text, is_text}
 use Rattle.html_read.specs.Tree.{Items, none, pair, line_break, with_text, with_element, listed, roots}
 use Rattle.html_read.specs.Grammar.{AreItems, IsContent, IsBody, IsHtml, IsDocument, IsFragment}
-use Rattle.html_read.specs.Shape.{IsNodeAt, innermost, with_opened, MayFollow, AreInOrder, IsInDocumentOrder, AreTexts, kind_bytes, text_bytes}
+use Rattle.html_read.specs.Shape.{IsNodeAt, innermost, with_opened, MayFollow, AreInOrder, IsInDocumentOrder, AreTexts, text_bytes}
 use Rattle.html_read.proofs.OrderLaws.{nodes_in_order, fragment_in_order}
 use Rattle.html_read.proofs.NodesLaws.{document_nodes}
 

@@ -1,5 +1,5 @@
 -- The words of a text, byte by byte.
-use Rattle.std.proofs.Common.{◌≡◌, ℕ, ◌<◌, ◌≤◌, ◌+◌, true, false, List, [], ◌∷◌, ◌++◌, length, drop, take, get_or, Ok, refl, sym, ap, ◌∙◌, append_assoc, length-append, length-drop, add-one, arith}
+use Rattle.std.proofs.Common.{◌≡◌, ℕ, ◌<◌, ◌≤◌, ◌+◌, true, false, List, [], ◌∷◌, ◌++◌, length, drop, take, get_or, Ok, refl, sym, ap, ◌∙◌, length-append, length-drop, add-one, arith}
 use Rattle.std.specs.Prelude.{zero, suc, Bool, cond, ◌==◌, ⊤}
 use Rattle.std.proofs.lemmas.Str.{IsCharBoundary-before_ascii}
 use Rattle.std.specs.Str.{IsCharBoundary}
@@ -161,7 +161,3 @@ next_word text here front rest e ends parts lt =
     words_skipped text here e ∙ ends.2 ∙ ap (λ (f : List ℕ). word_before f (words rest)) same ∙ some_word front (words rest) (omega (arith, ap length parts, length-append front rest))
 
 -- ---- the words so far
-
-pub words_put : (so_far now : List (List ℕ)) (text rest after word : List ℕ) → words rest ≡ word ∷ words after → now ≡ so_far ++ word ∷ [] → so_far ++ words rest ≡ words text → now ++ words after ≡ words text
-words_put so_far now text rest after word e put so =
-    rw put (append_assoc so_far (word ∷ []) (words after) ∙ ap (λ (w : List (List ℕ)). so_far ++ w) (sym e) ∙ so)

@@ -77,11 +77,6 @@ behind_local = follow_local spaces_local (λ u. quoted_local)
 valued_local : IsLocal valued
 valued_local = follow_local equals_local (λ u. behind_local)
 
--- where it stops, the `=` was read
-found_equals : (bytes : List ℕ) (r : Read ⊤) → equals bytes ≡ r → is_ok r ≡ true → (x : ⊤ × List ℕ) × (equals bytes ≡ Ok x)
-found_equals bytes (Ok x) e is = (x, e)
-found_equals bytes (Err left) e is = absurd cc
-
 equals_again : (text rest other : List ℕ) → Stopped (equals (text ++ rest)) (λ (x : ⊤ × List ℕ). behind_equals x.1) rest → can_read equals (text ++ rest) ≡ true → can_read equals (text ++ other) ≡ true
 equals_again text rest other (at_first e) is =
     let clash : true ≡ false = sym is ∙ ap (λ (r : Read ⊤). is_ok r) e in

@@ -109,11 +109,6 @@ letter_err text rest bytes c next parts is none same =
     let read : character text ≡ Ok (c, rest) = ap character parts ∙ read_char c rest is in
     rw same (letter_piece text next ∙ check_err text rest c read none)
 
-pub no_letter : (text : List ℕ) → is_letter_next text ≡ true → text ≡ [] → ⊥
-no_letter text next none =
-    let no : is_letter_next [] ≡ true = subst (λ (t : List ℕ). is_letter_next t ≡ true) none next in
-    absurd cc
-
 -- ---- runs of characters
 
 pub letters_start : (text : List ℕ) → JoinsRun in_text text_piece text text

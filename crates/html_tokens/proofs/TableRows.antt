@@ -6,7 +6,7 @@ use Rattle.html_tokens.specs.declared.tag.Tag.{Tag}
 use Rattle.html_tokens.specs.declared.tag.Tag.TheVariants as tag
 use Rattle.html_tokens.specs.declared.attribute.Role.{Role}
 use Rattle.html_tokens.specs.declared.attribute.Role.TheVariants as role
-use Rattle.html_tokens.specs.Tag.{tags, body_tags, is_void}
+use Rattle.html_tokens.specs.Tag.{tags, body_tags}
 use Rattle.html_tokens.specs.Attribute.{roles}
 use Rattle.html_tokens.specs.Characters.{entities}
 
