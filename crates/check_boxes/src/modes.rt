@@ -2,11 +2,11 @@
 
 ghost use Rattle.wm_modes.specs.Near.{IsNear, IsNearFlow};
 
-use wm_modes::*;
 use Direction::{Ltr, Rtl};
 use Side::{Bottom as B, Left as L, Right as R, Top as T};
 use WritingMode::{HorizontalTb, SidewaysLr, SidewaysRl, VerticalLr, VerticalRl};
 use std::process::Abort;
+use wm_modes::*;
 
 #[test]
 fn sides_of_every_mode(rt: HostRuntime) {

@@ -2,9 +2,9 @@
 
 ghost use Rattle.std.specs.Prelude.{◌≡◌, ◌+◌, ◌<◌};
 
-use wm_units::*;
 use std::marker::Brand;
 use std::sync::ledger::{Blank, Ledger};
+use wm_units::*;
 
 // Hundredths, and so many of a pixel; a font size, and so many of it; a base, and so many of a percent of it.
 const UNITS: [(i64, i64, i64, i64, i64, i64); 12] = [

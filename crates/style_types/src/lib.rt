@@ -3,6 +3,7 @@
 #![tactic(auto)]
 
 mod constraint;
+mod copies;
 mod initial;
 mod keyword;
 pub mod laws;
@@ -19,6 +20,7 @@ mod tree;
 mod value;
 
 pub use constraint::Constraint;
+pub use copies::{copy_of_rule, copy_of_rules, copy_of_selector};
 pub use keyword::{Keyword, Keywords, WIDTH_NAMES, WORDS};
 pub use lists::{Declarations, LetterList, Letters, Parts, Rules, StyledNodes, Styles, Winners};
 pub use page::page_property;
