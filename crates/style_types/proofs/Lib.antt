@@ -4,4 +4,5 @@ mod PairLaws
 mod PropertyRows
 mod RefusalRows
 mod ShorthandRows
+mod ValueExamples
 mod WordRows
