@@ -4,9 +4,10 @@ use Rattle.std.specs.Prelude.{Bool}
 use Rattle.reading.specs.Readers.{ReadOr, repeat}
 use Rattle.reading.proofs.Turns.{IsTurning, turning_starts, turning_goes_on, turning_stops, turning_ends}
 use Rattle.html_read.specs.declared.content.Base.{Base}
-use Rattle.html_tokens.specs.declared.error.Stop.{Stop}
-use Rattle.html_tokens.specs.declared.error.Stop.TheVariants as stops
-use Rattle.html_tokens.specs.Error.{Fault, Stops}
+use Rattle.html_tokens.specs.Error.{Stop}
+use Rattle.reading.specs.declared.stop.Stop.TheVariants as stops
+use Rattle.html_tokens.specs.Error.{Fault}
+use Rattle.reading.specs.Stop.{Stops}
 use Rattle.html_read.specs.Reading.{Content, content_of, content, turn, goes_on, with_gap}
 use Rattle.html_read.specs.Values.{Node}
 use Rattle.html_read.specs.Views.{opened_of}

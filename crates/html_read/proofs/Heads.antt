@@ -5,10 +5,10 @@ use Rattle.std.proofs.lemmas.List.{map-append}
 use Rattle.reading.specs.Readers.{next_is, starts}
 use Rattle.reading.proofs.Turns.{IsTurning, turning_starts, turning_goes_on, turning_stops, turning_ends}
 use Rattle.html_read.specs.declared.node.PlacedText.{PlacedText}
-use Rattle.html_tokens.specs.declared.error.Stop.{Stop}
-use Rattle.html_tokens.specs.declared.error.Stop.TheVariants as stops
+use Rattle.html_tokens.specs.Error.{Stop}
+use Rattle.reading.specs.declared.stop.Stop.TheVariants as stops
 use Rattle.reading.specs.White.{is_white}
-use Rattle.html_tokens.specs.Error.{Stops}
+use Rattle.reading.specs.Stop.{Stops}
 use Rattle.html_read.specs.Reading.{ahead, style, head_turn, head_items}
 use Rattle.html_read.specs.Values.{TextAt, text_at, sheets_of}
 

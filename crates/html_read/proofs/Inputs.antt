@@ -5,8 +5,9 @@ use Rattle.std.specs.Str.Lossy.{utf8_valid_len}
 use Rattle.std.proofs.lemmas.Bool.{eq-eqb}
 use Rattle.std.proofs.lemmas.Str.{utf8_valid_len-IsUtf8}
 use Rattle.reading.specs.Readers.{ReadOr}
-use Rattle.html_tokens.specs.declared.error.Stop.{Stop}
-use Rattle.html_tokens.specs.Error.{Fault, Stops}
+use Rattle.html_tokens.specs.Error.{Stop}
+use Rattle.html_tokens.specs.Error.{Fault}
+use Rattle.reading.specs.Stop.{Stops}
 use Rattle.html_read.specs.Reading.{document, input}
 use Rattle.html_read.specs.Values.{Whole}
 

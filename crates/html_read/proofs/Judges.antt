@@ -7,10 +7,11 @@ use Rattle.std.specs.BTreeSet.{BTreeSet, contains, Updates}
 use Rattle.std.proofs.lemmas.Map.Text.{btree_set_updates_text}
 use Rattle.std.proofs.lemmas.List.Folds.{list_any-append}
 use Rattle.html_tokens.specs.declared.written.WrittenAttribute.{WrittenAttribute}
-use Rattle.html_tokens.specs.declared.error.Stop.{Stop}
-use Rattle.html_tokens.specs.declared.error.Stop.TheVariants as stops
+use Rattle.html_tokens.specs.Error.{Stop}
+use Rattle.reading.specs.declared.stop.Stop.TheVariants as stops
 use Rattle.html_tokens.specs.Attribute.{role_of}
-use Rattle.html_tokens.specs.Error.{Fault, Stops}
+use Rattle.html_tokens.specs.Error.{Fault}
+use Rattle.reading.specs.Stop.{Stops}
 use Rattle.html_tokens.specs.Written.{Attribute}
 use Rattle.html_read.specs.Judging.{has_name, with_attribute, with_next, and_then, judged_behind, judged}
 use Rattle.html_read.specs.Values.{Acting}

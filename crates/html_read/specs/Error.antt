@@ -4,14 +4,9 @@ use Rattle.reading.specs.Readers.{Read, ReadOr}
 use Rattle.html_tokens.specs.declared.error.Refusal.TheVariants.{Syntax}
 use Rattle.html_read.specs.declared.error.HtmlError.{HtmlError}
 use Rattle.html_read.specs.declared.error.HtmlError.TheVariants as errors
-use Rattle.html_tokens.specs.declared.error.Stop.{Stop}
-use Rattle.html_tokens.specs.declared.error.Stop.TheVariants as stops
-use Rattle.html_tokens.specs.Error.{Fault, Stops}
-
--- the same, where what stands behind the value isn't told
-abbrev pub GivesFront : {X A : Type 0} → (X → A) → Result X Stop → ReadOr Fault A → Type 0
-GivesFront view (Ok x) read = (rest : List ℕ) × (read ≡ Ok (view x, rest))
-GivesFront view (Err stop) read = Stops stop read
+use Rattle.html_tokens.specs.Error.{Stop}
+use Rattle.reading.specs.declared.stop.Stop.TheVariants as stops
+use Rattle.html_tokens.specs.Error.{Fault}
 
 -- a place in an input of this size is the count of bytes before what is left
 abbrev pub place_in : (size : ℕ) → (left : List ℕ) → ℕ

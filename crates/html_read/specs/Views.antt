@@ -5,8 +5,8 @@ use Rattle.std.specs.declared.string.String.{String}
 use Rattle.html_read.specs.declared.tags.Start as code_start
 use Rattle.html_read.specs.declared.content.Open as code_open
 use Rattle.reading.specs.Names.{lowered}
-use Rattle.html_tokens.specs.declared.error.Stop.{Stop}
-use Rattle.html_tokens.specs.declared.error.Stop.TheVariants.{Memory}
+use Rattle.html_tokens.specs.Error.{Stop}
+use Rattle.reading.specs.declared.stop.Stop.TheVariants.{Memory}
 use Rattle.html_read.specs.Judging.{has_name}
 use Rattle.html_read.specs.Reading.{Start, Open}
 use Rattle.html_read.specs.Values.{acting_of}

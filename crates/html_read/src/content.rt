@@ -2,17 +2,17 @@
 
 ghost use Rattle.std.specs.Prelude.{◌≡◌, ◌≤◌, ◌<◌, List, length, IfOk, IfErr, OnOk};
 ghost use Rattle.std.specs.String.{string_bytes};
-ghost use Rattle.html_tokens.specs.Error.{Gives};
+ghost use Rattle.reading.specs.Stop.{Gives};
 ghost use Rattle.html_read.specs.Reading as readers;
 ghost use Rattle.html_read.specs.Tree.{with_text};
 ghost use Rattle.html_read.specs.Values.{Node, nodes_of};
 ghost use Rattle.html_read.specs.Views.{start_of, opened_of};
-ghost use Rattle.html_tokens.specs.declared.error.Stop.TheVariants as Stops;
+ghost use Rattle.reading.specs.declared.stop.Stop.TheVariants as Stops;
 
 use crate::node::{ReadKind, ReadNode};
 use crate::tags::{Start, end_tag, start_tag};
-use html_tokens::{Refusal, Stop, gap, is_void};
-use reading::{starts, strip};
+use html_tokens::{Refusal, gap, is_void};
+use reading::{Stop, starts, strip};
 use std::alloc::Global;
 use style_types::Letters;
 
@@ -38,7 +38,7 @@ pub(crate) fn content<'a>(
     base: Base,
     nodes: &mut Vec<ReadNode>,
     text: &'a str,
-) -> Result<&'a str, Stop<'a>>
+) -> Result<&'a str, Stop<'a, Refusal>>
     ensures read { Gives (λ rest. (nodes_of nodes.new.items, rest.now)) result (readers.content size base (nodes_of nodes.old.items) text.now) }
     ensures shorter { IfOk result (λ rest. length rest.now ≤ length text.now) }
 {
@@ -76,7 +76,7 @@ fn turn<'a>(
     opened: &mut Vec<Open<'a>>,
     nodes: &mut Vec<ReadNode>,
     text: &'a str,
-) -> Result<&'a str, Stop<'a>>
+) -> Result<&'a str, Stop<'a, Refusal>>
     ensures read { Gives (λ rest. (readers.content_of (opened_of opened.new.items) (nodes_of nodes.new.items), rest.now)) result
         (readers.turn size base (readers.content_of (opened_of opened.old.items) (nodes_of nodes.old.items)) text.now) }
     ensures shorter { IfOk result (λ rest. length rest.now < length text.now) }
@@ -93,7 +93,7 @@ fn markup<'a>(
     opened: &mut Vec<Open<'a>>,
     nodes: &mut Vec<ReadNode>,
     text: &'a str,
-) -> Result<&'a str, Stop<'a>>
+) -> Result<&'a str, Stop<'a, Refusal>>
     ensures read { Gives (λ rest. (readers.content_of (opened_of opened.new.items) (nodes_of nodes.new.items), rest.now)) result
         (readers.markup size base (readers.content_of (opened_of opened.old.items) (nodes_of nodes.old.items)) text.now) }
     ensures shorter { IfOk result (λ rest. length rest.now < length text.now) }
@@ -109,7 +109,7 @@ fn markup<'a>(
 
 // The innermost open element ends.
 #[tactic(auto, unfolding(reading::specs::Readers::after))]
-fn ending<'a>(opened: &mut Vec<Open<'a>>, text: &'a str) -> Result<&'a str, Stop<'a>>
+fn ending<'a>(opened: &mut Vec<Open<'a>>, text: &'a str) -> Result<&'a str, Stop<'a, Refusal>>
     ensures read { (nodes : List Node) → Gives (λ rest. (readers.content_of (opened_of opened.new.items) nodes, rest.now)) result
         (readers.ending (opened_of opened.old.items) nodes text.now) }
     ensures shorter { IfOk result (λ rest. length rest.now < length text.now) }
@@ -127,7 +127,7 @@ fn begin<'a>(
     start: Start<'a>,
     opened: &mut Vec<Open<'a>>,
     nodes: &mut Vec<ReadNode>,
-) -> Result<(), Stop<'a>>
+) -> Result<(), Stop<'a, Refusal>>
     ensures begun { OnOk result (readers.content_of (opened_of opened.new.items) (nodes_of nodes.new.items)
         ≡ readers.begun base (readers.content_of (opened_of opened.old.items) (nodes_of nodes.old.items)) (start_of start.entry)) }
     ensures memory { IfErr result (λ stop. stop ≡ Stops.Memory) }
@@ -177,7 +177,7 @@ fn with_gap<'a>(
     opened: &[Open<'a>],
     nodes: &mut Vec<ReadNode>,
     text: &'a str,
-) -> Result<&'a str, Stop<'a>>
+) -> Result<&'a str, Stop<'a, Refusal>>
     ensures read { Gives (λ rest. (readers.content_of (opened_of opened.now) (nodes_of nodes.new.items), rest.now)) result
         (readers.with_gap base (readers.content_of (opened_of opened.now) (nodes_of nodes.old.items)) text.now) }
     ensures shorter { IfOk result (λ rest. length rest.now ≤ length text.now) }
@@ -191,7 +191,7 @@ fn with_text(
     parent: Option<usize>,
     text: Letters,
     nodes: &mut Vec<ReadNode>,
-) -> Result<(), Stop<'static>>
+) -> Result<(), Stop<'static, Refusal>>
     ensures put { OnOk result (nodes_of nodes.new.items ≡ with_text parent (string_bytes text) (nodes_of nodes.old.items)) }
     ensures memory { IfErr result (λ stop. stop ≡ Stops.Memory) }
 {

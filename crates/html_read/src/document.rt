@@ -3,22 +3,23 @@
 ghost use Rattle.std.specs.Prelude.{◌≡◌, ◌≤◌, drop, length, IfOk, IfErr};
 ghost use Rattle.std.specs.Str.{IsUtf8};
 ghost use Rattle.reading.specs.Readers.{Answers};
-ghost use Rattle.html_tokens.specs.Error.{Gives};
-ghost use Rattle.html_read.specs.Error.{GivesFront, Tells, Told};
+ghost use Rattle.reading.specs.Stop.{Gives};
+ghost use Rattle.html_read.specs.Error.{Tells, Told};
+ghost use Rattle.reading.specs.Stop.{GivesFront};
 ghost use Rattle.html_read.specs.Answered.{IsTheDocument, IsTheFragment, RefusesDocument, RefusesFragment};
 ghost use Rattle.html_read.specs.Reading as readers;
 ghost use Rattle.html_read.specs.Shape.{AreTexts, IsShaped, IsFragmentShaped, IsInDocumentOrder, text_bytes};
 ghost use Rattle.html_read.specs.Tree.{AreNodes, roots};
 ghost use Rattle.html_read.specs.Values.{acting_of, nodes_of, sheets_of, whole_of};
-ghost use Rattle.html_tokens.specs.declared.error.Stop.TheVariants as Stops;
+ghost use Rattle.reading.specs.declared.stop.Stop.TheVariants as Stops;
 
 use crate::content::{Base, content};
 use crate::error::HtmlError;
 use crate::head::maybe_head;
 use crate::node::{Attributes, PlacedText, ReadDocument, ReadKind, ReadNode, ReadNodes};
 use crate::tags::{end_tag, start_of};
-use html_tokens::{Refusal, Stop, Tag, doctype, end_of, misc};
-use reading::{starts, strip};
+use html_tokens::{Refusal, Tag, doctype, end_of, misc};
+use reading::{Stop, starts, strip};
 use std::alloc::Global;
 
 /// Reads a document, from the first byte to past `</html>`. Bytes may stand behind it.
@@ -80,7 +81,7 @@ fn answer_fragment(alloc: Global, text: &str) -> Result<ReadNodes, HtmlError>
 }
 
 // The refusal with its place in an input of this size.
-fn told(size: usize, stop: Stop<'_>) -> HtmlError
+fn told(size: usize, stop: Stop<'_, Refusal>) -> HtmlError
     ensures { Tells size stop.entry result }
 {
     match stop {
@@ -93,7 +94,7 @@ fn told(size: usize, stop: Stop<'_>) -> HtmlError
 }
 
 #[tactic(auto, unfolding(crate::specs::Reading::fragment))]
-fn fragment(alloc: Global, text: &str) -> Result<ReadNodes, Stop<'_>>
+fn fragment(alloc: Global, text: &str) -> Result<ReadNodes, Stop<'_, Refusal>>
     ensures { GivesFront (λ nodes. nodes_of nodes.items) result (readers.fragment text.now) }
 {
     let mut nodes = Vec::new(alloc);
@@ -102,7 +103,7 @@ fn fragment(alloc: Global, text: &str) -> Result<ReadNodes, Stop<'_>>
 }
 
 #[tactic(auto, unfolding(crate::specs::Reading::input))]
-fn input(alloc: Global, bytes: &[u8]) -> Result<ReadDocument, Stop<'_>>
+fn input(alloc: Global, bytes: &[u8]) -> Result<ReadDocument, Stop<'_, Refusal>>
     ensures { GivesFront whole_of result (readers.input bytes.now) }
 {
     match str::from_utf8(bytes) {
@@ -112,7 +113,7 @@ fn input(alloc: Global, bytes: &[u8]) -> Result<ReadDocument, Stop<'_>>
 }
 
 #[tactic(auto, unfolding(crate::specs::Reading::document, crate::specs::Reading::ended))]
-fn document(alloc: Global, text: &str) -> Result<(ReadDocument, &str), Stop<'_>>
+fn document(alloc: Global, text: &str) -> Result<(ReadDocument, &str), Stop<'_, Refusal>>
     ensures { Gives (λ d. (whole_of d.0, d.1.now)) result (readers.document (length text.now) text.now) }
 {
     let size = text.len();
@@ -164,7 +165,7 @@ fn html(
     alloc: Global,
     size: usize,
     text: &str,
-) -> Result<(Vec<ReadNode>, Vec<PlacedText>, &str), Stop<'_>>
+) -> Result<(Vec<ReadNode>, Vec<PlacedText>, &str), Stop<'_, Refusal>>
     ensures { Gives (λ h. ((nodes_of h.0.items, sheets_of h.1.items), h.2.now)) result (readers.html size text.now) }
 {
     let (attributes, rest) = start_of(alloc, size, "<html", false, text)?;
@@ -182,7 +183,7 @@ fn body(
     size: usize,
     html: Attributes,
     text: &str,
-) -> Result<(Vec<ReadNode>, &str), Stop<'_>>
+) -> Result<(Vec<ReadNode>, &str), Stop<'_, Refusal>>
     ensures { Gives (λ b. (nodes_of b.0.items, b.1.now)) result (readers.body size (acting_of html) text.now) }
 {
     let (attributes, rest) = start_of(alloc, size, "<body", false, text)?;
@@ -192,7 +193,11 @@ fn body(
 }
 
 // The nodes of `html` and `body`.
-fn roots(alloc: Global, html: Attributes, body: Attributes) -> Result<Vec<ReadNode>, Stop<'static>>
+fn roots(
+    alloc: Global,
+    html: Attributes,
+    body: Attributes,
+) -> Result<Vec<ReadNode>, Stop<'static, Refusal>>
     ensures roots { IfOk result (λ nodes. nodes_of nodes.items ≡ roots (acting_of html) (acting_of body)) }
     ensures memory { IfErr result (λ stop. stop ≡ Stops.Memory) }
 {

@@ -1,14 +1,14 @@
 //! The head of a document: its style sheets, and what is read and ignored.
 
 ghost use Rattle.std.specs.Prelude.{◌≡◌, ◌<◌, ◌≤◌, length, IfOk};
-ghost use Rattle.html_tokens.specs.Error.{Gives};
+ghost use Rattle.reading.specs.Stop.{Gives};
 ghost use Rattle.html_read.specs.Reading as readers;
 ghost use Rattle.html_read.specs.Values.{text_at, sheets_of};
 
 use crate::node::PlacedText;
 use crate::tags::start_of;
-use html_tokens::{RawEnd, Refusal, Stop, comment, end_of, misc, raw};
-use reading::{starts, strip, strip_either_case, white, white_ahead};
+use html_tokens::{RawEnd, Refusal, comment, end_of, misc, raw};
+use reading::{Stop, starts, strip, strip_either_case, white, white_ahead};
 use std::alloc::Global;
 use style_types::Letters;
 
@@ -18,7 +18,7 @@ pub(crate) fn maybe_head(
     alloc: Global,
     size: usize,
     text: &str,
-) -> Result<(Vec<PlacedText>, &str), Stop<'_>>
+) -> Result<(Vec<PlacedText>, &str), Stop<'_, Refusal>>
     ensures { Gives (λ h. (sheets_of h.0.items, h.1.now)) result (readers.maybe_head size text.now) }
 {
     if !ahead("<h", text) {
@@ -29,7 +29,11 @@ pub(crate) fn maybe_head(
 }
 
 #[tactic(auto, unfolding(crate::specs::Reading::head))]
-fn head(alloc: Global, size: usize, text: &str) -> Result<(Vec<PlacedText>, &str), Stop<'_>>
+fn head(
+    alloc: Global,
+    size: usize,
+    text: &str,
+) -> Result<(Vec<PlacedText>, &str), Stop<'_, Refusal>>
     ensures { Gives (λ h. (sheets_of h.0.items, h.1.now)) result (readers.head size text.now) }
 {
     let (_, rest) = start_of(alloc, size, "<head", false, text)?;
@@ -38,7 +42,11 @@ fn head(alloc: Global, size: usize, text: &str) -> Result<(Vec<PlacedText>, &str
 }
 
 #[tactic(auto, unfolding(crate::specs::Reading::head_items))]
-fn head_items(alloc: Global, size: usize, text: &str) -> Result<(Vec<PlacedText>, &str), Stop<'_>>
+fn head_items(
+    alloc: Global,
+    size: usize,
+    text: &str,
+) -> Result<(Vec<PlacedText>, &str), Stop<'_, Refusal>>
     ensures { Gives (λ h. (sheets_of h.0.items, h.1.now)) result (readers.head_items size text.now) }
 {
     let mut sheets = Vec::new(alloc);
@@ -56,7 +64,7 @@ fn head_turn<'a>(
     size: usize,
     sheets: &mut Vec<PlacedText>,
     text: &'a str,
-) -> Result<&'a str, Stop<'a>>
+) -> Result<&'a str, Stop<'a, Refusal>>
     ensures read { Gives (λ rest. (sheets_of sheets.new.items, rest.now)) result (readers.head_turn size (sheets_of sheets.old.items) text.now) }
     ensures shorter { IfOk result (λ rest. length rest.now < length text.now) }
 {
@@ -84,7 +92,7 @@ fn ahead(word: &str, text: &str) -> bool
 }
 
 #[tactic(auto, unfolding(crate::specs::Reading::title))]
-fn title(alloc: Global, size: usize, text: &str) -> Result<&str, Stop<'_>>
+fn title(alloc: Global, size: usize, text: &str) -> Result<&str, Stop<'_, Refusal>>
     ensures read { Gives (λ rest. (tt, rest.now)) result (readers.title size text.now) }
     ensures shorter { IfOk result (λ rest. length rest.now < length text.now) }
 {
@@ -93,7 +101,7 @@ fn title(alloc: Global, size: usize, text: &str) -> Result<&str, Stop<'_>>
 }
 
 #[tactic(auto, unfolding(crate::specs::Reading::style))]
-fn style(alloc: Global, size: usize, text: &str) -> Result<(PlacedText, &str), Stop<'_>>
+fn style(alloc: Global, size: usize, text: &str) -> Result<(PlacedText, &str), Stop<'_, Refusal>>
     ensures read { Gives (λ s. (text_at s.0, s.1.now)) result (readers.style size text.now) }
     ensures shorter { IfOk result (λ s. length s.1.now < length text.now) }
 {
@@ -103,7 +111,7 @@ fn style(alloc: Global, size: usize, text: &str) -> Result<(PlacedText, &str), S
 
 // The text of a style sheet up to its end tag.
 #[tactic(auto, unfolding(crate::specs::Reading::sheet))]
-fn sheet(alloc: Global, size: usize, text: &str) -> Result<(PlacedText, &str), Stop<'_>>
+fn sheet(alloc: Global, size: usize, text: &str) -> Result<(PlacedText, &str), Stop<'_, Refusal>>
     ensures read { Gives (λ s. (text_at s.0, s.1.now)) result (readers.sheet size text.now) }
     ensures shorter { IfOk result (λ s. length s.1.now ≤ length text.now) }
 {

@@ -5,16 +5,16 @@ ghost use Rattle.std.specs.String.{string_bytes};
 ghost use Rattle.reading.specs.Names.{lowered};
 ghost use Rattle.html_tokens.specs.Attribute.{role_of};
 ghost use Rattle.html_read.specs.Views.{EndsWord, IsNextWord, IsWordNext};
-ghost use Rattle.html_tokens.specs.Error.{Gives};
+ghost use Rattle.reading.specs.Stop.{Gives};
 ghost use Rattle.html_read.specs.Judging as judging;
 ghost use Rattle.html_read.specs.Values.{acting_of};
 ghost use Rattle.html_tokens.specs.Written.{attribute_of};
 ghost use Rattle.html_read.specs.Views.{TellsNew};
-ghost use Rattle.html_tokens.specs.declared.error.Stop.TheVariants as Stops;
+ghost use Rattle.reading.specs.declared.stop.Stop.TheVariants as Stops;
 
 use crate::node::{Attributes, PlacedText};
-use html_tokens::{Refusal, Role, Stop, WrittenAttribute, role_of};
-use reading::{front_of, same_name, spaces};
+use html_tokens::{Refusal, Role, WrittenAttribute, role_of};
+use reading::{Stop, front_of, same_name, spaces};
 use std::alloc::Global;
 use std::collections::BTreeSet;
 use style_types::{LetterList, Letters};
@@ -26,7 +26,7 @@ pub(crate) fn judged<'a>(
     alloc: Global,
     size: usize,
     attributes: Vec<WrittenAttribute<'a>>,
-) -> Result<Attributes, Stop<'a>>
+) -> Result<Attributes, Stop<'a, Refusal>>
     ensures { Gives acting_of result (judging.judged size (map attribute_of attributes.entry.items)) }
 {
     let mut said = Attributes {
@@ -46,7 +46,11 @@ pub(crate) fn judged<'a>(
 }
 
 // Isn't the name among those seen, in either case? From here on it is.
-fn is_new(alloc: Global, name: &str, seen: &mut BTreeSet<Letters>) -> Result<bool, Stop<'static>>
+fn is_new(
+    alloc: Global,
+    name: &str,
+    seen: &mut BTreeSet<Letters>,
+) -> Result<bool, Stop<'static, Refusal>>
     ensures { TellsNew (lowered name.now) seen.old seen.new result }
 {
     let mut letters = Letters::from_str(alloc, name)?;
@@ -60,7 +64,7 @@ fn with_attribute<'a>(
     size: usize,
     attribute: WrittenAttribute<'a>,
     said: &mut Attributes,
-) -> Result<(), Stop<'a>>
+) -> Result<(), Stop<'a, Refusal>>
     ensures { Gives (λ u. acting_of said.new) result (judging.with_attribute size (role_of (attribute_of attribute.entry).name) (attribute_of attribute.entry) (acting_of said.old)) }
 {
     match role_of(attribute.name) {
@@ -96,7 +100,7 @@ fn direction_of(value: &str) -> Option<Direction>
 }
 
 // The words of a text, between white space.
-fn words(alloc: Global, text: &str) -> Result<LetterList, Stop<'static>>
+fn words(alloc: Global, text: &str) -> Result<LetterList, Stop<'static, Refusal>>
     ensures words { IfOk result (λ w. map (λ s. string_bytes s) w.items ≡ judging.words text.now) }
     ensures memory { IfErr result (λ stop. stop ≡ Stops.Memory) }
 {

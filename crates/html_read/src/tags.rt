@@ -3,15 +3,15 @@
 ghost use Rattle.std.specs.Prelude.{◌<◌, length, IfOk};
 ghost use Rattle.reading.specs.Names.{lowered};
 ghost use Rattle.html_tokens.specs.Tag.{is_void, tag_named};
-ghost use Rattle.html_tokens.specs.Error.{Gives};
+ghost use Rattle.reading.specs.Stop.{Gives};
 ghost use Rattle.html_read.specs.Reading as readers;
 ghost use Rattle.html_read.specs.Values.{acting_of};
 ghost use Rattle.html_read.specs.Views.{start_of};
 
 use crate::judging::judged;
 use crate::node::Attributes;
-use html_tokens::{Refusal, Stop, Tag, attributes, end_name, is_void, name, tag_end, tag_named};
-use reading::{same_name, strip, strip_either_case};
+use html_tokens::{Refusal, Tag, attributes, end_name, is_void, name, tag_end, tag_named};
+use reading::{Stop, same_name, strip, strip_either_case};
 use std::alloc::Global;
 
 /// An element that begins.
@@ -30,7 +30,7 @@ pub(crate) fn start_of<'a>(
     word: &str,
     slash: bool,
     text: &'a str,
-) -> Result<(Attributes, &'a str), Stop<'a>>
+) -> Result<(Attributes, &'a str), Stop<'a, Refusal>>
     ensures read { Gives (λ r. (acting_of r.0, r.1.now)) result (readers.start_of size word.now slash text.now) }
     ensures shorter { IfOk result (λ r. length r.1.now < length text.now) }
 {
@@ -46,7 +46,7 @@ pub(crate) fn start_tag(
     alloc: Global,
     size: usize,
     text: &str,
-) -> Result<(Start<'_>, &str), Stop<'_>>
+) -> Result<(Start<'_>, &str), Stop<'_, Refusal>>
     ensures read { Gives (λ r. (start_of r.0, r.1.now)) result (readers.start_tag size text.now) }
     ensures shorter { IfOk result (λ r. length r.1.now < length text.now) }
 {
@@ -68,7 +68,7 @@ pub(crate) fn start_tag(
 
 /// The end tag of an element of this name: wholly read, and then its name judged.
 #[tactic(auto, unfolding(crate::specs::Reading::end_tag))]
-pub(crate) fn end_tag<'a>(open_name: &str, text: &'a str) -> Result<&'a str, Stop<'a>>
+pub(crate) fn end_tag<'a>(open_name: &str, text: &'a str) -> Result<&'a str, Stop<'a, Refusal>>
     ensures read { Gives (λ rest. (tt, rest.now)) result (readers.end_tag (lowered open_name.now) text.now) }
     ensures shorter { IfOk result (λ rest. length rest.now < length text.now) }
 {

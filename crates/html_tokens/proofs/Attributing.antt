@@ -3,9 +3,10 @@ use Rattle.std.proofs.Common.{◌≡◌, ℕ, ◌<◌, ◌≤◌, true, false, L
 use Rattle.std.proofs.lemmas.List.{map-append}
 use Rattle.reading.specs.Readers.{Read, repeat, can_read, read_or}
 use Rattle.reading.proofs.Turns.{IsTurning, turning_starts, turning_goes_on, turning_stops, turning_ends}
-use Rattle.html_tokens.specs.declared.error.Stop.{Stop}
-use Rattle.html_tokens.specs.declared.error.Stop.TheVariants as stops
-use Rattle.html_tokens.specs.Error.{Fault, Stops, syntax, spelled}
+use Rattle.html_tokens.specs.Error.{Stop}
+use Rattle.reading.specs.declared.stop.Stop.TheVariants as stops
+use Rattle.html_tokens.specs.Error.{Fault, syntax, spelled}
+use Rattle.reading.specs.Stop.{Stops}
 use Rattle.html_tokens.specs.declared.written.WrittenAttribute.{WrittenAttribute}
 use Rattle.html_tokens.specs.Written.{attribute_of}
 use Rattle.html_tokens.specs.Written.{Attribute}

@@ -10,9 +10,10 @@ use Rattle.std.proofs.lemmas.List.{drop_all, append_cancel_right, drop_more}
 use Rattle.reading.specs.Readers.{Read, ReadOr, Reader, ◌>>=◌, give, follow, mapped, joined, repeat, turns, one_of, starts, strip, read_or}
 use Rattle.reading.proofs.Turns.{turning_starts, turning_goes_on, turning_stops, turning_ends}
 use Rattle.reading.proofs.SpellLaws.{ok, stop}
-use Rattle.html_tokens.specs.declared.error.Stop.{Stop}
-use Rattle.html_tokens.specs.declared.error.Stop.TheVariants as stops
-use Rattle.html_tokens.specs.Error.{Fault, Judged, Stops, syntax, spelled}
+use Rattle.html_tokens.specs.Error.{Stop}
+use Rattle.reading.specs.declared.stop.Stop.TheVariants as stops
+use Rattle.html_tokens.specs.Error.{Fault, Judged, syntax, spelled}
+use Rattle.reading.specs.Stop.{Stops}
 use Rattle.html_tokens.specs.Lexing.{in_value, value_piece, value_in, is_plain, is_quote, reference}
 use Rattle.html_tokens.specs.Pieces.{joining, IsJoining, Joins, JoinsRun, PutsPiece, IsPlainNext}
 

@@ -7,11 +7,12 @@ use Rattle.std.proofs.lemmas.List.{append-nil}
 use Rattle.reading.specs.Readers.{ReadOr, mapped, joined, starts, strip}
 use Rattle.reading.proofs.SpellLaws.{ok, stop, strip_again}
 use Rattle.std.proofs.lemmas.Str.{length-encode, len_utf8_bounds}
-use Rattle.html_tokens.specs.declared.error.Stop.{Stop}
-use Rattle.html_tokens.specs.declared.error.Stop.TheVariants as stops
+use Rattle.html_tokens.specs.Error.{Stop}
+use Rattle.reading.specs.declared.stop.Stop.TheVariants as stops
 use Rattle.html_tokens.specs.declared.error.Refusal.TheVariants.{Character}
 use Rattle.html_tokens.specs.Characters.{in_repertoire}
-use Rattle.html_tokens.specs.Error.{Fault, Stops, spelled}
+use Rattle.html_tokens.specs.Error.{Fault, spelled}
+use Rattle.reading.specs.Stop.{Stops}
 use Rattle.html_tokens.specs.Lexing.{comment, reference, character}
 use Rattle.html_tokens.specs.Pieces.{IsJoining, Joins, JoinsRun, PutsPiece, is_letter_next}
 use Rattle.html_tokens.specs.Text.{in_text, text_piece, checked, gap}

@@ -4,8 +4,9 @@ use Rattle.std.specs.Char.{IsScalar, digit_value, encode_utf8}
 use denote.Bor.{Bor}
 use Rattle.reading.specs.Readers.{ReadOr, mapped, next_is}
 use Rattle.reading.proofs.Turns.{IsTurning}
-use Rattle.html_tokens.specs.declared.error.Stop.{Stop}
-use Rattle.html_tokens.specs.Error.{Fault, Judged, Stops}
+use Rattle.html_tokens.specs.Error.{Stop}
+use Rattle.html_tokens.specs.Error.{Fault, Judged}
+use Rattle.reading.specs.Stop.{Stops}
 use Rattle.html_tokens.specs.Lexing.{is_plain, may_follow}
 
 -- the turns that read a text by its pieces

@@ -1,10 +1,8 @@
-//! Why reading stops.
+//! What a document is refused for.
 
-ghost use Rattle.std.specs.Prelude.{◌≡◌};
-ghost use Rattle.html_tokens.specs.Error.{IsStopAt};
-ghost use Rattle.html_tokens.specs.declared.error.Stop.TheVariants.{Memory};
+ghost use Rattle.html_tokens.specs.declared.error.Refusal.TheVariants as Refusals;
 
-use std::alloc::{AllocError, AllocFailed};
+use reading::Kind;
 
 /// What is wrong with a document (docs/PROFILE/html.md).
 #[derive(Clone, Copy, Debug, Drop, PartialEq, Eq)]
@@ -25,34 +23,10 @@ pub enum Refusal {
     Unsupported,
 }
 
-/// Where reading stopped: by a refusal, with the bytes from its place on, or without memory.
-#[derive(Clone, Copy, Debug, Drop)]
-pub enum Stop<'a> {
-    Refused(Refusal, &'a [u8]),
-    Memory,
-}
+impl Kind for Refusal {
+    ghost syntax = { Refusals.Syntax };
 
-// What is left where the grammar doesn't go on.
-impl<'a> From<&'a [u8]> for Stop<'a> {
-    ghost from_gives = { λ left stop. IsStopAt left.now stop };
-
-    fn from(left: &'a [u8]) -> Stop<'a> {
-        Stop::Refused(Refusal::Syntax, left)
-    }
-}
-
-impl<'a> From<AllocError> for Stop<'a> {
-    ghost from_gives = { λ _ stop. stop ≡ Memory };
-
-    fn from(_e: AllocError) -> Stop<'a> {
-        Stop::Memory
-    }
-}
-
-impl<'a, T: Drop> From<AllocFailed<T>> for Stop<'a> {
-    ghost from_gives = { λ _ stop. stop ≡ Memory };
-
-    fn from(_e: AllocFailed<T>) -> Stop<'a> {
-        Stop::Memory
+    fn syntax() -> Refusal {
+        Refusal::Syntax
     }
 }

@@ -16,7 +16,7 @@ mod written;
 
 pub use attribute::{ATTRIBUTES, Role, role_of};
 pub use entity::ENTITIES;
-pub use error::{Refusal, Stop};
+pub use error::Refusal;
 pub use lexing::{comment, doctype, end_name, end_of, misc, name, tag_end};
 pub use raw_text::{RawEnd, raw};
 pub use references::reference;

@@ -1,12 +1,12 @@
 //! Characters that may be any, up to the first place where their end can be read.
 
-ghost use Rattle.std.specs.Prelude.{◌≡◌, ◌≤◌, ◌<◌, length, IfOk, IfSome};
+ghost use Rattle.std.specs.Prelude.{◌≤◌, length, IfOk};
 ghost use Rattle.reading.specs.Readers.{Answers};
-ghost use Rattle.html_tokens.specs.RawText.{EndsHere};
 ghost use Rattle.html_tokens.specs.Lexing as readers;
+ghost use Rattle.html_tokens.specs.RawText.{begins_with_its_mark, is_some, mark_is_ascii};
 
 use crate::lexing::end_of;
-use reading::strip;
+use reading::{Ending, strip, up_to_end};
 
 /// What ends them: `-->`, or an end tag.
 #[derive(Clone, Copy, Debug, PartialEq, Eq)]
@@ -16,53 +16,38 @@ pub enum RawEnd {
     Style,
 }
 
+impl Ending for RawEnd {
+    ghost reads = { readers.raw_end };
+
+    ghost mark = { readers.raw_mark };
+
+    fn first_byte(&self) -> u8 {
+        match *self {
+            RawEnd::Comment => b'-',
+            RawEnd::Title | RawEnd::Style => b'<',
+        }
+    }
+
+    fn strip_from<'a>(&self, text: &'a str) -> Result<&'a str, &'a [u8]> {
+        match *self {
+            RawEnd::Comment => strip("-->", text),
+            RawEnd::Title => end_of("title", text),
+            RawEnd::Style => end_of("style", text),
+        }
+    }
+
+    ghost ascii = { mark_is_ascii };
+
+    ghost begins = { begins_with_its_mark };
+
+    ghost some = { is_some };
+}
+
 /// The characters, and what stands behind their end.
-#[tactic(auto, using(crate::proofs::Seeking::at_start, crate::proofs::Seeking::at_not_here, crate::proofs::Seeking::at_here, crate::proofs::Seeking::at_nothing))]
+#[tactic(auto, unfolding(crate::specs::Lexing::raw))]
 pub fn raw(end: RawEnd, text: &str) -> Result<(&str, &str), &[u8]>
     ensures read { Answers (λ r. (r.0.now, r.1.now)) result (readers.raw end text.now) }
     ensures shorter { IfOk result (λ r. length r.1.now ≤ length text.now) }
 {
-    for at in 0..text.len() {
-        if let Some(found) = end_at(end, text, at) {
-            return Ok(found);
-        }
-    }
-    Err(text.as_bytes().split_at(text.len()).1)
-}
-
-// The characters before this place and what stands behind their end, where it can be read here.
-fn end_at(end: RawEnd, text: &str, at: usize) -> Option<(&str, &str)>
-    requires { at < length text.now }
-    ensures read { EndsHere (readers.raw_end end) text.now at result }
-    ensures shorter { IfSome result (λ r. length r.1.now ≤ length text.now) }
-{
-    if text.as_bytes()[at] != first_byte(end) {
-        return None;
-    }
-    let (inside, here) = text.split_at(at);
-    match raw_end(end, here) {
-        Ok(rest) => Some((inside, rest)),
-        Err(_) => None,
-    }
-}
-
-fn raw_end(end: RawEnd, text: &str) -> Result<&str, &[u8]>
-    ensures read { Answers (λ rest. (tt, rest.now)) result (readers.raw_end end text.now) }
-    ensures shorter { IfOk result (λ rest. length rest.now ≤ length text.now) }
-{
-    match end {
-        RawEnd::Comment => strip("-->", text),
-        RawEnd::Title => end_of("title", text),
-        RawEnd::Style => end_of("style", text),
-    }
-}
-
-// The byte with which the end begins.
-fn first_byte(end: RawEnd) -> u8
-    ensures { result ≡ readers.raw_mark end }
-{
-    match end {
-        RawEnd::Comment => b'-',
-        RawEnd::Title | RawEnd::Style => b'<',
-    }
+    up_to_end(&end, text)
 }

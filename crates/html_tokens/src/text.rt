@@ -4,22 +4,23 @@ ghost use Rattle.std.specs.Prelude.{◌≡◌, ◌<◌, ◌≤◌, [], true, len
 ghost use Rattle.std.specs.String.{string_bytes};
 ghost use Rattle.reading.specs.Readers as reading;
 ghost use Rattle.html_tokens.specs.Characters.{in_repertoire};
-ghost use Rattle.html_tokens.specs.Error.{Gives, spelled};
+ghost use Rattle.html_tokens.specs.Error.{spelled};
+ghost use Rattle.reading.specs.Stop.{Gives};
 ghost use Rattle.html_tokens.specs.Lexing.{comment, reference};
 ghost use Rattle.html_tokens.specs.Pieces.{Joins, PutsPiece, RunsOrStops, PutsLetter, is_letter_next};
 ghost use Rattle.html_tokens.specs.Text as readers;
 
 use crate::characters::{first_char, in_repertoire};
-use crate::error::{Refusal, Stop};
+use crate::error::Refusal;
 use crate::lexing::comment;
 use crate::references::reference;
-use reading::{front_of, starts};
+use reading::{Stop, front_of, starts};
 use std::alloc::Global;
 use style_types::Letters;
 
 /// The letters up to the next tag.
 #[tactic(auto, unfolding(crate::specs::Text::gap))]
-pub fn gap(alloc: Global, text: &str) -> Result<(Letters, &str), Stop<'_>>
+pub fn gap(alloc: Global, text: &str) -> Result<(Letters, &str), Stop<'_, Refusal>>
     ensures read { Gives (λ g. (string_bytes g.0, g.1.now)) result (readers.gap text.now) }
     ensures shorter { IfOk result (λ g. length g.1.now ≤ length text.now) }
 {
@@ -45,7 +46,7 @@ fn in_text(text: &str) -> bool
 }
 
 // A comment, a reference, or characters up to one of these or a tag, put behind the letters.
-fn piece<'a>(letters: &mut Letters, text: &'a str) -> Result<&'a str, Stop<'a>>
+fn piece<'a>(letters: &mut Letters, text: &'a str) -> Result<&'a str, Stop<'a, Refusal>>
     requires { readers.in_text text.now ≡ true }
     ensures read { Joins readers.in_text readers.text_piece (string_bytes letters.old) (string_bytes letters.new) text.now result }
     ensures shorter { IfOk result (λ rest. length rest.now < length text.now) }
@@ -60,7 +61,7 @@ fn piece<'a>(letters: &mut Letters, text: &'a str) -> Result<&'a str, Stop<'a>>
 }
 
 // A comment, of which nothing is put.
-fn skip_comment(text: &str) -> Result<&str, Stop<'_>>
+fn skip_comment(text: &str) -> Result<&str, Stop<'_, Refusal>>
     ensures read { PutsPiece (spelled (reading.mapped (λ u. []) comment)) [] [] text.now result }
     ensures shorter { IfOk result (λ rest. length rest.now < length text.now) }
 {
@@ -69,7 +70,7 @@ fn skip_comment(text: &str) -> Result<&str, Stop<'_>>
 
 // A reference to a character of the repertoire, put behind the letters.
 #[tactic(auto, unfolding(crate::specs::Text::checked))]
-fn put_reference<'a>(letters: &mut Letters, text: &'a str) -> Result<&'a str, Stop<'a>>
+fn put_reference<'a>(letters: &mut Letters, text: &'a str) -> Result<&'a str, Stop<'a, Refusal>>
     ensures read { PutsPiece (readers.checked reference) (string_bytes letters.old) (string_bytes letters.new) text.now result }
     ensures shorter { IfOk result (λ rest. length rest.now < length text.now) }
 {
@@ -82,7 +83,7 @@ fn put_reference<'a>(letters: &mut Letters, text: &'a str) -> Result<&'a str, St
 }
 
 // Characters of the repertoire up to a comment, a reference or a tag, put behind the letters.
-fn characters<'a>(letters: &mut Letters, text: &'a str) -> Result<&'a str, Stop<'a>>
+fn characters<'a>(letters: &mut Letters, text: &'a str) -> Result<&'a str, Stop<'a, Refusal>>
     requires { is_letter_next text.now ≡ true }
     ensures read { Joins readers.in_text readers.text_piece (string_bytes letters.old) (string_bytes letters.new) text.now result }
     ensures shorter { IfOk result (λ rest. length rest.now < length text.now) }
@@ -94,7 +95,7 @@ fn characters<'a>(letters: &mut Letters, text: &'a str) -> Result<&'a str, Stop<
 
 // What stands behind characters of the repertoire other than `<` and `&`.
 #[tactic(auto, using(crate::proofs::Letters::letters_start, crate::proofs::Letters::letter_shorter, crate::proofs::Letters::letters_are_some))]
-fn characters_end(text: &str) -> Result<&str, Stop<'_>>
+fn characters_end(text: &str) -> Result<&str, Stop<'_, Refusal>>
     requires { is_letter_next text.now ≡ true }
     ensures read { RunsOrStops readers.in_text readers.text_piece text.now result }
     ensures shorter { IfOk result (λ rest. length rest.now < length text.now) }
@@ -117,7 +118,7 @@ fn letter_ahead(text: &str) -> bool
 }
 
 // What stands behind a character of the repertoire.
-fn letter(text: &str) -> Result<&str, Stop<'_>>
+fn letter(text: &str) -> Result<&str, Stop<'_, Refusal>>
     requires { is_letter_next text.now ≡ true }
     ensures { PutsLetter readers.text_piece text.now result }
 {

@@ -5,16 +5,17 @@ ghost use Rattle.std.specs.Char.{encode_utf8};
 ghost use Rattle.std.specs.String.{string_bytes};
 ghost use Rattle.reading.specs.Readers as reading;
 ghost use Rattle.html_tokens.specs.Characters.{is_letter};
-ghost use Rattle.html_tokens.specs.Error.{Gives, spelled};
+ghost use Rattle.html_tokens.specs.Error.{spelled};
+ghost use Rattle.reading.specs.Stop.{Gives};
 ghost use Rattle.html_tokens.specs.Lexing as readers;
 ghost use Rattle.html_tokens.specs.Lexing.{in_value, value_piece};
 ghost use Rattle.html_tokens.specs.Pieces.{Joins, JoinsRun, PutsPiece, IsPlainNext};
 ghost use Rattle.html_tokens.specs.Written.{attribute_of};
 
-use crate::error::{Refusal, Stop};
+use crate::error::Refusal;
 use crate::lexing::name;
 use crate::references::reference;
-use reading::{first, front_of, spaces, starts, strip, white};
+use reading::{Stop, first, front_of, spaces, starts, strip, white};
 use std::alloc::Global;
 use style_types::Letters;
 
@@ -28,7 +29,10 @@ pub struct WrittenAttribute<'a> {
 
 /// The attributes of a tag, and white space behind them.
 #[tactic(auto, unfolding(crate::specs::Lexing::attributes))]
-pub fn attributes(alloc: Global, text: &str) -> Result<(Vec<WrittenAttribute<'_>>, &str), Stop<'_>>
+pub fn attributes(
+    alloc: Global,
+    text: &str,
+) -> Result<(Vec<WrittenAttribute<'_>>, &str), Stop<'_, Refusal>>
     ensures read { Gives (λ r. (map attribute_of r.0.items, r.1.now)) result (spelled readers.attributes text.now) }
     ensures shorter { IfOk result (λ r. length r.1.now ≤ length text.now) }
 {
@@ -64,7 +68,7 @@ fn letter_ahead(text: &str) -> bool
 }
 
 #[tactic(auto, unfolding(crate::specs::Lexing::attribute))]
-fn attribute(alloc: Global, text: &str) -> Result<(WrittenAttribute<'_>, &str), Stop<'_>>
+fn attribute(alloc: Global, text: &str) -> Result<(WrittenAttribute<'_>, &str), Stop<'_, Refusal>>
     ensures read { Gives (λ r. (attribute_of r.0, r.1.now)) result (spelled readers.attribute text.now) }
     ensures shorter { IfOk result (λ r. length r.1.now < length text.now) }
 {
@@ -80,7 +84,7 @@ fn attribute(alloc: Global, text: &str) -> Result<(WrittenAttribute<'_>, &str), 
 
 // The value of an attribute, empty where it has none.
 #[tactic(auto, unfolding(crate::specs::Lexing::value, crate::specs::Lexing::equals))]
-fn value(alloc: Global, text: &str) -> Result<(Letters, &str), Stop<'_>>
+fn value(alloc: Global, text: &str) -> Result<(Letters, &str), Stop<'_, Refusal>>
     ensures read { Gives (λ v. (string_bytes v.0, v.1.now)) result (spelled readers.value text.now) }
     ensures shorter { IfOk result (λ v. length v.1.now ≤ length text.now) }
 {
@@ -92,7 +96,7 @@ fn value(alloc: Global, text: &str) -> Result<(Letters, &str), Stop<'_>>
 
 // A value between two quotes of one kind.
 #[tactic(auto, unfolding(crate::specs::Lexing::quoted, reading::specs::Readers::one_of))]
-fn quoted(alloc: Global, text: &str) -> Result<(Letters, &str), Stop<'_>>
+fn quoted(alloc: Global, text: &str) -> Result<(Letters, &str), Stop<'_, Refusal>>
     ensures read { Gives (λ v. (string_bytes v.0, v.1.now)) result (spelled readers.quoted text.now) }
     ensures shorter { IfOk result (λ v. length v.1.now ≤ length text.now) }
 {
@@ -103,7 +107,7 @@ fn quoted(alloc: Global, text: &str) -> Result<(Letters, &str), Stop<'_>>
 }
 
 // A value up to its quote.
-fn value_in(alloc: Global, quote: u8, text: &str) -> Result<(Letters, &str), Stop<'_>>
+fn value_in(alloc: Global, quote: u8, text: &str) -> Result<(Letters, &str), Stop<'_, Refusal>>
     requires { readers.is_quote quote ≡ true }
     ensures read { Gives (λ v. (string_bytes v.0, v.1.now)) result (spelled (readers.value_in quote) text.now) }
     ensures shorter { IfOk result (λ v. length v.1.now ≤ length text.now) }
@@ -140,7 +144,7 @@ fn behind_quote(quote: u8, text: &str) -> &str
 }
 
 // A reference, or characters up to one or to the quote, put behind the value.
-fn piece<'a>(value: &mut Letters, quote: u8, text: &'a str) -> Result<&'a str, Stop<'a>>
+fn piece<'a>(value: &mut Letters, quote: u8, text: &'a str) -> Result<&'a str, Stop<'a, Refusal>>
     requires quote { readers.is_quote quote ≡ true }
     requires next { in_value quote text.now ≡ true }
     ensures read { Joins (in_value quote) (spelled (value_piece quote)) (string_bytes value.old) (string_bytes value.new) text.now result }
@@ -156,7 +160,7 @@ fn piece<'a>(value: &mut Letters, quote: u8, text: &'a str) -> Result<&'a str, S
 }
 
 // A reference, put behind the value.
-fn put_reference<'a>(value: &mut Letters, text: &'a str) -> Result<&'a str, Stop<'a>>
+fn put_reference<'a>(value: &mut Letters, text: &'a str) -> Result<&'a str, Stop<'a, Refusal>>
     ensures read { PutsPiece (spelled (reading.mapped (λ c. encode_utf8 c) readers.reference)) (string_bytes value.old) (string_bytes value.new) text.now result }
     ensures shorter { IfOk result (λ rest. length rest.now < length text.now) }
 {
@@ -166,7 +170,7 @@ fn put_reference<'a>(value: &mut Letters, text: &'a str) -> Result<&'a str, Stop
 }
 
 // The characters up to the next quote or `&`, put behind the value.
-fn plain<'a>(value: &mut Letters, quote: u8, text: &'a str) -> Result<&'a str, Stop<'a>>
+fn plain<'a>(value: &mut Letters, quote: u8, text: &'a str) -> Result<&'a str, Stop<'a, Refusal>>
     requires quote { readers.is_quote quote ≡ true }
     requires next { IsPlainNext quote text.now }
     ensures read { Joins (in_value quote) (spelled (value_piece quote)) (string_bytes value.old) (string_bytes value.new) text.now result }
