@@ -1,5 +1,7 @@
 //! What a document is refused for.
 
+ghost use Rattle.std.specs.Prelude.{◌≡◌, ◌≤◌, length};
+ghost use Rattle.html_tokens.specs.Error.{kind_word};
 ghost use Rattle.html_tokens.specs.declared.error.Refusal.TheVariants as Refusals;
 
 use reading::Kind;
@@ -21,6 +23,25 @@ pub enum Refusal {
     Nesting,
     /// A value of `dir` other than `ltr` and `rtl`.
     Unsupported,
+}
+
+impl Refusal {
+    /// The word that a line of refusal has for it.
+    #[tactic(auto, unfolding(crate::specs::Error::kind_word))]
+    pub fn word(self) -> &'static str
+        ensures word { result.now ≡ kind_word self }
+        ensures short { length result.now ≤ 16 }
+    {
+        match self {
+            Refusal::Utf8 => "Utf8",
+            Refusal::Character => "Character",
+            Refusal::Syntax => "Syntax",
+            Refusal::UnknownTag => "UnknownTag",
+            Refusal::UnknownAttribute => "UnknownAttribute",
+            Refusal::Nesting => "Nesting",
+            Refusal::Unsupported => "Unsupported",
+        }
+    }
 }
 
 impl Kind for Refusal {

@@ -21,7 +21,8 @@ use Rattle.early_flow.specs.Page.{page_of}
 use Rattle.early_flow.specs.declared.placed.Placed.{Placed}
 use Rattle.listing.specs.Listing.{listing}
 use Rattle.wm_run.specs.Command.{IsCommand, IsNoCommand}
-use Rattle.wm_run.specs.Due.{refusal, kind_word, cause_word, status_of, bytes_of, IsOnly, IsDueAlone}
+use Rattle.html_tokens.specs.Error.{kind_word}
+use Rattle.wm_run.specs.Due.{refusal, cause_word, status_of, bytes_of, IsOnly, IsDueAlone}
 use Rattle.wm_run.specs.Job.{usage_line, longest_input, IsDueOfFault, IsDueOfWhole, IsDueOfTail, IsDueOfRead, IsDueOfDocument, IsDueOfInput, IsDue, Stands, IsBroken, Gives}
 use Rattle.wm_run.specs.declared.due.Due.{Due}
 use Rattle.wm_run.specs.declared.due.Due.TheVariants as dues

@@ -1,7 +1,6 @@
 -- What is due for an input, as a status and the bytes to be written.
 use Rattle.std.specs.Prelude.{◌≡◌, ℕ, List, ◌++◌, codes, decimal}
-use Rattle.html_tokens.specs.declared.error.Refusal.{Refusal}
-use Rattle.html_tokens.specs.declared.error.Refusal.TheVariants as kinds
+use Rattle.html_tokens.specs.Error.{kind_word}
 use Rattle.listing.specs.Listing.{listing}
 use Rattle.wm_run.specs.declared.due.Due.{Due}
 use Rattle.wm_run.specs.declared.due.Due.TheVariants as dues
@@ -9,16 +8,6 @@ use Rattle.wm_run.specs.declared.due.Cause.{Cause}
 use Rattle.wm_run.specs.declared.due.Cause.TheVariants as causes
 use Rattle.wm_run.specs.declared.status.Status.{Status}
 use Rattle.wm_run.specs.declared.status.Status.TheVariants.{Done, Refused}
-
--- the word of what is wrong with a document
-unfoldable pub kind_word : Refusal → List ℕ
-kind_word kinds.Utf8 = codes "Utf8"
-kind_word kinds.Character = codes "Character"
-kind_word kinds.Syntax = codes "Syntax"
-kind_word kinds.UnknownTag = codes "UnknownTag"
-kind_word kinds.UnknownAttribute = codes "UnknownAttribute"
-kind_word kinds.Nesting = codes "Nesting"
-kind_word kinds.Unsupported = codes "Unsupported"
 
 -- the word of why an input is refused
 unfoldable pub cause_word : Cause → List ℕ

@@ -16,7 +16,8 @@ use Rattle.early_tree.specs.Early.{IsEarly}
 use Rattle.early_flow.specs.Page.{page_of}
 use Rattle.listing.specs.Listing.{listing}
 use Rattle.wm_run.specs.Command.{IsCommand, IsNoCommand}
-use Rattle.wm_run.specs.Due.{refusal, kind_word}
+use Rattle.html_tokens.specs.Error.{kind_word}
+use Rattle.wm_run.specs.Due.{refusal}
 use Rattle.wm_run.specs.declared.status.Status.{Status}
 use Rattle.wm_run.specs.declared.status.Status.TheVariants.{Done, Usage, Refused, Memory, ReadFault, WriteFault}
 

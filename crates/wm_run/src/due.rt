@@ -42,20 +42,14 @@ pub(crate) enum Cause {
 
 impl Cause {
     /// The word that a line of refusal has for it.
-    #[tactic(auto, unfolding(crate::specs::Due::cause_word, crate::specs::Due::kind_word))]
+    #[tactic(auto, unfolding(crate::specs::Due::cause_word))]
     pub(crate) fn word(self) -> &'static str
         ensures word { result.now ≡ cause_word self }
         ensures short { length result.now ≤ 16 }
     {
         match self {
             Cause::TooLong => "TooLong",
-            Cause::Document(Refusal::Utf8) => "Utf8",
-            Cause::Document(Refusal::Character) => "Character",
-            Cause::Document(Refusal::Syntax) => "Syntax",
-            Cause::Document(Refusal::UnknownTag) => "UnknownTag",
-            Cause::Document(Refusal::UnknownAttribute) => "UnknownAttribute",
-            Cause::Document(Refusal::Nesting) => "Nesting",
-            Cause::Document(Refusal::Unsupported) => "Unsupported",
+            Cause::Document(kind) => kind.word(),
             Cause::NotYet => "NotYet",
         }
     }
