@@ -2,7 +2,7 @@
 use Rattle.std.proofs.Common.{◌≡◌, refl, sym, ap, ◌∙◌, subst, arith, inl, inr, ℕ, ◌*◌, ◌≤◌, Bool, true, false, cond, ◌&&◌, nat_le, List, [], ◌∷◌, append-nil, ℤ, pos, Option, Some, None, option_map, Ok, Err}
 use Rattle.std.specs.Prelude.{codes, bytes_eq, option_and_then}
 use Rattle.std.proofs.lemmas.Slice.Eq.{bytes_eq-Decides}
-use Rattle.early_flow.proofs.Plain.{both_true}
+use Rattle.std.proofs.lemmas.Bool.{and_parts}
 use Rattle.wm_units.specs.Numbers.{fixed}
 use Rattle.wm_units.specs.declared.view.View.{View}
 use Rattle.reading.specs.Readers.{Read}
@@ -91,8 +91,8 @@ command_takes (command ∷ a ∷ b ∷ c ∷ []) view e = absurd (cc)
 command_takes (command ∷ inline_name ∷ inline ∷ block_name ∷ block ∷ []) view e =
     let names = bytes_eq command (codes "layout") && bytes_eq inline_name (codes "--view-inline") && bytes_eq block_name (codes "--view-block") in
     let is = chosen names (sizes_of inline block) view e in
-    let three = both_true (bytes_eq command (codes "layout") && bytes_eq inline_name (codes "--view-inline")) (bytes_eq block_name (codes "--view-block")) is.0 in
-    let two = both_true (bytes_eq command (codes "layout")) (bytes_eq inline_name (codes "--view-inline")) three.0 in
+    let three = and_parts (bytes_eq command (codes "layout") && bytes_eq inline_name (codes "--view-inline")) (bytes_eq block_name (codes "--view-block")) is.0 in
+    let two = and_parts (bytes_eq command (codes "layout")) (bytes_eq inline_name (codes "--view-inline")) three.0 in
     let first = text_true command (codes "layout") two.0 in
     let second = text_true inline_name (codes "--view-inline") two.1 in
     let third = text_true block_name (codes "--view-block") three.1 in
