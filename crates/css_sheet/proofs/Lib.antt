@@ -8,3 +8,5 @@ mod Sheeting
 mod Styling
 mod Turning
 mod DefaultRows
+mod Rulings
+mod StyledLaws

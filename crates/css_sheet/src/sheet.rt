@@ -1,11 +1,12 @@
 //! Sheets: rules one after the other (CSS 2, 4.1.7 and 5.2.1).
 
 ghost use Rattle.std.specs.Prelude.{◌≡◌, ◌<◌, IfErr, IfOk, length, map, not};
+ghost use Rattle.std.specs.List.{All};
 ghost use Rattle.reading.specs.Readers.{mapped, repeat};
 ghost use Rattle.reading.specs.Stop.{Gives, end_of};
 ghost use Rattle.css_values.specs.Error.{Told};
 ghost use Rattle.css_values.specs.Value.{no_items};
-ghost use Rattle.css_sheet.specs.Answered.{IsTheSheet, RefusesSheet};
+ghost use Rattle.css_sheet.specs.Answered.{IsRuled, IsTheSheet, RefusesSheet};
 ghost use Rattle.style_types.specs.Rule.{rulings_of, selector_of};
 ghost use Rattle.css_sheet.specs.Sheet as readers;
 ghost use Rattle.css_sheet.specs.Views.{sheet_of, PutsRule, PutsRules};
@@ -162,6 +163,8 @@ pub fn read_sheet(alloc: Global, text: &str, start: usize) -> Result<Rules, CssE
     // The text is a sheet of these rules and of no others; where it is refused it is none.
     ensures found { IfOk result (λ rules. IsTheSheet start text.now (rulings_of rules.items)) }
     ensures refused { IfErr result (λ error. RefusesSheet start text.now error) }
+    // Each selector has a part, and each declaration is a value that its property takes.
+    ensures ruled { IfOk result (λ rules. All IsRuled (rulings_of rules.items)) }
 {
     answer_sheet(alloc, text, start)
 }

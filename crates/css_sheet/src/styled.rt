@@ -1,8 +1,11 @@
 //! All the styles of a document: its sheets, then the style attributes of its nodes.
 
-ghost use Rattle.std.specs.Prelude.{map, Ok};
+ghost use Rattle.std.specs.Prelude.{◌≡◌, length, map, IfOk, Ok};
+ghost use Rattle.std.specs.List.{All};
 ghost use Rattle.html_read.specs.Values.{kind_of, nodes_of, sheets_of, text_at, whole_of};
 ghost use Rattle.style_types.specs.Rule.{styled_of};
+ghost use Rattle.css_values.specs.Answered.{IsKept};
+ghost use Rattle.css_sheet.specs.Answered.{AreStyles, IsRuled};
 ghost use Rattle.css_sheet.specs.Sheet as readers;
 ghost use Rattle.css_sheet.specs.Styled as styles;
 ghost use Rattle.css_sheet.specs.Styled.{Placing};
@@ -17,8 +20,23 @@ use style_types::{Declaration, Declarations, Styled, Styles};
 /// Reads all sheets of a document in order, then the style attributes of its nodes. The limits on rules and
 /// declarations count over all sheets together. In a style attribute the place of a refusal, and of each declaration,
 /// is that of the attribute's name.
-#[tactic(auto, unfolding(crate::specs::Styled::styling))]
 pub fn read_styled(alloc: Global, read: &ReadDocument) -> Result<Styled, CssError>
+    // The answer is that of the reading: the rules and each node's own declarations, or the refusal with its place.
+    ensures read { Placing styled_of result (styles.styling (whole_of read.now)) }
+    // The sheets' texts are these rules by the grammar, and the style attributes these declarations.
+    ensures found { IfOk result (λ s. AreStyles (whole_of read.now) (styled_of s)) }
+    // Each node has one list of declarations.
+    ensures each { IfOk result (λ s. length s.styles.items ≡ length read.now.nodes.items) }
+    // Each selector has a part, and each declaration is a value that its property takes.
+    ensures ruled { IfOk result (λ s. All IsRuled (styled_of s).rules) }
+    ensures kept { IfOk result (λ s. All (λ own. All IsKept own) (styled_of s).own) }
+{
+    answer_styled(alloc, read)
+}
+
+// The reading of all of them, with its places.
+#[tactic(auto, unfolding(crate::specs::Styled::styling))]
+fn answer_styled(alloc: Global, read: &ReadDocument) -> Result<Styled, CssError>
     ensures { Placing styled_of result (styles.styling (whole_of read.now)) }
 {
     let sheet = all_sheets(alloc, &read.sheets)?;
