@@ -1,5 +1,5 @@
 -- How specific a selector is. Selectors 3, 9.
-use Rattle.std.specs.Prelude.{ℕ, ◌+◌, ◌-◌, ◌^◌, min, List, [], ◌∷◌, length, Option, Some, None}
+use Rattle.std.specs.Prelude.{◌≡◌, ◌⊎◌, ℕ, ◌<◌, ◌+◌, ◌-◌, ◌^◌, min, List, [], ◌∷◌, length, Option, Some, None}
 use Rattle.css_sheet.specs.declared.counts.Specificity as code
 use Rattle.style_types.specs.Rule.{Compound}
 
@@ -28,3 +28,8 @@ types_in compounds = held (sum (λ c. count_of c.tag) compounds)
 
 abbrev pub specificity_of : List Compound → code.Specificity
 specificity_of selector = record { ids = ids_in selector; classes = classes_in selector; types = types_in selector }
+
+-- ids outweigh classes, and classes outweigh types
+abbrev pub IsLessSpecific : (one other : code.Specificity) → Type 0
+IsLessSpecific one other = (one.ids < other.ids)
+    ⊎ ((one.ids ≡ other.ids) × ((one.classes < other.classes) ⊎ ((one.classes ≡ other.classes) × (one.types < other.types))))
