@@ -1,7 +1,6 @@
 -- What `read_sheet` says, of what the reader gives.
-use Rattle.std.proofs.Common.{◌≡◌, ℕ, List, [], ◌++◌, Result, Ok, Err, sym, ap, subst, ◌∙◌}
+use Rattle.std.proofs.Common.{◌≡◌, ℕ, List, [], Result, Ok, Err, sym, ap, subst, ◌∙◌}
 use Rattle.std.specs.Prelude.{IfOk, IfErr}
-use Rattle.std.proofs.lemmas.List.{append-nil}
 use Rattle.reading.specs.Readers.{ReadOr, give, mapped}
 use Rattle.reading.proofs.SpellLaws.{Stopped, at_first, at_second, bind_ok, bind_err, same_answer}
 use Rattle.css_values.specs.declared.error.CssError.{CssError}
@@ -9,34 +8,25 @@ use Rattle.css_values.specs.declared.error.CssError.TheVariants as errors
 use Rattle.reading.specs.Stop.{end_of}
 use Rattle.css_values.specs.Error.{Fault, Told}
 use Rattle.css_sheet.specs.Answered.{IsTheSheet, IsWholeSheet, RefusesSheet}
-use Rattle.css_sheet.specs.Grammar.{IsSheet}
 use Rattle.style_types.specs.Rule.{Ruling}
 use Rattle.css_sheet.specs.Sheet.{Sheet, empty, sheet}
 use Rattle.css_sheet.proofs.HeadLaws.{good}
-use Rattle.css_sheet.proofs.SheetLaws.{sheet_spells}
+use Rattle.css_sheet.proofs.SheetLaws.{whole_is, whole_is_read}
 
 -- what is read of a text whose first byte is at this place
 abbrev read_at : (start : ℕ) → (text : List ℕ) → ReadOr Fault Sheet
 read_at start text = sheet (end_of start text) empty text
 
-sheet_read : (start : ℕ) (text : List ℕ) (all : Sheet) → IsWholeSheet start text all → read_at start text ≡ good (all, [])
-sheet_read start text all is =
-    ap (sheet (end_of start text) empty) (sym (append-nil text)) ∙ (sheet_spells (end_of start text) empty).again text all [] is tt
-
 sheet_found : (start : ℕ) (text rest : List ℕ) (all : Sheet) → read_at start text ≡ good (all, rest) → IsTheSheet start text all.rules
-sheet_found start text rest all e =
-    let t = (sheet_spells (end_of start text) empty).takes text all rest e in
-    let none = t.1.ends in
-    let same : t.0 ≡ text = sym (t.2 ∙ ap (λ (b : List ℕ). t.0 ++ b) none ∙ append-nil t.0) in
-    record {
-      declared = all.declared;
-      is = subst (λ (b : List ℕ). IsSheet (end_of start text) empty b [] all) same (subst (λ (b : List ℕ). IsSheet (end_of start text) empty t.0 b all) none t.1);
-      only = λ other is. ap (λ (z : Sheet). z.rules) (same_answer {E = Fault} other all [] rest (sym (sheet_read start text other is) ∙ e)).0;
-    }
+sheet_found start text rest all e = record {
+  declared = all.declared;
+  is = whole_is (end_of start text) empty all text rest e;
+  only = λ other is. ap (λ (z : Sheet). z.rules) (same_answer {E = Fault} other all [] rest (sym (whole_is_read (end_of start text) empty other text is) ∙ e)).0;
+}
 
 sheet_refused : (start : ℕ) (text : List ℕ) (fault : Fault) → read_at start text ≡ Err fault → (all : Sheet) → IsWholeSheet start text all → ⊥
 sheet_refused start text fault e all is =
-    let clash : good (all, []) ≡ Err fault = sym (sheet_read start text all is) ∙ e in
+    let clash : good (all, []) ≡ Err fault = sym (whole_is_read (end_of start text) empty all text is) ∙ e in
     absurd cc
 
 -- ---- the same by what the call answered

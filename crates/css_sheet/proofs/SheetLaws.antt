@@ -1,6 +1,7 @@
 -- Rules and sheets: what is spelled so is read, and what is read is spelled so.
 use Rattle.std.proofs.Common.{◌≡◌, ℕ, ◌<◌, Bool, true, false, not, List, [], ◌∷◌, ◌++◌, length, codes, refl, sym, ap, subst, ◌∙◌, append_assoc, length-append, arith}
 use Rattle.std.specs.Prelude.{⊤}
+use Rattle.std.proofs.lemmas.List.{append-nil}
 use Rattle.reading.specs.Grammars.{Fixed, Mapped}
 use Rattle.reading.specs.Placed.{PlacedGrammar, Anywhere, PlacedMapped, PlacedSeq, SpellsPlaced}
 use Rattle.reading.specs.Spelling.{Anything}
@@ -17,7 +18,7 @@ use Rattle.css_sheet.specs.Grammar.{AreRules, AreSelectors, Block, IsRule, IsShe
 use Rattle.css_tokens.proofs.Spelling.{gap_spells}
 use Rattle.css_values.proofs.DeclarationLaws.{declarations_spells}
 use Rattle.reading.proofs.Chains.{Chain, AreTurns, IsTurn, turns_spell}
-use Rattle.css_sheet.proofs.HeadLaws.{AreHeads, heads_spells}
+use Rattle.css_sheet.proofs.HeadLaws.{AreHeads, good, heads_spells}
 
 -- ---- a rule
 
@@ -177,3 +178,15 @@ unfolding sheet
 sheet_spells end_ s =
     placed_as (placed_follow (placed_telling syntax gap_spells) (λ white. turns_spell s (is_turn end_)) (λ x y back rest r any. tt))
     (to_sheet end_ s) (from_sheet end_ s)
+
+-- ---- a text that is a sheet to its end
+
+pub whole_is : (end_ : ℕ) (s all : Sheet) (text rest : List ℕ) → sheet end_ s text ≡ good (all, rest) → IsSheet end_ s text [] all
+whole_is end_ s all text rest e =
+    let t = (sheet_spells end_ s).takes text all rest e in
+    let none = t.1.ends in
+    let same : t.0 ≡ text = sym (t.2 ∙ ap (λ (b : List ℕ). t.0 ++ b) none ∙ append-nil t.0) in
+    subst (λ (b : List ℕ). IsSheet end_ s b [] all) same (subst (λ (b : List ℕ). IsSheet end_ s t.0 b all) none t.1)
+
+pub whole_is_read : (end_ : ℕ) (s all : Sheet) (text : List ℕ) → IsSheet end_ s text [] all → sheet end_ s text ≡ good (all, [])
+whole_is_read end_ s all text is = ap (sheet end_ s) (sym (append-nil text)) ∙ (sheet_spells end_ s).again text all [] is tt

@@ -1,6 +1,6 @@
 -- All the styles of a document, by the grammar.
-use Rattle.std.proofs.Common.{◌≡◌, ℕ, suc, List, [], ◌∷◌, ◌++◌, length, Ok, Err, refl, sym, ap, subst, ◌∙◌}
-use Rattle.std.specs.Prelude.{IfOk, Option, Some, None, Result}
+use Rattle.std.proofs.Common.{◌≡◌, ℕ, suc, List, [], ◌∷◌, length, Ok, Err, refl, sym, ap, subst, ◌∙◌}
+use Rattle.std.specs.Prelude.{IfErr, IfOk, Option, Some, None, Result}
 use Rattle.std.specs.List.{All}
 use Rattle.std.proofs.lemmas.List.{append-nil, length-map}
 use Rattle.std.proofs.lemmas.List.Elements.{All-cons, All-map, All-nil}
@@ -16,15 +16,17 @@ use Rattle.css_values.specs.Answered.{IsKept}
 use Rattle.css_values.specs.Declarations.{declarations}
 use Rattle.css_values.specs.Error.{Fault}
 use Rattle.css_values.specs.declared.error.CssError.{CssError}
+use Rattle.css_values.specs.declared.error.CssError.TheVariants as errors
+use Rattle.css_values.specs.declared.error.Refusal.{Refusal}
 use Rattle.css_values.specs.declared.within.Within.TheVariants.{Attribute}
 use Rattle.css_values.proofs.AnsweredLaws.{attribute_found}
-use Rattle.css_sheet.specs.Answered.{AreEach, AreOwn, AreOwnOf, AreSheets, AreStyles, IsRuled}
-use Rattle.css_sheet.specs.Grammar.{IsSheet}
+use Rattle.css_values.proofs.DeclarationLaws.{declarations_spells}
+use Rattle.css_sheet.specs.Answered.{AreEach, AreOwn, AreOwnOf, AreSheets, AreStyles, AreTheStyles, IsRuled, RefusesStyles}
 use Rattle.css_sheet.specs.Sheet.{Sheet, empty, sheet}
 use Rattle.css_sheet.specs.Styled.{Placed, Placing, and_then, at_name, attributes, before_others, in_sheet, moved_to, own_of, own_of_kind, sheet_at, sheets, styling}
 use Rattle.css_sheet.proofs.HeadLaws.{good}
 use Rattle.css_sheet.proofs.Rulings.{AreRuled, sheet_keeps, spelled_are_kept}
-use Rattle.css_sheet.proofs.SheetLaws.{sheet_spells}
+use Rattle.css_sheet.proofs.SheetLaws.{whole_is, whole_is_read}
 
 abbrev there : {A : Type 0} → A → Placed A
 there x = Ok x
@@ -35,13 +37,6 @@ then_ok (Ok x) f y e = (x, refl, e)
 then_ok (Err refused) f y e = absurd cc
 
 -- ---- sheets
-
-sheet_is : (end_ : ℕ) (s all : Sheet) (text rest : List ℕ) → sheet end_ s text ≡ good (all, rest) → IsSheet end_ s text [] all
-sheet_is end_ s all text rest e =
-    let t = (sheet_spells end_ s).takes text all rest e in
-    let none = t.1.ends in
-    let same : t.0 ≡ text = sym (t.2 ∙ ap (λ (b : List ℕ). t.0 ++ b) none ∙ append-nil t.0) in
-    subst (λ (b : List ℕ). IsSheet end_ s b [] all) same (subst (λ (b : List ℕ). IsSheet end_ s t.0 b all) none t.1)
 
 in_sheet_ok : (end_ : ℕ) (r : ReadOr Fault Sheet) (all : Sheet) → in_sheet end_ r ≡ there all → (rest : List ℕ) × (r ≡ good (all, rest))
 in_sheet_ok end_ (Ok read) all e =
@@ -55,7 +50,7 @@ sheets_are [] s all e = cc
 sheets_are (t ∷ others) s all e =
     let a = then_ok (sheet_at t s) (sheets others) all e in
     let r = in_sheet_ok (end_of t.place t.text) (sheet (end_of t.place t.text) s t.text) a.0 a.1 in
-    (a.0, sheet_is (end_of t.place t.text) s a.0 t.text r.0 r.1, sheets_are others a.0 all a.2)
+    (a.0, whole_is (end_of t.place t.text) s a.0 t.text r.0 r.1, sheets_are others a.0 all a.2)
 
 -- ---- own declarations
 
@@ -105,9 +100,57 @@ styles_are read out e =
     let b = then_ok (attributes read.nodes) (λ (own : List (List Declaration)). there (styling_of a.0 own)) out a.2 in
     styles_by read a.0 b.0 out (sheets_are read.sheets empty a.0 a.1) (each_is read.nodes b.0 b.1) b.2
 
-pub placing_styles : {X : Type 0} (view : X → Styling) (read : Whole) (r : Result X CssError) → Placing view r (styling read) → IfOk r (λ x. AreStyles read (view x))
-placing_styles view read (Ok x) e = styles_are read (view x) e
+-- ---- the other way round: what stands in the grammar is read
+
+sheets_again : (texts : List TextAt) (s all : Sheet) → AreSheets texts s all → sheets texts s ≡ there all
+unfolding sheets
+sheets_again [] s all same = ap there (sym same)
+sheets_again (t ∷ others) s all (next, is, are) =
+    ap (λ (r : ReadOr Fault Sheet). and_then (in_sheet (end_of t.place t.text) r) (sheets others)) (whole_is_read (end_of t.place t.text) s next t.text is) ∙ sheets_again others next all are
+
+own_again : (style : Option TextAt) (own : List Declaration) → AreOwn style own → own_of style ≡ there own
+own_again None own none = ap there (sym none)
+own_again (Some t) own (all, is, moved) =
+    let read : declarations Attribute (end_of t.place t.text) t.text ≡ good (all, []) =
+    ap (declarations Attribute (end_of t.place t.text)) (sym (append-nil t.text)) ∙ (declarations_spells Attribute (end_of t.place t.text)).again t.text all [] is tt in
+    ap (at_name t.place) read ∙ ap there (sym moved)
+
+kind_again : (kind : Kind) (own : List Declaration) → AreOwnOf kind own → own_of_kind kind ≡ there own
+kind_again (html.element tag acting) own is = own_again acting.style own is
+kind_again (html.text letters) own none = ap there (sym none)
+
+each_again : (nodes : List Node) (own : List (List Declaration)) → AreEach nodes own → attributes nodes ≡ there own
+unfolding attributes
+each_again [] own none = ap there (sym none)
+each_again (node ∷ others) [] is = absurd is
+each_again (node ∷ others) (first ∷ own) (is, are) =
+    ap (λ (r : Placed (List Declaration)). and_then r (λ mine. before_others mine (attributes others))) (kind_again node.kind first is) ∙ ap (before_others first) (each_again others own are)
+
+styles_again : (read : Whole) (out : Styling) → AreStyles read out → styling read ≡ there out
+unfolding styling
+styles_again read out is =
+    ap (λ (r : Placed Sheet). and_then r (λ s. and_then (attributes read.nodes) (λ own. there (styling_of s own)))) (sheets_again read.sheets empty (record { rules = out.rules; declared = is.declared }) is.are_sheets)
+    ∙ ap (λ (r : Placed (List (List Declaration))). and_then r (λ own. there (styling_of (record { rules = out.rules; declared = is.declared }) own))) (each_again read.nodes out.own is.are_own)
+
+same_styling : (one other : Styling) → there one ≡ there other → one ≡ other
+same_styling one other e = cc
+
+-- ---- what a call gave
+
+pub placing_styles : {X : Type 0} (view : X → Styling) (read : Whole) (r : Result X CssError) → Placing view r (styling read) → IfOk r (λ x. AreTheStyles read (view x))
+placing_styles view read (Ok x) e = record {
+  are = styles_are read (view x) e;
+  only = λ other is. same_styling other (view x) (sym (styles_again read other is) ∙ e);
+}
 placing_styles view read (Err error) e = tt
+
+never_styles : (out : Styling) (refused : Refusal × ℕ) → there out ≡ Err refused → ⊥
+never_styles out refused e = absurd cc
+
+pub placing_none : {X : Type 0} (view : X → Styling) (read : Whole) (r : Result X CssError) → Placing view r (styling read) → IfErr r (λ error. RefusesStyles read error)
+placing_none view read (Ok x) e = tt
+placing_none view read (Err (errors.Refused kind place)) e = λ s is. never_styles s (kind, place) (sym (styles_again read s is) ∙ e)
+placing_none view read (Err errors.Memory) e = tt
 
 -- ---- what it means for the rules and the lists
 

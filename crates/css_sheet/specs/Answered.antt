@@ -25,6 +25,11 @@ pub record IsTheSheet (start : ℕ) (text : List ℕ) (rules : List Ruling) : Ty
   pub is : IsWholeSheet start text (record { rules = rules; declared = declared })
   pub only : (other : Sheet) → IsWholeSheet start text other → other.rules ≡ rules
 
+-- A refusal with its place says that the text is no sheet; want of memory says nothing.
+abbrev pub RefusesSheet : (start : ℕ) → (text : List ℕ) → CssError → Type 0
+RefusesSheet start text (errors.Refused kind place) = (all : Sheet) → IsWholeSheet start text all → ⊥
+RefusesSheet start text errors.Memory = ⊤
+
 -- its selector has a part, and each of its declarations is kept
 abbrev pub IsRuled : Ruling → Type 0
 IsRuled r = (0 < length r.selector) × All IsKept r.declarations
@@ -55,7 +60,12 @@ pub record AreStyles (read : Whole) (s : Styling) : Type 0 where
   pub are_sheets : AreSheets read.sheets empty (record { rules = s.rules; declared = declared })
   pub are_own : AreEach read.nodes s.own
 
--- A refusal with its place says that the text is no sheet; want of memory says nothing.
-abbrev pub RefusesSheet : (start : ℕ) → (text : List ℕ) → CssError → Type 0
-RefusesSheet start text (errors.Refused kind place) = (all : Sheet) → IsWholeSheet start text all → ⊥
-RefusesSheet start text errors.Memory = ⊤
+-- these styles, and no others
+pub record AreTheStyles (read : Whole) (s : Styling) : Type 0 where
+  pub are : AreStyles read s
+  pub only : (other : Styling) → AreStyles read other → other ≡ s
+
+-- A refusal with its place says that a sheet or a style attribute of the document is none; want of memory says nothing.
+abbrev pub RefusesStyles : (read : Whole) → CssError → Type 0
+RefusesStyles read (errors.Refused kind place) = (s : Styling) → AreStyles read s → ⊥
+RefusesStyles read errors.Memory = ⊤

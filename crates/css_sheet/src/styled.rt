@@ -1,11 +1,11 @@
 //! All the styles of a document: its sheets, then the style attributes of its nodes.
 
-ghost use Rattle.std.specs.Prelude.{◌≡◌, length, map, IfOk, Ok};
+ghost use Rattle.std.specs.Prelude.{◌≡◌, length, map, IfErr, IfOk, Ok};
 ghost use Rattle.std.specs.List.{All};
 ghost use Rattle.html_read.specs.Values.{kind_of, nodes_of, sheets_of, text_at, whole_of};
 ghost use Rattle.style_types.specs.Rule.{styled_of};
 ghost use Rattle.css_values.specs.Answered.{IsKept};
-ghost use Rattle.css_sheet.specs.Answered.{AreStyles, IsRuled};
+ghost use Rattle.css_sheet.specs.Answered.{AreTheStyles, IsRuled, RefusesStyles};
 ghost use Rattle.css_sheet.specs.Sheet as readers;
 ghost use Rattle.css_sheet.specs.Styled as styles;
 ghost use Rattle.css_sheet.specs.Styled.{Placing};
@@ -23,8 +23,10 @@ use style_types::{Declaration, Declarations, Styled, Styles};
 pub fn read_styled(alloc: Global, read: &ReadDocument) -> Result<Styled, CssError>
     // The answer is that of the reading: the rules and each node's own declarations, or the refusal with its place.
     ensures read { Placing styled_of result (styles.styling (whole_of read.now)) }
-    // The sheets' texts are these rules by the grammar, and the style attributes these declarations.
-    ensures found { IfOk result (λ s. AreStyles (whole_of read.now) (styled_of s)) }
+    // The sheets' texts are these rules and no others by the grammar, and the style attributes these declarations; where
+    // it is refused one of them is none.
+    ensures found { IfOk result (λ s. AreTheStyles (whole_of read.now) (styled_of s)) }
+    ensures refused { IfErr result (λ error. RefusesStyles (whole_of read.now) error) }
     // Each node has one list of declarations.
     ensures each { IfOk result (λ s. length s.styles.items ≡ length read.now.nodes.items) }
     // Each selector has a part, and each declaration is a value that its property takes.
