@@ -18,8 +18,6 @@ mod lines;
 mod resolved_levels;
 #[cfg(test)]
 mod rules;
-#[cfg(test)]
-mod texts;
 
 use bidi_explicit::LevelList;
 use bidi_order::{BidiParagraph, reset};
