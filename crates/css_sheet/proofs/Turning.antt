@@ -15,7 +15,7 @@ IsFrom goes turn begun text now rest = IsTurning goes turn (repeat goes turn beg
 
 pub stops : {S : Type 0} (goes : S → List ℕ → Bool) (turn : S → Reader S) (begun now : S) (text rest : List ℕ) (halt : Halt) → IsFrom goes turn begun text now rest → goes now rest ≡ true
     → Halts halt (turn now rest) → Halts halt (repeat goes turn begun text)
-stops goes turn begun now text rest (halts.Refused stuck left) is g e = turning_stops left.now is g e
+stops goes turn begun now text rest (halts.Refused why left) is g e = turning_stops left.now is g e
 stops goes turn begun now text rest halts.Memory is g e = tt
 
 -- ---- comments
@@ -70,7 +70,7 @@ pub joining_goes_on : (begun now more : Begun) (text rest after : List ℕ) → 
 joining_goes_on begun now more text rest after is g e lt = turning_goes_on more after is g e lt
 
 pub joining_stops : (begun now : Begun) (text rest : List ℕ) (halt : Halt) → IsJoining begun text now rest → not (selector_ends rest) ≡ true → Halts halt (turn now rest) → Halts halt (joined_of begun text)
-joining_stops begun now text rest (halts.Refused stuck left) is g e =
+joining_stops begun now text rest (halts.Refused why left) is g e =
     let all : repeat selector_goes_on turn begun text ≡ Err left.now = turning_stops left.now is g e in
     rw all refl
 joining_stops begun now text rest halts.Memory is g e = tt

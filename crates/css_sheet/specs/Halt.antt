@@ -18,7 +18,7 @@ abbrev pub Halt : Type 0
 Halt = stop_type.Stop Stuck
 
 abbrev pub Halts : {Y : Type 0} → Halt → Result Y (List ℕ) → Type 0
-Halts (halts.Refused stuck left) read = read ≡ Err left.now
+Halts (halts.Refused why left) read = read ≡ Err left.now
 Halts halts.Memory read = ⊤
 
 -- What a function returned, seen by `view`, is this, unless memory ran out.

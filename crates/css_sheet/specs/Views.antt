@@ -18,7 +18,7 @@ IsCannot left stops.Memory = ⊥
 
 -- where a selector stopped, told as a refusal
 abbrev pub TellsCannot : Halt → Stop → Type 0
-TellsCannot (stops.Refused stuck left) stop = IsCannot left.now stop
+TellsCannot (stops.Refused why left) stop = IsCannot left.now stop
 TellsCannot stops.Memory stop = stop ≡ stops.Memory
 
 abbrev pub sheet_of : code_sheet.Sheet → Sheet
