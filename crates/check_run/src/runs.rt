@@ -1,4 +1,5 @@
-//! Whole runs, with their listings from outside; what the limits do; and streams that fail.
+//! Words, what the limits do, and streams that fail. Whole runs are compared with outside listings by
+//! tools/document-cases.
 
 use face_api::{Face, MonoFace, TableFace, WideFace};
 use io_edge::{MemorySink, MemorySource, Sink, Source, SteadySink, SteadySource};
@@ -16,8 +17,6 @@ const TOO_LONG: &str = "refused TooLong 1048576\n";
 
 const LAYOUT: &[&str] = &["layout"];
 
-const SMALL_VIEW: &[&str] = &["layout", "--view-inline", "100", "--view-block", "50"];
-
 const EMPTY_BODY: &[u8] = b"<html><body></body></html>";
 
 const EMPTY_BODY_LISTING: &str = "\
@@ -26,142 +25,6 @@ box 0 0 0 0 51200 512
 box 1 0 512 512 50176 0
 end
 ";
-
-/// A run over streams that don't fail.
-struct Run {
-    words: &'static [&'static str],
-    input: &'static [u8],
-    status: Status,
-    output: &'static str,
-}
-
-const RUNS: [Run; 13] = [
-    Run {
-        words: LAYOUT,
-        input: b"<html><body></body></html>x",
-        status: Status::Refused,
-        output: "refused Syntax 26\n",
-    },
-    Run {
-        words: LAYOUT,
-        input: b"<html><body><b></i></b></body></html>",
-        status: Status::Refused,
-        output: "refused Nesting 15\n",
-    },
-    Run {
-        words: SMALL_VIEW,
-        input: b"<!DOCTYPE html>\n<html>\n<body>\n  <div class=\"\" style=\"inline-size:20px;block-size:10px\"></div>\n  <div></div><!-- c -->\n</body>\n</html>\n",
-        status: Status::Done,
-        output: "\
-page 6400 3200 horizontal-tb ltr
-box 0 0 0 0 6400 1664
-box 1 0 512 512 5376 640
-box 3 0 512 512 1280 640
-box 5 0 512 1152 5376 0
-end
-",
-    },
-    Run {
-        words: LAYOUT,
-        input: EMPTY_BODY,
-        status: Status::Done,
-        output: EMPTY_BODY_LISTING,
-    },
-    Run {
-        words: LAYOUT,
-        input: b"<html><body></body></html>\n",
-        status: Status::Done,
-        output: EMPTY_BODY_LISTING,
-    },
-    Run {
-        words: LAYOUT,
-        input: b"<html><body>x</body></html>",
-        status: Status::Refused,
-        output: NOT_YET,
-    },
-    Run {
-        words: LAYOUT,
-        input: b"",
-        status: Status::Refused,
-        output: "refused Syntax 0\n",
-    },
-    Run {
-        words: LAYOUT,
-        input: b"<html><body>\xff\xfe</body></html>",
-        status: Status::Refused,
-        output: "refused Utf8 12\n",
-    },
-    Run {
-        words: SMALL_VIEW,
-        input: b"<html><body style=\"writing-mode:horizontal-tb\"><div style=\"inline-size:20px;block-size:10px\"><div style=\"block-size:4px\"></div></div><div></div></body></html>",
-        status: Status::Done,
-        output: "\
-page 6400 3200 horizontal-tb ltr
-box 0 0 0 0 6400 1664
-box 1 0 512 512 5376 640
-box 2 0 512 512 1280 640
-box 3 0 512 512 1280 256
-box 4 0 512 1152 5376 0
-end
-",
-    },
-    Run {
-        words: SMALL_VIEW,
-        input: b"<html><body style=\"writing-mode:vertical-rl\"><div style=\"inline-size:20px;block-size:10px\"><div style=\"block-size:4px\"></div></div><div></div></body></html>",
-        status: Status::Done,
-        output: "\
-page 3200 6400 vertical-rl ltr
-box 0 0 1536 0 1664 6400
-box 1 0 2048 512 640 5376
-box 2 0 2048 512 640 1280
-box 3 0 2432 512 256 1280
-box 4 0 2048 512 0 5376
-end
-",
-    },
-    Run {
-        words: SMALL_VIEW,
-        input: b"<html><body style=\"writing-mode:vertical-lr\"><div style=\"inline-size:20px;block-size:10px\"><div style=\"block-size:4px\"></div></div><div></div></body></html>",
-        status: Status::Done,
-        output: "\
-page 3200 6400 vertical-lr ltr
-box 0 0 0 0 1664 6400
-box 1 0 512 512 640 5376
-box 2 0 512 512 640 1280
-box 3 0 512 512 256 1280
-box 4 0 1152 512 0 5376
-end
-",
-    },
-    Run {
-        words: SMALL_VIEW,
-        input: b"<html><body style=\"writing-mode:sideways-rl\"><div style=\"inline-size:20px;block-size:10px\"><div style=\"block-size:4px\"></div></div><div></div></body></html>",
-        status: Status::Done,
-        output: "\
-page 3200 6400 sideways-rl ltr
-box 0 0 1536 0 1664 6400
-box 1 0 2048 512 640 5376
-box 2 0 2048 512 640 1280
-box 3 0 2432 512 256 1280
-box 4 0 2048 512 0 5376
-end
-",
-    },
-    Run {
-        words: SMALL_VIEW,
-        input: b"<html><body style=\"writing-mode:sideways-lr\"><div style=\"inline-size:20px;block-size:10px\"><div style=\"block-size:4px\"></div></div><div></div></body></html>",
-        status: Status::Done,
-        output: "\
-page 3200 6400 sideways-lr ltr
-box 0 0 0 0 1664 6400
-box 1 0 512 512 640 5376
-box 2 0 512 4608 640 1280
-box 3 0 512 4608 256 1280
-box 4 0 1152 512 0 5376
-end
-",
-    },
-];
 
 /// Words that are no command.
 const NO_COMMANDS: [&[&str]; 19] = [
@@ -241,14 +104,6 @@ fn check(
     let ended = run_with_faces(rt, &words, &mut SteadySource::new(input), &mut sink)?;
     assert_eq!(rt; str::from_utf8(sink.bytes())?, output, "{texts:?}");
     assert_eq!(rt; ended, status, "{texts:?}");
-    Ok(())
-}
-
-#[test]
-fn runs(rt: HostRuntime) -> Result<(), Fail> {
-    for case in &RUNS {
-        check(&rt, case.words, case.input, case.status, case.output)?;
-    }
     Ok(())
 }
 

@@ -161,7 +161,8 @@ fn small_puts_are_handed_on_in_order(rt: HostRuntime) -> Result<(), Fail> {
         waiting.put(LONGER, &mut sink)?;
         due.extend_from_slice(LONGER)?;
     }
-    assert_eq!(rt; sink.bytes(), &due[..16_384]);
+    assert_eq!(rt; sink.bytes().len(), 16_384);
+    assert!(rt; due.starts_with(sink.bytes()));
     waiting.flush(&mut sink)?;
     assert_eq!(rt; sink.bytes(), due.as_slice());
     waiting.put(&due, &mut sink)?;
