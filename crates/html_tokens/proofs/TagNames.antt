@@ -4,7 +4,11 @@ use denote.Enum.Declared.{tag_of}
 use Rattle.html_tokens.specs.declared.tag.Tag.{Tag}
 use Rattle.html_tokens.specs.declared.tag.Tag.TheVariants as tag
 use Rattle.html_tokens.specs.contracts.tag.Tag.{the_type}
-use Rattle.html_tokens.specs.Tag.{tags, IsNameOf}
+use Rattle.html_tokens.specs.Tag.{tags, name_of, IsNameOf}
+
+-- its name is that of its row
+pub tag_has_name : (t : Tag) (name : List ℕ) → name ≡ (get_or tags (tag_of the_type t) ([], tag.Html)).0 → name ≡ name_of t
+tag_has_name t name e = e
 
 pub tag_has_row : (t : Tag) (name : List ℕ) → name ≡ (get_or tags (tag_of the_type t) ([], tag.Html)).0 → IsNameOf name t
 unfolding tags

@@ -2,7 +2,7 @@
 use Rattle.std.specs.Prelude.{◌≡◌, ℕ, ◌<◌, ◌==◌, false, is_ok, List, [], ◌∷◌, codes, Err, if◌then◌else◌, refl}
 use Rattle.std.proofs.Common.{ap}
 use Rattle.std.proofs.lemmas.Bool.{ltb-true}
-use Rattle.reading.specs.Readers.{Read, ◌>>=◌, can_read, follow, strip, strip_either_case}
+use Rattle.reading.specs.Readers.{◌>>=◌, can_read, follow, strip, strip_either_case}
 use Rattle.reading.specs.White.{spaces}
 use Rattle.html_tokens.specs.declared.raw_text.RawEnd.{RawEnd}
 use Rattle.html_tokens.specs.declared.raw_text.RawEnd.TheVariants as ends

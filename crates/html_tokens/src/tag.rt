@@ -2,7 +2,7 @@
 
 ghost use Rattle.std.specs.Prelude.{◌≡◌, ◌<◌, ℕ, List, length, map, get_or};
 ghost use Rattle.reading.specs.Names.{lowered};
-ghost use Rattle.html_tokens.specs.Tag.{IsNameOf, is_void, tag_named};
+ghost use Rattle.html_tokens.specs.Tag.{IsNameOf, is_void, name_of, tag_named};
 
 use reading::{named, same_name};
 
@@ -53,7 +53,8 @@ pub enum Tag {
 impl Tag {
     /// The name, in small letters.
     pub fn name(self) -> &'static str
-        ensures { IsNameOf result.now self }
+        ensures row { IsNameOf result.now self }
+        ensures name { result.now ≡ name_of self }
     {
         name_at(&TAGS, self as usize)
     }

@@ -10,6 +10,7 @@ use Rattle.style_types.specs.declared.property.Property.TheVariants as propertie
 use Rattle.style_types.specs.declared.keyword.Keyword.TheVariants as keywords
 use Rattle.style_types.specs.declared.value.Value.{Value}
 use Rattle.style_types.specs.declared.value.Value.TheVariants.{Keyword, Px, Percent, Face}
+use Rattle.style_types.specs.declared.style.SideSizes.{SideSizes}
 use Rattle.style_types.specs.declared.style.Style.{Style}
 use Rattle.style_types.specs.declared.style.Display.{Display}
 use Rattle.style_types.specs.declared.style.Display.TheVariants as displays
@@ -150,3 +151,31 @@ pub record IsInitial (style : Style) : Type 0 where
   pub border_right : BorderFromInitial properties.BorderRightStyle properties.BorderRightWidth style.border.right
   pub border_bottom : BorderFromInitial properties.BorderBottomStyle properties.BorderBottomWidth style.border.bottom
   pub border_left : BorderFromInitial properties.BorderLeftStyle properties.BorderLeftWidth style.border.left
+
+abbrev pub on_sides : Size → SideSizes
+on_sides size = record { top = size; right = size; bottom = size; left = size }
+
+-- the same style, written out
+unfoldable pub initial : Style
+initial = record {
+  display = displays.Inline;
+  mode = modes.HorizontalTb;
+  direction = directions.Ltr;
+  orientation = orientations.Mixed;
+  combine = combines.Never;
+  bidi = bidis.Normal;
+  font_size = pos 1024;
+  face = 0;
+  line_height = line_heights.Normal;
+  align = aligns.Start;
+  shift = pos 0;
+  width = sizes.Auto;
+  height = sizes.Auto;
+  min_width = sizes.Auto;
+  min_height = sizes.Auto;
+  max_width = sizes.Auto;
+  max_height = sizes.Auto;
+  margin = on_sides (sizes.Length (pos 0));
+  padding = on_sides (sizes.Length (pos 0));
+  border = record { top = pos 0; right = pos 0; bottom = pos 0; left = pos 0 };
+}

@@ -1,4 +1,6 @@
+pub mod Defaulting
 pub mod Initial
+pub mod Item
 pub mod Keywords
 pub mod Laws
 pub mod Page

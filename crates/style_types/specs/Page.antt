@@ -1,5 +1,5 @@
 -- Which property of the page stands for a property of a flow. CSS Logical Properties 1, 4.
-use Rattle.std.specs.Prelude.{◌≡◌}
+use Rattle.std.specs.Prelude.{◌≡◌, Option, Some, None}
 use Rattle.wm_modes.specs.declared.mode.WritingMode.{WritingMode}
 use Rattle.wm_modes.specs.declared.mode.Direction.{Direction}
 use Rattle.wm_modes.specs.declared.sides.Side as side
@@ -15,7 +15,7 @@ use Rattle.style_types.specs.declared.reach.Axis.TheVariants.{Horizontal, Vertic
 use Rattle.style_types.specs.declared.reach.Reach as reach
 use Rattle.style_types.specs.declared.reach.Reach.TheVariants.{Whole, PhysicalSide, FlowSide, PhysicalAxis, FlowAxis}
 use Rattle.style_types.specs.declared.table.PropertyRow.{PropertyRow}
-use Rattle.style_types.specs.Table.{IsRowOf}
+use Rattle.style_types.specs.Table.{IsRowOf, row_of}
 use Rattle.style_types.specs.Reach.{on_page}
 
 -- by its row the property is about this of a box
@@ -35,7 +35,7 @@ StandsFor (FlowAxis family a) property page = IsAbout (FlowAxis family a) page
 abbrev pub IsPageOf : WritingMode → Direction → (property page : Property) → Type 0
 IsPageOf mode dir property page = (row : PropertyRow) × IsRowOf property row × StandsFor (on_page mode dir row.reach) property page
 
--- ---- the code's way to it
+-- ---- the same as a function
 
 abbrev pub side_property : SideFamily → side.Side → Property
 side_property Margin Top = properties.MarginTop
@@ -69,3 +69,11 @@ about (PhysicalSide family s) other = side_property family s
 about (FlowSide family s) other = other
 about (PhysicalAxis family a) other = axis_property family a
 about (FlowAxis family a) other = other
+
+abbrev pub page_by : Option PropertyRow → WritingMode → Direction → Property → Property
+page_by None mode dir property = property
+page_by (Some row) mode dir property = about (on_page mode dir row.reach) property
+
+-- the property of the page that stands for a property in this mode and used direction
+abbrev pub page_of : WritingMode → Direction → Property → Property
+page_of mode dir property = page_by (row_of property) mode dir property

@@ -4,7 +4,9 @@
 
 mod constraint;
 mod copies;
+mod defaulting;
 mod initial;
+mod item;
 mod keyword;
 pub mod laws;
 mod lists;
@@ -21,8 +23,12 @@ mod value;
 
 pub use constraint::Constraint;
 pub use copies::{copy_of_rule, copy_of_rules, copy_of_selector};
+pub use defaulting::{computed_direction, computed_mode, computed_orientation, specified};
+pub use item::{BoxName, Item};
 pub use keyword::{Keyword, Keywords, WIDTH_NAMES, WORDS};
-pub use lists::{Declarations, LetterList, Letters, Parts, Rules, StyledNodes, Styles, Winners};
+pub use lists::{
+    Declarations, Items, LetterList, Letters, Parts, Rules, StyledNodes, Styles, Winners,
+};
 pub use page::page_property;
 pub use property::Property;
 pub use reach::{Axis, AxisFamily, FlowAxis, Reach, SideFamily, on_page};

@@ -1,5 +1,6 @@
 //! The lists of this crate. A contract sees the items of a list, and the bytes of a text.
 
+use crate::item::Item;
 use crate::property::Property;
 use crate::rule::{Part, Rule};
 use crate::tree::StyledNode;
@@ -28,3 +29,6 @@ pub type StyledNodes = Vec<StyledNode>;
 
 /// The value that won for each property, with sides and axes of the page alone.
 pub type Winners = Vec<(Property, Value)>;
+
+/// The items of a paragraph in order.
+pub type Items = Vec<Item>;

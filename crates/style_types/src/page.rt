@@ -11,7 +11,8 @@ use wm_modes::{Direction, Side, WritingMode};
 /// The property of the page that stands for this one in a mode and a used direction. A property that is about the
 /// page or about the whole box stands for itself. Takes no memory.
 pub fn page_property(property: Property, mode: WritingMode, dir: Direction) -> Property
-    ensures { IsPageOf mode dir property result }
+    ensures stands { IsPageOf mode dir property result }
+    ensures page { result ≡ pages.page_of mode dir property }
 {
     about(on_page(property.row().reach, mode, dir), property)
 }

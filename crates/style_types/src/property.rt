@@ -1,7 +1,7 @@
 //! The properties that the profile keeps, and their rows in the table (docs/PROFILE/properties.md).
 
 ghost use Rattle.std.specs.Prelude.{◌≡◌, ◌<◌, length, map, Some, slice_get};
-ghost use Rattle.style_types.specs.Table.{IsRowOf};
+ghost use Rattle.style_types.specs.Table.{IsRowOf, row_of};
 ghost use Rattle.style_types.specs.Property.{place_of};
 
 use crate::table::{PROPERTIES, PropertyRow};
@@ -69,14 +69,16 @@ pub enum Property {
 impl Property {
     /// The row of the property in the table of properties, which is its only one. Takes no memory.
     pub fn row(self) -> PropertyRow
-        ensures { IsRowOf self result }
+        ensures only { IsRowOf self result }
+        ensures found { row_of self ≡ Some result }
     {
         row_at(&PROPERTIES, self.place())
     }
 
-    // The place of its row in the table, whose rows stand in the order of the variants.
-    fn place(self) -> usize
-        ensures { result ≡ place_of self }
+    /// The place of its row in the table, whose rows stand in the order of the variants: below 55. Takes no memory.
+    pub fn place(self) -> usize
+        ensures place { result ≡ place_of self }
+        ensures below { result < 55 }
     {
         self as usize
     }
