@@ -1,0 +1,37 @@
+//! The document (DOM, 4.2, narrowed).
+
+ghost use Rattle.std.specs.Prelude.{◌≡◌, option_map, option_and_then};
+ghost use Rattle.dom_store.specs.State.{child_at, entry_of, state_of};
+
+use crate::node::Node;
+use slab::Slab;
+use std::collections::BTreeMap;
+
+/// The state of a document: its live nodes, each under its number, and the number that is given next. A number is given
+/// once. `html` is 0, `body` is 1, the others of a document that was read follow in document order.
+#[derive(Drop)]
+pub struct Document {
+    // Keys of the slab are used again, numbers aren't: the map says under which key a number's node lies.
+    nodes: Slab<Node>,
+    keys: BTreeMap<u32, usize>,
+    next: u32,
+}
+
+impl Document {
+    /// The node of this number; `None` exactly where no such node lives. Takes no memory.
+    pub fn node(&self, n: u32) -> Option<&Node>
+        ensures { option_map (λ node. entry_of node.now) result ≡ (state_of self.now).node_at n }
+    {
+        let key = self.keys.get(&n)?;
+        self.nodes.get(*key)
+    }
+
+    /// The child at this index, the first at 0; `None` exactly where no such node lives, or the index isn't below the
+    /// count of its children. Takes no memory.
+    pub fn child(&self, n: u32, index: u32) -> Option<u32>
+        ensures { result ≡ child_at (state_of self.now) n index }
+    {
+        let node = self.node(n)?;
+        node.children.get(index as usize).copied()
+    }
+}
