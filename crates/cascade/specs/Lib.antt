@@ -1,0 +1,4 @@
+pub mod Claims
+pub mod Line
+pub mod Matching
+pub mod Winners

@@ -1,0 +1,85 @@
+-- Which declaration wins. CSS Cascading 4, 6.1; CSS Logical Properties 1, 4; CSS Writing Modes 4, 7.4.
+use Rattle.std.specs.Prelude.{◌≡◌, ◌≢◌, ℕ, Bool, false, cond, nat_eq, List, [], ◌∷◌, filter, filter_map, Option, Some, None, option_map, slice_get}
+use Rattle.std.specs.List.{Contains}
+use Rattle.wm_modes.specs.declared.mode.WritingMode.{WritingMode}
+use Rattle.wm_modes.specs.declared.mode.Direction.{Direction}
+use Rattle.wm_modes.specs.Sides.{used_direction}
+use Rattle.style_types.specs.declared.property.Property.{Property}
+use Rattle.style_types.specs.declared.property.Property.TheVariants as properties
+use Rattle.style_types.specs.declared.style.Style.{Style}
+use Rattle.style_types.specs.declared.value.Value.{Value}
+use Rattle.style_types.specs.Defaulting.{computed_mode, computed_direction, computed_orientation}
+use Rattle.style_types.specs.Page.{page_of}
+use Rattle.style_types.specs.Property.{place_of}
+use Rattle.style_types.specs.Rule.{Ruling}
+use Rattle.style_types.specs.Style.{is_upright}
+use Rattle.style_types.specs.Table.{rows}
+use Rattle.dom_store.specs.State.{What}
+use Rattle.cascade.specs.declared.claim.Claim.{Claim}
+use Rattle.cascade.specs.Claims.{numbers_of, is_below, claims}
+
+-- ---- the greatest of a list
+
+abbrev pub greater : Option Claim → Claim → Option Claim
+greater None claim = Some claim
+greater (Some best) claim = cond (is_below best.key claim.key) (Some claim) (Some best)
+
+unfoldable pub greatest_from : Option Claim → List Claim → Option Claim
+greatest_from best [] = best
+greatest_from best (claim ∷ others) = greatest_from (greater best claim) others
+
+-- the claim whose key is greatest
+abbrev pub greatest : List Claim → Option Claim
+greatest list = greatest_from None list
+
+-- ---- the winner of a property
+
+abbrev pub same_property : Property → Property → Bool
+same_property one other = nat_eq (place_of one) (place_of other)
+
+-- claims that name a property of the page, in either spelling, in this mode and used direction
+abbrev pub naming : WritingMode → Direction → (page : Property) → List Claim → List Claim
+naming mode dir page list = filter (λ claim. same_property (page_of mode dir claim.property) page) list
+
+abbrev pub winner : WritingMode → Direction → List Claim → (page : Property) → Option Value
+winner mode dir list page = option_map (λ claim. claim.value) (greatest (naming mode dir page list))
+
+-- ---- how the element maps its flow: found out first, from properties that are about the whole box
+
+abbrev pub first_winner : List Claim → Property → Option Value
+first_winner list property = option_map (λ claim. claim.value) (greatest (filter (λ claim. same_property claim.property property) list))
+
+abbrev pub mode_of : List Claim → (parent : Style) → WritingMode
+mode_of list parent = computed_mode parent.mode (first_winner list properties.WritingMode)
+
+abbrev pub direction_of : List Claim → (parent : Style) → Direction
+direction_of list parent =
+    used_direction (mode_of list parent)
+    (is_upright (computed_orientation parent.orientation (first_winner list properties.TextOrientation)))
+    (computed_direction parent.direction (first_winner list properties.Direction))
+
+-- ---- all winners, in the order of the table of properties
+
+abbrev pub paired : Property → Option Value → Option (Property × Value)
+paired property value = option_map (λ v. (property, v)) value
+
+abbrev pub winners_by : WritingMode → Direction → List Claim → List (Property × Value)
+winners_by mode dir list = filter_map (λ row. paired row.property (winner mode dir list row.property)) rows
+
+abbrev pub winners_in : List Claim → (parent : Style) → List (Property × Value)
+winners_in list parent = winners_by (mode_of list parent) (direction_of list parent) list
+
+-- the winners for the first of the line, under these author's rules and the parent's style
+abbrev pub winners : List Ruling → (line : List What) → (parent : Style) → List (Property × Value)
+winners rules line parent = winners_in (claims rules line) parent
+
+-- ---- what the greatest is
+
+-- it is one of them, and no other's key is greater
+pub record IsGreatest (list : List Claim) (best : Claim) : Type 0 where
+  pub among : Contains list best
+  pub least : (other : Claim) → Contains list other → is_below best.key other.key ≡ false
+
+-- no two claims, at different places of the list, have one key
+abbrev pub KeysDiffer : List Claim → Type 0
+KeysDiffer list = (place other : ℕ) (one two : Claim) → place ≢ other → slice_get list place ≡ Some one → slice_get list other ≡ Some two → numbers_of one.key ≢ numbers_of two.key

@@ -1,0 +1,7 @@
+//! The cascade: which elements a selector matches, and which declaration wins (Selectors 3; CSS Cascading 4, 6).
+#![tactic(auto)]
+
+mod claim;
+mod line;
+
+pub use claim::{Claim, Key, Origin};
