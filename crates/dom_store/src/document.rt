@@ -12,9 +12,9 @@ use std::collections::BTreeMap;
 #[derive(Drop)]
 pub struct Document {
     // Keys of the slab are used again, numbers aren't: the map says under which key a number's node lies.
-    nodes: Slab<Node>,
-    keys: BTreeMap<u32, usize>,
-    next: u32,
+    pub(crate) nodes: Slab<Node>,
+    pub(crate) keys: BTreeMap<u32, usize>,
+    pub(crate) next: u32,
 }
 
 impl Document {

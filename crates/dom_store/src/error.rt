@@ -1,6 +1,9 @@
 //! Why a state is refused.
 
-use std::alloc::AllocError;
+ghost use Rattle.std.specs.Prelude.{◌≡◌};
+ghost use Rattle.dom_store.specs.declared.error.EditError.TheVariants.{Memory};
+
+use std::alloc::{AllocError, AllocFailed};
 use thiserror::Error;
 
 /// Why there is no document. A number is that of a node.
@@ -17,7 +20,17 @@ pub enum EditError {
 }
 
 impl From<AllocError> for EditError {
+    ghost from_gives = { λ _ error. error ≡ Memory };
+
     fn from(_: AllocError) -> EditError {
+        EditError::Memory
+    }
+}
+
+impl<T: Drop> From<AllocFailed<T>> for EditError {
+    ghost from_gives = { λ _ error. error ≡ Memory };
+
+    fn from(_: AllocFailed<T>) -> EditError {
         EditError::Memory
     }
 }

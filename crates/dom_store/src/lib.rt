@@ -1,9 +1,12 @@
 //! The state of a document: its nodes under their numbers (docs/PROFILE/nodes.md).
 #![tactic(auto)]
 
+mod copies;
+mod depths;
 mod document;
 mod error;
 mod node;
+mod opening;
 
 pub use document::Document;
 pub use error::EditError;

@@ -1,0 +1,38 @@
+-- Nodes by their places.
+use Rattle.std.proofs.Common.{◌≡◌, ◌∙◌, ℕ, ◌+◌, ◌<◌, List, [], ◌∷◌, ◌++◌, length, length-append, get_or, drop, map, refl, ap, sym, arith, Option, Some, None, option_map, IfSome}
+use Rattle.std.specs.List.{slice_get}
+use Rattle.std.proofs.lemmas.List.{drop_more, get_or_append_left, get_or_push}
+use Rattle.std.proofs.lemmas.Option.{slice_get-map, slice_get_read, slice_get_within, slice_get-get_or, get_or_from_slice_get}
+use Rattle.html_read.specs.declared.node.ReadNode.{ReadNode}
+use Rattle.html_read.specs.Values.{node_of, nodes_of}
+use Rattle.dom_store.specs.Building.{FollowParents}
+
+-- what was read at a place stands there
+pub read_at : (reads : List ReadNode) (place : ℕ) (read : ReadNode) → place < length reads → read ≡ get_or reads place read → slice_get (nodes_of reads) place ≡ Some (node_of read)
+read_at reads place read within is = slice_get-map node_of reads place ∙ ap (option_map node_of) (slice_get_read reads (length reads) place read refl within is)
+
+-- the nodes from a place on begin with the one at it
+pub drop_at : {X : Type 0} (xs : List X) (place : ℕ) (x : X) → slice_get xs place ≡ Some x → drop place xs ≡ x ∷ drop (place + 1) xs
+drop_at xs place x is = drop_more xs place x (slice_get_within xs place x is) ∙ ap (λ y. y ∷ drop (place + 1) xs) (get_or_from_slice_get xs place x x is)
+
+-- the elements before the end of the first list stay
+pub slice_get_left : {X : Type 0} (xs ys : List X) (place : ℕ) (d : X) → place < length xs → slice_get (xs ++ ys) place ≡ slice_get xs place
+slice_get_left xs ys place d within =
+    let longer : place < length (xs ++ ys) = omega (arith, length-append xs ys) in
+    slice_get-get_or (xs ++ ys) place d longer ∙ (ap Some (get_or_append_left xs ys d place within) ∙ sym (slice_get-get_or xs place d within))
+
+-- the last element
+pub slice_get_last : {X : Type 0} (xs : List X) (x : X) → slice_get (xs ++ x ∷ []) (length xs) ≡ Some x
+slice_get_last xs x =
+    let within : length xs < length (xs ++ x ∷ []) = omega (arith, length-append xs (x ∷ [])) in
+    slice_get-get_or (xs ++ x ∷ []) (length xs) x within ∙ ap Some (get_or_push xs x x (length xs) refl)
+
+-- a node's parent is one of those before it
+pub parent_known : (reads : List ReadNode) (place known : ℕ) (d : ReadNode) → FollowParents (nodes_of reads) → place < length reads → known ≡ place → IfSome (get_or reads place d).parent (λ parent. parent < known)
+parent_known reads place known d follow within is = known_if (get_or reads place d).parent refl
+  where
+    here : slice_get (nodes_of reads) place ≡ Some (node_of (get_or reads place d))
+    here = slice_get-map node_of reads place ∙ ap (option_map node_of) (slice_get-get_or reads place d within)
+    known_if : (parent : Option ℕ) → (get_or reads place d).parent ≡ parent → IfSome parent (λ p. p < known)
+    known_if None none = tt
+    known_if (Some parent) some = rw is (follow.each place parent (node_of (get_or reads place d)) here some)

@@ -1,0 +1,24 @@
+-- Steps on the way to the state that a document begins with.
+use Rattle.std.specs.Prelude.{◌≡◌, ◌≢◌, ℕ, ◌+◌, ◌<◌, ◌≤◌, List, [], ◌∷◌, ◌++◌, length, map, get_or, slice_get, Option, Some, None, IsSome, Result, Ok, Err, ⊤}
+use Rattle.std.specs.List.{All}
+use Rattle.std.specs.Ordering.{nat_cmp}
+use Rattle.std.specs.BTreeMap as keyed
+use Rattle.slab.specs.Slab as slots
+use Rattle.style_types.specs.declared.value.Declaration.{Declaration}
+use Rattle.html_read.specs.Values.{Node}
+use Rattle.dom_store.specs.declared.document.Document.{Document}
+use Rattle.dom_store.specs.declared.error.EditError.{EditError}
+use Rattle.dom_store.specs.declared.error.EditError.TheVariants.{TooManyNodes, TooDeep, Memory}
+use Rattle.dom_store.specs.State.{Entry, State, greatest_depth, state_of}
+use Rattle.dom_store.specs.Opening.{IsTooDeep, children_from, depths, opened}
+
+-- each node's parent stands before it
+pub record FollowParents (nodes : List Node) : Type 0 where
+  pub each : (place parent : ℕ) (node : Node) → slice_get nodes place ≡ Some node → node.parent ≡ Some parent → parent < place
+
+-- what is said of depths: that none is past the limit, or which is the first past it
+abbrev pub JudgesDepths : List Node → Result ⊤ EditError → Type 0
+JudgesDepths nodes (Ok _) = All (λ depth. depth ≤ greatest_depth) (depths nodes)
+JudgesDepths nodes (Err (TooManyNodes number)) = ⊥
+JudgesDepths nodes (Err (TooDeep number)) = IsTooDeep nodes number × ((other : ℕ) → IsTooDeep nodes other → number ≤ other)
+JudgesDepths nodes (Err Memory) = ⊤
