@@ -45,11 +45,13 @@ module _ (nodes : List Node) (before : List ℕ) (shallow : All (λ depth. depth
       let all : depths_from (before ++ depth ∷ []) (drop (place + 1) nodes) ≡ depths nodes = one_more before nodes place depth node here is ∙ same in
       let last : slice_get (before ++ depth ∷ []) place ≡ Some depth = ap (slice_get (before ++ depth ∷ [])) (sym so_far) ∙ slice_get_last before depth in
       let stay : slice_get (depths nodes) place ≡ Some depth = ap (λ all. slice_get all place) (sym all) ∙ (known_stay (before ++ depth ∷ []) (drop (place + 1) nodes) place longer ∙ last) in
-      let known = λ (other : ℕ) (within : other < length before). ap (λ all. slice_get all other) (sym same) ∙ known_stay before (drop place nodes) other within in
-      ((depth, stay, deep), λ other too. elim (cases_lt other place) [
-        | inl earlier ↦ absurd (not_before other known (omega arith) too)
-        | inr later ↦ later
-      ])
+      let known = λ (other : ℕ) (within : other < length before). ap (λ all. slice_get all other) (sym same) ∙ known_stay before (drop place nodes) other within in (
+        (depth, stay, deep),
+        λ other too. elim (cases_lt other place) [
+          | inl earlier ↦ absurd (not_before other known (omega arith) too)
+          | inr later ↦ later
+        ],
+      )
 
 -- where all are known, none is past the limit
 pub all_shallow : (nodes : List Node) (before : List ℕ) → depths_from before [] ≡ depths nodes → All (λ depth. depth ≤ greatest_depth) before → All (λ depth. depth ≤ greatest_depth) (depths nodes)

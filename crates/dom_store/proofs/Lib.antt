@@ -1,2 +1,3 @@
+pub mod ChildLaws
 pub mod DepthLaws
 pub mod Places

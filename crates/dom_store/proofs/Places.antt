@@ -1,5 +1,6 @@
 -- Nodes by their places.
-use Rattle.std.proofs.Common.{◌≡◌, ◌∙◌, ℕ, ◌+◌, ◌<◌, List, [], ◌∷◌, ◌++◌, length, length-append, get_or, drop, map, refl, ap, sym, arith, Option, Some, None, option_map, IfSome}
+use Rattle.std.proofs.Common.{◌≡◌, ◌∙◌, ℕ, ◌+◌, ◌<◌, ◌≤◌, List, [], ◌∷◌, ◌++◌, length, length-append, get_or, drop, map, refl, ap, sym, arith, Option, Some, None, option_map, IfSome}
+use Rattle.std.proofs.Math.Nat.{lt_of_lt_of_le}
 use Rattle.std.specs.List.{slice_get}
 use Rattle.std.proofs.lemmas.List.{drop_more, get_or_append_left, get_or_push}
 use Rattle.std.proofs.lemmas.Option.{slice_get-map, slice_get_read, slice_get_within, slice_get-get_or, get_or_from_slice_get}
@@ -28,11 +29,12 @@ slice_get_last xs x =
     slice_get-get_or (xs ++ x ∷ []) (length xs) x within ∙ ap Some (get_or_push xs x x (length xs) refl)
 
 -- a node's parent is one of those before it
-pub parent_known : (reads : List ReadNode) (place known : ℕ) (d : ReadNode) → FollowParents (nodes_of reads) → place < length reads → known ≡ place → IfSome (get_or reads place d).parent (λ parent. parent < known)
-parent_known reads place known d follow within is = known_if (get_or reads place d).parent refl
+pub parent_known : (reads : List ReadNode) (place known : ℕ) (d : ReadNode) → FollowParents (nodes_of reads) → place < length reads → place ≤ known → IfSome (get_or reads place d).parent (λ parent. parent < known)
+parent_known reads place known d follow within enough = known_if (get_or reads place d).parent refl
   where
     here : slice_get (nodes_of reads) place ≡ Some (node_of (get_or reads place d))
     here = slice_get-map node_of reads place ∙ ap (option_map node_of) (slice_get-get_or reads place d within)
+
     known_if : (parent : Option ℕ) → (get_or reads place d).parent ≡ parent → IfSome parent (λ p. p < known)
     known_if None none = tt
-    known_if (Some parent) some = rw is (follow.each place parent (node_of (get_or reads place d)) here some)
+    known_if (Some parent) some = lt_of_lt_of_le (follow.each place parent (node_of (get_or reads place d)) here some) enough

@@ -2,6 +2,7 @@
 use Rattle.std.specs.Prelude.{◌≡◌, ◌≢◌, ℕ, ◌+◌, ◌<◌, ◌≤◌, List, [], ◌∷◌, ◌++◌, length, map, get_or, slice_get, Option, Some, None, IsSome, Result, Ok, Err, ⊤}
 use Rattle.std.specs.List.{All}
 use Rattle.std.specs.Ordering.{nat_cmp}
+use Rattle.std.specs.Global.{Vec}
 use Rattle.std.specs.BTreeMap as keyed
 use Rattle.slab.specs.Slab as slots
 use Rattle.style_types.specs.declared.value.Declaration.{Declaration}
@@ -22,3 +23,7 @@ JudgesDepths nodes (Ok _) = All (λ depth. depth ≤ greatest_depth) (depths nod
 JudgesDepths nodes (Err (TooManyNodes number)) = ⊥
 JudgesDepths nodes (Err (TooDeep number)) = IsTooDeep nodes number × ((other : ℕ) → IsTooDeep nodes other → number ≤ other)
 JudgesDepths nodes (Err Memory) = ⊤
+
+-- the numbers in the list at this place
+abbrev pub numbers_at : List (Vec ℕ) → (place : ℕ) → List ℕ
+numbers_at lists place = get_or (map (λ list. list.items) lists) place []

@@ -1,6 +1,7 @@
 //! The state of a document: its nodes under their numbers (docs/PROFILE/nodes.md).
 #![tactic(auto)]
 
+mod children;
 mod copies;
 mod depths;
 mod document;

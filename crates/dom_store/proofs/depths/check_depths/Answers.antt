@@ -9,13 +9,13 @@ use Rattle.dom_store.proofs.Places.{parent_known, read_at}
 use Rattle.dom_store.proofs.depths.check_depths.Goals as goal
 
 pub depth_of-depth-requires-clause-before : goal.depth_of-depth-requires-clause-before
-depth_of-depth-requires-clause-before c = parent_known c.args.nodes.now c.loop-place.place _ c.index-nodes-place.result c.requires.follow c.loop-place-test.true cc
+depth_of-depth-requires-clause-before c = parent_known c.args.nodes.now c.loop-place.place _ c.index-nodes-place.result c.requires.follow c.loop-place-test.true (omega arith)
 
 pub returns-then-depth-gt-GREATEST_DEPTH : goal.returns-then-depth-gt-GREATEST_DEPTH
 returns-then-depth-gt-GREATEST_DEPTH c =
     first_too_deep (nodes_of c.args.nodes.now) c.loop-place.depths.items c.loop-place.invariant.shallow c.loop-place.place c.depth_of-depth.result (node_of c.index-nodes-place.result)
-      c.loop-place.invariant.so_far c.loop-place.invariant.same (read_at c.args.nodes.now c.loop-place.place c.index-nodes-place.result c.loop-place-test.true c.index-nodes-place.is)
-      (cc) c.if-depth-gt-GREATEST_DEPTH.true
+    c.loop-place.invariant.so_far c.loop-place.invariant.same (read_at c.args.nodes.now c.loop-place.place c.index-nodes-place.result c.loop-place-test.true c.index-nodes-place.is)
+    (cc) c.if-depth-gt-GREATEST_DEPTH.true
 
 pub loop-place-preserved : goal.loop-place-preserved
 loop-place-preserved c =
@@ -23,7 +23,8 @@ loop-place-preserved c =
     record {
       so_far = search rules;
       shallow = rw c.in_ok-push.ensures.items (All-push (λ (depth : ℕ). depth ≤ greatest_depth) c.loop-place.depths.items c.depth_of-depth.result c.loop-place.invariant.shallow (omega arith));
-      same = rw c.in_ok-push.ensures.items (one_more c.loop-place.depths.items (nodes_of c.args.nodes.now) c.loop-place.place c.depth_of-depth.result (node_of c.index-nodes-place.result) here (cc) ∙ c.loop-place.invariant.same) }
+      same = rw c.in_ok-push.ensures.items (one_more c.loop-place.depths.items (nodes_of c.args.nodes.now) c.loop-place.place c.depth_of-depth.result (node_of c.index-nodes-place.result) here (cc) ∙ c.loop-place.invariant.same);
+    }
 
 pub returns : goal.returns
 returns c =

@@ -7,6 +7,7 @@ use Rattle.dom_store.proofs.depths.check_depths.Given as goal
 
 abbrev pub invariant-loop-place : goal.invariant-loop-place
 invariant-loop-place l = record {
-    so_far : length l.depths.items ≡ l.place;
-    shallow : All (λ depth. depth ≤ greatest_depth) l.depths.items;
-    same : depths_from l.depths.items (drop l.place (nodes_of l.nodes)) ≡ depths (nodes_of l.nodes) }
+  so_far : length l.depths.items ≡ l.place;
+  shallow : All (λ depth. depth ≤ greatest_depth) l.depths.items;
+  same : depths_from l.depths.items (drop l.place (nodes_of l.nodes)) ≡ depths (nodes_of l.nodes);
+}
