@@ -1,3 +1,4 @@
+pub mod AddLaws
 pub mod ChildLaws
 pub mod DepthLaws
 pub mod Places

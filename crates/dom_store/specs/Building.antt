@@ -8,6 +8,7 @@ use Rattle.slab.specs.Slab as slots
 use Rattle.style_types.specs.declared.value.Declaration.{Declaration}
 use Rattle.html_read.specs.Values.{Node}
 use Rattle.dom_store.specs.declared.document.Document.{Document}
+use Rattle.dom_store.specs.declared.node.Node as code_node
 use Rattle.dom_store.specs.declared.error.EditError.{EditError}
 use Rattle.dom_store.specs.declared.error.EditError.TheVariants.{TooManyNodes, TooDeep, Memory}
 use Rattle.dom_store.specs.State.{Entry, State, greatest_depth, state_of}
@@ -27,3 +28,23 @@ JudgesDepths nodes (Err Memory) = ⊤
 -- the numbers in the list at this place
 abbrev pub numbers_at : List (Vec ℕ) → (place : ℕ) → List ℕ
 numbers_at lists place = get_or (map (λ list. list.items) lists) place []
+
+-- Each number has a key of its own, under which a node lies, and is below the next number.
+pub record IsKeyed (key_of : ℕ → Option ℕ) (node_under : ℕ → Option code_node.Node) (next : ℕ) : Type 0 where
+  pub live : (number key : ℕ) → key_of number ≡ Some key → IsSome (node_under key)
+  pub apart : (one other key : ℕ) → key_of one ≡ Some key → key_of other ≡ Some key → one ≡ other
+  pub below : (number key : ℕ) → key_of number ≡ Some key → number < next
+
+abbrev pub IsSound : Document → Type 0
+IsSound d = IsKeyed (keyed.get nat_cmp d.keys) (slots.get d.nodes) d.next
+
+-- the next number is given to this node, and every other number keeps its own
+pub record Adds (old new : State) (entry : Entry) : Type 0 where
+  pub here : new.node_at old.next ≡ Some entry
+  pub others : (number : ℕ) → number ≢ old.next → new.node_at number ≡ old.node_at number
+  pub next : new.next ≡ old.next + 1
+
+-- the nodes below the next number are those of the other state
+pub record IsFilledFrom (whole state : State) : Type 0 where
+  pub below : (number : ℕ) → number < state.next → state.node_at number ≡ whole.node_at number
+  pub above : (number : ℕ) → state.next ≤ number → state.node_at number ≡ None

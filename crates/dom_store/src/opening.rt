@@ -1,1 +1,89 @@
 //! The state that a document begins with: its nodes as they were read (DOM, 4.2, narrowed).
+
+ghost use Rattle.std.specs.Prelude.{◌≡◌, ◌+◌, ◌<◌, ◌≤◌, ◌^◌, ℕ, length, map, IfOk, OnOk};
+ghost use Rattle.html_read.specs.Shape.{IsShaped};
+ghost use Rattle.html_read.specs.Values.{nodes_of};
+ghost use Rattle.dom_store.specs.Building.{Adds, FollowParents, IsSound, numbers_at};
+ghost use Rattle.dom_store.specs.Opening.{AreSame, Opens, children_from, greatest_count, opened};
+ghost use Rattle.dom_store.specs.State.{entry_of, state_of};
+
+use crate::children::children_of;
+use crate::copies::node_of;
+use crate::depths::check_depths;
+use crate::document::Document;
+use crate::error::EditError;
+use crate::node::{Node, NodeNumbers};
+use html_read::{ReadDocument, ReadNode};
+use slab::Slab;
+use std::alloc::{AllocError, Global};
+use std::collections::BTreeMap;
+use style_types::{Declarations, Styled};
+
+/// How many nodes may live.
+const GREATEST_COUNT: u32 = 65_536;
+
+impl Document {
+    /// The state that a document begins with: `html` is 0, `body` is 1, the others follow in document order, each with
+    /// its own declarations. Refused where there are more than 65,536 nodes, and else where a node stands deeper than 64,
+    /// at the least number past the limit. Linear but for the map of numbers, which takes the logarithm of their count
+    /// for each node.
+    pub fn from_read(
+        alloc: Global,
+        read: &ReadDocument,
+        styled: &Styled,
+    ) -> Result<Document, EditError>
+        requires shaped { IsShaped (nodes_of read.now.nodes.items) }
+        requires each { length styled.now.styles.items ≡ length read.now.nodes.items }
+        ensures { Opens (nodes_of read.now.nodes.items) (map (λ own. own.items) styled.now.styles.items) result }
+    {
+        if read.nodes.len() > GREATEST_COUNT as usize {
+            return Err(EditError::TooManyNodes(GREATEST_COUNT));
+        }
+        check_depths(alloc, &read.nodes)?;
+        let children = children_of(alloc, &read.nodes)?;
+        let document = Document::filled(alloc, &read.nodes, &styled.styles, children)?;
+        Ok(document)
+    }
+
+    /// The document of these nodes, each with its own declarations and its children.
+    fn filled(
+        alloc: Global,
+        nodes: &[ReadNode],
+        styles: &[Declarations],
+        lists: Vec<NodeNumbers>,
+    ) -> Result<Document, AllocError>
+        requires few { length nodes.now ≤ greatest_count }
+        requires follow { FollowParents (nodes_of nodes.now) }
+        requires styles { length styles.now ≡ length nodes.now }
+        requires count { length lists.items ≡ length nodes.now }
+        requires lists { (place : ℕ) → numbers_at lists.items place ≡ children_from 0 place (nodes_of nodes.now) }
+        ensures { IfOk result (λ document. AreSame (state_of document) (opened (nodes_of nodes.now) (map (λ own. own.items) styles.now))) }
+    {
+        let mut document = Document {
+            nodes: Slab::new(alloc),
+            keys: BTreeMap::new(alloc),
+            next: 0,
+        };
+        for children in lists {
+            let place = document.next as usize;
+            let node = node_of(alloc, &nodes[place], &styles[place], children)?;
+            document.add(node)?;
+        }
+        Ok(document)
+    }
+
+    /// Gives the next number to this node.
+    fn add(&mut self, node: Node) -> Result<(), AllocError>
+        requires room { self.old.next + 1 < 2 ^ 32 }
+        requires sound { IsSound self.old }
+        ensures sound { OnOk result (IsSound self.new) }
+        ensures added { OnOk result (Adds (state_of self.old) (state_of self.new) (entry_of node)) }
+    {
+        self.nodes.reserve(1)?;
+        let key = self.nodes.vacant_key();
+        self.keys.insert(self.next, key)?;
+        self.nodes.insert_reserved(node);
+        self.next += 1;
+        Ok(())
+    }
+}

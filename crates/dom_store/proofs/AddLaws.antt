@@ -1,0 +1,74 @@
+-- A document with one node more.
+use Rattle.std.proofs.Common.{◌≡◌, ◌≢◌, ◌∙◌, ℕ, ◌+◌, ◌<◌, false, refl, ap, sym, subst, arith, Option, Some, None, IsSome, option_map, option_and_then, inl, inr}
+use Rattle.std.specs.Ordering.{is_eq, nat_cmp}
+use Rattle.std.proofs.lemmas.Bool.{cases_eq}
+use Rattle.std.proofs.lemmas.Bool.Decides.{nat_tests}
+use Rattle.dom_store.specs.declared.node.Node.{Node}
+use Rattle.dom_store.specs.Building.{Adds, IsKeyed}
+use Rattle.dom_store.specs.State.{Entry, State, entry_of}
+
+-- the node of a number
+abbrev pub node_of : (ℕ → Option ℕ) → (ℕ → Option Node) → ℕ → Option Entry
+node_of key_of node_under number = option_and_then (λ key. option_map entry_of (node_under key)) (key_of number)
+
+-- a number that isn't this one compares otherwise
+pub is_other : (this number : ℕ) → number ≢ this → is_eq (nat_cmp this number) ≡ false
+is_other this number apart = grind (arith, nat_tests)
+
+pub record Gives (key_of key_of' : ℕ → Option ℕ) (node_under node_under' : ℕ → Option Node) (next key : ℕ) (node : Node) : Type 0 where
+  pub here : key_of' next ≡ Some key
+  pub others : (number : ℕ) → number ≢ next → key_of' number ≡ key_of number
+  pub vacant : node_under key ≡ None
+  pub put : node_under' key ≡ Some node
+  pub stay : (k : ℕ) → k ≢ key → node_under' k ≡ node_under k
+
+module _ (key_of key_of' : ℕ → Option ℕ) (node_under node_under' : ℕ → Option Node) (next key : ℕ) (node : Node) (keyed : IsKeyed key_of node_under next) (gives : Gives key_of key_of' node_under node_under' next key node) where
+  -- the key of a number that was given isn't the vacant one
+  another : (number k : ℕ) → key_of number ≡ Some k → k ≢ key
+  another number k is same = let nothing : Option Node = None in let no : IsSome nothing = subst IsSome (ap node_under same ∙ gives.vacant) (keyed.live number k is) in cc
+
+  live_after : (number k : ℕ) → key_of' number ≡ Some k → IsSome (node_under' k)
+  live_after number k is = elim (cases_eq number next) [
+    | inl same ↦
+        let its : k ≡ key = cc (gives.here) in
+        rw (its, gives.put) refl
+    | inr apart ↦
+        let was : key_of number ≡ Some k = sym (gives.others number apart) ∙ is in
+        subst IsSome (sym (gives.stay k (another number k was))) (keyed.live number k was)
+  ]
+
+  below_after : (number k : ℕ) → key_of' number ≡ Some k → number < next + 1
+  below_after number k is = elim (cases_eq number next) [
+    | inl same ↦ omega arith
+    | inr apart ↦ omega (arith, keyed.below number k (sym (gives.others number apart) ∙ is))
+  ]
+
+  apart_after : (one other k : ℕ) → key_of' one ≡ Some k → key_of' other ≡ Some k → one ≡ other
+  apart_after one other k is also = elim (cases_eq one next) [
+    | inl same ↦ elim (cases_eq other next) [
+      | inl too ↦ cc
+      | inr apart ↦
+          let its : k ≡ key = cc (gives.here) in
+          absurd (another other k (sym (gives.others other apart) ∙ also) its)
+    ]
+    | inr apart ↦ elim (cases_eq other next) [
+      | inl too ↦
+          let its : k ≡ key = cc (gives.here) in
+          absurd (another one k (sym (gives.others one apart) ∙ is) its)
+      | inr further ↦ keyed.apart one other k (sym (gives.others one apart) ∙ is) (sym (gives.others other further) ∙ also)
+    ]
+  ]
+
+  pub keyed_after : IsKeyed key_of' node_under' (next + 1)
+  keyed_after = record { live = live_after; apart = apart_after; below = below_after }
+
+  stays_under : (number : ℕ) (o : Option ℕ) → key_of number ≡ o → option_and_then (λ key. option_map entry_of (node_under' key)) o ≡ option_and_then (λ key. option_map entry_of (node_under key)) o
+  stays_under number None is = refl
+  stays_under number (Some k) is = ap (option_map entry_of) (gives.stay k (another number k is))
+
+  pub adds_after : Adds (record { node_at = node_of key_of node_under; next = next }) (record { node_at = node_of key_of' node_under'; next = next + 1 }) (entry_of node)
+  adds_after = record {
+    here = rw (gives.here, gives.put) refl;
+    others = λ number apart. ap (option_and_then (λ key. option_map entry_of (node_under' key))) (gives.others number apart) ∙ stays_under number (key_of number) refl;
+    next = refl;
+  }
