@@ -7,9 +7,9 @@ use Rattle.dom_store.specs.declared.node.Node.{Node}
 use Rattle.dom_store.specs.Building.{Adds, IsKeyed}
 use Rattle.dom_store.specs.State.{Entry, State, entry_of}
 
--- the node of a number
-abbrev pub node_of : (ℕ → Option ℕ) → (ℕ → Option Node) → ℕ → Option Entry
-node_of key_of node_under number = option_and_then (λ key. option_map entry_of (node_under key)) (key_of number)
+-- the entry of a number
+abbrev pub entry_under : (ℕ → Option ℕ) → (ℕ → Option Node) → ℕ → Option Entry
+entry_under key_of node_under number = option_and_then (λ key. option_map entry_of (node_under key)) (key_of number)
 
 -- a number that isn't this one compares otherwise
 pub is_other : (this number : ℕ) → number ≢ this → is_eq (nat_cmp this number) ≡ false
@@ -66,7 +66,7 @@ module _ (key_of key_of' : ℕ → Option ℕ) (node_under node_under' : ℕ →
   stays_under number None is = refl
   stays_under number (Some k) is = ap (option_map entry_of) (gives.stay k (another number k is))
 
-  pub adds_after : Adds (record { node_at = node_of key_of node_under; next = next }) (record { node_at = node_of key_of' node_under'; next = next + 1 }) (entry_of node)
+  pub adds_after : Adds (record { node_at = entry_under key_of node_under; next = next }) (record { node_at = entry_under key_of' node_under'; next = next + 1 }) (entry_of node)
   adds_after = record {
     here = rw (gives.here, gives.put) refl;
     others = λ number apart. ap (option_and_then (λ key. option_map entry_of (node_under' key))) (gives.others number apart) ∙ stays_under number (key_of number) refl;

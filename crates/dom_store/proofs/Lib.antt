@@ -1,4 +1,5 @@
 pub mod AddLaws
 pub mod ChildLaws
 pub mod DepthLaws
+pub mod FillLaws
 pub mod Places

@@ -1,12 +1,14 @@
 -- Nodes by their places.
-use Rattle.std.proofs.Common.{◌≡◌, ◌∙◌, ℕ, ◌+◌, ◌<◌, ◌≤◌, List, [], ◌∷◌, ◌++◌, length, length-append, get_or, drop, map, refl, ap, sym, arith, Option, Some, None, option_map, IfSome}
+use Rattle.std.proofs.Common.{◌≡◌, ◌∙◌, ℕ, ◌+◌, ◌<◌, ◌≤◌, List, [], ◌∷◌, ◌++◌, length, length-append, get_or, drop, map, refl, ap, sym, subst, arith, Option, Some, None, option_map, IfSome, inl, inr, ◌^◌}
 use Rattle.std.proofs.Math.Nat.{lt_of_lt_of_le}
 use Rattle.std.specs.List.{slice_get}
-use Rattle.std.proofs.lemmas.List.{drop_more, get_or_append_left, get_or_push}
+use Rattle.std.proofs.lemmas.List.{drop_all, drop_more, get_or_append_left, get_or_push}
+use Rattle.std.proofs.lemmas.Bool.{cases_lt}
 use Rattle.std.proofs.lemmas.Option.{slice_get-map, slice_get_read, slice_get_within, slice_get-get_or, get_or_from_slice_get}
 use Rattle.html_read.specs.declared.node.ReadNode.{ReadNode}
 use Rattle.html_read.specs.Values.{node_of, nodes_of}
 use Rattle.dom_store.specs.Building.{FollowParents}
+use Rattle.dom_store.specs.Opening.{greatest_count}
 
 -- what was read at a place stands there
 pub read_at : (reads : List ReadNode) (place : ℕ) (read : ReadNode) → place < length reads → read ≡ get_or reads place read → slice_get (nodes_of reads) place ≡ Some (node_of read)
@@ -38,3 +40,25 @@ parent_known reads place known d follow within enough = known_if (get_or reads p
     known_if : (parent : Option ℕ) → (get_or reads place d).parent ≡ parent → IfSome parent (λ p. p < known)
     known_if None none = tt
     known_if (Some parent) some = lt_of_lt_of_le (follow.each place parent (node_of (get_or reads place d)) here some) enough
+
+-- a node's parent has a number of 32 bits
+pub parent_fits : (reads : List ReadNode) (place : ℕ) (read : ReadNode) → FollowParents (nodes_of reads) → place < length reads → length reads ≤ greatest_count → read ≡ get_or reads place read → IfSome read.parent (λ parent. parent < 2 ^ 32)
+parent_fits reads place read follow within few is =
+    let P : ReadNode → Type 0 = λ r. IfSome r.parent (λ parent. parent < 2 ^ 32) in
+    subst P (sym is) (parent_known reads place (2 ^ 32) read follow within (omega arith))
+
+-- what is left of a list begins with the element at this place
+pub record BeginsAt {X : Type 0} (xs : List X) (place : ℕ) (x : X) (later : List X) : Type 0 where
+  pub within : place < length xs
+  pub is : x ≡ get_or xs place x
+  pub rest : later ≡ drop (place + 1) xs
+
+pub begins_at : {X : Type 0} (xs : List X) (place : ℕ) (x : X) (later : List X) → x ∷ later ≡ drop place xs → BeginsAt xs place x later
+begins_at xs place x later left = elim (cases_lt place (length xs)) [
+    | inl within ↦
+        let both = drop_more xs place x within in
+        record { within = within; is = cc; rest = cc }
+    | inr past ↦
+        let all = drop_all place xs past in
+        absurd (cc)
+  ]
