@@ -5,7 +5,7 @@ use Rattle.std.proofs.lemmas.Bool.{cases_eq}
 use Rattle.std.proofs.lemmas.Bool.Decides.{nat_tests}
 use Rattle.dom_store.specs.declared.node.Node.{Node}
 use Rattle.dom_store.specs.Building.{Adds, IsKeyed}
-use Rattle.dom_store.specs.State.{Entry, State, entry_of}
+use Rattle.dom_store.specs.State.{Entry, entry_of}
 
 -- the entry of a number
 abbrev pub entry_under : (ℕ → Option ℕ) → (ℕ → Option Node) → ℕ → Option Entry

@@ -1,10 +1,16 @@
 -- The depths of nodes, as they are found one after the other.
-use Rattle.std.proofs.Common.{◌≡◌, ◌∙◌, ℕ, ◌+◌, ◌<◌, ◌≤◌, List, [], ◌∷◌, ◌++◌, length, length-append, get_or, drop, refl, ap, sym, subst, arith, Option, Some, None, inl, inr}
+use Rattle.std.proofs.Common.{◌≡◌, ◌∙◌, ℕ, ◌+◌, ◌<◌, ◌≤◌, List, [], ◌∷◌, ◌++◌, length, length-append, get_or, drop, refl, ap, sym, subst, arith, Some, inl, inr, Result, Ok, Err}
 use Rattle.std.specs.List.{All, slice_get}
 use Rattle.std.proofs.lemmas.Bool.{cases_lt}
 use Rattle.std.proofs.lemmas.Option.{get_or_from_slice_get}
 use Rattle.html_read.specs.Values.{Node}
-use Rattle.dom_store.specs.Opening.{IsTooDeep, depth_in, depths, depths_from}
+use Rattle.style_types.specs.declared.value.Declaration.{Declaration}
+use Rattle.dom_store.specs.declared.error.EditError.{EditError}
+use Rattle.dom_store.specs.declared.error.EditError.TheVariants.{TooManyNodes, TooDeep, Memory}
+use Rattle.std.specs.Result.{IsErrAnd}
+use Rattle.dom_store.specs.declared.document.Document.{Document}
+use Rattle.dom_store.specs.Building.{JudgesDepths}
+use Rattle.dom_store.specs.Opening.{IsTooDeep, Opens, greatest_count, depth_in, depths, depths_from}
 use Rattle.dom_store.specs.State.{greatest_depth}
 use Rattle.dom_store.proofs.Places.{drop_at, slice_get_left, slice_get_last}
 
@@ -56,3 +62,13 @@ module _ (nodes : List Node) (before : List ℕ) (shallow : All (λ depth. depth
 -- where all are known, none is past the limit
 pub all_shallow : (nodes : List Node) (before : List ℕ) → depths_from before [] ≡ depths nodes → All (λ depth. depth ≤ greatest_depth) before → All (λ depth. depth ≤ greatest_depth) (depths nodes)
 all_shallow nodes before same shallow = subst (λ (known : List ℕ). All (λ depth. depth ≤ greatest_depth) known) (sym (all_known before) ∙ same) shallow
+
+-- what is refused for its depth is refused where the nodes are few enough
+pub refused : (nodes : List Node) (own : List (List Declaration)) (error : EditError) → length nodes ≤ greatest_count → JudgesDepths nodes (Err error) → Opens nodes own (Err error)
+refused nodes own (TooManyNodes number) few judged = absurd judged
+refused nodes own (TooDeep number) few judged = (few, judged.0, judged.1)
+refused nodes own Memory few judged = tt
+
+pub refused_as : (nodes : List Node) (own : List (List Declaration)) (error : EditError) (answer : Result Document EditError) → IsErrAnd answer (λ e. e ≡ error) → length nodes ≤ greatest_count → JudgesDepths nodes (Err error) → Opens nodes own answer
+refused_as nodes own error (Ok document) is few judged = absurd is
+refused_as nodes own error (Err e) is few judged = refused nodes own e few (subst (λ (x : EditError). JudgesDepths nodes (Err x)) (sym is) judged)

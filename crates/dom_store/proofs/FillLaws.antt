@@ -1,13 +1,12 @@
 -- A document that is filled with the nodes that were read.
-use Rattle.std.proofs.Common.{◌≡◌, ◌∙◌, ℕ, ◌+◌, ◌<◌, ◌≤◌, List, [], length, get_or, map, refl, ap, sym, subst, arith, Option, Some, None, inl, inr}
-use Rattle.std.specs.List.{slice_get}
+use Rattle.std.proofs.Common.{◌≡◌, ◌∙◌, ℕ, ◌<◌, List, [], length, get_or, map, ap, sym, arith, Some, inl, inr}
 use Rattle.std.specs.Global.{Vec}
 use Rattle.std.proofs.lemmas.Bool.{cases_eq, cases_lt}
-use Rattle.std.proofs.lemmas.List.{get_or-map, length-map}
+use Rattle.std.proofs.lemmas.List.{get_or-map}
 use Rattle.std.proofs.lemmas.Option.{slice_get_past}
 use Rattle.style_types.specs.declared.value.Declaration.{Declaration}
 use Rattle.html_read.specs.declared.node.ReadNode.{ReadNode}
-use Rattle.html_read.specs.Values.{Node, kind_of, node_of, nodes_of}
+use Rattle.html_read.specs.Values.{Node, kind_of, nodes_of}
 use Rattle.dom_store.specs.Building.{Adds, IsFilledFrom, numbers_at}
 use Rattle.dom_store.specs.Opening.{AreSame, children_from, entry_at, opened, what_of}
 use Rattle.dom_store.specs.State.{Entry, State}
@@ -16,22 +15,24 @@ use Rattle.dom_store.proofs.Places.{read_at}
 -- one node more
 pub filled_more : (whole old new : State) (entry : Entry) → IsFilledFrom whole old → Adds old new entry → whole.node_at old.next ≡ Some entry → IsFilledFrom whole new
 filled_more whole old new entry filled adds is = record {
-    below = λ number low. elim (cases_eq number old.next) [
-      | inl same ↦
-          let here = adds.here in
-          cc
-      | inr apart ↦ adds.others number apart ∙ filled.below number (omega (arith, adds.next))
-    ];
-    above = λ number high. adds.others number (omega (arith, adds.next)) ∙ filled.above number (omega (arith, adds.next)) }
+  below = λ number low. elim (cases_eq number old.next) [
+    | inl same ↦
+        let here = adds.here in
+        cc
+    | inr apart ↦ adds.others number apart ∙ filled.below number (omega (arith, adds.next))
+  ];
+  above = λ number high. adds.others number (omega (arith, adds.next)) ∙ filled.above number (omega (arith, adds.next));
+}
 
 -- no node is left
 pub filled_whole : (nodes : List Node) (own : List (List Declaration)) (state : State) → IsFilledFrom (opened nodes own) state → state.next ≡ length nodes → AreSame state (opened nodes own)
 filled_whole nodes own state filled all = record {
-    nodes = λ number. elim (cases_lt number state.next) [
-      | inl low ↦ filled.below number low
-      | inr high ↦ filled.above number high ∙ sym (ap (entry_at nodes own number) (slice_get_past nodes number (omega arith)))
-    ];
-    next = all }
+  nodes = λ number. elim (cases_lt number state.next) [
+    | inl low ↦ filled.below number low
+    | inr high ↦ filled.above number high ∙ sym (ap (entry_at nodes own number) (slice_get_past nodes number (omega arith)))
+  ];
+  next = all;
+}
 
 module _ (reads : List ReadNode) (styles : List (Vec Declaration)) (lists : List (Vec ℕ)) (place : ℕ) (read : ReadNode) (own : Vec Declaration) (children : Vec ℕ) where
   -- the node at this place, with its children and its own declarations

@@ -1,12 +1,13 @@
 -- Nodes by their places.
-use Rattle.std.proofs.Common.{◌≡◌, ◌∙◌, ℕ, ◌+◌, ◌<◌, ◌≤◌, List, [], ◌∷◌, ◌++◌, length, length-append, get_or, drop, map, refl, ap, sym, subst, arith, Option, Some, None, option_map, IfSome, inl, inr, ◌^◌}
+use Rattle.std.proofs.Common.{◌≡◌, ◌∙◌, ◌⊎◌, ℕ, ◌+◌, ◌<◌, ◌≤◌, List, [], ◌∷◌, ◌++◌, length, length-append, get_or, drop, refl, ap, sym, subst, arith, Option, Some, None, option_map, IfSome, inl, inr, ◌^◌}
 use Rattle.std.proofs.Math.Nat.{lt_of_lt_of_le}
 use Rattle.std.specs.List.{slice_get}
 use Rattle.std.proofs.lemmas.List.{drop_all, drop_more, get_or_append_left, get_or_push}
 use Rattle.std.proofs.lemmas.Bool.{cases_lt}
 use Rattle.std.proofs.lemmas.Option.{slice_get-map, slice_get_read, slice_get_within, slice_get-get_or, get_or_from_slice_get}
+use Rattle.html_read.specs.Shape.{IsShaped}
 use Rattle.html_read.specs.declared.node.ReadNode.{ReadNode}
-use Rattle.html_read.specs.Values.{node_of, nodes_of}
+use Rattle.html_read.specs.Values.{Node, node_of, nodes_of}
 use Rattle.dom_store.specs.Building.{FollowParents}
 use Rattle.dom_store.specs.Opening.{greatest_count}
 
@@ -55,10 +56,37 @@ pub record BeginsAt {X : Type 0} (xs : List X) (place : ℕ) (x : X) (later : Li
 
 pub begins_at : {X : Type 0} (xs : List X) (place : ℕ) (x : X) (later : List X) → x ∷ later ≡ drop place xs → BeginsAt xs place x later
 begins_at xs place x later left = elim (cases_lt place (length xs)) [
-    | inl within ↦
-        let both = drop_more xs place x within in
-        record { within = within; is = cc; rest = cc }
-    | inr past ↦
-        let all = drop_all place xs past in
-        absurd (cc)
+  | inl within ↦
+      let both = drop_more xs place x within in
+      record { within = within; is = cc; rest = cc }
+  | inr past ↦
+      let all = drop_all place xs past in
+      absurd (cc)
+]
+
+-- a place is the first, the second or a later one
+place_cases : (place : ℕ) → (place ≡ 0) ⊎ ((place ≡ 1) ⊎ (2 ≤ place))
+place_cases place = elim (cases_lt place 2) [
+  | inl low ↦ elim (cases_lt place 1) [
+    | inl lower ↦ inl (omega arith)
+    | inr one ↦ inr (inl (omega arith))
   ]
+  | inr high ↦ inr (inr high)
+]
+
+-- in a document's shape each parent stands before its children
+pub shape_follows : (nodes : List Node) → IsShaped nodes → FollowParents nodes
+shape_follows nodes shaped = record { each = λ place parent node here stands. before place parent node (place_cases place) here stands }
+  where
+    before : (place parent : ℕ) (node : Node) → (place ≡ 0) ⊎ ((place ≡ 1) ⊎ (2 ≤ place)) → slice_get nodes place ≡ Some node → node.parent ≡ Some parent → parent < place
+    before place parent node (inl first) here stands =
+        let html = shaped.html.1 in
+        absurd (cc)
+    before place parent node (inr (inl second)) here stands =
+        let body = shaped.body.1 in
+        let same : parent ≡ 0 = cc in
+        omega arith
+    before place parent node (inr (inr later)) here stands =
+        let (in_place, is, low, high, holder) = shaped.others place node later here in
+        let same : parent ≡ in_place = cc in
+        omega arith

@@ -1,18 +1,17 @@
 -- Steps on the way to the state that a document begins with.
-use Rattle.std.specs.Prelude.{◌≡◌, ◌≢◌, ℕ, ◌+◌, ◌<◌, ◌≤◌, List, [], ◌∷◌, ◌++◌, length, map, get_or, slice_get, Option, Some, None, IsSome, Result, Ok, Err, ⊤}
+use Rattle.std.specs.Prelude.{◌≡◌, ◌≢◌, ℕ, ◌+◌, ◌<◌, ◌≤◌, List, [], map, get_or, slice_get, Option, Some, None, IsSome, Result, Ok, Err, ⊤}
 use Rattle.std.specs.List.{All}
 use Rattle.std.specs.Ordering.{nat_cmp}
 use Rattle.std.specs.Global.{Vec}
 use Rattle.std.specs.BTreeMap as keyed
 use Rattle.slab.specs.Slab as slots
-use Rattle.style_types.specs.declared.value.Declaration.{Declaration}
 use Rattle.html_read.specs.Values.{Node}
 use Rattle.dom_store.specs.declared.document.Document.{Document}
 use Rattle.dom_store.specs.declared.node.Node as code_node
 use Rattle.dom_store.specs.declared.error.EditError.{EditError}
 use Rattle.dom_store.specs.declared.error.EditError.TheVariants.{TooManyNodes, TooDeep, Memory}
-use Rattle.dom_store.specs.State.{Entry, State, greatest_depth, state_of}
-use Rattle.dom_store.specs.Opening.{IsTooDeep, children_from, depths, opened}
+use Rattle.dom_store.specs.State.{Entry, State, greatest_depth}
+use Rattle.dom_store.specs.Opening.{IsTooDeep, depths}
 
 -- each node's parent stands before it
 pub record FollowParents (nodes : List Node) : Type 0 where

@@ -1,6 +1,4 @@
-use Rattle.std.proofs.Common.{rules, ◌≡◌, ◌∙◌, ℕ, ◌<◌, ◌++◌, [], ◌∷◌, length, get_or, ap, sym, subst, Option, Some}
-use Rattle.dom_store.specs.Building.{numbers_at}
-use Rattle.dom_store.specs.Opening.{put_if, stands_in}
+use Rattle.std.proofs.Common.{◌<◌, length}
 use Rattle.dom_store.proofs.ChildLaws.{put_at}
 use Rattle.dom_store.proofs.children.add_child.Goals as goal
 

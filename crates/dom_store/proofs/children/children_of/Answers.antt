@@ -1,8 +1,5 @@
-use Rattle.std.proofs.Common.{rules, ◌≡◌, ◌∙◌, ◌<◌, ◌≤◌, ℕ, ◌+◌, ◌++◌, [], length, ap, sym, subst, take, arith, ◌∷◌}
-use Rattle.std.proofs.lemmas.List.{take_all, length-map}
+use Rattle.std.proofs.Common.{◌∙◌, sym, arith}
 use Rattle.html_read.specs.Values.{node_of, nodes_of}
-use Rattle.dom_store.specs.Building.{numbers_at}
-use Rattle.dom_store.specs.Opening.{children_from, put_if, stands_in}
 use Rattle.dom_store.proofs.ChildLaws.{children_up_to, no_children}
 use Rattle.dom_store.proofs.Places.{parent_known, read_at}
 use Rattle.dom_store.proofs.children.children_of.Goals as goal

@@ -1,4 +1,4 @@
-use Rattle.std.proofs.Common.{rules, ◌≡◌, ◌<◌, ◌≤◌, length, ap, ◌∙◌, subst, sym, drop, arith, ℕ, []}
+use Rattle.std.proofs.Common.{rules, ◌≡◌, ◌≤◌, ap, ◌∙◌, sym, drop, arith, ℕ, []}
 use Rattle.std.proofs.lemmas.List.{drop_all, length-map}
 use Rattle.html_read.specs.Values.{node_of, nodes_of}
 use Rattle.dom_store.specs.Opening.{depths_from}

@@ -1,4 +1,4 @@
-use Rattle.std.proofs.Common.{rules, ◌≡◌, ◌≢◌, ◌∙◌, ◌+◌, ℕ, ap, sym, nat_cmp, List, Option, Some, None, slice_index_or}
+use Rattle.std.proofs.Common.{◌≡◌, ◌∙◌, ℕ, ap, sym, nat_cmp, List, Option, Some, None, slice_index_or}
 use Rattle.std.specs.BTreeMap as keyed
 use Rattle.slab.specs.Slab as slots
 use Rattle.slab.specs.Slab.{Slab}

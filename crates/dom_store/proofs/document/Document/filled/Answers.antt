@@ -1,4 +1,4 @@
-use Rattle.std.proofs.Common.{rules, ◌≡◌, ◌∙◌, ◌+◌, ◌<◌, ◌≤◌, ◌^◌, ℕ, length, map, List, [], ◌∷◌, ap, sym, subst, drop, arith}
+use Rattle.std.proofs.Common.{◌≡◌, ◌∙◌, ◌+◌, length, ap, sym, drop, arith}
 use Rattle.std.proofs.lemmas.List.{length-map, length-drop}
 use Rattle.html_read.specs.Values.{node_of, nodes_of}
 use Rattle.dom_store.specs.State.{entry_of, state_of}
@@ -17,17 +17,18 @@ loop-children-preserved c =
     let at = begins_at c.args.lists.items place c.in-Some.children c.next.new.self.rest.items (sym c.in-Some.ensures.steps.0 ∙ c.loop-children.invariant.rest) in
     let next : c.add.new.self.next ≡ place + 1 = c.in_ok-add.ensures.added.next in
     let here = entry_here c.args.nodes.now c.args.styles.now c.args.lists.items place c.index-nodes-place.result c.index-styles-place.result c.in-Some.children (omega arith) c.index-nodes-place.is
-          (omega arith) c.index-styles-place.is at.within at.is c.requires.lists in
+    (omega arith) c.index-styles-place.is at.within at.is c.requires.lists in
     let entry = c.in_ok-node.ensures in
     let declared = c.deref.ensures.value in
     record {
       sound = c.in_ok-add.ensures.sound;
       within = omega arith;
       rest = rw next at.rest;
-      filled = filled_more _ (state_of c.loop-children.document) (state_of c.add.new.self) (entry_of c.in_ok-node.node) c.loop-children.invariant.filled c.in_ok-add.ensures.added (cc) }
+      filled = filled_more _ (state_of c.loop-children.document) (state_of c.add.new.self) (entry_of c.in_ok-node.node) c.loop-children.invariant.filled c.in_ok-add.ensures.added (cc);
+    }
 
 pub returns : goal.returns
 returns c =
     let all : length c.loop-children.children-iterator.rest.items ≡ length (drop c.loop-children.document.next c.args.lists.items) = ap length c.loop-children.invariant.rest in
     filled_whole (nodes_of c.args.nodes.now) _ (state_of c.loop-children.document) c.loop-children.invariant.filled
-      (omega (arith, c.in-None.ensures.steps.0, c.loop-children.children-iterator.rest.ok.0, length-map c.args.nodes.now node_of, length-drop c.loop-children.document.next c.args.lists.items))
+    (omega (arith, c.in-None.ensures.steps.0, c.loop-children.children-iterator.rest.ok.0, length-map c.args.nodes.now node_of, length-drop c.loop-children.document.next c.args.lists.items))
