@@ -1,3 +1,5 @@
 pub mod Lengths
+pub mod Sides
 pub mod Step
 pub mod Values
+pub mod Winners

@@ -2,7 +2,9 @@
 #![tactic(auto)]
 
 mod lengths;
+mod sides;
 mod step;
 mod values;
+mod winners;
 
 pub use step::compute;
