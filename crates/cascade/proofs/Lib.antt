@@ -1,1 +1,3 @@
+mod Greatest
 pub mod Lines
+mod Listing

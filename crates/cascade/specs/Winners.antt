@@ -1,5 +1,5 @@
 -- Which declaration wins. CSS Cascading 4, 6.1; CSS Logical Properties 1, 4; CSS Writing Modes 4, 7.4.
-use Rattle.std.specs.Prelude.{◌≡◌, ◌≢◌, ℕ, Bool, false, cond, nat_eq, List, [], ◌∷◌, filter, filter_map, Option, Some, None, option_map, slice_get}
+use Rattle.std.specs.Prelude.{◌≡◌, ◌≢◌, ℕ, Bool, true, false, cond, nat_eq, List, [], ◌∷◌, filter, filter_map, get_or, Option, Some, None, option_map, slice_get}
 use Rattle.std.specs.List.{Contains}
 use Rattle.wm_modes.specs.declared.mode.WritingMode.{WritingMode}
 use Rattle.wm_modes.specs.declared.mode.Direction.{Direction}
@@ -7,6 +7,7 @@ use Rattle.wm_modes.specs.Sides.{used_direction}
 use Rattle.style_types.specs.declared.property.Property.{Property}
 use Rattle.style_types.specs.declared.property.Property.TheVariants as properties
 use Rattle.style_types.specs.declared.style.Style.{Style}
+use Rattle.style_types.specs.declared.table.PropertyRow.{PropertyRow}
 use Rattle.style_types.specs.declared.value.Value.{Value}
 use Rattle.style_types.specs.Defaulting.{computed_mode, computed_direction, computed_orientation}
 use Rattle.style_types.specs.Page.{page_of}
@@ -49,14 +50,16 @@ winner mode dir list page = option_map (λ claim. claim.value) (greatest (naming
 abbrev pub first_winner : List Claim → Property → Option Value
 first_winner list property = option_map (λ claim. claim.value) (greatest (filter (λ claim. same_property claim.property property) list))
 
-abbrev pub mode_of : List Claim → (parent : Style) → WritingMode
-mode_of list parent = computed_mode parent.mode (first_winner list properties.WritingMode)
+-- the parent's style with the element's own computed mode, direction and orientation
+abbrev pub turned : List Claim → (parent : Style) → Style
+turned list parent = record parent {
+  mode = computed_mode parent.mode (first_winner list properties.WritingMode);
+  direction = computed_direction parent.direction (first_winner list properties.Direction);
+  orientation = computed_orientation parent.orientation (first_winner list properties.TextOrientation);
+}
 
-abbrev pub direction_of : List Claim → (parent : Style) → Direction
-direction_of list parent =
-    used_direction (mode_of list parent)
-    (is_upright (computed_orientation parent.orientation (first_winner list properties.TextOrientation)))
-    (computed_direction parent.direction (first_winner list properties.Direction))
+abbrev pub direction_of : Style → Direction
+direction_of style = used_direction style.mode (is_upright style.orientation) style.direction
 
 -- ---- all winners, in the order of the table of properties
 
@@ -67,7 +70,7 @@ abbrev pub winners_by : WritingMode → Direction → List Claim → List (Prope
 winners_by mode dir list = filter_map (λ row. paired row.property (winner mode dir list row.property)) rows
 
 abbrev pub winners_in : List Claim → (parent : Style) → List (Property × Value)
-winners_in list parent = winners_by (mode_of list parent) (direction_of list parent) list
+winners_in list parent = let own = turned list parent in winners_by own.mode (direction_of own) list
 
 -- the winners for the first of the line, under these author's rules and the parent's style
 abbrev pub winners : List Ruling → (line : List What) → (parent : Style) → List (Property × Value)
@@ -83,3 +86,15 @@ pub record IsGreatest (list : List Claim) (best : Claim) : Type 0 where
 -- no two claims, at different places of the list, have one key
 abbrev pub KeysDiffer : List Claim → Type 0
 KeysDiffer list = (place other : ℕ) (one two : Claim) → place ≢ other → slice_get list place ≡ Some one → slice_get list other ≡ Some two → numbers_of one.key ≢ numbers_of two.key
+
+-- ---- the code's way to them: the greatest claim of each property by its place in the table
+
+abbrev pub greater_if : (counts : Bool) → Option Claim → Claim → Option Claim
+greater_if true best claim = greater best claim
+greater_if false best claim = best
+
+abbrev pub AreBest : WritingMode → Direction → List Claim → (best : List (Option Claim)) → Type 0
+AreBest mode dir list best = (property : Property) → get_or best (place_of property) None ≡ greatest (naming mode dir property list)
+
+abbrev pub listed_of : (best : List (Option Claim)) → List PropertyRow → List (Property × Value)
+listed_of best table = filter_map (λ row. paired row.property (option_map (λ claim. claim.value) (get_or best (place_of row.property) None))) table

@@ -3,5 +3,6 @@
 
 mod claim;
 mod line;
+mod winners;
 
 pub use claim::{Claim, Key, Origin};

@@ -1,0 +1,107 @@
+//! Which declaration wins (CSS Cascading 4, 6.1; CSS Logical Properties 1, 4).
+
+ghost use Rattle.std.specs.Prelude.{◌≡◌, IfOk, map, option_map};
+ghost use Rattle.cascade.specs.Winners as definitions;
+ghost use Rattle.cascade.specs.Winners.{AreBest};
+
+use crate::claim::Claim;
+use std::alloc::{AllocError, Global};
+use style_types::{
+    PROPERTIES, Property, PropertyRow, Style, Value, Winners, computed_direction, computed_mode,
+    computed_orientation, page_property,
+};
+use wm_modes::{Direction, WritingMode};
+
+// A claim, or none, for each property of the table, by its place.
+type Best = [Option<Claim>; 55];
+
+/// The winner of each property, in the order of the table of properties, among these claims.
+pub(crate) fn winners_among(
+    alloc: Global,
+    claims: &[Claim],
+    parent: &Style,
+) -> Result<Winners, AllocError>
+    ensures { IfOk result (λ w. w.items ≡ definitions.winners_in claims.now parent.now) }
+{
+    let turned = turned(claims, parent);
+    let best = best_claims(claims, turned.mode, turned.used_direction());
+    listed(alloc, &PROPERTIES, &best)
+}
+
+// The parent's style with the element's own mode, direction and orientation.
+fn turned(claims: &[Claim], parent: &Style) -> Style
+    ensures { result ≡ definitions.turned claims.now parent.now }
+{
+    Style {
+        mode: computed_mode(parent.mode, first_winner(claims, Property::WritingMode)),
+        direction: computed_direction(parent.direction, first_winner(claims, Property::Direction)),
+        orientation: computed_orientation(
+            parent.orientation,
+            first_winner(claims, Property::TextOrientation),
+        ),
+        ..*parent
+    }
+}
+
+// The value that wins for a property that is about the whole box.
+#[tactic(auto, using(crate::proofs::Greatest::first_goes_on, crate::proofs::Greatest::first_ends))]
+fn first_winner(claims: &[Claim], property: Property) -> Option<Value>
+    ensures { result ≡ definitions.first_winner claims.now property }
+{
+    let mut best = None;
+    for claim in claims {
+        best = greater_if(is_same(claim.property, property), best, *claim);
+    }
+    value_of(best)
+}
+
+fn is_same(one: Property, other: Property) -> bool
+    ensures { result ≡ definitions.same_property one other }
+{
+    one.place() == other.place()
+}
+
+fn value_of(best: Option<Claim>) -> Option<Value>
+    ensures { result ≡ option_map (λ claim. claim.value) best }
+{
+    match best {
+        Some(claim) => Some(claim.value),
+        None => None,
+    }
+}
+
+// The greater of the best so far and a claim, where this one counts.
+fn greater_if(counts: bool, best: Option<Claim>, claim: Claim) -> Option<Claim>
+    ensures { result ≡ definitions.greater_if counts best claim }
+{
+    match best {
+        Some(best) if !counts || !best.key.is_below(claim.key) => Some(best),
+        None if !counts => None,
+        _ => Some(claim),
+    }
+}
+
+// The greatest claim for each property of the page.
+fn best_claims(claims: &[Claim], mode: WritingMode, dir: Direction) -> Best
+    ensures { AreBest mode dir claims.now result }
+{
+    let mut best = [None; 55];
+    for claim in claims {
+        let place = page_property(claim.property, mode, dir).place();
+        best[place] = greater_if(true, best[place], *claim);
+    }
+    best
+}
+
+// The values of these claims, each under the name of its property of the page, in the order of these rows.
+fn listed(alloc: Global, rows: &[(&str, PropertyRow)], best: &Best) -> Result<Winners, AllocError>
+    ensures { IfOk result (λ w. w.items ≡ definitions.listed_of best.now (map (λ named. named.1) rows.now)) }
+{
+    let mut winners = Winners::new(alloc);
+    for (_, row) in rows {
+        if let Some(claim) = best[row.property.place()] {
+            winners.push((row.property, claim.value))?;
+        }
+    }
+    Ok(winners)
+}
