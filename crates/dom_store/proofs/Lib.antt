@@ -3,3 +3,4 @@ pub mod ChildLaws
 pub mod DepthLaws
 pub mod FillLaws
 pub mod Places
+mod RootLaws

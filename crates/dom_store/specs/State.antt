@@ -1,5 +1,6 @@
 -- The state of a document: its nodes under their numbers, and the tree that they are. DOM, 4.2, narrowed.
-use Rattle.std.specs.Prelude.{ℕ, zero, suc, List, [], ◌∷◌, map, Option, Some, None, option_map, option_and_then, slice_get}
+use Rattle.std.specs.Prelude.{◌≡◌, ⊤, ℕ, zero, suc, List, [], ◌∷◌, map, Option, Some, None, option_map, option_and_then, slice_get}
+use Rattle.std.specs.List.{All}
 use Rattle.std.specs.Ordering.{nat_cmp}
 use Rattle.std.specs.String.{string_bytes}
 use Rattle.std.specs.BTreeMap as keyed
@@ -7,6 +8,7 @@ use Rattle.slab.specs.Slab as slots
 use Rattle.wm_modes.specs.declared.mode.Direction.{Direction}
 use Rattle.html_tokens.specs.declared.tag.Tag.{Tag}
 use Rattle.style_types.specs.declared.value.Declaration.{Declaration}
+use Rattle.style_types.specs.Value.{HasSayable}
 use Rattle.dom_store.specs.declared.document.Document.{Document}
 use Rattle.dom_store.specs.declared.node.Node as code_node
 use Rattle.dom_store.specs.declared.node.NodeKind as code_kind
@@ -72,6 +74,31 @@ tree_to (suc depth) state (number ∷ numbers) = tree_with (state.node_at number
 -- the tree of a document is that of `html`
 abbrev pub tree_of : State → Tree
 tree_of state = tree_to greatest_depth state (0 ∷ [])
+
+-- ---- what holds of every document
+
+abbrev pub IsElement : What → Type 0
+IsElement (element tag id classes dir own) = ⊤
+IsElement (text letters) = ⊥
+
+abbrev pub IsEntryAt : State → (number : ℕ) → Entry → Type 0
+IsEntryAt state number entry = state.node_at number ≡ Some entry
+
+-- `html` has the number 0, and `body`, which alone stands in it, the number 1
+pub record IsRooted (state : State) : Type 0 where
+  pub html : (entry : Entry) × IsEntryAt state 0 entry × IsElement entry.what × (entry.parent ≡ None) × (entry.children ≡ 1 ∷ [])
+  pub body : (entry : Entry) × IsEntryAt state 1 entry × IsElement entry.what × (entry.parent ≡ Some 0)
+
+-- the numbers of an element's own declarations are such as a style sheet can say
+abbrev pub AreSaid : List Declaration → Type 0
+AreSaid own = All (λ d. HasSayable d.value) own
+
+abbrev pub IsSaid : What → Type 0
+IsSaid (element tag id classes dir own) = AreSaid own
+IsSaid (text letters) = ⊤
+
+abbrev pub IsSaidState : State → Type 0
+IsSaidState state = (number : ℕ) (entry : Entry) → IsEntryAt state number entry → IsSaid entry.what
 
 -- ---- without where it lies in memory
 

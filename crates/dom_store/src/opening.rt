@@ -1,11 +1,12 @@
 //! The state that a document begins with: its nodes as they were read (DOM, 4.2, narrowed).
 
 ghost use Rattle.std.specs.Prelude.{◌≡◌, ◌+◌, ◌<◌, ◌≤◌, ◌^◌, ℕ, length, map, IfOk, OnOk};
+ghost use Rattle.std.specs.List.{All};
 ghost use Rattle.html_read.specs.Shape.{IsShaped};
 ghost use Rattle.html_read.specs.Values.{nodes_of};
 ghost use Rattle.dom_store.specs.Building.{Adds, FollowParents, IsSound, numbers_at};
 ghost use Rattle.dom_store.specs.Opening.{AreSame, Opens, children_from, greatest_count, opened};
-ghost use Rattle.dom_store.specs.State.{entry_of, state_of};
+ghost use Rattle.dom_store.specs.State.{AreSaid, IsRooted, IsSaidState, entry_of, state_of};
 
 use crate::children::children_of;
 use crate::copies::node_of;
@@ -27,11 +28,23 @@ impl Document {
     /// its own declarations. Refused where there are more than 65,536 nodes, and else where a node stands deeper than 64,
     /// at the least number past the limit. Linear but for the map of numbers, which takes the logarithm of their count
     /// for each node.
+    #[tactic(auto, using(crate::proofs::RootLaws::opens_rooted, crate::proofs::RootLaws::opens_said))]
     pub fn from_read(
         alloc: Global,
         read: &ReadDocument,
         styled: &Styled,
     ) -> Result<Document, EditError>
+        requires shaped { IsShaped (nodes_of read.now.nodes.items) }
+        requires each { length styled.now.styles.items ≡ length read.now.nodes.items }
+        ensures opened { Opens (nodes_of read.now.nodes.items) (map (λ own. own.items) styled.now.styles.items) result }
+        // `html` is 0, and `body`, which alone stands in it, 1; numbers of declarations stay such as a style sheet can say.
+        ensures rooted { IfOk result (λ document. IsRooted (state_of document)) }
+        ensures said { All (λ own. AreSaid own.items) styled.now.styles.items → IfOk result (λ document. IsSaidState (state_of document)) }
+    {
+        Document::answer(alloc, read, styled)
+    }
+
+    fn answer(alloc: Global, read: &ReadDocument, styled: &Styled) -> Result<Document, EditError>
         requires shaped { IsShaped (nodes_of read.now.nodes.items) }
         requires each { length styled.now.styles.items ≡ length read.now.nodes.items }
         ensures { Opens (nodes_of read.now.nodes.items) (map (λ own. own.items) styled.now.styles.items) result }

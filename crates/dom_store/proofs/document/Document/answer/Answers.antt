@@ -5,7 +5,7 @@ use Rattle.html_read.specs.Values.{node_of, nodes_of}
 use Rattle.dom_store.specs.Building.{FollowParents, JudgesDepths}
 use Rattle.dom_store.proofs.DepthLaws.{refused_as}
 use Rattle.dom_store.proofs.Places.{shape_follows}
-use Rattle.dom_store.proofs.document.Document.from_read.Goals as goal
+use Rattle.dom_store.proofs.document.Document.answer.Goals as goal
 
 pub check_depths-requires-clause-follow : goal.check_depths-requires-clause-follow
 check_depths-requires-clause-follow c =
