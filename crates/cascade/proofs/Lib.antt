@@ -1,3 +1,4 @@
+pub mod Claiming
 mod Greatest
 pub mod Lines
 mod Listing

@@ -2,6 +2,7 @@
 #![tactic(auto)]
 
 mod claim;
+mod claims;
 mod line;
 mod winners;
 
