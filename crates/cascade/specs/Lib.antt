@@ -1,4 +1,5 @@
 pub mod Claims
+pub mod Index
 pub mod Line
 pub mod Matching
 pub mod Winners

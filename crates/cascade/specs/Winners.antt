@@ -1,6 +1,6 @@
 -- Which declaration wins. CSS Cascading 4, 6.1; CSS Logical Properties 1, 4; CSS Writing Modes 4, 7.4.
 use Rattle.std.specs.Prelude.{◌≡◌, ◌≢◌, ℕ, Bool, true, false, cond, nat_eq, List, [], ◌∷◌, filter, filter_map, get_or, Option, Some, None, option_map, slice_get}
-use Rattle.std.specs.List.{Contains}
+use Rattle.std.specs.List.{All, Contains}
 use Rattle.wm_modes.specs.declared.mode.WritingMode.{WritingMode}
 use Rattle.wm_modes.specs.declared.mode.Direction.{Direction}
 use Rattle.wm_modes.specs.Sides.{used_direction}
@@ -15,7 +15,8 @@ use Rattle.style_types.specs.Property.{place_of}
 use Rattle.style_types.specs.Rule.{Ruling}
 use Rattle.style_types.specs.Style.{is_upright}
 use Rattle.style_types.specs.Table.{rows}
-use Rattle.dom_store.specs.State.{What}
+use Rattle.style_types.specs.Value.{HasSayable}
+use Rattle.dom_store.specs.State.{What, AreSaid, IsSaid}
 use Rattle.cascade.specs.declared.claim.Claim.{Claim}
 use Rattle.cascade.specs.Claims.{numbers_of, is_below, claims}
 
@@ -98,3 +99,17 @@ AreBest mode dir list best = (property : Property) → get_or best (place_of pro
 
 abbrev pub listed_of : (best : List (Option Claim)) → List PropertyRow → List (Property × Value)
 listed_of best table = filter_map (λ row. paired row.property (option_map (λ claim. claim.value) (get_or best (place_of row.property) None))) table
+
+-- ---- numbers
+
+-- the numbers of an author's rule are such as a style sheet can say
+abbrev pub AreSaidRules : List Ruling → Type 0
+AreSaidRules rules = All (λ rule. AreSaid rule.declarations) rules
+
+-- and so are those that the elements of a line have of their own
+abbrev pub IsSaidLine : List What → Type 0
+IsSaidLine line = All IsSaid line
+
+-- then so are those of the winners
+abbrev pub AreSaidWinners : List (Property × Value) → Type 0
+AreSaidWinners winners = All (λ pair. HasSayable pair.1) winners

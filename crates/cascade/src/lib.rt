@@ -3,7 +3,9 @@
 
 mod claim;
 mod claims;
+mod index;
 mod line;
 mod winners;
 
 pub use claim::{Claim, Key, Origin};
+pub use index::RuleIndex;
