@@ -2,3 +2,5 @@ pub mod Claiming
 mod Greatest
 pub mod Lines
 mod Listing
+pub mod Holding
+pub mod Chaining

@@ -1,6 +1,7 @@
+pub mod Chains
 pub mod Claims
 pub mod Index
 pub mod Line
 pub mod Matching
-pub mod Winners
 pub mod Sheet
+pub mod Winners

@@ -1,19 +1,20 @@
 //! The declarations that count for an element (CSS Cascading 4, 6; HTML, 15.3.5).
 
-ghost use Rattle.std.specs.Prelude.{◌≡◌, false, List, ◌∷◌, ◌++◌, length, OnOk};
+ghost use Rattle.std.specs.Prelude.{◌≡◌, false, List, ◌∷◌, ◌++◌, length, IfOk, OnOk};
 ghost use Rattle.css_sheet.specs.Default.{default_rules};
 ghost use Rattle.css_sheet.specs.Specificity.{specificity_of};
-ghost use Rattle.style_types.specs.Rule.{selector_of};
+ghost use Rattle.style_types.specs.Rule.{ruling_of, rulings_of, selector_of};
 ghost use Rattle.dom_store.specs.State.{What, what_of};
 ghost use Rattle.cascade.specs.Claims as definitions;
 ghost use Rattle.cascade.specs.Line.{whats_of};
 ghost use Rattle.cascade.specs.Sheet.{origin_in};
 
 use crate::claim::{Claim, Key, Origin};
+use crate::matching::matches_line;
 use css_sheet::{Specificity, specificity};
 use dom_store::{Node, NodeKind};
 use html_tokens::Tag;
-use std::alloc::AllocError;
+use std::alloc::{AllocError, Global};
 use style_types::{Declaration, Keyword, Property, Rule, Value};
 use wm_modes::Direction;
 
@@ -31,6 +32,23 @@ const STYLE_ATTRIBUTE: Standing = Standing {
     specificity: UNSPECIFIC,
     rule: 0,
 };
+
+/// All declarations that count for the first of the line, under the author's rules and those of the default sheet.
+pub(crate) fn claims(
+    alloc: Global,
+    rules: &[Rule],
+    defaults: &[Rule],
+    line: &[&Node],
+) -> Result<Vec<Claim>, AllocError>
+    requires { rulings_of defaults.now ≡ default_rules }
+    ensures { IfOk result (λ all. all.items ≡ definitions.claims (rulings_of rules.now) (whats_of line.now)) }
+{
+    let mut all = Vec::new(alloc);
+    put_rules(&mut all, Sheet::Author, rules, line)?;
+    put_own(&mut all, defaults.len(), line)?;
+    put_rules(&mut all, Sheet::Default, defaults, line)?;
+    Ok(all)
+}
 
 /// Whose rules they are.
 #[derive(Clone, Copy, Debug, PartialEq, Eq)]
@@ -117,6 +135,41 @@ pub(crate) fn put_rule(
         rule: place,
     };
     put_stated(all, standing, &rule.declarations)
+}
+
+/// The same if the rule matches the first of the line.
+pub(crate) fn put_rule_if_matching(
+    all: &mut Vec<Claim>,
+    sheet: Sheet,
+    place: usize,
+    rule: &Rule,
+    line: &[&Node],
+) -> Result<(), AllocError>
+    ensures { OnOk result (all.new.items ≡ all.old.items ++ definitions.claims_of_rule (origin_in sheet) place (ruling_of rule.now) (whats_of line.now)) }
+{
+    if matches_line(&rule.selector.parts, line) {
+        put_rule(all, sheet, place, rule)
+    } else {
+        Ok(())
+    }
+}
+
+// The declarations of the rules that match.
+#[tactic(auto, using(crate::proofs::Claiming::ruled_none), unfolding(crate::specs::Claims::claims_of_rules))]
+fn put_rules(
+    all: &mut Vec<Claim>,
+    sheet: Sheet,
+    rules: &[Rule],
+    line: &[&Node],
+) -> Result<(), AllocError>
+    ensures { OnOk result (all.new.items ≡ all.old.items ++ definitions.claims_of_rules (origin_in sheet) 0 (rulings_of rules.now) (whats_of line.now)) }
+{
+    let mut place = 0;
+    for rule in rules {
+        put_rule_if_matching(all, sheet, place, rule, line)?;
+        place += 1;
+    }
+    Ok(())
 }
 
 /// What the first of the line itself says: its style attribute and its `dir`, which stands behind the `rules` rules of

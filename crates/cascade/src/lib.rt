@@ -9,3 +9,7 @@ mod winners;
 
 pub use claim::{Claim, Key, Origin};
 pub use index::RuleIndex;
+mod matching;
+
+pub use claim::{Claim, Key, Origin};
+pub use matching::matches;

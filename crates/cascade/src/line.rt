@@ -10,6 +10,7 @@ use dom_store::{Document, Node};
 const MOST: usize = 64;
 
 /// A node, its parent, and so on up to `html`.
+#[derive(Drop)]
 pub(crate) struct Line<'a> {
     // Behind the first `length` places stands anything.
     nodes: [&'a Node; MOST],

@@ -1,0 +1,28 @@
+use Rattle.std.proofs.Common.{◌∙◌}
+use Rattle.cascade.specs.Line.{whats_of}
+use Rattle.cascade.proofs.Chaining.{chain_of_none, chain_at_none, chain_goes_on, ends_in, no_parts, no_nodes}
+use Rattle.cascade.proofs.matching.+behind_chain.Goals as goal
+
+pub returns-in_default-clause-found : goal.returns-in_default-clause-found
+returns-in_default-clause-found t c = rw (no_parts c.args.parts.now c.in_default.len_below) (chain_of_none (whats_of c.args.line.now))
+
+pub returns-in_default-line-clause-found : goal.returns-in_default-line-clause-found
+returns-in_default-line-clause-found t c = rw (no_nodes c.args.line.now c.in_default-line.len_below, ends_in c.args.parts.now c.last-item.result c.in-len1-up.len_at_least c.last-item.is) (chain_at_none _ _)
+
+pub returns-then-not-fits-clause-found : goal.returns-then-not-fits-clause-found
+returns-then-not-fits-clause-found t c =
+    let turn = chain_goes_on c.args.parts.now c.args.line.now c.last-item.result c.node-item.result c.in-len1-up.len_at_least c.last-item.is c.in-len1-up-line.len_at_least c.node-item.is in
+    let not_ = c.if-not-fits.ensures in
+    rw (← not_) at turn
+
+pub returns-in-Child-clause-found : goal.returns-in-Child-clause-found
+returns-in-Child-clause-found t c =
+    let turn = chain_goes_on c.args.parts.now c.args.line.now c.last-item.result c.node-item.result c.in-len1-up.len_at_least c.last-item.is c.in-len1-up-line.len_at_least c.node-item.is in
+    let does = c.if-not-fits.ensures in
+    c.behind_chain.ensures.found ∙ (rw (← does, c.in-Child.is) at turn)
+
+pub returns-in-Descendant-clause-found : goal.returns-in-Descendant-clause-found
+returns-in-Descendant-clause-found t c =
+    let turn = chain_goes_on c.args.parts.now c.args.line.now c.last-item.result c.node-item.result c.in-len1-up.len_at_least c.last-item.is c.in-len1-up-line.len_at_least c.node-item.is in
+    let does = c.if-not-fits.ensures in
+    (rw (← does, c.in-Descendant.is) at turn)
