@@ -19,7 +19,7 @@ use wm_modes::{Direction, WritingMode};
 
 /// The style of an element, from its parent's and from the values that won for it. Each property is inherited, has its
 /// initial value or computes to what its value says, `em` by the element's own font size; a box whose mode isn't its
-/// parent's turns to an inline-block or a flow root. Takes no memory.
+/// parent's turns to an inline-block or a flow root. Goes through the winners once for each property. Takes no memory.
 pub fn compute(parent: &Style, winners: &Winners) -> Style
     requires parent { IsBounded parent.now }
     requires winners { All (λ w. HasSayable w.1) winners.now.items }
