@@ -5,11 +5,9 @@ mod claim;
 mod claims;
 mod index;
 mod line;
+mod matching;
 mod winners;
 
 pub use claim::{Claim, Key, Origin};
 pub use index::RuleIndex;
-mod matching;
-
-pub use claim::{Claim, Key, Origin};
 pub use matching::matches;
