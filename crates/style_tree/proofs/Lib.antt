@@ -1,0 +1,4 @@
+mod Examples
+mod Going
+mod Joining
+mod Rooting
