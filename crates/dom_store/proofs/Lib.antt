@@ -4,3 +4,4 @@ pub mod DepthLaws
 pub mod FillLaws
 pub mod Places
 mod RootLaws
+pub mod SameLaws

@@ -6,8 +6,11 @@ mod copies;
 mod depths;
 mod document;
 mod error;
+pub mod laws;
 mod node;
 mod opening;
+#[cfg(test)]
+mod opening_tests;
 
 pub use document::Document;
 pub use error::EditError;

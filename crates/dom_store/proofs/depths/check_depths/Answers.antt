@@ -15,7 +15,7 @@ pub returns-then-depth-gt-GREATEST_DEPTH : goal.returns-then-depth-gt-GREATEST_D
 returns-then-depth-gt-GREATEST_DEPTH c =
     first_too_deep (nodes_of c.args.nodes.now) c.loop-place.depths.items c.loop-place.invariant.shallow c.loop-place.place c.depth_of-depth.result (node_of c.index-nodes-place.result)
     c.loop-place.invariant.so_far c.loop-place.invariant.same (read_at c.args.nodes.now c.loop-place.place c.index-nodes-place.result c.loop-place-test.true c.index-nodes-place.is)
-    (cc) c.if-depth-gt-GREATEST_DEPTH.true
+    (cc) (omega arith)
 
 pub loop-place-preserved : goal.loop-place-preserved
 loop-place-preserved c =
