@@ -1,10 +1,15 @@
 -- A document with one node more.
-use Rattle.std.proofs.Common.{◌≡◌, ◌≢◌, ◌∙◌, ℕ, ◌+◌, ◌<◌, false, refl, ap, sym, subst, arith, Option, Some, None, IsSome, option_map, option_and_then, inl, inr}
+use Rattle.std.proofs.Common.{◌≡◌, ◌≢◌, ◌∙◌, ℕ, ◌+◌, ◌<◌, false, List, slice_index_or, refl, ap, sym, subst, arith, Option, Some, None, IsSome, option_map, option_and_then, inl, inr}
 use Rattle.std.specs.Ordering.{is_eq, nat_cmp}
+use Rattle.std.specs.BTreeMap as keyed
+use Rattle.std.specs.BTreeMap.{BTreeMap}
+use Rattle.slab.specs.Slab as slots
+use Rattle.slab.specs.Slab.{Slab}
 use Rattle.std.proofs.lemmas.Bool.{cases_eq}
 use Rattle.std.proofs.lemmas.Bool.Decides.{nat_tests}
 use Rattle.dom_store.specs.declared.node.Node.{Node}
-use Rattle.dom_store.specs.Building.{Adds, IsKeyed}
+use Rattle.dom_store.specs.Building.{Adds}
+use Rattle.dom_store.specs.Keys.{IsKeyed}
 use Rattle.dom_store.specs.State.{Entry, entry_of}
 
 -- the entry of a number
@@ -15,12 +20,27 @@ entry_under key_of node_under number = option_and_then (λ key. option_map entry
 pub is_other : (this number : ℕ) → number ≢ this → is_eq (nat_cmp this number) ≡ false
 is_other this number apart = grind (arith, nat_tests)
 
+-- the next number is given the vacant key, and a node is put under it
 pub record Gives (key_of key_of' : ℕ → Option ℕ) (node_under node_under' : ℕ → Option Node) (next key : ℕ) (node : Node) : Type 0 where
   pub here : key_of' next ≡ Some key
   pub others : (number : ℕ) → number ≢ next → key_of' number ≡ key_of number
   pub vacant : node_under key ≡ None
   pub put : node_under' key ≡ Some node
   pub stay : (k : ℕ) → k ≢ key → node_under' k ≡ node_under k
+
+-- a slab with room made is given this node, and the map its key
+pub gives_key : (old roomy new : Slab Node) (keys more : BTreeMap ℕ ℕ) (next key given : ℕ) (node : Node) → roomy.slots ≡ old.slots → key ≡ roomy.vacant_key → given ≡ roomy.vacant_key
+    → keyed.get nat_cmp more next ≡ Some key → ((number : ℕ) → is_eq (nat_cmp next number) ≡ false → keyed.get nat_cmp more number ≡ keyed.get nat_cmp keys number)
+    → slots.get roomy given ≡ None → slots.Updates roomy new given (Some node) → Gives (keyed.get nat_cmp keys) (keyed.get nat_cmp more) (slots.get old) (slots.get new) next given node
+gives_key old roomy new keys more next key given node kept same also here others vacant updates =
+    let at = λ (k : ℕ). ap (λ (all : List (Option Node)). slice_index_or all k None) kept in
+    record {
+      here = here ∙ ap Some (same ∙ sym also);
+      others = λ number apart. others number (is_other next number apart);
+      vacant = sym (at given) ∙ vacant;
+      put = updates.changed;
+      stay = λ k apart. updates.others k apart ∙ at k;
+    }
 
 module _ (key_of key_of' : ℕ → Option ℕ) (node_under node_under' : ℕ → Option Node) (next key : ℕ) (node : Node) (keyed : IsKeyed key_of node_under next) (gives : Gives key_of key_of' node_under node_under' next key node) where
   -- the key of a number that was given isn't the vacant one
@@ -59,6 +79,7 @@ module _ (key_of key_of' : ℕ → Option ℕ) (node_under node_under' : ℕ →
     ]
   ]
 
+  -- each number still has a key of its own
   pub keyed_after : IsKeyed key_of' node_under' (next + 1)
   keyed_after = record { live = live_after; apart = apart_after; below = below_after }
 
@@ -66,6 +87,7 @@ module _ (key_of key_of' : ℕ → Option ℕ) (node_under node_under' : ℕ →
   stays_under number None is = refl
   stays_under number (Some k) is = ap (option_map entry_of) (gives.stay k (another number k is))
 
+  -- the next number is this node, and the others keep theirs
   pub adds_after : Adds (record { node_at = entry_under key_of node_under; next = next }) (record { node_at = entry_under key_of' node_under'; next = next + 1 }) (entry_of node)
   adds_after = record {
     here = rw (gives.here, gives.put) refl;

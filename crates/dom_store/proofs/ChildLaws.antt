@@ -1,5 +1,5 @@
 -- Lists of children, as they grow.
-use Rattle.std.proofs.Common.{◌≡◌, ◌≢◌, ◌∙◌, ℕ, ◌+◌, ◌<◌, Bool, true, false, List, [], ◌∷◌, ◌++◌, length, get_or, take, map, set, refl, ap, sym, arith, Some, None, inl, inr}
+use Rattle.std.proofs.Common.{◌≡◌, ◌≢◌, ◌∙◌, ℕ, ◌+◌, ◌<◌, Bool, true, false, List, [], ◌∷◌, ◌++◌, length, get_or, take, map, set, refl, ap, sym, arith, Some, inl, inr}
 use Rattle.std.specs.List.{slice_get}
 use Rattle.std.specs.Global.{Vec}
 use Rattle.std.proofs.lemmas.Bool.Decides.{eqb_tells}
@@ -55,7 +55,3 @@ module _ (lists : List (Vec ℕ)) (parent child : ℕ) (was is : Vec ℕ) (withi
     | inl (true_here, same) ↦ rw true_here (rw same put_same)
     | inr (false_here, apart) ↦ rw false_here (put_other place apart ∙ sym (append-nil (numbers_at lists place)))
   ]
-
--- where a node stands in none, the lists stay
-pub put_nowhere : (lists : List (Vec ℕ)) (child place : ℕ) → numbers_at lists place ≡ numbers_at lists place ++ put_if (stands_in place None) child []
-put_nowhere lists child place = sym (append-nil (numbers_at lists place))

@@ -43,6 +43,7 @@ module _ (nodes : List Node) (before : List ℕ) (shallow : All (λ depth. depth
       let value : get_or before other depth ≡ depth = get_or_from_slice_get before other depth depth stands in
       omega arith
 
+  -- a node past the limit behind depths that are not is the first
   pub first_too_deep : (place depth : ℕ) (node : Node) → length before ≡ place → depths_from before (drop place nodes) ≡ depths nodes
       → slice_get nodes place ≡ Some node → depth ≡ depth_in before node.parent → greatest_depth < depth
       → IsTooDeep nodes place × ((other : ℕ) → IsTooDeep nodes other → place ≤ other)
@@ -69,6 +70,7 @@ refused nodes own (TooManyNodes number) few judged = absurd judged
 refused nodes own (TooDeep number) few judged = (few, judged.0, judged.1)
 refused nodes own Memory few judged = tt
 
+-- the same, for an answer with this refusal
 pub refused_as : (nodes : List Node) (own : List (List Declaration)) (error : EditError) (answer : Result Document EditError) → IsErrAnd answer (λ e. e ≡ error) → length nodes ≤ greatest_count → JudgesDepths nodes (Err error) → Opens nodes own answer
 refused_as nodes own error (Ok document) is few judged = absurd is
 refused_as nodes own error (Err e) is few judged = refused nodes own e few (subst (λ (x : EditError). JudgesDepths nodes (Err x)) (sym is) judged)

@@ -3,5 +3,5 @@ pub mod ChildLaws
 pub mod DepthLaws
 pub mod FillLaws
 pub mod Places
-mod RootLaws
 pub mod SameLaws
+mod RootLaws

@@ -54,6 +54,7 @@ pub record BeginsAt {X : Type 0} (xs : List X) (place : ℕ) (x : X) (later : Li
   pub is : x ≡ get_or xs place x
   pub rest : later ≡ drop (place + 1) xs
 
+-- where a list from a place on is known, so is the element there
 pub begins_at : {X : Type 0} (xs : List X) (place : ℕ) (x : X) (later : List X) → x ∷ later ≡ drop place xs → BeginsAt xs place x later
 begins_at xs place x later left = elim (cases_lt place (length xs)) [
   | inl within ↦

@@ -1,13 +1,8 @@
 -- Steps on the way to the state that a document begins with.
-use Rattle.std.specs.Prelude.{◌≡◌, ◌≢◌, ℕ, ◌+◌, ◌<◌, ◌≤◌, List, [], map, get_or, slice_get, Option, Some, None, IsSome, Result, Ok, Err, ⊤}
+use Rattle.std.specs.Prelude.{◌≡◌, ◌≢◌, ℕ, ◌+◌, ◌<◌, ◌≤◌, List, [], map, get_or, slice_get, Some, None, Result, Ok, Err, ⊤}
 use Rattle.std.specs.List.{All}
-use Rattle.std.specs.Ordering.{nat_cmp}
 use Rattle.std.specs.Global.{Vec}
-use Rattle.std.specs.BTreeMap as keyed
-use Rattle.slab.specs.Slab as slots
 use Rattle.html_read.specs.Values.{Node}
-use Rattle.dom_store.specs.declared.document.Document.{Document}
-use Rattle.dom_store.specs.declared.node.Node as code_node
 use Rattle.dom_store.specs.declared.error.EditError.{EditError}
 use Rattle.dom_store.specs.declared.error.EditError.TheVariants.{TooManyNodes, TooDeep, Memory}
 use Rattle.dom_store.specs.State.{Entry, State, greatest_depth}
@@ -27,15 +22,6 @@ JudgesDepths nodes (Err Memory) = ⊤
 -- the numbers in the list at this place
 abbrev pub numbers_at : List (Vec ℕ) → (place : ℕ) → List ℕ
 numbers_at lists place = get_or (map (λ list. list.items) lists) place []
-
--- Each number has a key of its own, under which a node lies, and is below the next number.
-pub record IsKeyed (key_of : ℕ → Option ℕ) (node_under : ℕ → Option code_node.Node) (next : ℕ) : Type 0 where
-  pub live : (number key : ℕ) → key_of number ≡ Some key → IsSome (node_under key)
-  pub apart : (one other key : ℕ) → key_of one ≡ Some key → key_of other ≡ Some key → one ≡ other
-  pub below : (number key : ℕ) → key_of number ≡ Some key → number < next
-
-abbrev pub IsSound : Document → Type 0
-IsSound d = IsKeyed (keyed.get nat_cmp d.keys) (slots.get d.nodes) d.next
 
 -- the next number is given to this node, and every other number keeps its own
 pub record Adds (old new : State) (entry : Entry) : Type 0 where

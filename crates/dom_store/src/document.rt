@@ -1,7 +1,9 @@
 //! The document (DOM, 4.2, narrowed).
 
-ghost use Rattle.std.specs.Prelude.{◌≡◌, option_map, option_and_then};
-ghost use Rattle.dom_store.specs.State.{child_at, entry_of, state_of};
+ghost use Rattle.std.specs.Ordering.{nat_cmp};
+ghost use Rattle.std.specs.BTreeMap as keyed;
+ghost use Rattle.slab.specs.Slab as slots;
+ghost use Rattle.dom_store.specs.Keys.{IsKeyed};
 
 use crate::node::Node;
 use slab::Slab;
@@ -15,9 +17,13 @@ pub struct Document {
     pub(crate) nodes: Slab<Node>,
     pub(crate) keys: BTreeMap<u32, usize>,
     pub(crate) next: u32,
+    ghost sound: { IsKeyed (keyed.get nat_cmp keys) (slots.get nodes) next },
 }
 
 impl Document {
+    ghost use Rattle.std.specs.Prelude.{◌≡◌, option_map, option_and_then};
+    ghost use Rattle.dom_store.specs.State.{child_at, entry_of, state_of};
+
     /// The node of this number; `None` exactly where no such node lives. Takes no memory.
     pub fn node(&self, n: u32) -> Option<&Node>
         ensures { option_map (λ node. entry_of node.now) result ≡ (state_of self.now).node_at n }

@@ -9,9 +9,8 @@ mod error;
 pub mod laws;
 mod node;
 mod opening;
-#[cfg(test)]
-mod opening_tests;
 
+#[cfg(test)]
 pub use document::Document;
 pub use error::EditError;
 pub use node::{Node, NodeKind, NodeNumbers};

@@ -4,7 +4,7 @@ ghost use Rattle.std.specs.Prelude.{◌≡◌, ◌+◌, ◌<◌, ◌≤◌, ◌^
 ghost use Rattle.std.specs.List.{All};
 ghost use Rattle.html_read.specs.Shape.{IsShaped};
 ghost use Rattle.html_read.specs.Values.{nodes_of};
-ghost use Rattle.dom_store.specs.Building.{Adds, FollowParents, IsSound, numbers_at};
+ghost use Rattle.dom_store.specs.Building.{Adds, FollowParents, numbers_at};
 ghost use Rattle.dom_store.specs.Opening.{AreSame, Opens, children_from, greatest_count, opened};
 ghost use Rattle.dom_store.specs.State.{AreSaid, IsRooted, IsSaidState, entry_of, state_of};
 
@@ -44,6 +44,7 @@ impl Document {
         Document::answer(alloc, read, styled)
     }
 
+    // The same without what follows for the roots and the numbers.
     fn answer(alloc: Global, read: &ReadDocument, styled: &Styled) -> Result<Document, EditError>
         requires shaped { IsShaped (nodes_of read.now.nodes.items) }
         requires each { length styled.now.styles.items ≡ length read.now.nodes.items }
@@ -87,10 +88,8 @@ impl Document {
 
     /// Gives the next number to this node.
     fn add(&mut self, node: Node) -> Result<(), AllocError>
-        requires room { self.old.next + 1 < 2 ^ 32 }
-        requires sound { IsSound self.old }
-        ensures sound { OnOk result (IsSound self.new) }
-        ensures added { OnOk result (Adds (state_of self.old) (state_of self.new) (entry_of node)) }
+        requires { self.old.next + 1 < 2 ^ 32 }
+        ensures { OnOk result (Adds (state_of self.old) (state_of self.new) (entry_of node)) }
     {
         self.nodes.reserve(1)?;
         let key = self.nodes.vacant_key();
