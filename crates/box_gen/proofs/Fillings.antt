@@ -60,14 +60,14 @@ unfolding stacked
 filled_opened so_far name first content inner next number ordinal style run e = rw e refl
 
 -- with one it holds blocks
-pub blocks_are : (trees : List BoxTree) (closed : Boxes) (number ordinal : ℕ) (style : Style) (run : Run) → 0 < length trees
-    → closed ≡ join (all_boxes_of trees) (wrapped run.blank number ordinal style run (λ n. none))
-    → box (own_name number) style blocks closed none ≡ filled_by (all_boxes_of trees) number ordinal style (and_then run no_run) no_more
+pub blocks_are : (trees : List BoxTree) (closed : Filling) (number ordinal : ℕ) (style : Style) (run : Run) → 0 < length trees
+    → closed ≡ with_block number style (record { blocks = all_boxes_of trees; anonymous = ordinal; run = run }) none
+    → box (own_name number) style blocks closed.blocks none ≡ filled_by (all_boxes_of trees) number ordinal style (and_then run no_run) no_more
 blocks_are [] closed number ordinal style run some e = absurd (omega arith)
 blocks_are (tree ∷ trees) closed number ordinal style run some e =
     let so_far = all_boxes_of (tree ∷ trees) in
     ap (λ (b : Boxes). box (own_name number) style blocks b none)
-    (e ∙ ap (λ (r : Run). join so_far (wrapped r.blank number ordinal style r (λ n. none))) (sym (and_then_nothing run)))
+    (ap (λ (f : Filling). f.blocks) e ∙ ap (λ (r : Run). join so_far (wrapped r.blank number ordinal style r (λ n. none))) (sym (and_then_nothing run)))
     ∙ filled_opened so_far _ _ _ _ _ number ordinal style (and_then run no_run) (ap (λ (f : Boxes → Boxes). f (all_boxes_of trees)) (fold_out-BoxTree (Boxes → Boxes) box_step tree))
 
 pub not_true : (b : Bool) → not b ≡ true → b ≡ false

@@ -62,7 +62,7 @@ pub record Filling : Type 0 where
   pub run : Run
 
 abbrev pub filling_of : code_filling.Filling → Filling
-filling_of filling = record { blocks = all_boxes_of filling.blocks.items; anonymous = filling.anonymous; run = run_of filling.run }
+filling_of filling = record { blocks = all_boxes_of filling.boxes.items; anonymous = filling.anonymous; run = run_of filling.run }
 
 abbrev pub no_filling : Filling
 no_filling = record { blocks = none; anonymous = 0; run = no_run }

@@ -13,7 +13,7 @@ use style_types::{BoxName, Display, Style};
 /// The boxes up to the last block-level one, how many of them are anonymous, and the inline content behind them.
 #[derive(Drop)]
 pub struct Filling {
-    pub blocks: BoxTrees,
+    pub boxes: BoxTrees,
     pub anonymous: usize,
     pub run: Run,
 }
@@ -24,7 +24,7 @@ impl Filling {
         ensures { filling_of result ≡ no_filling }
     {
         Filling {
-            blocks: Vec::new(alloc),
+            boxes: Vec::new(alloc),
             anonymous: 0,
             run: Run::new(alloc),
         }
@@ -43,7 +43,7 @@ impl Filling {
         ensures count { IfOk result (λ f. f.anonymous ≤ self.anonymous + 1) }
     {
         let mut filling = self.closed(alloc, number, style)?;
-        filling.blocks.push(block)?;
+        filling.boxes.push(block)?;
         Ok(filling)
     }
 
@@ -53,7 +53,7 @@ impl Filling {
         ensures { IfOk result (λ tree. boxes_of tree ≡ filled number style.now (filling_of self) (record { first = no_run; others = no_more })) }
     {
         let name = own_name(number);
-        if self.blocks.is_empty() {
+        if self.boxes.is_empty() {
             return Ok(paragraph(name, *style, self.run));
         }
         let filling = self.closed(alloc, number, style)?;
@@ -63,7 +63,7 @@ impl Filling {
                 style: *style,
                 content: Content::Blocks,
             },
-            children: filling.blocks,
+            children: filling.boxes,
         })
     }
 
@@ -74,7 +74,7 @@ impl Filling {
         ensures count { IfOk result (λ f. f.anonymous ≤ self.anonymous + 1) }
     {
         let Filling {
-            mut blocks,
+            mut boxes,
             mut anonymous,
             run,
         } = self;
@@ -84,10 +84,10 @@ impl Filling {
                 node: number,
                 ordinal: anonymous,
             };
-            blocks.push(paragraph(name, anonymous_style(style), run))?;
+            boxes.push(paragraph(name, anonymous_style(style), run))?;
         }
         Ok(Filling {
-            blocks,
+            boxes,
             anonymous,
             run: Run::new(alloc),
         })

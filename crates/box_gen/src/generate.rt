@@ -16,7 +16,9 @@ use crate::tree::BoxTree;
 use std::alloc::{AllocError, Global};
 use style_types::{Item, StyledKind, StyledNode};
 
-/// The boxes that a styled tree makes. A block-level box in an inline box is refused.
+/// The boxes that a styled tree makes: that of the root, whatever its display, with all inside it. A block-level box
+/// in an inline box is refused, by the least number of such a node. Takes memory for the boxes, and time in proportion
+/// to the tree.
 pub fn boxes(alloc: Global, styled: &StyledNode) -> Result<BoxTree, BoxError>
     ensures { Makes (nodes_of styled.now) result }
 {
@@ -27,7 +29,7 @@ pub fn boxes(alloc: Global, styled: &StyledNode) -> Result<BoxTree, BoxError>
     Ok(tree)
 }
 
-// The box of a node that is a block container, whatever its display.
+// The box of a node that is a block container, whatever its display, where nothing below it is refused.
 #[cycle(container)]
 fn container(alloc: Global, node: &StyledNode) -> Result<BoxTree, AllocError>
     ensures { IfOk result (λ tree. root_caught (nodes_of node.now) ≡ [] → boxes_of tree ≡ root_boxes (nodes_of node.now)) }

@@ -41,7 +41,7 @@ impl Run {
             text: text.clone()?,
             style: *style,
         })?;
-        self.blank = self.blank && is_blank(text);
+        self.blank &= is_blank(text);
         Ok(())
     }
 

@@ -9,10 +9,10 @@ use Rattle.box_gen.proofs.filling.Filling.closed.Goals.{then-not-run+in_ok-push,
 pub returns-clause-made : goal.returns-clause-made
 returns-clause-made c =
     let was = c.args.self in
-    let blocks : all_boxes_of c.if-not-run.blocks.items ≡ join (all_boxes_of was.blocks.items) (wrapped was.run.blank c.args.number was.anonymous c.args.style.now (run_of was.run) (λ n. none))
+    let blocks : all_boxes_of c.if-not-run.boxes.items ≡ join (all_boxes_of was.boxes.items) (wrapped was.run.blank c.args.number was.anonymous c.args.style.now (run_of was.run) (λ n. none))
     = elim c.if-not-run.branch [
-      | then-not-run+in_ok-push w ↦ closed_more was.blocks.items c.if-not-run.blocks.items w.paragraph.result was.run.blank c.args.number was.anonymous c.args.style.now (run_of was.run) (not_true _ w.if-not-run.true) (search rules) (w.paragraph.ensures ∙ rw (add-one, w.anonymous_style.ensures) refl)
-      | else-not-run w ↦ ap (λ v. all_boxes_of v.items) w.blocks-is ∙ closed_blank (all_boxes_of was.blocks.items) was.run.blank c.args.number was.anonymous c.args.style.now (run_of was.run) (not_false _ w.if-not-run.false)
+      | then-not-run+in_ok-push w ↦ closed_more was.boxes.items c.if-not-run.boxes.items w.paragraph.result was.run.blank c.args.number was.anonymous c.args.style.now (run_of was.run) (not_true _ w.if-not-run.true) (search rules) (w.paragraph.ensures ∙ rw (add-one, w.anonymous_style.ensures) refl)
+      | else-not-run w ↦ ap (λ v. all_boxes_of v.items) w.boxes-is ∙ closed_blank (all_boxes_of was.boxes.items) was.run.blank c.args.number was.anonymous c.args.style.now (run_of was.run) (not_false _ w.if-not-run.false)
     ] in
     let count : c.if-not-run.anonymous ≡ counted was.run.blank was.anonymous = elim c.if-not-run.branch [
       | then-not-run+in_ok-push w ↦ rw (not_true _ w.if-not-run.true) (search rules)
