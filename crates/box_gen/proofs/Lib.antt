@@ -1,6 +1,7 @@
 pub mod BoxLines
 pub mod CaughtNodes
 pub mod Contents
+pub mod Examples
 pub mod Fillings
 pub mod Least
 pub mod NodeLines

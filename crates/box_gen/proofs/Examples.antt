@@ -1,0 +1,164 @@
+-- Trees with the boxes that an independent implementation made of them, by computation.
+use Rattle.std.specs.Prelude.{◌≡◌, refl, true, [], ◌∷◌, Some, pos, codes}
+use Rattle.wm_modes.specs.declared.mode.Direction.TheVariants as directions
+use Rattle.wm_modes.specs.declared.mode.WritingMode.TheVariants as modes
+use Rattle.style_types.specs.declared.style.Align.TheVariants as aligns
+use Rattle.style_types.specs.declared.style.Display.TheVariants as displays
+use Rattle.style_types.specs.declared.style.Size.TheVariants as sizes
+use Rattle.style_types.specs.declared.style.UnicodeBidi.TheVariants as bidis
+use Rattle.style_types.specs.Initial.{initial, on_sides}
+use Rattle.style_types.specs.Item as item
+use Rattle.style_types.specs.Item.{begins, ends, atom}
+use Rattle.style_types.specs.Tree as styled
+use Rattle.style_types.specs.Tree.{Nodes, node, element, line_break}
+use Rattle.box_gen.specs.Boxes.{root_boxes, root_caught, held, caught, stacked, join, is_blank}
+use Rattle.box_gen.specs.Building.{least}
+use Rattle.box_gen.specs.Tree.{box, none, blocks, inline}
+
+-- a text, and an inline box round a line break
+a_paragraph_tree : Nodes
+a_paragraph_tree =
+    node 0 element (record initial { display = displays.FlowRoot }) (node 1 element (record initial { display = displays.Block; bidi = bidis.BidiOverride; margin = on_sides (sizes.Length (pos 512)) }) (node 2 (styled.text (194 ∷ 160 ∷ [])) (record initial { display = displays.Block; bidi = bidis.BidiOverride; margin = on_sides (sizes.Length (pos 512)) }) styled.none (node 3 element initial (node 4 line_break initial styled.none styled.none) styled.none)) styled.none) styled.none
+
+a_paragraph : root_boxes a_paragraph_tree ≡
+    box (record { node = 0; ordinal = 0 }) (record initial { display = displays.FlowRoot }) blocks (box (record { node = 1; ordinal = 0 }) (record initial { display = displays.Block; bidi = bidis.BidiOverride; margin = on_sides (sizes.Length (pos 512)) }) (inline (item.text 2 (194 ∷ 160 ∷ []) (record initial { display = displays.Block; bidi = bidis.BidiOverride; margin = on_sides (sizes.Length (pos 512)) }) ∷ begins 3 initial true ∷ item.line_break 4 ∷ ends 3 true ∷ [])) none none) none
+unfolding initial held stacked join is_blank a_paragraph_tree
+a_paragraph = refl
+
+a_paragraph_taken : root_caught a_paragraph_tree ≡ []
+unfolding initial caught a_paragraph_tree
+a_paragraph_taken = refl
+
+-- a run before a block; margins are not taken over
+an_anonymous_block_takes_unicode_bidi_tree : Nodes
+an_anonymous_block_takes_unicode_bidi_tree =
+    node 0 element (record initial { display = displays.FlowRoot }) (node 1 element (record initial { display = displays.Block; bidi = bidis.BidiOverride; margin = on_sides (sizes.Length (pos 512)) }) (node 2 (styled.text (194 ∷ 160 ∷ [])) (record initial { display = displays.Block; bidi = bidis.BidiOverride; margin = on_sides (sizes.Length (pos 512)) }) styled.none (node 3 element (record initial { display = displays.Block }) styled.none styled.none)) styled.none) styled.none
+
+an_anonymous_block_takes_unicode_bidi : root_boxes an_anonymous_block_takes_unicode_bidi_tree ≡
+    box (record { node = 0; ordinal = 0 }) (record initial { display = displays.FlowRoot }) blocks (box (record { node = 1; ordinal = 0 }) (record initial { display = displays.Block; bidi = bidis.BidiOverride; margin = on_sides (sizes.Length (pos 512)) }) blocks (box (record { node = 1; ordinal = 1 }) (record initial { display = displays.Block; bidi = bidis.BidiOverride }) (inline (item.text 2 (194 ∷ 160 ∷ []) (record initial { display = displays.Block; bidi = bidis.BidiOverride; margin = on_sides (sizes.Length (pos 512)) }) ∷ [])) none (box (record { node = 3; ordinal = 0 }) (record initial { display = displays.Block }) (inline []) none none)) none) none
+unfolding initial held stacked join is_blank an_anonymous_block_takes_unicode_bidi_tree
+an_anonymous_block_takes_unicode_bidi = refl
+
+an_anonymous_block_takes_unicode_bidi_taken : root_caught an_anonymous_block_takes_unicode_bidi_tree ≡ []
+unfolding initial caught an_anonymous_block_takes_unicode_bidi_tree
+an_anonymous_block_takes_unicode_bidi_taken = refl
+
+-- a line break before a block and a text behind it
+a_block_between_two_runs_tree : Nodes
+a_block_between_two_runs_tree =
+    node 0 element (record initial { display = displays.FlowRoot; mode = modes.VerticalRl }) (node 1 element (record initial { display = displays.Block; mode = modes.VerticalRl; margin = on_sides (sizes.Length (pos 512)) }) (node 2 line_break (record initial { mode = modes.VerticalRl }) styled.none (node 3 element (record initial { display = displays.FlowRoot; mode = modes.VerticalRl; font_size = (pos 2048) }) styled.none (node 4 (styled.text (codes "x")) (record initial { display = displays.Block; mode = modes.VerticalRl; margin = on_sides (sizes.Length (pos 512)) }) styled.none styled.none))) styled.none) styled.none
+
+a_block_between_two_runs : root_boxes a_block_between_two_runs_tree ≡
+    box (record { node = 0; ordinal = 0 }) (record initial { display = displays.FlowRoot; mode = modes.VerticalRl }) blocks (box (record { node = 1; ordinal = 0 }) (record initial { display = displays.Block; mode = modes.VerticalRl; margin = on_sides (sizes.Length (pos 512)) }) blocks (box (record { node = 1; ordinal = 1 }) (record initial { display = displays.Block; mode = modes.VerticalRl }) (inline (item.line_break 2 ∷ [])) none (box (record { node = 3; ordinal = 0 }) (record initial { display = displays.FlowRoot; mode = modes.VerticalRl; font_size = (pos 2048) }) (inline []) none (box (record { node = 1; ordinal = 2 }) (record initial { display = displays.Block; mode = modes.VerticalRl }) (inline (item.text 4 (codes "x") (record initial { display = displays.Block; mode = modes.VerticalRl; margin = on_sides (sizes.Length (pos 512)) }) ∷ [])) none none))) none) none
+unfolding initial held stacked join is_blank a_block_between_two_runs_tree
+a_block_between_two_runs = refl
+
+a_block_between_two_runs_taken : root_caught a_block_between_two_runs_tree ≡ []
+unfolding initial caught a_block_between_two_runs_tree
+a_block_between_two_runs_taken = refl
+
+three_anonymous_blocks_tree : Nodes
+three_anonymous_blocks_tree =
+    node 0 element (record initial { display = displays.FlowRoot; mode = modes.VerticalRl }) (node 1 element (record initial { display = displays.Block; mode = modes.VerticalRl; margin = on_sides (sizes.Length (pos 512)) }) (node 2 line_break (record initial { mode = modes.VerticalRl }) styled.none (node 3 element (record initial { display = displays.Block; mode = modes.VerticalRl; shift = (pos 128) }) styled.none (node 4 element (record initial { mode = modes.VerticalRl }) styled.none (node 5 element (record initial { display = displays.Block; mode = modes.VerticalRl; shift = (pos 128) }) styled.none (node 6 (styled.text (226 ∷ 128 ∷ 170 ∷ [])) (record initial { display = displays.Block; mode = modes.VerticalRl; margin = on_sides (sizes.Length (pos 512)) }) styled.none styled.none))))) styled.none) styled.none
+
+three_anonymous_blocks : root_boxes three_anonymous_blocks_tree ≡
+    box (record { node = 0; ordinal = 0 }) (record initial { display = displays.FlowRoot; mode = modes.VerticalRl }) blocks (box (record { node = 1; ordinal = 0 }) (record initial { display = displays.Block; mode = modes.VerticalRl; margin = on_sides (sizes.Length (pos 512)) }) blocks (box (record { node = 1; ordinal = 1 }) (record initial { display = displays.Block; mode = modes.VerticalRl }) (inline (item.line_break 2 ∷ [])) none (box (record { node = 3; ordinal = 0 }) (record initial { display = displays.Block; mode = modes.VerticalRl; shift = (pos 128) }) (inline []) none (box (record { node = 1; ordinal = 2 }) (record initial { display = displays.Block; mode = modes.VerticalRl }) (inline (begins 4 (record initial { mode = modes.VerticalRl }) true ∷ ends 4 true ∷ [])) none (box (record { node = 5; ordinal = 0 }) (record initial { display = displays.Block; mode = modes.VerticalRl; shift = (pos 128) }) (inline []) none (box (record { node = 1; ordinal = 3 }) (record initial { display = displays.Block; mode = modes.VerticalRl }) (inline (item.text 6 (226 ∷ 128 ∷ 170 ∷ []) (record initial { display = displays.Block; mode = modes.VerticalRl; margin = on_sides (sizes.Length (pos 512)) }) ∷ [])) none none))))) none) none
+unfolding initial held stacked join is_blank three_anonymous_blocks_tree
+three_anonymous_blocks = refl
+
+three_anonymous_blocks_taken : root_caught three_anonymous_blocks_tree ≡ []
+unfolding initial caught three_anonymous_blocks_tree
+three_anonymous_blocks_taken = refl
+
+-- an inline box is inline content, though nothing is in it
+an_empty_inline_box_is_wrapped_tree : Nodes
+an_empty_inline_box_is_wrapped_tree =
+    node 0 element (record initial { display = displays.FlowRoot }) (node 1 element (record initial { display = displays.Block; margin = on_sides (sizes.Length (pos 512)) }) (node 2 element initial styled.none (node 3 element (record initial { display = displays.Block; align = aligns.End }) styled.none styled.none)) styled.none) styled.none
+
+an_empty_inline_box_is_wrapped : root_boxes an_empty_inline_box_is_wrapped_tree ≡
+    box (record { node = 0; ordinal = 0 }) (record initial { display = displays.FlowRoot }) blocks (box (record { node = 1; ordinal = 0 }) (record initial { display = displays.Block; margin = on_sides (sizes.Length (pos 512)) }) blocks (box (record { node = 1; ordinal = 1 }) (record initial { display = displays.Block }) (inline (begins 2 initial true ∷ ends 2 true ∷ [])) none (box (record { node = 3; ordinal = 0 }) (record initial { display = displays.Block; align = aligns.End }) (inline []) none none)) none) none
+unfolding initial held stacked join is_blank an_empty_inline_box_is_wrapped_tree
+an_empty_inline_box_is_wrapped = refl
+
+an_empty_inline_box_is_wrapped_taken : root_caught an_empty_inline_box_is_wrapped_tree ≡ []
+unfolding initial caught an_empty_inline_box_is_wrapped_tree
+an_empty_inline_box_is_wrapped_taken = refl
+
+-- a hidden line break; the white space behind the block makes no box
+hidden_nodes_are_nothing_tree : Nodes
+hidden_nodes_are_nothing_tree =
+    node 0 element (record initial { display = displays.FlowRoot }) (node 1 element (record initial { display = displays.Block; bidi = bidis.BidiOverride; margin = on_sides (sizes.Length (pos 512)) }) (node 2 line_break (record initial { display = displays.Hidden }) styled.none (node 3 element (record initial { display = displays.FlowRoot }) (node 4 (styled.text (codes "x")) (record initial { display = displays.FlowRoot }) styled.none styled.none) (node 5 (styled.text (codes " ")) (record initial { display = displays.Block; bidi = bidis.BidiOverride; margin = on_sides (sizes.Length (pos 512)) }) styled.none styled.none))) styled.none) styled.none
+
+hidden_nodes_are_nothing : root_boxes hidden_nodes_are_nothing_tree ≡
+    box (record { node = 0; ordinal = 0 }) (record initial { display = displays.FlowRoot }) blocks (box (record { node = 1; ordinal = 0 }) (record initial { display = displays.Block; bidi = bidis.BidiOverride; margin = on_sides (sizes.Length (pos 512)) }) blocks (box (record { node = 3; ordinal = 0 }) (record initial { display = displays.FlowRoot }) (inline (item.text 4 (codes "x") (record initial { display = displays.FlowRoot }) ∷ [])) none none) none) none
+unfolding initial held stacked join is_blank hidden_nodes_are_nothing_tree
+hidden_nodes_are_nothing = refl
+
+hidden_nodes_are_nothing_taken : root_caught hidden_nodes_are_nothing_tree ≡ []
+unfolding initial caught hidden_nodes_are_nothing_tree
+hidden_nodes_are_nothing_taken = refl
+
+white_space_between_blocks_tree : Nodes
+white_space_between_blocks_tree =
+    node 0 element (record initial { display = displays.FlowRoot }) (node 1 element (record initial { display = displays.Block; bidi = bidis.BidiOverride; margin = on_sides (sizes.Length (pos 512)) }) (node 2 element (record initial { display = displays.Hidden }) (node 3 (styled.text (codes "y")) (record initial { display = displays.Hidden }) styled.none styled.none) (node 4 element (record initial { display = displays.Block; align = aligns.End }) (node 5 line_break (record initial { align = aligns.End }) styled.none styled.none) (node 6 (styled.text (10 ∷ 9 ∷ [])) (record initial { display = displays.Block; bidi = bidis.BidiOverride; margin = on_sides (sizes.Length (pos 512)) }) styled.none (node 7 element (record initial { display = displays.FlowRoot }) (node 8 element initial (node 9 (styled.text (codes " ")) initial styled.none styled.none) styled.none) (node 10 (styled.text (10 ∷ 9 ∷ [])) (record initial { display = displays.Block; bidi = bidis.BidiOverride; margin = on_sides (sizes.Length (pos 512)) }) styled.none styled.none))))) styled.none) styled.none
+
+white_space_between_blocks : root_boxes white_space_between_blocks_tree ≡
+    box (record { node = 0; ordinal = 0 }) (record initial { display = displays.FlowRoot }) blocks (box (record { node = 1; ordinal = 0 }) (record initial { display = displays.Block; bidi = bidis.BidiOverride; margin = on_sides (sizes.Length (pos 512)) }) blocks (box (record { node = 4; ordinal = 0 }) (record initial { display = displays.Block; align = aligns.End }) (inline (item.line_break 5 ∷ [])) none (box (record { node = 7; ordinal = 0 }) (record initial { display = displays.FlowRoot }) (inline (begins 8 initial true ∷ item.text 9 (codes " ") initial ∷ ends 8 true ∷ [])) none none)) none) none
+unfolding initial held stacked join is_blank white_space_between_blocks_tree
+white_space_between_blocks = refl
+
+white_space_between_blocks_taken : root_caught white_space_between_blocks_tree ≡ []
+unfolding initial caught white_space_between_blocks_tree
+white_space_between_blocks_taken = refl
+
+an_atom_of_blocks_tree : Nodes
+an_atom_of_blocks_tree =
+    node 0 element (record initial { display = displays.FlowRoot }) (node 1 element (record initial { display = displays.Block; bidi = bidis.BidiOverride; margin = on_sides (sizes.Length (pos 512)) }) (node 2 element (record initial { display = displays.Hidden }) (node 3 (styled.text (codes "y")) (record initial { display = displays.Hidden }) styled.none styled.none) (node 4 element (record initial { display = displays.InlineBlock }) (node 5 line_break (record initial { display = displays.Hidden }) styled.none (node 6 element (record initial { display = displays.Block; align = aligns.End }) (node 7 element (record initial { display = displays.Hidden; align = aligns.End }) (node 8 (styled.text (codes "y")) (record initial { display = displays.Hidden; align = aligns.End }) styled.none styled.none) styled.none) styled.none)) styled.none)) styled.none) styled.none
+
+an_atom_of_blocks : root_boxes an_atom_of_blocks_tree ≡
+    box (record { node = 0; ordinal = 0 }) (record initial { display = displays.FlowRoot }) blocks (box (record { node = 1; ordinal = 0 }) (record initial { display = displays.Block; bidi = bidis.BidiOverride; margin = on_sides (sizes.Length (pos 512)) }) (inline (atom (record { node = 4; ordinal = 0 }) ∷ [])) (box (record { node = 4; ordinal = 0 }) (record initial { display = displays.InlineBlock }) blocks (box (record { node = 6; ordinal = 0 }) (record initial { display = displays.Block; align = aligns.End }) (inline []) none none) none) none) none
+unfolding initial held stacked join is_blank an_atom_of_blocks_tree
+an_atom_of_blocks = refl
+
+an_atom_of_blocks_taken : root_caught an_atom_of_blocks_tree ≡ []
+unfolding initial caught an_atom_of_blocks_tree
+an_atom_of_blocks_taken = refl
+
+a_block_in_an_atom_in_an_inline_box_tree : Nodes
+a_block_in_an_atom_in_an_inline_box_tree =
+    node 0 element (record initial { display = displays.FlowRoot }) (node 1 element (record initial { display = displays.Block; margin = on_sides (sizes.Length (pos 512)) }) (node 2 element (record initial { direction = directions.Rtl }) (node 3 (styled.text (10 ∷ 9 ∷ [])) (record initial { direction = directions.Rtl }) styled.none (node 4 element (record initial { display = displays.InlineBlock; mode = modes.VerticalLr; direction = directions.Rtl; bidi = bidis.Plaintext }) (node 5 element (record initial { display = displays.FlowRoot; mode = modes.VerticalLr; direction = directions.Rtl; margin = record { top = (sizes.Length (pos 64)); right = (sizes.Length (pos 0)); bottom = (sizes.Length (pos 64)); left = (sizes.Length (pos 0)) } }) (node 6 element (record initial { mode = modes.VerticalLr; direction = directions.Rtl }) (node 7 (styled.text (codes " ")) (record initial { mode = modes.VerticalLr; direction = directions.Rtl }) styled.none styled.none) (node 8 element (record initial { mode = modes.VerticalLr; direction = directions.Rtl; align = aligns.End }) styled.none (node 9 element (record initial { display = displays.FlowRoot; mode = modes.VerticalRl; direction = directions.Rtl }) styled.none (node 10 (styled.text (226 ∷ 128 ∷ 170 ∷ [])) (record initial { display = displays.FlowRoot; mode = modes.VerticalLr; direction = directions.Rtl; margin = record { top = (sizes.Length (pos 64)); right = (sizes.Length (pos 0)); bottom = (sizes.Length (pos 64)); left = (sizes.Length (pos 0)) } }) styled.none (node 11 element (record initial { display = displays.Hidden; mode = modes.VerticalLr; direction = directions.Rtl; bidi = bidis.Plaintext }) (node 12 (styled.text (codes "x")) (record initial { display = displays.Hidden; mode = modes.VerticalLr; direction = directions.Rtl; bidi = bidis.Plaintext }) styled.none styled.none) (node 13 (styled.text (194 ∷ 160 ∷ [])) (record initial { display = displays.FlowRoot; mode = modes.VerticalLr; direction = directions.Rtl; margin = record { top = (sizes.Length (pos 64)); right = (sizes.Length (pos 0)); bottom = (sizes.Length (pos 64)); left = (sizes.Length (pos 0)) } }) styled.none styled.none)))))) styled.none) styled.none)) styled.none) styled.none) styled.none
+
+a_block_in_an_atom_in_an_inline_box : root_boxes a_block_in_an_atom_in_an_inline_box_tree ≡
+    box (record { node = 0; ordinal = 0 }) (record initial { display = displays.FlowRoot }) blocks (box (record { node = 1; ordinal = 0 }) (record initial { display = displays.Block; margin = on_sides (sizes.Length (pos 512)) }) (inline (begins 2 (record initial { direction = directions.Rtl }) true ∷ item.text 3 (10 ∷ 9 ∷ []) (record initial { direction = directions.Rtl }) ∷ atom (record { node = 4; ordinal = 0 }) ∷ ends 2 true ∷ [])) (box (record { node = 4; ordinal = 0 }) (record initial { display = displays.InlineBlock; mode = modes.VerticalLr; direction = directions.Rtl; bidi = bidis.Plaintext }) blocks (box (record { node = 5; ordinal = 0 }) (record initial { display = displays.FlowRoot; mode = modes.VerticalLr; direction = directions.Rtl; margin = record { top = (sizes.Length (pos 64)); right = (sizes.Length (pos 0)); bottom = (sizes.Length (pos 64)); left = (sizes.Length (pos 0)) } }) blocks (box (record { node = 5; ordinal = 1 }) (record initial { display = displays.Block; mode = modes.VerticalLr; direction = directions.Rtl }) (inline (begins 6 (record initial { mode = modes.VerticalLr; direction = directions.Rtl }) true ∷ item.text 7 (codes " ") (record initial { mode = modes.VerticalLr; direction = directions.Rtl }) ∷ ends 6 true ∷ begins 8 (record initial { mode = modes.VerticalLr; direction = directions.Rtl; align = aligns.End }) true ∷ ends 8 true ∷ [])) none (box (record { node = 9; ordinal = 0 }) (record initial { display = displays.FlowRoot; mode = modes.VerticalRl; direction = directions.Rtl }) (inline []) none (box (record { node = 5; ordinal = 2 }) (record initial { display = displays.Block; mode = modes.VerticalLr; direction = directions.Rtl }) (inline (item.text 10 (226 ∷ 128 ∷ 170 ∷ []) (record initial { display = displays.FlowRoot; mode = modes.VerticalLr; direction = directions.Rtl; margin = record { top = (sizes.Length (pos 64)); right = (sizes.Length (pos 0)); bottom = (sizes.Length (pos 64)); left = (sizes.Length (pos 0)) } }) ∷ item.text 13 (194 ∷ 160 ∷ []) (record initial { display = displays.FlowRoot; mode = modes.VerticalLr; direction = directions.Rtl; margin = record { top = (sizes.Length (pos 64)); right = (sizes.Length (pos 0)); bottom = (sizes.Length (pos 64)); left = (sizes.Length (pos 0)) } }) ∷ [])) none none))) none) none) none) none
+unfolding initial held stacked join is_blank a_block_in_an_atom_in_an_inline_box_tree
+a_block_in_an_atom_in_an_inline_box = refl
+
+a_block_in_an_atom_in_an_inline_box_taken : root_caught a_block_in_an_atom_in_an_inline_box_tree ≡ []
+unfolding initial caught a_block_in_an_atom_in_an_inline_box_tree
+a_block_in_an_atom_in_an_inline_box_taken = refl
+
+-- the inline box is `body`
+a_flow_root_in_an_inline_box_tree : Nodes
+a_flow_root_in_an_inline_box_tree =
+    node 0 element (record initial { display = displays.FlowRoot }) (node 1 element (record initial { margin = on_sides (sizes.Length (pos 512)) }) (node 2 (styled.text (codes " ")) (record initial { margin = on_sides (sizes.Length (pos 512)) }) styled.none (node 3 element (record initial { display = displays.FlowRoot; shift = (pos 128) }) styled.none styled.none)) styled.none) styled.none
+
+a_flow_root_in_an_inline_box : root_caught a_flow_root_in_an_inline_box_tree ≡ 3 ∷ []
+unfolding initial caught a_flow_root_in_an_inline_box_tree
+a_flow_root_in_an_inline_box = refl
+
+a_flow_root_in_an_inline_box_is : least (root_caught a_flow_root_in_an_inline_box_tree) ≡ Some 3
+unfolding initial caught least a_flow_root_in_an_inline_box_tree
+a_flow_root_in_an_inline_box_is = refl
+
+-- in document order node 6 comes first
+the_least_of_three_tree : Nodes
+the_least_of_three_tree =
+    node 0 element (record initial { display = displays.FlowRoot }) (node 1 element (record initial { margin = on_sides (sizes.Length (pos 512)) }) (node 6 element (record initial { display = displays.FlowRoot }) (node 10 (styled.text (codes " ")) (record initial { display = displays.FlowRoot }) styled.none (node 7 line_break initial styled.none styled.none)) (node 2 element initial styled.none (node 3 element (record initial { display = displays.Block }) (node 4 element (record initial { display = displays.Hidden }) (node 5 (styled.text (codes "y")) (record initial { display = displays.Hidden }) styled.none styled.none) (node 8 element initial styled.none styled.none)) (node 9 element initial (node 27 element initial (node 18 (styled.text (10 ∷ 9 ∷ [])) initial styled.none (node 28 (styled.text (codes " ")) initial styled.none styled.none)) styled.none) (node 19 element (record initial { display = displays.Block; shift = (pos 128) }) (node 20 element initial (node 21 (styled.text (codes " ")) initial styled.none styled.none) (node 22 element (record initial { display = displays.InlineBlock; mode = modes.SidewaysLr; margin = record { top = (sizes.Length (pos 64)); right = (sizes.Length (pos 0)); bottom = (sizes.Length (pos 64)); left = (sizes.Length (pos 0)) } }) (node 23 element (record initial { display = displays.Hidden; mode = modes.SidewaysLr }) (node 24 (styled.text (codes "y")) (record initial { display = displays.Hidden; mode = modes.SidewaysLr }) styled.none styled.none) (node 25 element (record initial { display = displays.Hidden; mode = modes.SidewaysLr }) (node 11 element (record initial { display = displays.InlineBlock; mode = modes.VerticalLr; margin = record { top = (sizes.Length (pos 64)); right = (sizes.Length (pos 0)); bottom = (sizes.Length (pos 64)); left = (sizes.Length (pos 0)) } }) (node 12 (styled.text (10 ∷ 9 ∷ [])) (record initial { display = displays.InlineBlock; mode = modes.VerticalLr; margin = record { top = (sizes.Length (pos 64)); right = (sizes.Length (pos 0)); bottom = (sizes.Length (pos 64)); left = (sizes.Length (pos 0)) } }) styled.none (node 13 element (record initial { display = displays.InlineBlock; mode = modes.VerticalLr }) (node 14 line_break (record initial { mode = modes.VerticalLr }) styled.none (node 15 element (record initial { mode = modes.VerticalLr; direction = directions.Rtl }) (node 16 (styled.text (194 ∷ 160 ∷ [])) (record initial { mode = modes.VerticalLr; direction = directions.Rtl }) styled.none styled.none) (node 17 line_break (record initial { display = displays.Hidden; mode = modes.VerticalLr }) styled.none styled.none))) styled.none)) (node 26 (styled.text (codes " ")) (record initial { display = displays.Hidden; mode = modes.SidewaysLr }) styled.none styled.none)) styled.none)) styled.none)) styled.none))))) styled.none) styled.none
+
+the_least_of_three : root_caught the_least_of_three_tree ≡ 6 ∷ 3 ∷ 19 ∷ []
+unfolding initial caught the_least_of_three_tree
+the_least_of_three = refl
+
+the_least_of_three_is : least (root_caught the_least_of_three_tree) ≡ Some 3
+unfolding initial caught least the_least_of_three_tree
+the_least_of_three_is = refl
