@@ -10,7 +10,6 @@ pub mod laws;
 mod node;
 mod opening;
 
-#[cfg(test)]
 pub use document::Document;
 pub use error::EditError;
 pub use node::{Node, NodeKind, NodeNumbers};
