@@ -4,3 +4,5 @@ pub mod Lines
 mod Listing
 pub mod Holding
 pub mod Chaining
+pub mod SameClaims
+pub mod SaidWinners

@@ -3,11 +3,12 @@
 
 mod claim;
 mod claims;
+mod defaults;
 mod index;
 mod line;
 mod matching;
-mod winners;
+mod winning;
 
 pub use claim::{Claim, Key, Origin};
-pub use index::RuleIndex;
+pub use index::{RuleIndex, winners};
 pub use matching::matches;

@@ -1,5 +1,5 @@
 use Rattle.cascade.proofs.Greatest.{IsBestSoFar}
-use Rattle.cascade.proofs.winners.best_claims.Given as goal
+use Rattle.cascade.proofs.winning.best_claims.Given as goal
 
 abbrev pub invariant-loop-claim : goal.invariant-loop-claim
 invariant-loop-claim l = IsBestSoFar l.mode l.dir l.claims l.claim-index l.best

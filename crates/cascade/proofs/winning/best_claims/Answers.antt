@@ -1,5 +1,5 @@
 use Rattle.cascade.proofs.Greatest.{best_goes_on, best_ends}
-use Rattle.cascade.proofs.winners.best_claims.Goals as goal
+use Rattle.cascade.proofs.winning.best_claims.Goals as goal
 
 pub loop-claim-preserved : goal.loop-claim-preserved
 loop-claim-preserved c =

@@ -1,5 +1,5 @@
 use Rattle.cascade.proofs.Greatest.{IsFirst}
-use Rattle.cascade.proofs.winners.first_winner.Given as goal
+use Rattle.cascade.proofs.winning.first_winner.Given as goal
 
 abbrev pub invariant-loop-claim : goal.invariant-loop-claim
 invariant-loop-claim l = IsFirst l.property l.claims l.claim-index l.best

@@ -1,5 +1,5 @@
 use Rattle.cascade.proofs.Listing.{IsListing}
-use Rattle.cascade.proofs.winners.listed.Given as goal
+use Rattle.cascade.proofs.winning.listed.Given as goal
 
 abbrev pub invariant-loop-row : goal.invariant-loop-row
 invariant-loop-row l = IsListing l.best l.rows l.row-index l.winners.items
