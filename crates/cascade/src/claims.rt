@@ -33,7 +33,8 @@ const STYLE_ATTRIBUTE: Standing = Standing {
     rule: 0,
 };
 
-/// All declarations that count for the first of the line, under the author's rules and those of the default sheet.
+/// All declarations that count for the first of the line, under the author's rules and those of the default sheet. Only
+/// want of memory is an error, here and in what follows.
 pub(crate) fn claims(
     alloc: Global,
     rules: &[Rule],

@@ -35,7 +35,7 @@ fn parent_in<'a>(document: &'a Document, node: &Node) -> Option<&'a Node>
     document.node(node.parent?)
 }
 
-/// The line of a node, 64 nodes at most; `None` exactly where no such node lives. Takes no memory.
+/// The line of a node, 64 nodes at most; `None` where no such node lives, whose line is empty. Takes no memory.
 pub(crate) fn line_of(document: &Document, node: u32) -> Option<Line<'_>>
     ensures some { IfSome result (λ found. whats_of (take found.length found.nodes) ≡ line (state_of document.now) node) }
     ensures none { IfNone result (line (state_of document.now) node ≡ []) }
