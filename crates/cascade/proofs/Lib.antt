@@ -4,5 +4,5 @@ pub mod Lines
 mod Listing
 pub mod Holding
 pub mod Chaining
-pub mod SameClaims
+pub mod SaidLaws
 pub mod SaidWinners

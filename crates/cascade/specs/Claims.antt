@@ -92,7 +92,7 @@ abbrev pub as_default : (rule place : ℕ) → property.Property → keyword.Key
 as_default rule place property word =
     record { key = record { origin = Default; own = false; specificity = unspecific; rule = rule; declaration = place }; property = property; value = Keyword word }
 
--- the `dir` attribute stands behind all rules of the default sheet (HTML, 15.3.5)
+-- the `dir` attribute counts as declarations of the default sheet of no specificity, placed behind its rules (HTML, 15.3.5)
 abbrev pub claims_of_dir : (rule : ℕ) → Tag → Option Direction → List Claim
 claims_of_dir rule tag None = []
 claims_of_dir rule tag (Some dir) = as_default rule 0 properties.Direction (direction_keyword dir) ∷ as_default rule 1 properties.UnicodeBidi (isolation tag) ∷ []
