@@ -3,3 +3,4 @@ pub mod Keys
 pub mod Laws
 pub mod Opening
 pub mod State
+pub mod Whole

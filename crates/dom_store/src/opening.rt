@@ -1,12 +1,13 @@
 //! The state that a document begins with: its nodes as they were read (DOM, 4.2, narrowed).
 
-ghost use Rattle.std.specs.Prelude.{◌≡◌, ◌+◌, ◌<◌, ◌≤◌, ◌^◌, ℕ, length, map, IfOk, OnOk};
+ghost use Rattle.std.specs.Prelude.{◌≡◌, ◌+◌, ◌<◌, ◌≤◌, ◌^◌, ℕ, length, map, None, IfOk, OnOk};
 ghost use Rattle.std.specs.List.{All};
-ghost use Rattle.html_read.specs.Shape.{IsShaped};
+ghost use Rattle.html_read.specs.Shape.{IsInDocumentOrder, IsShaped};
 ghost use Rattle.html_read.specs.Values.{nodes_of};
 ghost use Rattle.dom_store.specs.Building.{Adds, FollowParents, numbers_at};
 ghost use Rattle.dom_store.specs.Opening.{AreSame, Opens, children_from, greatest_count, opened};
-ghost use Rattle.dom_store.specs.State.{AreSaid, IsRooted, IsSaidState, entry_of, state_of};
+ghost use Rattle.dom_store.specs.State.{AreSaid, IsRooted, IsSaidState, entry_of, state_of, tree_of};
+ghost use Rattle.dom_store.specs.Whole.{listed, numbered};
 
 use crate::children::children_of;
 use crate::copies::node_of;
@@ -28,7 +29,7 @@ impl Document {
     /// its own declarations. Refused where there are more than 65,536 nodes, and else where a node stands deeper than 64,
     /// at the least number past the limit. Linear but for the map of numbers, which takes the logarithm of their count
     /// for each node.
-    #[tactic(auto, using(crate::proofs::RootLaws::opens_rooted, crate::proofs::RootLaws::opens_said))]
+    #[tactic(auto, using(crate::proofs::RootLaws::opens_rooted, crate::proofs::RootLaws::opens_said, crate::proofs::WholeLaws::opens_whole))]
     pub fn from_read(
         alloc: Global,
         read: &ReadDocument,
@@ -40,6 +41,8 @@ impl Document {
         // `html` is 0, and `body`, which alone stands in it, 1; numbers of declarations stay such as a style sheet can say.
         ensures rooted { IfOk result (λ document. IsRooted (state_of document)) }
         ensures said { All (λ own. AreSaid own.items) styled.now.styles.items → IfOk result (λ document. IsSaidState (state_of document)) }
+        // The nodes of the document's tree are those that were read, in their order: none is cut off, none is lost.
+        ensures whole { IsInDocumentOrder (nodes_of read.now.nodes.items) → IfOk result (λ document. listed None (tree_of (state_of document)) ≡ numbered (nodes_of read.now.nodes.items) (map (λ own. own.items) styled.now.styles.items)) }
     {
         Document::answer(alloc, read, styled)
     }
