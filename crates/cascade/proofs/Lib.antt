@@ -5,4 +5,9 @@ mod Listing
 pub mod Holding
 pub mod Chaining
 pub mod SaidLaws
+mod NumberOrder
+mod Members
+mod Best
+mod Keys
+pub mod SameClaims
 pub mod SaidWinners
