@@ -120,8 +120,8 @@ unfolding stated
 stated_apart origin own specificity rule place [] = tt
 stated_apart origin own specificity rule place (d ∷ others) = (
   All-weaker (IsStated origin own rule (place + 1)) _
-  (λ other is. earlier_differs origin own rule place (record { key = record { origin = origin d.important; own = own; specificity = specificity; rule = rule; declaration = place }; property = d.property; value = d.value }) other refl is)
-  (stated origin own specificity rule (place + 1) others) (are_stated origin own specificity rule (place + 1) others),
+      (λ other is. earlier_differs origin own rule place (record { key = record { origin = origin d.important; own = own; specificity = specificity; rule = rule; declaration = place }; property = d.property; value = d.value }) other refl is)
+      (stated origin own specificity rule (place + 1) others) (are_stated origin own specificity rule (place + 1) others),
   stated_apart origin own specificity rule (place + 1) others,
 )
 
@@ -146,8 +146,8 @@ rule_is origin place end rule line below =
     let list = stated origin false (specificity_of rule.selector) place 0 rule.declarations in
     none_if_not (IsRuled origin place end) (matches rule.selector line) list
     (All-weaker (IsStated origin false place 0) (IsRuled origin place end)
-        (λ claim is. record { from = is.from; is_own = is.is_own; not_before = omega (arith, is.at_rule); before_end = omega (arith, is.at_rule, below) })
-        list (are_stated origin false (specificity_of rule.selector) place 0 rule.declarations))
+    (λ claim is. record { from = is.from; is_own = is.is_own; not_before = omega (arith, is.at_rule); before_end = omega (arith, is.at_rule, below) })
+    list (are_stated origin false (specificity_of rule.selector) place 0 rule.declarations))
 
 wider : (origin : Bool → Origin) (first next end : ℕ) → first ≤ next → (claim : Claim) → IsRuled origin next end claim → IsRuled origin first end claim
 wider origin first next end le claim is = record { from = is.from; is_own = is.is_own; not_before = omega (arith, is.not_before); before_end = is.before_end }
@@ -175,8 +175,8 @@ ruled_apart origin place (rule ∷ rules) line =
     (apart_if_not (matches rule.selector line) (stated origin false (specificity_of rule.selector) place 0 rule.declarations) (stated_apart origin false (specificity_of rule.selector) place 0 rule.declarations))
     (ruled_apart origin (place + 1) rules line)
     (apart_from_by (IsRuled origin place (place + 1)) (IsRuled origin (place + 1) (place + 1 + length rules)) (earlier_rule_differs origin place (place + 1 + length rules)) here rest
-        (rule_is origin place (place + 1) rule line (omega arith))
-        (are_ruled origin (place + 1) (place + 1 + length rules) rules line (omega arith)))
+    (rule_is origin place (place + 1) rule line (omega arith))
+    (are_ruled origin (place + 1) (place + 1 + length rules) rules line (omega arith)))
 
 -- ---- the parts of an element's claims
 

@@ -9,5 +9,6 @@ mod NumberOrder
 mod Members
 mod Best
 mod Keys
+mod SaidClaims
 pub mod SameClaims
 pub mod SaidWinners

@@ -20,6 +20,7 @@ use Rattle.cascade.specs.Winners.{greatest, same_property, winner, first_winner,
 use Rattle.cascade.proofs.NumberOrder.{same_where_none_is_less}
 use Rattle.cascade.proofs.Members.{HaveSame, same_kept, kept_was, contains_first, contains_none}
 use Rattle.cascade.proofs.Keys.{keys_differ, told_by_keys}
+use Rattle.cascade.proofs.SaidClaims.{claims_said, winners_said, line_said}
 use Rattle.cascade.proofs.Best.{found, of_some, of_none}
 
 -- claims of one key are one
@@ -33,8 +34,8 @@ same_best : (one other : List Claim) (best greatest_ : Claim) → HaveSame one o
 same_best one other best greatest_ same tell here there =
     tell best greatest_ here.among ((same greatest_).1 there.among)
     (same_where_none_is_less (numbers_of best.key) (numbers_of greatest_.key)
-        (here.least greatest_ ((same greatest_).1 there.among))
-        (there.least best ((same best).0 here.among)))
+    (here.least greatest_ ((same greatest_).1 there.among))
+    (there.least best ((same best).0 here.among)))
 
 pub same_greatest : (one other : List Claim) → HaveSame one other → KeysTell one → greatest one ≡ greatest other
 same_greatest [] [] same tell = refl
@@ -90,7 +91,7 @@ pub keys_tell : (rules : List Ruling) (line : List What) → KeysTell (claims ru
 keys_tell rules line = told_by_keys (claims rules line) (keys_differ rules line)
 
 pub winners_are_said : (rules : List Ruling) (line : List What) (parent : Style) → AreSaidRules rules → IsSaidLine line → AreSaidWinners (winners rules line parent)
-winners_are_said = ?
+winners_are_said rules line parent said said_line = winners_said (claims rules line) parent (claims_said rules line said said_line)
 
 pub said_line : (state : State) (number : ℕ) → IsSaidState state → IsSaidLine (line state number)
-said_line = ?
+said_line state number said = line_said state number said
