@@ -1,10 +1,10 @@
 -- What the greatest claim of a list is.
-use Rattle.std.proofs.Common.{◌≡◌, ◌⊎◌, inl, inr, ℕ, Bool, true, false, cond, List, [], ◌∷◌, refl, sym, ap, ◌∙◌, subst, Option, Some, None}
+use Rattle.std.proofs.Common.{◌≡◌, inl, inr, Bool, true, false, cond, List, [], ◌∷◌, refl, ◌∙◌, subst, Option, Some, None}
 use Rattle.std.specs.List.{Contains}
 use Rattle.cascade.specs.declared.claim.Claim.{Claim}
 use Rattle.cascade.specs.Claims.{numbers_of, is_below}
 use Rattle.cascade.specs.Winners.{greater, greatest, greatest_from, IsGreatest}
-use Rattle.cascade.proofs.NumberOrder.{less_one_way, not_less_than_itself, not_less_through, same_where_none_is_less}
+use Rattle.cascade.proofs.NumberOrder.{less_one_way, not_less_than_itself, not_less_through}
 use Rattle.cascade.proofs.Members.{contains_first, contains_other, contains_cases, contains_none}
 
 -- the greatest of a first claim and others

@@ -4,7 +4,6 @@ pub mod Lines
 mod Listing
 pub mod Holding
 pub mod Chaining
-pub mod SaidLaws
 mod NumberOrder
 mod Members
 mod Best

@@ -1,6 +1,6 @@
 -- How lists of numbers compare: of two that differ one is less, and never both.
 use Rattle.std.proofs.Common.{◌≡◌, ◌⊎◌, inl, inr, ℕ, ◌<◌, ◌≤◌, Bool, true, false, ◌||◌, ◌&&◌, ltb, eqb, List, [], ◌∷◌, refl, sym, ap, ◌∙◌, arith}
-use Rattle.std.proofs.lemmas.Bool.{cases_Bool, cases_order, or_cases, or_parts, or_from, and_parts, and_cases, and_left, and_right, ltb-true, ltb-false, eqb-true, eqb-false, lt-ltb, le-ltb, eq-eqb, ne_eqb, false≢true}
+use Rattle.std.proofs.lemmas.Bool.{cases_Bool, cases_order, or_cases, or_parts, or_from, and_parts, and_cases, and_left, and_right, ltb-true, ltb-false, eqb-true, eqb-false, le-ltb, ne_eqb, false≢true}
 use Rattle.cascade.specs.Claims.{is_less}
 
 -- ---- by the first numbers, where it is known how those behind them compare

@@ -1,6 +1,6 @@
 -- The numbers of winners are such as a style sheet can say, where those of declarations are.
-use Rattle.std.proofs.Common.{◌≡◌, ℕ, zero, suc, ◌+◌, ◌≤◌, Bool, true, false, ◌&&◌, leb, List, [], ◌∷◌, ◌++◌, length, refl, sym, ap, ◌∙◌, subst, arith, Option, Some, None}
-use Rattle.std.specs.Prelude.{⊤, IfSome, filter, filter_map, option_map, unsigned_abs, cond}
+use Rattle.std.proofs.Common.{◌≡◌, ℕ, zero, suc, ◌+◌, Bool, true, false, ◌&&◌, leb, List, [], ◌∷◌, ◌++◌, length, refl, Option, Some, None}
+use Rattle.std.specs.Prelude.{IfSome, filter_map, option_map, unsigned_abs, cond}
 use Rattle.std.specs.List.{All, cons_option}
 use Rattle.std.proofs.lemmas.Bool.{and_parts, leb-true}
 use Rattle.std.proofs.lemmas.List.Elements.{All-nil, All-cons, All-head, All-tail, All-append, All-filter}
@@ -26,7 +26,7 @@ use Rattle.cascade.specs.declared.claim.Claim.{Claim}
 use Rattle.cascade.specs.declared.claim.Origin.{Origin}
 use Rattle.cascade.specs.Claims.{is_below, author, by_default, stated, if_matching, claims_of_rule, claims_of_rules, unspecific, direction_keyword, isolation, as_default, claims_of_dir, claims_of_element, claims}
 use Rattle.cascade.specs.Matching.{matches}
-use Rattle.cascade.specs.Winners.{greater, greatest, greatest_from, same_property, naming, winner, paired, winners_by, winners_in, turned, direction_of, AreSaidRules, IsSaidLine, AreSaidWinners}
+use Rattle.cascade.specs.Winners.{greater, greatest, greatest_from, same_property, naming, winner, paired, winners_in, turned, direction_of, AreSaidRules, IsSaidLine, AreSaidWinners}
 
 -- ---- the default sheet
 

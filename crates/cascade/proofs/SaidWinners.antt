@@ -6,7 +6,7 @@ use Rattle.style_types.specs.declared.value.Value.{Value}
 use Rattle.style_types.specs.Rule.{Ruling}
 use Rattle.dom_store.specs.State.{State, IsSaidState, line}
 use Rattle.cascade.specs.Winners.{winners, AreSaidRules, AreSaidWinners}
-use Rattle.cascade.proofs.SaidLaws.{winners_are_said, said_line}
+use Rattle.cascade.proofs.SameClaims.{winners_are_said, said_line}
 
 pub said_at : (rules : List Ruling) (state : State) (node : ℕ) (parent : Style) (found : List (Property × Value)) → found ≡ winners rules (line state node) parent
     → AreSaidRules rules → IsSaidState state → AreSaidWinners found

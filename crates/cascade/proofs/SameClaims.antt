@@ -1,5 +1,5 @@
 -- The winners among the claims of an element are told by which claims there are, in whatever order.
-use Rattle.std.proofs.Common.{◌≡◌, ℕ, Bool, List, [], ◌∷◌, refl, sym, ap, ◌∙◌, Option, Some, None}
+use Rattle.std.proofs.Common.{◌≡◌, ℕ, Bool, List, [], ◌∷◌, refl, sym, ap, ◌∙◌, Option, Some}
 use Rattle.std.specs.Prelude.{filter, filter_map, option_map}
 use Rattle.std.specs.List.{Contains, cons_option}
 use Rattle.wm_modes.specs.declared.mode.WritingMode.{WritingMode}
@@ -21,7 +21,7 @@ use Rattle.cascade.proofs.NumberOrder.{same_where_none_is_less}
 use Rattle.cascade.proofs.Members.{HaveSame, same_kept, kept_was, contains_first, contains_none}
 use Rattle.cascade.proofs.Keys.{keys_differ, told_by_keys}
 use Rattle.cascade.proofs.SaidClaims.{claims_said, winners_said, line_said}
-use Rattle.cascade.proofs.Best.{found, of_some, of_none}
+use Rattle.cascade.proofs.Best.{found, of_some}
 
 -- claims of one key are one
 abbrev pub KeysTell : List Claim → Type 0
