@@ -10,4 +10,5 @@ mod Best
 mod Keys
 mod SaidClaims
 pub mod SameClaims
+mod GreatestLaws
 pub mod SaidWinners

@@ -63,16 +63,16 @@ not_less_than_itself ns = elim (cases_Bool (is_less ns ns)) [
 ]
 
 pub not_less_through : (ms ns ps : List ℕ) → is_less ms ns ≡ false → is_less ns ps ≡ false → is_less ms ps ≡ false
-not_less_through ms ns [] first then_ = not_less_than_none ms
-not_less_through ms [] (p ∷ ps) first then_ = absurd (false≢true (sym then_ ∙ less_than_some p ps))
-not_less_through [] (n ∷ ns) (p ∷ ps) first then_ = absurd (false≢true (sym first ∙ less_than_some n ns))
-not_less_through (m ∷ ms) (n ∷ ns) (p ∷ ps) first then_ =
-    step m p ms ps ∙ elim (when_not_less m n (is_less ms ns) (sym (step m n ms ns) ∙ first)) [
-      | inl more ↦ elim (when_not_less n p (is_less ns ps) (sym (step n p ns ps) ∙ then_)) [
+not_less_through ms ns [] one other = not_less_than_none ms
+not_less_through ms [] (p ∷ ps) one other = absurd (false≢true (sym other ∙ less_than_some p ps))
+not_less_through [] (n ∷ ns) (p ∷ ps) one other = absurd (false≢true (sym one ∙ less_than_some n ns))
+not_less_through (m ∷ ms) (n ∷ ns) (p ∷ ps) one other =
+    step m p ms ps ∙ elim (when_not_less m n (is_less ms ns) (sym (step m n ms ns) ∙ one)) [
+      | inl more ↦ elim (when_not_less n p (is_less ns ps) (sym (step n p ns ps) ∙ other)) [
         | inl further ↦ not_less_at m p (is_less ms ps) (inl (omega arith))
         | inr same ↦ not_less_at m p (is_less ms ps) (inl (omega (arith, same.0)))
       ]
-      | inr same ↦ elim (when_not_less n p (is_less ns ps) (sym (step n p ns ps) ∙ then_)) [
+      | inr same ↦ elim (when_not_less n p (is_less ns ps) (sym (step n p ns ps) ∙ other)) [
         | inl further ↦ not_less_at m p (is_less ms ps) (inl (omega (arith, same.0)))
         | inr again ↦ not_less_at m p (is_less ms ps) (inr (same.0 ∙ again.0, not_less_through ms ns ps same.1 again.1))
       ]

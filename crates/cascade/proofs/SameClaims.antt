@@ -30,12 +30,12 @@ KeysTell one = (c d : Claim) → Contains one c → Contains one d → numbers_o
 kept_keys_tell : (keeps : Claim → Bool) (one : List Claim) → KeysTell one → KeysTell (filter keeps one)
 kept_keys_tell keeps one tell c d at there = tell c d (kept_was keeps one c at) (kept_was keeps one d there)
 
-same_best : (one other : List Claim) (best greatest_ : Claim) → HaveSame one other → KeysTell one → IsGreatest one best → IsGreatest other greatest_ → best ≡ greatest_
-same_best one other best greatest_ same tell here there =
-    tell best greatest_ here.among ((same greatest_).1 there.among)
-    (same_where_none_is_less (numbers_of best.key) (numbers_of greatest_.key)
-    (here.least greatest_ ((same greatest_).1 there.among))
-    (there.least best ((same best).0 here.among)))
+pub same_best : (one other : List Claim) (one_best other_best : Claim) → HaveSame one other → KeysTell one → IsGreatest one one_best → IsGreatest other other_best → one_best ≡ other_best
+same_best one other one_best other_best same tell here there =
+    tell one_best other_best here.among ((same other_best).1 there.among)
+    (same_where_none_is_less (numbers_of one_best.key) (numbers_of other_best.key)
+    (here.least other_best ((same other_best).1 there.among))
+    (there.least one_best ((same one_best).0 here.among)))
 
 pub same_greatest : (one other : List Claim) → HaveSame one other → KeysTell one → greatest one ≡ greatest other
 same_greatest [] [] same tell = refl

@@ -5,6 +5,7 @@ mod claim;
 mod claims;
 mod defaults;
 mod index;
+pub mod laws;
 mod line;
 mod matching;
 mod winning;
