@@ -41,7 +41,6 @@ pub fn styled(
 }
 
 // A document, and the rules that its nodes are styled by.
-
 #[derive(Clone, Copy)]
 struct Styling<'a> {
     document: &'a Document,
