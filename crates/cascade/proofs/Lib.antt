@@ -12,3 +12,5 @@ mod SaidClaims
 pub mod SameClaims
 mod GreatestLaws
 pub mod SaidWinners
+pub mod Shelving
+pub mod Filing

@@ -4,10 +4,13 @@
 mod claim;
 mod claims;
 mod defaults;
+mod filed;
 mod index;
 pub mod laws;
 mod line;
 mod matching;
+mod places;
+mod shelves;
 mod winning;
 
 pub use claim::{Claim, Key, Origin};

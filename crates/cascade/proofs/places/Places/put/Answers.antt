@@ -1,0 +1,7 @@
+use Rattle.std.proofs.Common.{arith}
+use Rattle.std.proofs.lemmas.Map.Text.{text_keys}
+use Rattle.std.proofs.lemmas.Grind.{text_groups}
+use Rattle.cascade.proofs.places.Places.put.Goals as goal
+
+pub returns : goal.returns
+returns c = λ other. grind (arith, text_groups, c.in_ok-name.ensures.ok)

@@ -1,0 +1,137 @@
+//! Rules among which those are found at once that an element may match.
+
+ghost use Rattle.std.specs.Prelude.{◌≡◌, ◌++◌, length, map, option_map, slice_get, IfOk, OnOk};
+ghost use Rattle.std.specs.String.{string_bytes};
+ghost use Rattle.style_types.specs.Rule.{rulings_of};
+ghost use Rattle.dom_store.specs.State.{what_of};
+ghost use Rattle.cascade.specs.Filing.{AreShelved, claims_at, claims_if, claims_under, headings, headings_of, headings_of_id, of_class};
+ghost use Rattle.cascade.specs.Line.{whats_of};
+ghost use Rattle.cascade.specs.Sheet.{origin_in};
+
+use crate::claim::Claim;
+use crate::claims::{Sheet, put_rule_if_matching};
+use crate::shelves::Shelves;
+use dom_store::{Node, NodeKind};
+use std::alloc::{AllocError, Global};
+use style_types::{Letters, Rules};
+
+/// Rules, with the place of each on a shelf.
+#[derive(Drop)]
+pub(crate) struct Filed {
+    pub(crate) rules: Rules,
+    shelves: Shelves,
+
+    ghost are_shelved: { AreShelved shelves rules.items (length rules.items) },
+}
+
+impl Filed {
+    /// Puts the place of each of the rules on its shelf.
+    pub(crate) fn new(alloc: Global, rules: Rules) -> Result<Filed, AllocError>
+        ensures { IfOk result (λ filed. filed.rules ≡ rules) }
+    {
+        let shelves = Shelves::of(alloc, &rules)?;
+        Ok(Filed { rules, shelves })
+    }
+
+    /// The declarations of all rules that match the first of the line. Those of a rule may stand there more than once.
+    pub(crate) fn put_claims(
+        &self,
+        all: &mut Vec<Claim>,
+        sheet: Sheet,
+        line: &[&Node],
+    ) -> Result<(), AllocError>
+        ensures { OnOk result (all.new.items ≡ all.old.items ++ claims_under (origin_in sheet) self.now.rules.items self.now.shelves (headings (whats_of line.now)) (whats_of line.now)) }
+    {
+        self.put_at(all, sheet, &self.shelves.others, line)?;
+        if let [node, ..] = line {
+            self.put_of(all, sheet, &node.kind, line)?;
+        }
+        Ok(())
+    }
+
+    // Those that are found by the type, the id and the classes of an element.
+    fn put_of(
+        &self,
+        all: &mut Vec<Claim>,
+        sheet: Sheet,
+        kind: &NodeKind,
+        line: &[&Node],
+    ) -> Result<(), AllocError>
+        ensures { OnOk result (all.new.items ≡ all.old.items ++ claims_under (origin_in sheet) self.now.rules.items self.now.shelves (headings_of (what_of kind.now)) (whats_of line.now)) }
+    {
+        match kind {
+            NodeKind::Element {
+                tag, id, classes, ..
+            } => {
+                self.put_at(all, sheet, self.shelves.by_type.under(tag.name()), line)?;
+                self.put_of_id(all, sheet, id, line)?;
+                self.put_of_classes(all, sheet, classes, line)?;
+                Ok(())
+            }
+            NodeKind::Text { .. } => Ok(()),
+        }
+    }
+
+    fn put_of_id(
+        &self,
+        all: &mut Vec<Claim>,
+        sheet: Sheet,
+        id: &Option<Letters>,
+        line: &[&Node],
+    ) -> Result<(), AllocError>
+        ensures { OnOk result (all.new.items ≡ all.old.items ++ claims_under (origin_in sheet) self.now.rules.items self.now.shelves (headings_of_id (option_map (λ i. string_bytes i) id.now)) (whats_of line.now)) }
+    {
+        if let Some(id) = id {
+            self.put_at(all, sheet, self.shelves.by_id.under(id), line)?;
+        }
+        Ok(())
+    }
+
+    #[tactic(auto, using(crate::proofs::Filing::classes_none), unfolding(crate::specs::Filing::claims_under))]
+    fn put_of_classes(
+        &self,
+        all: &mut Vec<Claim>,
+        sheet: Sheet,
+        classes: &[Letters],
+        line: &[&Node],
+    ) -> Result<(), AllocError>
+        ensures { OnOk result (all.new.items ≡ all.old.items ++ claims_under (origin_in sheet) self.now.rules.items self.now.shelves (map of_class (map (λ c. string_bytes c) classes.now)) (whats_of line.now)) }
+    {
+        for class in classes {
+            self.put_at(all, sheet, self.shelves.by_class.under(class), line)?;
+        }
+        Ok(())
+    }
+
+    // The declarations of the rules at these places, where they match.
+    #[tactic(auto, using(crate::proofs::Filing::placed_none), unfolding(crate::specs::Filing::claims_at))]
+    fn put_at(
+        &self,
+        all: &mut Vec<Claim>,
+        sheet: Sheet,
+        places: &[usize],
+        line: &[&Node],
+    ) -> Result<(), AllocError>
+        ensures { OnOk result (all.new.items ≡ all.old.items ++ claims_at (origin_in sheet) self.now.rules.items places.now (whats_of line.now)) }
+    {
+        for place in places {
+            self.put_if(all, sheet, *place, line)?;
+        }
+        Ok(())
+    }
+
+    fn put_if(
+        &self,
+        all: &mut Vec<Claim>,
+        sheet: Sheet,
+        place: usize,
+        line: &[&Node],
+    ) -> Result<(), AllocError>
+        ensures { OnOk result (all.new.items ≡ all.old.items ++ claims_if (origin_in sheet) place (slice_get self.now.rules.items place) (whats_of line.now)) }
+    {
+        if let Some(rule) = self.rules.get(place) {
+            put_rule_if_matching(all, sheet, place, rule, line)?;
+        }
+        Ok(())
+    }
+}

@@ -1,0 +1,44 @@
+//! Places of rules under names.
+
+ghost use Rattle.std.specs.Prelude.{◌≡◌, List, ℕ, [], ◌∷◌, ◌++◌, cond, bytes_eq, OnOk};
+ghost use Rattle.cascade.specs.Places.{places_under};
+
+use std::alloc::{AllocError, Global};
+use std::collections::BTreeMap;
+use style_types::Letters;
+
+/// Places of rules, each under a name.
+#[derive(Drop)]
+pub(crate) struct Places {
+    under: BTreeMap<Letters, Vec<usize>>,
+}
+
+impl Places {
+    /// No places.
+    pub(crate) fn new(alloc: Global) -> Places
+        ensures { (name : List ℕ) → places_under result name ≡ [] }
+    {
+        Places {
+            under: BTreeMap::new(alloc),
+        }
+    }
+
+    /// The places under a name, in the order in which they were put.
+    pub(crate) fn under(&self, name: &str) -> &[usize]
+        ensures { result.now ≡ places_under self.now name.now }
+    {
+        match self.under.get(name) {
+            Some(places) => places,
+            None => &[],
+        }
+    }
+
+    /// Puts a place under a name.
+    pub(crate) fn put(&mut self, alloc: Global, name: &str, place: usize) -> Result<(), AllocError>
+        ensures { OnOk result ((other : List ℕ) → places_under self.new other ≡ cond (bytes_eq other name.now) (places_under self.old other ++ place ∷ []) (places_under self.old other)) }
+    {
+        let name = String::from_str(alloc, name)?;
+        self.under.entry(name)?.or_default().push(place)?;
+        Ok(())
+    }
+}
