@@ -14,3 +14,4 @@ mod GreatestLaws
 pub mod SaidWinners
 pub mod Shelving
 pub mod Filing
+pub mod Candidates

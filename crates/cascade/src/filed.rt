@@ -19,7 +19,7 @@ use style_types::{Letters, Rules};
 #[derive(Drop)]
 pub(crate) struct Filed {
     pub(crate) rules: Rules,
-    shelves: Shelves,
+    pub(crate) shelves: Shelves,
 
     ghost are_shelved: { AreShelved shelves rules.items (length rules.items) },
 }

@@ -1,20 +1,27 @@
 //! Rules made ready for many elements.
 
 ghost use Rattle.std.specs.Prelude.{◌≡◌, IfOk};
+ghost use Rattle.css_sheet.specs.Default.{default_rules};
 ghost use Rattle.dom_store.specs.State.{IsSaidState, line, state_of};
 ghost use Rattle.style_types.specs.Rule.{rulings_of};
-ghost use Rattle.cascade.specs.Index.{index_rules};
+ghost use Rattle.cascade.specs.Index.{found_claims, index_rules};
 ghost use Rattle.cascade.specs.Line.{whats_of};
 ghost use Rattle.cascade.specs.Winners as definitions;
 ghost use Rattle.cascade.specs.Winners.{AreSaidRules, AreSaidWinners};
 
-use crate::claims::claims;
+use crate::claim::Claim;
+use crate::claims::{Sheet, claims, put_own};
 use crate::defaults::Defaults;
+use crate::filed::Filed;
 use crate::line::line_of;
 use crate::winning::winners_among;
+use css_sheet::default_sheet;
 use dom_store::{Document, Node};
 use std::alloc::{AllocError, Global};
-use style_types::{Rule, Rules, Style, Winners, copy_of_rules};
+use style_types::{Rule, Style, Winners, copy_of_rules};
+
+// For how many declarations there is room at first: few elements have more.
+const ROOM: usize = 32;
 
 /// The winner of each property for an element under these author's rules; the default sheet and the `dir` attribute
 /// count beside them. The winners stand under the names of the properties of the page, in the order of the table of
@@ -32,15 +39,35 @@ pub fn winners(
     // those of the winners.
     ensures said { AreSaidRules (rulings_of rules.now) → IsSaidState (state_of document.now) → IfOk result (λ w. AreSaidWinners w.items) }
 {
-    let defaults = Defaults::new(alloc)?;
-    let winners = winners_at(alloc, document, rules, &defaults, node, parent)?;
+    let defaults = default_sheet(alloc)?;
+    let winners = match line_of(document, node) {
+        Some(line) => winners_on(alloc, rules, &defaults, line.nodes(), parent)?,
+        None => winners_on(alloc, rules, &defaults, &[], parent)?,
+    };
     Ok(winners)
 }
 
-/// Author's rules.
+// The winners for the first of a line, under an author's rules and those of the default sheet.
+fn winners_on(
+    alloc: Global,
+    rules: &[Rule],
+    defaults: &[Rule],
+    line: &[&Node],
+    parent: &Style,
+) -> Result<Winners, AllocError>
+    requires { rulings_of defaults.now ≡ default_rules }
+    ensures { IfOk result (λ w. w.items ≡ definitions.winners (rulings_of rules.now) (whats_of line.now) parent.now) }
+{
+    let claims = claims(alloc, rules, defaults, line)?;
+    let winners = winners_among(alloc, &claims, parent)?;
+    Ok(winners)
+}
+
+/// Author's rules made ready for many elements, with the default sheet beside them. For an element it goes only through
+/// the rules whose last compound has an id, or else a class, or else the type of that element, or none of the three.
 #[derive(Drop)]
 pub struct RuleIndex {
-    rules: Rules,
+    rules: Filed,
     defaults: Defaults,
 }
 
@@ -49,10 +76,10 @@ impl RuleIndex {
     pub fn new(alloc: Global, rules: &[Rule]) -> Result<RuleIndex, AllocError>
         ensures { IfOk result (λ index. index_rules index ≡ rulings_of rules.now) }
     {
-        Ok(RuleIndex {
-            rules: copy_of_rules(alloc, rules)?,
-            defaults: Defaults::new(alloc)?,
-        })
+        let own = copy_of_rules(alloc, rules)?;
+        let rules = Filed::new(alloc, own)?;
+        let defaults = Defaults::new(alloc)?;
+        Ok(RuleIndex { rules, defaults })
     }
 
     /// The same as `winners` under the rules of the index.
@@ -68,40 +95,37 @@ impl RuleIndex {
         // those of the winners.
         ensures said { AreSaidRules (index_rules self.now) → IsSaidState (state_of document.now) → IfOk result (λ w. AreSaidWinners w.items) }
     {
-        let winners = winners_at(alloc, document, &self.rules, &self.defaults, node, parent)?;
+        let winners = match line_of(document, node) {
+            Some(line) => self.winners_on(alloc, line.nodes(), parent)?,
+            None => self.winners_on(alloc, &[], parent)?,
+        };
         Ok(winners)
     }
-}
 
-// The winners for an element, under an author's rules and those of the default sheet.
-fn winners_at(
-    alloc: Global,
-    document: &Document,
-    rules: &[Rule],
-    defaults: &Defaults,
-    node: u32,
-    parent: &Style,
-) -> Result<Winners, AllocError>
-    ensures { IfOk result (λ w. w.items ≡ definitions.winners (rulings_of rules.now) (line (state_of document.now) node) parent.now) }
-{
-    let winners = match line_of(document, node) {
-        Some(line) => winners_on(alloc, rules, defaults, line.nodes(), parent)?,
-        None => winners_on(alloc, rules, defaults, &[], parent)?,
-    };
-    Ok(winners)
-}
+    // The winners for the first of a line.
+    fn winners_on(
+        &self,
+        alloc: Global,
+        line: &[&Node],
+        parent: &Style,
+    ) -> Result<Winners, AllocError>
+        ensures { IfOk result (λ w. w.items ≡ definitions.winners (index_rules self.now) (whats_of line.now) parent.now) }
+    {
+        let claims = self.claims(alloc, line)?;
+        let winners = winners_among(alloc, &claims, parent)?;
+        Ok(winners)
+    }
 
-// The winners for the first of a line.
-fn winners_on(
-    alloc: Global,
-    rules: &[Rule],
-    defaults: &Defaults,
-    line: &[&Node],
-    parent: &Style,
-) -> Result<Winners, AllocError>
-    ensures { IfOk result (λ w. w.items ≡ definitions.winners (rulings_of rules.now) (whats_of line.now) parent.now) }
-{
-    let claims = claims(alloc, rules, &defaults.rules, line)?;
-    let winners = winners_among(alloc, &claims, parent)?;
-    Ok(winners)
+    // The declarations that count for the first of a line.
+    fn claims(&self, alloc: Global, line: &[&Node]) -> Result<Vec<Claim>, AllocError>
+        ensures { IfOk result (λ all. all.items ≡ found_claims self.now (whats_of line.now)) }
+    {
+        let mut all = Vec::with_capacity(alloc, ROOM)?;
+        self.rules.put_claims(&mut all, Sheet::Author, line)?;
+        put_own(&mut all, self.defaults.filed.rules.len(), line)?;
+        self.defaults
+            .filed
+            .put_claims(&mut all, Sheet::Default, line)?;
+        Ok(all)
+    }
 }

@@ -4,4 +4,4 @@ use Rattle.cascade.specs.Winners.{winners_in}
 use Rattle.cascade.proofs.index.winners_on.Goals as goal
 
 pub returns : goal.returns
-returns c = c.in_ok-winners.ensures ∙ ap (λ (list : List Claim). winners_in list c.args.parent.now) (c.deref-2.ensures.value ∙ c.in_ok-claims.ensures)
+returns c = c.in_ok-winners.ensures ∙ ap (λ (list : List Claim). winners_in list c.args.parent.now) (c.deref.ensures.value ∙ c.in_ok-claims.ensures)

@@ -1,13 +1,19 @@
-use Rattle.std.proofs.Common.{List, ◌∙◌, ap}
-use Rattle.style_types.specs.declared.rule.Rule.{Rule}
-use Rattle.style_types.specs.Rule.{rulings_of}
-use Rattle.dom_store.specs.State.{line, state_of}
+use Rattle.std.proofs.Common.{List, ◌∙◌, ap, sym}
 use Rattle.cascade.specs.Index.{index_rules}
+use Rattle.dom_store.specs.State.{What, state_of}
+use Rattle.cascade.specs.Line.{whats_of}
 use Rattle.cascade.specs.Winners.{winners}
 use Rattle.cascade.proofs.SaidWinners.{said_at}
+use Rattle.cascade.proofs.index.RuleIndex.winners.Goals.{in-Some+in_ok-winners-in-Some, in-None+in_ok-winners-in-None}
 use Rattle.cascade.proofs.index.RuleIndex.winners.Goals as goal
 
+pub returns-clause-winners : goal.returns-clause-winners
+returns-clause-winners c = elim c.match-line_of.branch [
+  | in-Some+in_ok-winners-in-Some w ↦
+      ap (λ v. v.items) w.winners-is ∙ w.in_ok-winners-in-Some.ensures ∙ ap (λ (line : List What). winners (index_rules c.args.self.now) line c.args.parent.now) (ap whats_of w.nodes.ensures ∙ w.in-Some.ensures.some)
+  | in-None+in_ok-winners-in-None w ↦
+      ap (λ v. v.items) w.winners-is ∙ w.in_ok-winners-in-None.ensures ∙ ap (λ (line : List What). winners (index_rules c.args.self.now) line c.args.parent.now) (sym w.in-None.ensures.none)
+]
+
 pub returns-clause-said : goal.returns-clause-said
-returns-clause-said c =
-    let found = c.in_ok-winners.ensures ∙ ap (λ (rules : List Rule). winners (rulings_of rules) (line (state_of c.args.document.now) c.args.node) c.args.parent.now) c.deref.ensures.value in
-    said_at (index_rules c.args.self.now) (state_of c.args.document.now) c.args.node c.args.parent.now c.in_ok-winners.winners.items found
+returns-clause-said c = said_at (index_rules c.args.self.now) (state_of c.args.document.now) c.args.node c.args.parent.now c.match-line_of.winners.items (returns-clause-winners c)

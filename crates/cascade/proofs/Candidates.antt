@@ -1,0 +1,292 @@
+-- The rules that are found are all that match.
+use Rattle.std.proofs.Common.{◌≡◌, ◌⊎◌, inl, inr, ℕ, zero, suc, ◌+◌, ◌<◌, ◌≤◌, Bool, true, false, ◌||◌, ◌&&◌, List, [], ◌∷◌, ◌++◌, length, map, get_or, reverse, bytes_eq, refl, sym, subst, ap, ◌∙◌, arith, Option, Some, None}
+use Rattle.std.specs.Prelude.{slice_get}
+use Rattle.std.specs.List.{Contains}
+use Rattle.std.proofs.lemmas.List.Elements.{Contains-append_left, Contains-append_right, Contains-append_cases, Contains-push, Contains-push_cases}
+use Rattle.std.proofs.lemmas.Option.{get_or_from_slice_get}
+use Rattle.std.proofs.lemmas.Slice.Eq.{bytes_eq-Decides}
+use Rattle.html_tokens.specs.declared.tag.Tag.{Tag}
+use Rattle.html_tokens.specs.Tag.{name_of}
+use Rattle.css_sheet.specs.Default.{default_rules}
+use Rattle.css_sheet.specs.Specificity.{specificity_of}
+use Rattle.style_types.specs.declared.style.Style.{Style}
+use Rattle.style_types.specs.declared.rule.Rule.{Rule}
+use Rattle.style_types.specs.Rule.{Compound, Ruling, ruling_of, rulings_of, selector_of}
+use Rattle.dom_store.specs.State.{What, element, text}
+use Rattle.cascade.specs.declared.claim.Claim.{Claim}
+use Rattle.cascade.specs.declared.claim.Origin.{Origin}
+use Rattle.cascade.specs.declared.shelves.Shelves.{Shelves}
+use Rattle.cascade.specs.Claims.{author, by_default, stated, if_matching, claims, claims_of_element, claims_of_rule, claims_of_rules}
+use Rattle.cascade.specs.Filing.{Heading, of_id, of_class, of_type, of_any, by_id, by_class, by_type, heading, heading_from_right, headings, headings_of_id, shelf, AreShelved, claims_if, claims_at, claims_under}
+use Rattle.cascade.specs.Matching.{some, each, fits_type, has_class, has_id, joined, matches_from, matches}
+use Rattle.cascade.specs.Winners.{winners, winners_in}
+use Rattle.cascade.proofs.SameClaims.{same_winners, keys_tell}
+use Rattle.cascade.proofs.Shelving.{is_there}
+
+-- ---- members of lists
+
+pub first_of : {A : Type 0} (x : A) (others : List A) → Contains (x ∷ others) x
+first_of x others = Contains-append_left (x ∷ []) others x (Contains-push [] x)
+
+pub later_of : {A : Type 0} (x : A) (others : List A) (y : A) → Contains others y → Contains (x ∷ others) y
+later_of x others y has = Contains-append_right (x ∷ []) others y has
+
+pub none_of : {A : Type 0} (y : A) → Contains [] y → ⊥
+none_of y has = absurd (omega (arith, has.1))
+
+alone : {A : Type 0} (x y : A) → Contains [] y ⊎ (x ≡ y) → x ≡ y
+alone x y (inl none) = absurd (none_of y none)
+alone x y (inr same) = same
+
+one_of : {A : Type 0} (x : A) (others : List A) (y : A) → Contains (x ∷ []) y ⊎ Contains others y → (x ≡ y) ⊎ Contains others y
+one_of x others y (inl first) = inl (alone x y (Contains-push_cases [] x y first))
+one_of x others y (inr later) = inr later
+
+pub cases_of : {A : Type 0} (x : A) (others : List A) (y : A) → Contains (x ∷ others) y → (x ≡ y) ⊎ Contains others y
+cases_of x others y has = one_of x others y (Contains-append_cases (x ∷ []) others y has)
+
+-- ---- a compound that fits an element stands under one of its headings
+
+and_left : (one other : Bool) → (one && other) ≡ true → one ≡ true
+and_left true other is = refl
+and_left false other is = is
+
+and_right : (one other : Bool) → (one && other) ≡ true → other ≡ true
+and_right true other is = is
+and_right false other is = absurd cc
+
+same_bytes : (one other : List ℕ) → bytes_eq one other ≡ true → one ≡ other
+same_bytes one other is = (bytes_eq-Decides one other).0 is
+
+among_own : (own : List ℕ) (classes : List (List ℕ)) (class : List ℕ) (b : Bool) → bytes_eq class own ≡ b → (b || some (bytes_eq class) classes) ≡ true
+    → (some (bytes_eq class) classes ≡ true → Contains (map of_class classes) (of_class class)) → Contains (of_class own ∷ map of_class classes) (of_class class)
+among_own own classes class true same is later = subst (λ (n : List ℕ). Contains (of_class own ∷ map of_class classes) (of_class n)) (sym (same_bytes class own same)) (first_of (of_class own) (map of_class classes))
+among_own own classes class false same is later = later_of (of_class own) (map of_class classes) (of_class class) (later is)
+
+among_classes : (classes : List (List ℕ)) (class : List ℕ) → some (bytes_eq class) classes ≡ true → Contains (map of_class classes) (of_class class)
+unfolding some
+among_classes [] class is = absurd cc
+among_classes (own ∷ classes) class is = among_own own classes class (bytes_eq class own) refl is (among_classes classes class)
+
+abbrev pub headings_with : Tag → Option (List ℕ) → List (List ℕ) → List Heading
+headings_with tag id classes = of_any ∷ of_type (name_of tag) ∷ (headings_of_id id ++ map of_class classes)
+
+class_found : (tag : Tag) (id : Option (List ℕ)) (classes : List (List ℕ)) (class : List ℕ) → some (bytes_eq class) classes ≡ true → Contains (headings_with tag id classes) (of_class class)
+class_found tag id classes class is =
+    later_of of_any (of_type (name_of tag) ∷ (headings_of_id id ++ map of_class classes)) (of_class class)
+        (later_of (of_type (name_of tag)) (headings_of_id id ++ map of_class classes) (of_class class) (Contains-append_right (headings_of_id id) (map of_class classes) (of_class class) (among_classes classes class is)))
+
+id_among : (own : Option (List ℕ)) (id : List ℕ) → has_id own id ≡ true → Contains (headings_of_id own) (of_id id)
+id_among None id is = absurd cc
+id_among (Some own) id is = subst (λ (n : List ℕ). Contains (of_id own ∷ []) (of_id n)) (sym (same_bytes id own is)) (first_of (of_id own) [])
+
+id_found : (tag : Tag) (own : Option (List ℕ)) (classes : List (List ℕ)) (id : List ℕ) → has_id own id ≡ true → Contains (headings_with tag own classes) (of_id id)
+id_found tag own classes id is =
+    later_of of_any (of_type (name_of tag) ∷ (headings_of_id own ++ map of_class classes)) (of_id id)
+        (later_of (of_type (name_of tag)) (headings_of_id own ++ map of_class classes) (of_id id) (Contains-append_left (headings_of_id own) (map of_class classes) (of_id id) (id_among own id is)))
+
+type_found : (tag : Tag) (id : Option (List ℕ)) (classes : List (List ℕ)) (name : Option (List ℕ)) → fits_type name tag ≡ true → Contains (headings_with tag id classes) (by_type name)
+type_found tag id classes None is = first_of of_any (of_type (name_of tag) ∷ (headings_of_id id ++ map of_class classes))
+type_found tag id classes (Some name) is =
+    subst (λ (n : List ℕ). Contains (headings_with tag id classes) (of_type n)) (sym (same_bytes name (name_of tag) is))
+        (later_of of_any (of_type (name_of tag) ∷ (headings_of_id id ++ map of_class classes)) (of_type (name_of tag)) (first_of (of_type (name_of tag)) (headings_of_id id ++ map of_class classes)))
+
+by_class_found : (tag : Tag) (id : Option (List ℕ)) (own : List (List ℕ)) (classes : List (List ℕ)) (other : Heading) → each (has_class own) classes ≡ true → Contains (headings_with tag id own) other
+    → Contains (headings_with tag id own) (by_class classes other)
+unfolding each
+by_class_found tag id own [] other is has = has
+by_class_found tag id own (class ∷ classes) other is has = class_found tag id own class (and_left (has_class own class) (each (has_class own) classes) is)
+
+by_id_found : (tag : Tag) (own : Option (List ℕ)) (classes : List (List ℕ)) (ids : List (List ℕ)) (other : Heading) → each (has_id own) ids ≡ true → Contains (headings_with tag own classes) other
+    → Contains (headings_with tag own classes) (by_id ids other)
+unfolding each
+by_id_found tag own classes [] other is has = has
+by_id_found tag own classes (id ∷ ids) other is has = id_found tag own classes id (and_left (has_id own id) (each (has_id own) ids) is)
+
+heading_is_found : (compounds : List Compound) (line : List What) → matches_from compounds line ≡ true → Contains (headings line) (heading_from_right compounds)
+unfolding matches_from
+heading_is_found [] [] is = first_of of_any []
+heading_is_found [] (text letters ∷ above) is = first_of of_any []
+heading_is_found [] (element tag id classes dir own ∷ above) is = first_of of_any (of_type (name_of tag) ∷ (headings_of_id id ++ map of_class classes))
+heading_is_found (compound ∷ left) [] is = absurd cc
+heading_is_found (compound ∷ left) (text letters ∷ above) is = absurd cc
+heading_is_found (compound ∷ left) (element tag id classes dir own ∷ above) is =
+    let type_fits = fits_type compound.tag tag in
+    let classes_fit = each (has_class classes) compound.classes in
+    let ids_fit = each (has_id id) compound.ids in
+    let fits : (type_fits && (classes_fit && ids_fit)) ≡ true = and_left (type_fits && (classes_fit && ids_fit)) (joined compound.joint (matches_from left) above) is in
+    let rest : (classes_fit && ids_fit) ≡ true = and_right type_fits (classes_fit && ids_fit) fits in
+    by_id_found tag id classes compound.ids (by_class compound.classes (by_type compound.tag)) (and_right classes_fit ids_fit rest)
+        (by_class_found tag id classes compound.classes (by_type compound.tag) (and_left classes_fit ids_fit rest) (type_found tag id classes compound.tag (and_left type_fits (classes_fit && ids_fit) fits)))
+
+-- ---- the rules of a list, by their places
+
+within : (rules : List Rule) (place : ℕ) (rule : Rule) → slice_get rules place ≡ Some rule → place < length rules
+within [] place rule is = absurd cc
+within (first ∷ rules) zero rule is = omega arith
+within (first ∷ rules) (suc place) rule is = let lt = within rules place rule is in omega arith
+
+-- a claim of the rule at a place is one of those of all rules
+rule_in : (origin : Bool → Origin) (rules : List Rule) (base place number : ℕ) (rule : Rule) (line : List What) (c : Claim) → number ≡ base + place → slice_get rules place ≡ Some rule
+    → Contains (claims_of_rule origin number (ruling_of rule) line) c → Contains (claims_of_rules origin base (rulings_of rules) line) c
+unfolding claims_of_rules
+rule_in origin [] base place number rule line c at is has = absurd cc
+rule_in origin (first ∷ rules) base zero number rule line c at is has =
+    let same : first ≡ rule = cc in
+    let here : number ≡ base = omega arith in
+    Contains-append_left (claims_of_rule origin base (ruling_of first) line) (claims_of_rules origin (base + 1) (rulings_of rules) line) c
+        (subst (λ (n : ℕ). Contains (claims_of_rule origin n (ruling_of first) line) c) here (subst (λ (r : Rule). Contains (claims_of_rule origin number (ruling_of r) line) c) (sym same) has))
+rule_in origin (first ∷ rules) base (suc place) number rule line c at is has =
+    Contains-append_right (claims_of_rule origin base (ruling_of first) line) (claims_of_rules origin (base + 1) (rulings_of rules) line) c
+        (rule_in origin rules (base + 1) place number rule line c (omega arith) is has)
+
+-- and each of those is of a rule at a place
+record IsOf (origin : Bool → Origin) (rules : List Rule) (base : ℕ) (line : List What) (c : Claim) : Type 0 where
+  pub place : ℕ
+  pub rule : Rule
+  pub there : slice_get rules place ≡ Some rule
+  pub has : Contains (claims_of_rule origin (base + place) (ruling_of rule) line) c
+
+of_later : (origin : Bool → Origin) (first : Rule) (rules : List Rule) (base : ℕ) (line : List What) (c : Claim)
+    → Contains (claims_of_rule origin base (ruling_of first) line) c ⊎ Contains (claims_of_rules origin (base + 1) (rulings_of rules) line) c
+    → (Contains (claims_of_rules origin (base + 1) (rulings_of rules) line) c → IsOf origin rules (base + 1) line c) → IsOf origin (first ∷ rules) base line c
+of_later origin first rules base line c (inl has) others =
+    let here : base ≡ base + 0 = omega arith in
+    record { place = 0; rule = first; there = refl; has = subst (λ (n : ℕ). Contains (claims_of_rule origin n (ruling_of first) line) c) here has }
+of_later origin first rules base line c (inr later) others =
+    let rest = others later in
+    let here : base + 1 + rest.place ≡ base + suc rest.place = omega arith in
+    record { place = suc rest.place; rule = rest.rule; there = rest.there; has = subst (λ (n : ℕ). Contains (claims_of_rule origin n (ruling_of rest.rule) line) c) here rest.has }
+
+of_rule : (origin : Bool → Origin) (rules : List Rule) (base : ℕ) (line : List What) (c : Claim) → Contains (claims_of_rules origin base (rulings_of rules) line) c → IsOf origin rules base line c
+unfolding claims_of_rules
+of_rule origin [] base line c has = absurd (none_of c has)
+of_rule origin (first ∷ rules) base line c has =
+    of_later origin first rules base line c (Contains-append_cases (claims_of_rule origin base (ruling_of first) line) (claims_of_rules origin (base + 1) (rulings_of rules) line) c has)
+        (of_rule origin rules (base + 1) line c)
+
+-- ---- the claims at places
+
+at_this : (origin : Bool → Origin) (rules : List Rule) (first : ℕ) (places : List ℕ) (line : List What) (place : ℕ) (rule : Rule) (c : Claim) → slice_get rules place ≡ Some rule
+    → Contains (claims_of_rule origin place (ruling_of rule) line) c → (first ≡ place) ⊎ Contains places place → (Contains places place → Contains (claims_at origin rules places line) c)
+    → Contains (claims_if origin first (slice_get rules first) line ++ claims_at origin rules places line) c
+at_this origin rules first places line place rule c is has (inl same) others =
+    let here : claims_if origin first (slice_get rules first) line ≡ claims_of_rule origin place (ruling_of rule) line =
+    ap (λ (n : ℕ). claims_if origin n (slice_get rules n) line) same ∙ ap (λ (r : Option Rule). claims_if origin place r line) is in
+    Contains-append_left (claims_if origin first (slice_get rules first) line) (claims_at origin rules places line) c (subst (λ (l : List Claim). Contains l c) (sym here) has)
+at_this origin rules first places line place rule c is has (inr later) others =
+    Contains-append_right (claims_if origin first (slice_get rules first) line) (claims_at origin rules places line) c (others later)
+
+at_has : (origin : Bool → Origin) (rules : List Rule) (places : List ℕ) (line : List What) (place : ℕ) (rule : Rule) (c : Claim) → slice_get rules place ≡ Some rule
+    → Contains (claims_of_rule origin place (ruling_of rule) line) c → Contains places place → Contains (claims_at origin rules places line) c
+unfolding claims_at
+at_has origin rules [] line place rule c is has among = absurd (none_of place among)
+at_has origin rules (first ∷ places) line place rule c is has among =
+    at_this origin rules first places line place rule c is has (cases_of first places place among) (at_has origin rules places line place rule c is has)
+
+from_if : (origin : Bool → Origin) (rules : List Rule) (place : ℕ) (rule : Option Rule) (line : List What) (c : Claim) → slice_get rules place ≡ rule → Contains (claims_if origin place rule line) c
+    → Contains (claims_of_rules origin 0 (rulings_of rules) line) c
+from_if origin rules place None line c is has = absurd (none_of c has)
+from_if origin rules place (Some rule) line c is has = rule_in origin rules 0 place place rule line c (omega arith) is has
+
+from_first : (origin : Bool → Origin) (rules : List Rule) (place : ℕ) (places : List ℕ) (line : List What) (c : Claim)
+    → Contains (claims_if origin place (slice_get rules place) line) c ⊎ Contains (claims_at origin rules places line) c
+    → (Contains (claims_at origin rules places line) c → Contains (claims_of_rules origin 0 (rulings_of rules) line) c) → Contains (claims_of_rules origin 0 (rulings_of rules) line) c
+from_first origin rules place places line c (inl has) others = from_if origin rules place (slice_get rules place) line c refl has
+from_first origin rules place places line c (inr later) others = others later
+
+from_places : (origin : Bool → Origin) (rules : List Rule) (places : List ℕ) (line : List What) (c : Claim) → Contains (claims_at origin rules places line) c
+    → Contains (claims_of_rules origin 0 (rulings_of rules) line) c
+unfolding claims_at
+from_places origin rules [] line c has = absurd (none_of c has)
+from_places origin rules (place ∷ places) line c has =
+    from_first origin rules place places line c (Contains-append_cases (claims_if origin place (slice_get rules place) line) (claims_at origin rules places line) c has) (from_places origin rules places line c)
+
+-- ---- and under headings
+
+under_this : (origin : Bool → Origin) (rules : List Rule) (shelves : Shelves) (first : Heading) (others : List Heading) (line : List What) (under : Heading) (c : Claim)
+    → Contains (claims_at origin rules (shelf shelves under) line) c → (first ≡ under) ⊎ Contains others under → (Contains others under → Contains (claims_under origin rules shelves others line) c)
+    → Contains (claims_at origin rules (shelf shelves first) line ++ claims_under origin rules shelves others line) c
+under_this origin rules shelves first others line under c has (inl same) rest =
+    Contains-append_left (claims_at origin rules (shelf shelves first) line) (claims_under origin rules shelves others line) c
+        (subst (λ (h : Heading). Contains (claims_at origin rules (shelf shelves h) line) c) (sym same) has)
+under_this origin rules shelves first others line under c has (inr later) rest =
+    Contains-append_right (claims_at origin rules (shelf shelves first) line) (claims_under origin rules shelves others line) c (rest later)
+
+under_has : (origin : Bool → Origin) (rules : List Rule) (shelves : Shelves) (all : List Heading) (line : List What) (under : Heading) (c : Claim)
+    → Contains (claims_at origin rules (shelf shelves under) line) c → Contains all under → Contains (claims_under origin rules shelves all line) c
+unfolding claims_under
+under_has origin rules shelves [] line under c has among = absurd (none_of under among)
+under_has origin rules shelves (first ∷ others) line under c has among =
+    under_this origin rules shelves first others line under c has (cases_of first others under among) (under_has origin rules shelves others line under c has)
+
+from_one : (origin : Bool → Origin) (rules : List Rule) (shelves : Shelves) (first : Heading) (others : List Heading) (line : List What) (c : Claim)
+    → Contains (claims_at origin rules (shelf shelves first) line) c ⊎ Contains (claims_under origin rules shelves others line) c
+    → (Contains (claims_under origin rules shelves others line) c → Contains (claims_of_rules origin 0 (rulings_of rules) line) c) → Contains (claims_of_rules origin 0 (rulings_of rules) line) c
+from_one origin rules shelves first others line c (inl has) rest = from_places origin rules (shelf shelves first) line c has
+from_one origin rules shelves first others line c (inr later) rest = rest later
+
+-- what is found is of one of the rules
+pub from_headings : (origin : Bool → Origin) (rules : List Rule) (shelves : Shelves) (all : List Heading) (line : List What) (c : Claim) → Contains (claims_under origin rules shelves all line) c
+    → Contains (claims_of_rules origin 0 (rulings_of rules) line) c
+unfolding claims_under
+from_headings origin rules shelves [] line c has = absurd (none_of c has)
+from_headings origin rules shelves (first ∷ others) line c has =
+    from_one origin rules shelves first others line c (Contains-append_cases (claims_at origin rules (shelf shelves first) line) (claims_under origin rules shelves others line) c has)
+        (from_headings origin rules shelves others line c)
+
+matched : (b : Bool) (list : List Claim) (c : Claim) → Contains (if_matching b list) c → b ≡ true
+matched true list c has = refl
+matched false list c has = absurd (none_of c has)
+
+-- what is of one of the rules is found
+pub is_candidate : (origin : Bool → Origin) (rules : List Rule) (shelves : Shelves) (line : List What) (c : Claim) → AreShelved shelves rules (length rules)
+    → Contains (claims_of_rules origin 0 (rulings_of rules) line) c → Contains (claims_under origin rules shelves (headings line) line) c
+is_candidate origin rules shelves line c shelved has =
+    let of = of_rule origin rules 0 line c has in
+    let under : Heading = heading (selector_of of.rule.selector) in
+    let here : 0 + of.place ≡ of.place = omega arith in
+    let claimed = subst (λ (n : ℕ). Contains (claims_of_rule origin n (ruling_of of.rule) line) c) here of.has in
+    let does = matched (matches (selector_of of.rule.selector) line) (stated origin false (specificity_of (selector_of of.rule.selector)) of.place 0 of.rule.declarations.items) c claimed in
+    let same : get_or rules of.place of.rule ≡ of.rule = get_or_from_slice_get rules of.place of.rule of.rule of.there in
+    let there = is_there (shelf shelves (heading (selector_of (get_or rules of.place of.rule).selector))) of.place (shelved.each of.place of.rule (within rules of.place of.rule of.there)) in
+    let place : Contains (shelf shelves under) of.place = subst (λ (r : Rule). Contains (shelf shelves (heading (selector_of r.selector))) of.place) same there in
+    under_has origin rules shelves (headings line) line under c (at_has origin rules (shelf shelves under) line of.place of.rule c of.there claimed place)
+        (heading_is_found (reverse (selector_of of.rule.selector)) line does)
+
+-- ---- all claims of an element
+
+abbrev pub HaveSame : List Claim → List Claim → Type 0
+HaveSame one other = (c : Claim) → (Contains one c → Contains other c) × (Contains other c → Contains one c)
+
+both_parts : (one two three four : List Claim) (c : Claim) → (Contains one c → Contains three c) → (Contains two c → Contains four c) → Contains one c ⊎ Contains two c → Contains (three ++ four) c
+both_parts one two three four c first second (inl has) = Contains-append_left three four c (first has)
+both_parts one two three four c first second (inr has) = Contains-append_right three four c (second has)
+
+beside : (one two three four : List Claim) (c : Claim) → (Contains one c → Contains three c) → (Contains two c → Contains four c) → Contains (one ++ two) c → Contains (three ++ four) c
+beside one two three four c first second has = both_parts one two three four c first second (Contains-append_cases one two c has)
+
+-- an author's rules, what the element says, the rules of the default sheet
+pub have_same : (rules defaults : List Rule) (shelves default_shelves : Shelves) (line : List What) → AreShelved shelves rules (length rules) → AreShelved default_shelves defaults (length defaults)
+    → rulings_of defaults ≡ default_rules → HaveSame (claims (rulings_of rules) line) (claims_under author rules shelves (headings line) line ++ (claims_of_element line ++ claims_under by_default defaults default_shelves (headings line) line))
+have_same rules defaults shelves default_shelves line shelved default_shelved are_default c =
+    let same_rules = ap (λ (all : List Ruling). claims_of_rules by_default 0 all line) are_default in (
+      beside (claims_of_rules author 0 (rulings_of rules) line) (claims_of_element line ++ claims_of_rules by_default 0 default_rules line)
+          (claims_under author rules shelves (headings line) line) (claims_of_element line ++ claims_under by_default defaults default_shelves (headings line) line) c
+          (is_candidate author rules shelves line c shelved)
+          (beside (claims_of_element line) (claims_of_rules by_default 0 default_rules line) (claims_of_element line) (claims_under by_default defaults default_shelves (headings line) line) c (λ (has : Contains (claims_of_element line) c). has)
+              (λ (has : Contains (claims_of_rules by_default 0 default_rules line) c). is_candidate by_default defaults default_shelves line c default_shelved (subst (λ (l : List Claim). Contains l c) (sym same_rules) has))),
+      beside (claims_under author rules shelves (headings line) line) (claims_of_element line ++ claims_under by_default defaults default_shelves (headings line) line)
+          (claims_of_rules author 0 (rulings_of rules) line) (claims_of_element line ++ claims_of_rules by_default 0 default_rules line) c
+          (from_headings author rules shelves (headings line) line c)
+          (beside (claims_of_element line) (claims_under by_default defaults default_shelves (headings line) line) (claims_of_element line) (claims_of_rules by_default 0 default_rules line) c (λ (has : Contains (claims_of_element line) c). has)
+              (λ (has : Contains (claims_under by_default defaults default_shelves (headings line) line) c). subst (λ (l : List Claim). Contains l c) same_rules (from_headings by_default defaults default_shelves (headings line) line c has))),
+    )
+
+-- so they have the same winners
+pub winners_are_same : (rules defaults : List Rule) (shelves default_shelves : Shelves) (line : List What) (parent : Style) → AreShelved shelves rules (length rules) → AreShelved default_shelves defaults (length defaults)
+    → rulings_of defaults ≡ default_rules
+    → winners_in (claims_under author rules shelves (headings line) line ++ (claims_of_element line ++ claims_under by_default defaults default_shelves (headings line) line)) parent ≡ winners (rulings_of rules) line parent
+winners_are_same rules defaults shelves default_shelves line parent shelved default_shelved are_default =
+    sym (same_winners (claims (rulings_of rules) line) (claims_under author rules shelves (headings line) line ++ (claims_of_element line ++ claims_under by_default defaults default_shelves (headings line) line))
+        (have_same rules defaults shelves default_shelves line shelved default_shelved are_default) (keys_tell (rulings_of rules) line) parent)
