@@ -1,5 +1,5 @@
 -- The rules that are found are all that match.
-use Rattle.std.proofs.Common.{◌≡◌, ◌⊎◌, inl, inr, ℕ, zero, suc, ◌+◌, ◌<◌, ◌≤◌, Bool, true, false, ◌||◌, ◌&&◌, List, [], ◌∷◌, ◌++◌, length, map, get_or, reverse, bytes_eq, refl, sym, subst, ap, ◌∙◌, arith, Option, Some, None}
+use Rattle.std.proofs.Common.{◌≡◌, ◌⊎◌, inl, inr, ℕ, zero, suc, ◌+◌, ◌<◌, Bool, true, false, ◌||◌, ◌&&◌, List, [], ◌∷◌, ◌++◌, length, map, get_or, reverse, bytes_eq, refl, sym, subst, ap, ◌∙◌, arith, Option, Some, None}
 use Rattle.std.specs.Prelude.{slice_get}
 use Rattle.std.specs.List.{Contains}
 use Rattle.std.proofs.lemmas.List.Elements.{Contains-append_left, Contains-append_right, Contains-append_cases, Contains-push, Contains-push_cases}
@@ -74,7 +74,7 @@ headings_with tag id classes = of_any ∷ of_type (name_of tag) ∷ (headings_of
 class_found : (tag : Tag) (id : Option (List ℕ)) (classes : List (List ℕ)) (class : List ℕ) → some (bytes_eq class) classes ≡ true → Contains (headings_with tag id classes) (of_class class)
 class_found tag id classes class is =
     later_of of_any (of_type (name_of tag) ∷ (headings_of_id id ++ map of_class classes)) (of_class class)
-        (later_of (of_type (name_of tag)) (headings_of_id id ++ map of_class classes) (of_class class) (Contains-append_right (headings_of_id id) (map of_class classes) (of_class class) (among_classes classes class is)))
+    (later_of (of_type (name_of tag)) (headings_of_id id ++ map of_class classes) (of_class class) (Contains-append_right (headings_of_id id) (map of_class classes) (of_class class) (among_classes classes class is)))
 
 id_among : (own : Option (List ℕ)) (id : List ℕ) → has_id own id ≡ true → Contains (headings_of_id own) (of_id id)
 id_among None id is = absurd cc
@@ -83,13 +83,13 @@ id_among (Some own) id is = subst (λ (n : List ℕ). Contains (of_id own ∷ []
 id_found : (tag : Tag) (own : Option (List ℕ)) (classes : List (List ℕ)) (id : List ℕ) → has_id own id ≡ true → Contains (headings_with tag own classes) (of_id id)
 id_found tag own classes id is =
     later_of of_any (of_type (name_of tag) ∷ (headings_of_id own ++ map of_class classes)) (of_id id)
-        (later_of (of_type (name_of tag)) (headings_of_id own ++ map of_class classes) (of_id id) (Contains-append_left (headings_of_id own) (map of_class classes) (of_id id) (id_among own id is)))
+    (later_of (of_type (name_of tag)) (headings_of_id own ++ map of_class classes) (of_id id) (Contains-append_left (headings_of_id own) (map of_class classes) (of_id id) (id_among own id is)))
 
 type_found : (tag : Tag) (id : Option (List ℕ)) (classes : List (List ℕ)) (name : Option (List ℕ)) → fits_type name tag ≡ true → Contains (headings_with tag id classes) (by_type name)
 type_found tag id classes None is = first_of of_any (of_type (name_of tag) ∷ (headings_of_id id ++ map of_class classes))
 type_found tag id classes (Some name) is =
     subst (λ (n : List ℕ). Contains (headings_with tag id classes) (of_type n)) (sym (same_bytes name (name_of tag) is))
-        (later_of of_any (of_type (name_of tag) ∷ (headings_of_id id ++ map of_class classes)) (of_type (name_of tag)) (first_of (of_type (name_of tag)) (headings_of_id id ++ map of_class classes)))
+    (later_of of_any (of_type (name_of tag) ∷ (headings_of_id id ++ map of_class classes)) (of_type (name_of tag)) (first_of (of_type (name_of tag)) (headings_of_id id ++ map of_class classes)))
 
 by_class_found : (tag : Tag) (id : Option (List ℕ)) (own : List (List ℕ)) (classes : List (List ℕ)) (other : Heading) → each (has_class own) classes ≡ true → Contains (headings_with tag id own) other
     → Contains (headings_with tag id own) (by_class classes other)
@@ -117,7 +117,7 @@ heading_is_found (compound ∷ left) (element tag id classes dir own ∷ above) 
     let fits : (type_fits && (classes_fit && ids_fit)) ≡ true = and_left (type_fits && (classes_fit && ids_fit)) (joined compound.joint (matches_from left) above) is in
     let rest : (classes_fit && ids_fit) ≡ true = and_right type_fits (classes_fit && ids_fit) fits in
     by_id_found tag id classes compound.ids (by_class compound.classes (by_type compound.tag)) (and_right classes_fit ids_fit rest)
-        (by_class_found tag id classes compound.classes (by_type compound.tag) (and_left classes_fit ids_fit rest) (type_found tag id classes compound.tag (and_left type_fits (classes_fit && ids_fit) fits)))
+    (by_class_found tag id classes compound.classes (by_type compound.tag) (and_left classes_fit ids_fit rest) (type_found tag id classes compound.tag (and_left type_fits (classes_fit && ids_fit) fits)))
 
 -- ---- the rules of a list, by their places
 
@@ -135,10 +135,10 @@ rule_in origin (first ∷ rules) base zero number rule line c at is has =
     let same : first ≡ rule = cc in
     let here : number ≡ base = omega arith in
     Contains-append_left (claims_of_rule origin base (ruling_of first) line) (claims_of_rules origin (base + 1) (rulings_of rules) line) c
-        (subst (λ (n : ℕ). Contains (claims_of_rule origin n (ruling_of first) line) c) here (subst (λ (r : Rule). Contains (claims_of_rule origin number (ruling_of r) line) c) (sym same) has))
+    (subst (λ (n : ℕ). Contains (claims_of_rule origin n (ruling_of first) line) c) here (subst (λ (r : Rule). Contains (claims_of_rule origin number (ruling_of r) line) c) (sym same) has))
 rule_in origin (first ∷ rules) base (suc place) number rule line c at is has =
     Contains-append_right (claims_of_rule origin base (ruling_of first) line) (claims_of_rules origin (base + 1) (rulings_of rules) line) c
-        (rule_in origin rules (base + 1) place number rule line c (omega arith) is has)
+    (rule_in origin rules (base + 1) place number rule line c (omega arith) is has)
 
 -- and each of those is of a rule at a place
 record IsOf (origin : Bool → Origin) (rules : List Rule) (base : ℕ) (line : List What) (c : Claim) : Type 0 where
@@ -163,7 +163,7 @@ unfolding claims_of_rules
 of_rule origin [] base line c has = absurd (none_of c has)
 of_rule origin (first ∷ rules) base line c has =
     of_later origin first rules base line c (Contains-append_cases (claims_of_rule origin base (ruling_of first) line) (claims_of_rules origin (base + 1) (rulings_of rules) line) c has)
-        (of_rule origin rules (base + 1) line c)
+    (of_rule origin rules (base + 1) line c)
 
 -- ---- the claims at places
 
@@ -209,7 +209,7 @@ under_this : (origin : Bool → Origin) (rules : List Rule) (shelves : Shelves) 
     → Contains (claims_at origin rules (shelf shelves first) line ++ claims_under origin rules shelves others line) c
 under_this origin rules shelves first others line under c has (inl same) rest =
     Contains-append_left (claims_at origin rules (shelf shelves first) line) (claims_under origin rules shelves others line) c
-        (subst (λ (h : Heading). Contains (claims_at origin rules (shelf shelves h) line) c) (sym same) has)
+    (subst (λ (h : Heading). Contains (claims_at origin rules (shelf shelves h) line) c) (sym same) has)
 under_this origin rules shelves first others line under c has (inr later) rest =
     Contains-append_right (claims_at origin rules (shelf shelves first) line) (claims_under origin rules shelves others line) c (rest later)
 
@@ -233,7 +233,7 @@ unfolding claims_under
 from_headings origin rules shelves [] line c has = absurd (none_of c has)
 from_headings origin rules shelves (first ∷ others) line c has =
     from_one origin rules shelves first others line c (Contains-append_cases (claims_at origin rules (shelf shelves first) line) (claims_under origin rules shelves others line) c has)
-        (from_headings origin rules shelves others line c)
+    (from_headings origin rules shelves others line c)
 
 matched : (b : Bool) (list : List Claim) (c : Claim) → Contains (if_matching b list) c → b ≡ true
 matched true list c has = refl
@@ -252,7 +252,7 @@ is_candidate origin rules shelves line c shelved has =
     let there = is_there (shelf shelves (heading (selector_of (get_or rules of.place of.rule).selector))) of.place (shelved.each of.place of.rule (within rules of.place of.rule of.there)) in
     let place : Contains (shelf shelves under) of.place = subst (λ (r : Rule). Contains (shelf shelves (heading (selector_of r.selector))) of.place) same there in
     under_has origin rules shelves (headings line) line under c (at_has origin rules (shelf shelves under) line of.place of.rule c of.there claimed place)
-        (heading_is_found (reverse (selector_of of.rule.selector)) line does)
+    (heading_is_found (reverse (selector_of of.rule.selector)) line does)
 
 -- ---- all claims of an element
 
@@ -275,12 +275,12 @@ have_same rules defaults shelves default_shelves line shelved default_shelved ar
           (claims_under author rules shelves (headings line) line) (claims_of_element line ++ claims_under by_default defaults default_shelves (headings line) line) c
           (is_candidate author rules shelves line c shelved)
           (beside (claims_of_element line) (claims_of_rules by_default 0 default_rules line) (claims_of_element line) (claims_under by_default defaults default_shelves (headings line) line) c (λ (has : Contains (claims_of_element line) c). has)
-              (λ (has : Contains (claims_of_rules by_default 0 default_rules line) c). is_candidate by_default defaults default_shelves line c default_shelved (subst (λ (l : List Claim). Contains l c) (sym same_rules) has))),
+          (λ (has : Contains (claims_of_rules by_default 0 default_rules line) c). is_candidate by_default defaults default_shelves line c default_shelved (subst (λ (l : List Claim). Contains l c) (sym same_rules) has))),
       beside (claims_under author rules shelves (headings line) line) (claims_of_element line ++ claims_under by_default defaults default_shelves (headings line) line)
           (claims_of_rules author 0 (rulings_of rules) line) (claims_of_element line ++ claims_of_rules by_default 0 default_rules line) c
           (from_headings author rules shelves (headings line) line c)
           (beside (claims_of_element line) (claims_under by_default defaults default_shelves (headings line) line) (claims_of_element line) (claims_of_rules by_default 0 default_rules line) c (λ (has : Contains (claims_of_element line) c). has)
-              (λ (has : Contains (claims_under by_default defaults default_shelves (headings line) line) c). subst (λ (l : List Claim). Contains l c) same_rules (from_headings by_default defaults default_shelves (headings line) line c has))),
+          (λ (has : Contains (claims_under by_default defaults default_shelves (headings line) line) c). subst (λ (l : List Claim). Contains l c) same_rules (from_headings by_default defaults default_shelves (headings line) line c has))),
     )
 
 -- so they have the same winners
@@ -289,4 +289,4 @@ pub winners_are_same : (rules defaults : List Rule) (shelves default_shelves : S
     → winners_in (claims_under author rules shelves (headings line) line ++ (claims_of_element line ++ claims_under by_default defaults default_shelves (headings line) line)) parent ≡ winners (rulings_of rules) line parent
 winners_are_same rules defaults shelves default_shelves line parent shelved default_shelved are_default =
     sym (same_winners (claims (rulings_of rules) line) (claims_under author rules shelves (headings line) line ++ (claims_of_element line ++ claims_under by_default defaults default_shelves (headings line) line))
-        (have_same rules defaults shelves default_shelves line shelved default_shelved are_default) (keys_tell (rulings_of rules) line) parent)
+    (have_same rules defaults shelves default_shelves line shelved default_shelved are_default) (keys_tell (rulings_of rules) line) parent)

@@ -3,7 +3,7 @@ use Rattle.std.proofs.Common.{◌≡◌, ◌⊎◌, inl, inr, ℕ, nat_eq, ◌+�
 use Rattle.std.specs.Prelude.{slice_get}
 use Rattle.std.specs.String.{string_bytes}
 use Rattle.std.specs.List.{Contains, list_any}
-use Rattle.std.proofs.lemmas.List.Elements.{Contains-append_left, Contains-append_right, Contains-append_cases, Contains-push}
+use Rattle.std.proofs.lemmas.List.Elements.{Contains-append_left, Contains-push}
 use Rattle.std.proofs.lemmas.Bool.{eqb-true}
 use Rattle.std.proofs.lemmas.Map.Views.{list_any-from_Contains, Contains-from_any}
 use Rattle.std.proofs.lemmas.Cmp.{nat_eq_equiv}
@@ -156,8 +156,8 @@ one_more old new rules rule count place d below is put shelved (inr same) =
     let there : get_or rules count d ≡ rule = get_or_default rules count d rule below ∙ sym is in
     let which : get_or rules place d ≡ rule = ap (λ (n : ℕ). get_or rules n d) same ∙ there in
     is_found (shelf new (heading (selector_of (get_or rules place d).selector))) place
-        (subst (λ (r : Rule). Contains (shelf new (heading (selector_of r.selector))) place) (sym which)
-            (subst (λ (n : ℕ). Contains (shelf new (heading (selector_of rule.selector))) n) (sym same) put.placed))
+    (subst (λ (r : Rule). Contains (shelf new (heading (selector_of r.selector))) place) (sym which)
+    (subst (λ (n : ℕ). Contains (shelf new (heading (selector_of rule.selector))) n) (sym same) put.placed))
 
 pub more_shelved : (old new : Shelves) (rules : List Rule) (rule : Rule) (count : ℕ) → count < length rules → rule ≡ get_or rules count rule → IsPut old new (heading (selector_of rule.selector)) count → AreShelved old rules count
     → AreShelved new rules (count + 1)

@@ -1,7 +1,6 @@
 -- Rules under the id, class or type of their last compound.
-use Rattle.std.specs.Prelude.{◌≡◌, ℕ, ◌<◌, nat_eq, Bool, true, List, [], ◌∷◌, ◌++◌, map, reverse, length, get_or, Option, Some, None, slice_get}
+use Rattle.std.specs.Prelude.{◌≡◌, ℕ, ◌<◌, nat_eq, Bool, true, List, [], ◌∷◌, ◌++◌, map, reverse, get_or, Option, Some, None, slice_get}
 use Rattle.std.specs.List.{Contains, list_any}
-use Rattle.html_tokens.specs.declared.tag.Tag.{Tag}
 use Rattle.html_tokens.specs.Tag.{name_of}
 use Rattle.style_types.specs.declared.rule.Rule.{Rule}
 use Rattle.style_types.specs.Rule.{Compound, ruling_of, selector_of}

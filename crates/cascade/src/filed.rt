@@ -61,7 +61,10 @@ impl Filed {
     {
         match kind {
             NodeKind::Element {
-                tag, id, classes, ..
+                tag,
+                id,
+                classes,
+                ..
             } => {
                 self.put_at(all, sheet, self.shelves.by_type.under(tag.name()), line)?;
                 self.put_of_id(all, sheet, id, line)?;

@@ -43,12 +43,7 @@ impl Shelves {
     }
 
     // Puts the place of a rule with this selector.
-    fn put(
-        &mut self,
-        alloc: Global,
-        selector: &Selector,
-        place: usize,
-    ) -> Result<(), AllocError>
+    fn put(&mut self, alloc: Global, selector: &Selector, place: usize) -> Result<(), AllocError>
         ensures { OnOk result (IsPut self.old self.new (heading (selector_of selector.now)) place) }
     {
         match selector.parts.last() {

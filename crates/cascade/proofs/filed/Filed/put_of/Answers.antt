@@ -22,9 +22,9 @@ returns-in_ok-put_of_classes-in-Element c =
     let by_class = c.in_ok-put_of_classes-in-Element.ensures
     ∙ ap (λ (classes : List Letters). c.put_of_id.new.all.items ++ claims_under origin rules shelves (map of_class (map (λ n. string_bytes n) classes)) line) c.deref.ensures.value in
     let by_others = under_parts c.put_at.new.all.items c.put_of_id.new.all.items c.put_of_classes.new.all.items origin rules shelves (headings_of_id (option_map (λ n. string_bytes n) c.in-Element.id))
-        (map of_class (map (λ n. string_bytes n) c.in-Element.classes.items)) line c.in_ok-put_of_id-in-Element.ensures by_class in
+    (map of_class (map (λ n. string_bytes n) c.in-Element.classes.items)) line c.in_ok-put_of_id-in-Element.ensures by_class in
     under_then all c.put_at.new.all.items c.put_of_classes.new.all.items origin rules shelves (of_type (name_of c.in-Element.tag))
-        (headings_of_id (option_map (λ n. string_bytes n) c.in-Element.id) ++ map of_class (map (λ n. string_bytes n) c.in-Element.classes.items)) line by_type by_others
+    (headings_of_id (option_map (λ n. string_bytes n) c.in-Element.id) ++ map of_class (map (λ n. string_bytes n) c.in-Element.classes.items)) line by_type by_others
     ∙ ap (λ (kind : NodeKind). all ++ claims_under origin rules shelves (headings_of (what_of kind)) line) (sym c.in-Element.is)
 
 pub returns-in-Text : goal.returns-in-Text

@@ -8,5 +8,5 @@ use Rattle.cascade.proofs.shelves.Shelves.put.Goals as goal
 pub returns-in_ok-push-in-None : goal.returns-in_ok-push-in-None
 returns-in_ok-push-in-None c =
     subst (λ (h : Heading). IsPut c.args.self.now (record c.args.self.now { others = c.push.new.self }) h c.args.place)
-        (heading_of_none c.deref.result.now c.in-None.ensures.value ∙ ap (λ (parts : List Part). heading (compounds_of parts)) c.deref.ensures.value)
-        (put_other c.args.self.now (record c.args.self.now { others = c.push.new.self }) c.args.place refl refl refl c.in_ok-push-in-None.ensures.items)
+    (heading_of_none c.deref.result.now c.in-None.ensures.value ∙ ap (λ (parts : List Part). heading (compounds_of parts)) c.deref.ensures.value)
+    (put_other c.args.self.now (record c.args.self.now { others = c.push.new.self }) c.args.place refl refl refl c.in_ok-push-in-None.ensures.items)
