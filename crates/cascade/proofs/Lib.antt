@@ -15,3 +15,4 @@ pub mod SaidWinners
 pub mod Shelving
 pub mod Filing
 pub mod Candidates
+mod Examples
