@@ -1,0 +1,37 @@
+//! How refusals are printed.
+
+use crate::engine::StyleError;
+use box_gen::BoxError;
+use css_values::CssError;
+use dom_store::EditError;
+use html_read::HtmlError;
+use std::io;
+use std::io::Write;
+
+/// Prints why a document has no styles.
+pub(crate) fn print_refusal<W: Write>(output: &mut W, error: StyleError) -> io::Result<()> {
+    match error {
+        StyleError::Html(HtmlError::Refused { kind, place }) => {
+            writeln!(output, "refused {kind:?} {place}")
+        }
+        StyleError::Css(CssError::Refused { kind, place }) => {
+            writeln!(output, "refused {kind:?} {place}")
+        }
+        StyleError::Edit(EditError::TooManyNodes(node)) => {
+            writeln!(output, "refused TooManyNodes {node}")
+        }
+        StyleError::Edit(EditError::TooDeep(node)) => writeln!(output, "refused TooDeep {node}"),
+        StyleError::Html(HtmlError::Memory)
+        | StyleError::Css(CssError::Memory)
+        | StyleError::Edit(EditError::Memory)
+        | StyleError::Memory => Err(io::ErrorKind::OutOfMemory.into()),
+    }
+}
+
+/// Prints why a document has no boxes.
+pub(crate) fn print_box_refusal<W: Write>(output: &mut W, error: BoxError) -> io::Result<()> {
+    match error {
+        BoxError::BlockInInline(node) => writeln!(output, "refused BlockInInline {node}"),
+        BoxError::Memory => Err(io::ErrorKind::OutOfMemory.into()),
+    }
+}
