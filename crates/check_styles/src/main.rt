@@ -67,3 +67,5 @@ fn answer_root<W: Write>(alloc: Global, root: &StyledNode, output: &mut W) -> io
 
 #[cfg(test)]
 mod call_tests;
+#[cfg(test)]
+mod worked_tests;

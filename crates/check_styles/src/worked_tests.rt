@@ -1,0 +1,79 @@
+//! Documents whose margins, depths and boxes were worked out by hand.
+
+use crate::engine::{StyleError, style};
+use box_gen::{BoxError, boxes};
+use dom_store::EditError;
+use std::alloc::{AllocError, Global};
+use std::test::*;
+use style_types::Size;
+
+/// Four empty blocks with a physical and a flow-relative margin: in one order and in the other, then both in rtl.
+const MARGINS: &'static str = "<html><body>\
+<div style=\"block-size:1px;margin-left:5px;margin-inline-start:9px\"></div>\
+<div style=\"block-size:1px;margin-inline-start:9px;margin-left:5px\"></div>\
+<div style=\"block-size:1px;margin-left:5px;margin-inline-start:9px;direction:rtl\"></div>\
+<div style=\"block-size:1px;margin-inline-start:9px;margin-left:5px;direction:rtl\"></div>\
+</body></html>";
+
+#[test]
+fn spellings_of_a_margin_compete(rt: HostRuntime) -> Result<(), Fail> {
+    let root = style(rt.alloc(), MARGINS.as_bytes()).ok().ok_or("styles")?;
+    let body = root.children.first().ok_or("body")?;
+    let due = [(576, 0), (320, 0), (320, 576), (320, 576)];
+    assert_eq!(rt; body.children.len(), due.len());
+    for (node, (left, right)) in body.children.iter().zip(due) {
+        assert_eq!(rt; node.style.margin.left, Size::Length(left), "{}", node.node);
+        assert_eq!(rt;
+            node.style.margin.right,
+            Size::Length(right),
+            "{}",
+            node.node
+        );
+    }
+    Ok(())
+}
+
+/// A document of `body` with this many blocks, each within the one before.
+fn nested(alloc: Global, count: usize) -> Result<String, AllocError> {
+    let mut text = String::from_str(alloc, "<html><body>")?;
+    for _ in 0..count {
+        text.push_str("<div>")?;
+    }
+    for _ in 0..count {
+        text.push_str("</div>")?;
+    }
+    text.push_str("</body></html>")?;
+    Ok(text)
+}
+
+#[test]
+fn the_deepest_document_has_styles(rt: HostRuntime) -> Result<(), Fail> {
+    let text = nested(rt.alloc(), 62)?;
+    let root = style(rt.alloc(), text.as_bytes()).ok().ok_or("styles")?;
+    let mut node = &root;
+    for _ in 1..64 {
+        node = node.children.first().ok_or("a node")?;
+    }
+    assert!(rt; node.children.is_empty());
+    assert_eq!(rt; node.node, 63);
+    Ok(())
+}
+
+#[test]
+fn a_deeper_document_is_refused(rt: HostRuntime) -> Result<(), Fail> {
+    let text = nested(rt.alloc(), 63)?;
+    let refused = style(rt.alloc(), text.as_bytes()).err();
+    assert!(rt; matches!(refused, Some(StyleError::Edit(EditError::TooDeep(64)))));
+    Ok(())
+}
+
+#[test]
+fn a_block_in_an_inline_box_is_refused(rt: HostRuntime) -> Result<(), Fail> {
+    let text = "<html><body><span><p>a</p></span></body></html>";
+    let root = style(rt.alloc(), text.as_bytes()).ok().ok_or("styles")?;
+    assert_eq!(rt;
+        boxes(rt.alloc(), &root).err(),
+        Some(BoxError::BlockInInline(3))
+    );
+    Ok(())
+}
