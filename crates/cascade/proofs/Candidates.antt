@@ -17,9 +17,10 @@ use Rattle.cascade.specs.declared.claim.Claim.{Claim}
 use Rattle.cascade.specs.declared.claim.Origin.{Origin}
 use Rattle.cascade.specs.declared.shelves.Shelves.{Shelves}
 use Rattle.cascade.specs.Claims.{author, by_default, stated, if_matching, claims, claims_of_element, claims_of_rule, claims_of_rules}
-use Rattle.cascade.specs.Filing.{Heading, of_id, of_class, of_type, of_any, by_id, by_class, by_type, heading, heading_from_right, headings, headings_of_id, shelf, AreShelved, claims_if, claims_at, claims_under}
-use Rattle.cascade.specs.Matching.{some, each, fits_type, has_class, has_id, joined, matches_from, matches}
+use Rattle.cascade.specs.Filing.{Heading, of_id, of_class, of_type, of_any, of_upper_id, of_upper_class, by_first, by_type, heading, heading_above, heading_from_right, headings, headings_of_id, upper_headings, upper_headings_of, shelf, AreShelved, claims_if, claims_at, claims_under}
+use Rattle.cascade.specs.Matching.{some, each, tails, fits_type, has_class, has_id, joined, matches_from, matches}
 use Rattle.cascade.specs.Winners.{winners, winners_in}
+use Rattle.cascade.proofs.Chaining.{joined_above}
 use Rattle.cascade.proofs.SameClaims.{same_winners, keys_tell}
 use Rattle.cascade.proofs.Shelving.{is_there}
 
@@ -55,59 +56,121 @@ and_right : (one other : Bool) → (one && other) ≡ true → other ≡ true
 and_right true other is = is
 and_right false other is = absurd cc
 
+or_none : (one : Bool) → (one || false) ≡ true → one ≡ true
+or_none true is = refl
+or_none false is = is
+
 same_bytes : (one other : List ℕ) → bytes_eq one other ≡ true → one ≡ other
 same_bytes one other is = (bytes_eq-Decides one other).0 is
 
-among_own : (own : List ℕ) (classes : List (List ℕ)) (class : List ℕ) (b : Bool) → bytes_eq class own ≡ b → (b || some (bytes_eq class) classes) ≡ true
-    → (some (bytes_eq class) classes ≡ true → Contains (map of_class classes) (of_class class)) → Contains (of_class own ∷ map of_class classes) (of_class class)
-among_own own classes class true same is later = subst (λ (n : List ℕ). Contains (of_class own ∷ map of_class classes) (of_class n)) (sym (same_bytes class own same)) (first_of (of_class own) (map of_class classes))
-among_own own classes class false same is later = later_of (of_class own) (map of_class classes) (of_class class) (later is)
+among_own : (of : List ℕ → Heading) (own : List ℕ) (classes : List (List ℕ)) (class : List ℕ) (b : Bool) → bytes_eq class own ≡ b → (b || some (bytes_eq class) classes) ≡ true
+    → (some (bytes_eq class) classes ≡ true → Contains (map of classes) (of class)) → Contains (of own ∷ map of classes) (of class)
+among_own of own classes class true same is later = subst (λ (n : List ℕ). Contains (of own ∷ map of classes) (of n)) (sym (same_bytes class own same)) (first_of (of own) (map of classes))
+among_own of own classes class false same is later = later_of (of own) (map of classes) (of class) (later is)
 
-among_classes : (classes : List (List ℕ)) (class : List ℕ) → some (bytes_eq class) classes ≡ true → Contains (map of_class classes) (of_class class)
+among_classes : (of : List ℕ → Heading) (classes : List (List ℕ)) (class : List ℕ) → some (bytes_eq class) classes ≡ true → Contains (map of classes) (of class)
 unfolding some
-among_classes [] class is = absurd cc
-among_classes (own ∷ classes) class is = among_own own classes class (bytes_eq class own) refl is (among_classes classes class)
+among_classes of [] class is = absurd cc
+among_classes of (own ∷ classes) class is = among_own of own classes class (bytes_eq class own) refl is (among_classes of classes class)
+
+id_among : (of : List ℕ → Heading) (own : Option (List ℕ)) (id : List ℕ) → has_id own id ≡ true → Contains (headings_of_id of own) (of id)
+id_among of None id is = absurd cc
+id_among of (Some own) id is = subst (λ (n : List ℕ). Contains (of own ∷ []) (of n)) (sym (same_bytes id own is)) (first_of (of own) [])
 
 abbrev pub headings_with : Tag → Option (List ℕ) → List (List ℕ) → List Heading
-headings_with tag id classes = of_any ∷ of_type (name_of tag) ∷ (headings_of_id id ++ map of_class classes)
+headings_with tag id classes = of_any ∷ of_type (name_of tag) ∷ (headings_of_id of_id id ++ map of_class classes)
 
 class_found : (tag : Tag) (id : Option (List ℕ)) (classes : List (List ℕ)) (class : List ℕ) → some (bytes_eq class) classes ≡ true → Contains (headings_with tag id classes) (of_class class)
 class_found tag id classes class is =
-    later_of of_any (of_type (name_of tag) ∷ (headings_of_id id ++ map of_class classes)) (of_class class)
-    (later_of (of_type (name_of tag)) (headings_of_id id ++ map of_class classes) (of_class class) (Contains-append_right (headings_of_id id) (map of_class classes) (of_class class) (among_classes classes class is)))
-
-id_among : (own : Option (List ℕ)) (id : List ℕ) → has_id own id ≡ true → Contains (headings_of_id own) (of_id id)
-id_among None id is = absurd cc
-id_among (Some own) id is = subst (λ (n : List ℕ). Contains (of_id own ∷ []) (of_id n)) (sym (same_bytes id own is)) (first_of (of_id own) [])
+    later_of of_any (of_type (name_of tag) ∷ (headings_of_id of_id id ++ map of_class classes)) (of_class class)
+    (later_of (of_type (name_of tag)) (headings_of_id of_id id ++ map of_class classes) (of_class class)
+    (Contains-append_right (headings_of_id of_id id) (map of_class classes) (of_class class) (among_classes of_class classes class is)))
 
 id_found : (tag : Tag) (own : Option (List ℕ)) (classes : List (List ℕ)) (id : List ℕ) → has_id own id ≡ true → Contains (headings_with tag own classes) (of_id id)
 id_found tag own classes id is =
-    later_of of_any (of_type (name_of tag) ∷ (headings_of_id own ++ map of_class classes)) (of_id id)
-    (later_of (of_type (name_of tag)) (headings_of_id own ++ map of_class classes) (of_id id) (Contains-append_left (headings_of_id own) (map of_class classes) (of_id id) (id_among own id is)))
+    later_of of_any (of_type (name_of tag) ∷ (headings_of_id of_id own ++ map of_class classes)) (of_id id)
+    (later_of (of_type (name_of tag)) (headings_of_id of_id own ++ map of_class classes) (of_id id) (Contains-append_left (headings_of_id of_id own) (map of_class classes) (of_id id) (id_among of_id own id is)))
 
 type_found : (tag : Tag) (id : Option (List ℕ)) (classes : List (List ℕ)) (name : Option (List ℕ)) → fits_type name tag ≡ true → Contains (headings_with tag id classes) (by_type name)
-type_found tag id classes None is = first_of of_any (of_type (name_of tag) ∷ (headings_of_id id ++ map of_class classes))
+type_found tag id classes None is = first_of of_any (of_type (name_of tag) ∷ (headings_of_id of_id id ++ map of_class classes))
 type_found tag id classes (Some name) is =
     subst (λ (n : List ℕ). Contains (headings_with tag id classes) (of_type n)) (sym (same_bytes name (name_of tag) is))
-    (later_of of_any (of_type (name_of tag) ∷ (headings_of_id id ++ map of_class classes)) (of_type (name_of tag)) (first_of (of_type (name_of tag)) (headings_of_id id ++ map of_class classes)))
+    (later_of of_any (of_type (name_of tag) ∷ (headings_of_id of_id id ++ map of_class classes)) (of_type (name_of tag)) (first_of (of_type (name_of tag)) (headings_of_id of_id id ++ map of_class classes)))
 
-by_class_found : (tag : Tag) (id : Option (List ℕ)) (own : List (List ℕ)) (classes : List (List ℕ)) (other : Heading) → each (has_class own) classes ≡ true → Contains (headings_with tag id own) other
-    → Contains (headings_with tag id own) (by_class classes other)
+-- the first of some names that an element all has, or what counts without them
+by_first_found : (of : List ℕ → Heading) (has : List ℕ → Bool) (names : List (List ℕ)) (all : List Heading) (other : Heading) → each has names ≡ true
+    → ((name : List ℕ) → has name ≡ true → Contains all (of name)) → Contains all other → Contains all (by_first of names other)
 unfolding each
-by_class_found tag id own [] other is has = has
-by_class_found tag id own (class ∷ classes) other is has = class_found tag id own class (and_left (has_class own class) (each (has_class own) classes) is)
+by_first_found of has [] all other is found there = there
+by_first_found of has (name ∷ names) all other is found there = found name (and_left (has name) (each has names) is)
 
-by_id_found : (tag : Tag) (own : Option (List ℕ)) (classes : List (List ℕ)) (ids : List (List ℕ)) (other : Heading) → each (has_id own) ids ≡ true → Contains (headings_with tag own classes) other
-    → Contains (headings_with tag own classes) (by_id ids other)
+-- ---- one to the left fits an element above
+
+-- a heading is among these, or is only the one that counts without the compounds to the left
+abbrev pub StandsAmong : (all : List Heading) → (under other : Heading) → Type 0
+StandsAmong all under other = (under ≡ other) ⊎ Contains all under
+
+stands_first : (of : List ℕ → Heading) (has : List ℕ → Bool) (names : List (List ℕ)) (all : List Heading) (under other : Heading) → each has names ≡ true
+    → ((name : List ℕ) → has name ≡ true → Contains all (of name)) → StandsAmong all under other → StandsAmong all (by_first of names under) other
 unfolding each
-by_id_found tag own classes [] other is has = has
-by_id_found tag own classes (id ∷ ids) other is has = id_found tag own classes id (and_left (has_id own id) (each (has_id own) ids) is)
+stands_first of has [] all under other is found there = there
+stands_first of has (name ∷ names) all under other is found there = inr (found name (and_left (has name) (each has names) is))
+
+stands_further : (first all : List Heading) (under other : Heading) → StandsAmong all under other → StandsAmong (first ++ all) under other
+stands_further first all under other (inl same) = inl same
+stands_further first all under other (inr there) = inr (Contains-append_right first all under there)
+
+one_or_further : (f : List What → Bool) (what : What) (above : List What) (under other : Heading) (b : Bool) → f (what ∷ above) ≡ b → (b || some f (tails above)) ≡ true
+    → (f (what ∷ above) ≡ true → StandsAmong (upper_headings (what ∷ above)) under other) → (some f (tails above) ≡ true → StandsAmong (upper_headings above) under other)
+    → StandsAmong (upper_headings (what ∷ above)) under other
+unfolding upper_headings
+one_or_further f what above under other true this is here further = here this
+one_or_further f what above under other false this is here further = stands_further (upper_headings_of what) (upper_headings above) under other (further is)
+
+among_tails : (f : List What → Bool) (above : List What) (under other : Heading) → ((line : List What) → f line ≡ true → StandsAmong (upper_headings line) under other) → some f (tails above) ≡ true
+    → StandsAmong (upper_headings above) under other
+unfolding some tails
+among_tails f [] under other here is = here [] (or_none (f []) is)
+among_tails f (what ∷ above) under other here is = one_or_further f what above under other (f (what ∷ above)) refl is (here (what ∷ above)) (among_tails f above under other here)
+
+upper_id_found : (id : Option (List ℕ)) (classes : List (List ℕ)) (others : List Heading) (name : List ℕ) → has_id id name ≡ true → Contains ((headings_of_id of_upper_id id ++ map of_upper_class classes) ++ others) (of_upper_id name)
+upper_id_found id classes others name is =
+    Contains-append_left (headings_of_id of_upper_id id ++ map of_upper_class classes) others (of_upper_id name)
+    (Contains-append_left (headings_of_id of_upper_id id) (map of_upper_class classes) (of_upper_id name) (id_among of_upper_id id name is))
+
+upper_class_found : (id : Option (List ℕ)) (classes : List (List ℕ)) (others : List Heading) (name : List ℕ) → has_class classes name ≡ true → Contains ((headings_of_id of_upper_id id ++ map of_upper_class classes) ++ others) (of_upper_class name)
+upper_class_found id classes others name is =
+    Contains-append_left (headings_of_id of_upper_id id ++ map of_upper_class classes) others (of_upper_class name)
+    (Contains-append_right (headings_of_id of_upper_id id) (map of_upper_class classes) (of_upper_class name) (among_classes of_upper_class classes name is))
+
+above_is_found : (left : List Compound) (other : Heading) (line : List What) → matches_from left line ≡ true → StandsAmong (upper_headings line) (heading_above left other) other
+unfolding matches_from heading_above upper_headings
+above_is_found [] other line is = inl refl
+above_is_found (compound ∷ left) other [] is = absurd cc
+above_is_found (compound ∷ left) other (text letters ∷ above) is = absurd cc
+above_is_found (compound ∷ left) other (element tag id classes dir own ∷ above) is =
+    let type_fits = fits_type compound.tag tag in
+    let classes_fit = each (has_class classes) compound.classes in
+    let ids_fit = each (has_id id) compound.ids in
+    let fits : (type_fits && (classes_fit && ids_fit)) ≡ true = and_left (type_fits && (classes_fit && ids_fit)) (joined compound.joint (matches_from left) above) is in
+    let rest : (classes_fit && ids_fit) ≡ true = and_right type_fits (classes_fit && ids_fit) fits in
+    let further = joined_above compound.joint left above (and_right (type_fits && (classes_fit && ids_fit)) (joined compound.joint (matches_from left) above) is) in
+    let first : List Heading = headings_of_id of_upper_id id ++ map of_upper_class classes in
+    stands_first of_upper_id (has_id id) compound.ids (first ++ upper_headings above) _ other (and_right classes_fit ids_fit rest) (upper_id_found id classes (upper_headings above))
+    (stands_first of_upper_class (has_class classes) compound.classes (first ++ upper_headings above) _ other (and_left classes_fit ids_fit rest) (upper_class_found id classes (upper_headings above))
+    (stands_further first (upper_headings above) (heading_above left other) other (among_tails (matches_from left) above (heading_above left other) other (above_is_found left other) further)))
+
+-- ---- so the heading of a rule that matches is one of those of the line
+
+last_or_above : (first above : List Heading) (under other : Heading) → Contains first other → StandsAmong above under other → Contains (first ++ above) under
+last_or_above first above under other has (inl same) = Contains-append_left first above under (subst (λ (h : Heading). Contains first h) (sym same) has)
+last_or_above first above under other has (inr there) = Contains-append_right first above under there
 
 heading_is_found : (compounds : List Compound) (line : List What) → matches_from compounds line ≡ true → Contains (headings line) (heading_from_right compounds)
 unfolding matches_from
 heading_is_found [] [] is = first_of of_any []
-heading_is_found [] (text letters ∷ above) is = first_of of_any []
-heading_is_found [] (element tag id classes dir own ∷ above) is = first_of of_any (of_type (name_of tag) ∷ (headings_of_id id ++ map of_class classes))
+heading_is_found [] (text letters ∷ above) is = first_of of_any (upper_headings above)
+heading_is_found [] (element tag id classes dir own ∷ above) is = first_of of_any ((of_type (name_of tag) ∷ (headings_of_id of_id id ++ map of_class classes)) ++ upper_headings above)
 heading_is_found (compound ∷ left) [] is = absurd cc
 heading_is_found (compound ∷ left) (text letters ∷ above) is = absurd cc
 heading_is_found (compound ∷ left) (element tag id classes dir own ∷ above) is =
@@ -116,8 +179,16 @@ heading_is_found (compound ∷ left) (element tag id classes dir own ∷ above) 
     let ids_fit = each (has_id id) compound.ids in
     let fits : (type_fits && (classes_fit && ids_fit)) ≡ true = and_left (type_fits && (classes_fit && ids_fit)) (joined compound.joint (matches_from left) above) is in
     let rest : (classes_fit && ids_fit) ≡ true = and_right type_fits (classes_fit && ids_fit) fits in
-    by_id_found tag id classes compound.ids (by_class compound.classes (by_type compound.tag)) (and_right classes_fit ids_fit rest)
-    (by_class_found tag id classes compound.classes (by_type compound.tag) (and_left classes_fit ids_fit rest) (type_found tag id classes compound.tag (and_left type_fits (classes_fit && ids_fit) fits)))
+    let further = joined_above compound.joint left above (and_right (type_fits && (classes_fit && ids_fit)) (joined compound.joint (matches_from left) above) is) in
+    let own_ones = headings_with tag id classes in
+    let upper = upper_headings above in
+    let under = heading_above left (by_type compound.tag) in
+    by_first_found of_id (has_id id) compound.ids (own_ones ++ upper) _ (and_right classes_fit ids_fit rest)
+    (λ name has. Contains-append_left own_ones upper (of_id name) (id_found tag id classes name has))
+    (by_first_found of_class (has_class classes) compound.classes (own_ones ++ upper) under (and_left classes_fit ids_fit rest)
+    (λ name has. Contains-append_left own_ones upper (of_class name) (class_found tag id classes name has))
+    (last_or_above own_ones upper under (by_type compound.tag) (type_found tag id classes compound.tag (and_left type_fits (classes_fit && ids_fit) fits))
+    (among_tails (matches_from left) above under (by_type compound.tag) (above_is_found left (by_type compound.tag)) further)))
 
 -- ---- the rules of a list, by their places
 

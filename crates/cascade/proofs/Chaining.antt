@@ -102,7 +102,7 @@ both : (one other : Bool) → (one && other) ≡ true → other ≡ true
 both true other is = is
 both false other is = absurd cc
 
-joined_above : (joint : Joint) (left : List Compound) (above : List What) → joined joint (matches_from left) above ≡ true → some (matches_from left) (tails above) ≡ true
+pub joined_above : (joint : Joint) (left : List Compound) (above : List What) → joined joint (matches_from left) above ≡ true → some (matches_from left) (tails above) ≡ true
 unfolding some tails
 joined_above Child left [] is = rw is refl
 joined_above Child left (what ∷ above) is = rw is refl

@@ -1,5 +1,5 @@
 -- The places of rules on their shelves.
-use Rattle.std.proofs.Common.{◌≡◌, ◌⊎◌, inl, inr, ℕ, nat_eq, ◌+◌, ◌-◌, ◌<◌, ◌≤◌, Bool, true, false, List, [], ◌∷◌, ◌++◌, length, map, get_or, refl, sym, subst, ap, ◌∙◌, cond, bytes_eq, arith, Option, Some, None, option_map, String, Global}
+use Rattle.std.proofs.Common.{◌≡◌, ◌⊎◌, inl, inr, ℕ, nat_eq, ◌+◌, ◌-◌, ◌<◌, ◌≤◌, Bool, true, false, List, [], ◌∷◌, ◌++◌, length, map, take, get_or, refl, sym, subst, ap, ◌∙◌, cond, bytes_eq, arith, Some, None, String, Global, Vec}
 use Rattle.std.specs.Prelude.{slice_get}
 use Rattle.std.specs.String.{string_bytes}
 use Rattle.std.specs.List.{Contains, list_any}
@@ -8,16 +8,15 @@ use Rattle.std.proofs.lemmas.Bool.{eqb-true}
 use Rattle.std.proofs.lemmas.Map.Views.{list_any-from_Contains, Contains-from_any}
 use Rattle.std.proofs.lemmas.Cmp.{nat_eq_equiv}
 use Rattle.std.proofs.lemmas.List.{get_or_default}
-use Rattle.std.proofs.lemmas.Option.{get_or_from_slice_get, slice_get-get_or}
 use Rattle.std.proofs.lemmas.Slice.Eq.{bytes_eq-Decides}
 use Rattle.style_types.specs.declared.rule.Part.{Part}
 use Rattle.style_types.specs.declared.rule.Rule.{Rule}
-use Rattle.style_types.specs.Rule.{compound_of, compounds_of, selector_of}
+use Rattle.style_types.specs.Rule.{Compound, compound_of, compounds_of, selector_of}
 use Rattle.cascade.specs.declared.places.Places.{Places}
 use Rattle.cascade.specs.declared.shelves.Shelves.{Shelves}
-use Rattle.cascade.specs.Filing.{Heading, of_id, of_class, of_type, of_any, by_id, by_class, by_type, heading, heading_from_right, heading_of, shelf, AreShelved, IsPut}
+use Rattle.cascade.specs.Filing.{Heading, of_id, of_class, of_type, of_any, of_upper_id, of_upper_class, by_first, heading, heading_above, heading_from_right, shelf, AreShelved, IsPut}
 use Rattle.cascade.specs.Places.{places_under}
-use Rattle.cascade.proofs.Chaining.{ends_in}
+use Rattle.cascade.proofs.Chaining.{ends_in, from_right, no_parts}
 
 abbrev pub Letters : Type 0
 Letters = String Global
@@ -51,6 +50,8 @@ kept_by_id : (s : Shelves) (new : Places) (id : List ℕ) (place : ℕ) → Puts
 kept_by_id s new id place put (of_id other) p has = kept_under s.by_id new id place put other p has
 kept_by_id s new id place put (of_class other) p has = has
 kept_by_id s new id place put (of_type other) p has = has
+kept_by_id s new id place put (of_upper_id other) p has = has
+kept_by_id s new id place put (of_upper_class other) p has = has
 kept_by_id s new id place put of_any p has = has
 
 pub put_by_id : (s : Shelves) (new : Places) (id : List ℕ) (place : ℕ) → PutsUnder s.by_id id place new → IsPut s (record s { by_id = new }) (of_id id) place
@@ -60,6 +61,8 @@ kept_by_class : (s : Shelves) (new : Places) (class : List ℕ) (place : ℕ) �
 kept_by_class s new class place put (of_id other) p has = has
 kept_by_class s new class place put (of_class other) p has = kept_under s.by_class new class place put other p has
 kept_by_class s new class place put (of_type other) p has = has
+kept_by_class s new class place put (of_upper_id other) p has = has
+kept_by_class s new class place put (of_upper_class other) p has = has
 kept_by_class s new class place put of_any p has = has
 
 pub put_by_class : (s : Shelves) (new : Places) (class : List ℕ) (place : ℕ) → PutsUnder s.by_class class place new → IsPut s (record s { by_class = new }) (of_class class) place
@@ -69,22 +72,47 @@ kept_by_type : (s : Shelves) (new : Places) (name : List ℕ) (place : ℕ) → 
 kept_by_type s new name place put (of_id other) p has = has
 kept_by_type s new name place put (of_class other) p has = has
 kept_by_type s new name place put (of_type other) p has = kept_under s.by_type new name place put other p has
+kept_by_type s new name place put (of_upper_id other) p has = has
+kept_by_type s new name place put (of_upper_class other) p has = has
 kept_by_type s new name place put of_any p has = has
 
 pub put_by_type : (s : Shelves) (new : Places) (name : List ℕ) (place : ℕ) → PutsUnder s.by_type name place new → IsPut s (record s { by_type = new }) (of_type name) place
 put_by_type s new name place put = record { placed = placed_under s.by_type new name place put; kept = kept_by_type s new name place put }
 
-kept_other : (old new : Shelves) (place : ℕ) → new.by_id ≡ old.by_id → new.by_class ≡ old.by_class → new.by_type ≡ old.by_type → new.others.items ≡ old.others.items ++ place ∷ []
-    → (other : Heading) (p : ℕ) → Contains (shelf old other) p → Contains (shelf new other) p
-kept_other old new place ids classes types others (of_id other) p has = subst (λ (places : Places). Contains (places_under places other) p) (sym ids) has
-kept_other old new place ids classes types others (of_class other) p has = subst (λ (places : Places). Contains (places_under places other) p) (sym classes) has
-kept_other old new place ids classes types others (of_type other) p has = subst (λ (places : Places). Contains (places_under places other) p) (sym types) has
-kept_other old new place ids classes types others of_any p has = subst (λ (l : List ℕ). Contains l p) (sym others) (Contains-append_left old.others.items (place ∷ []) p has)
+kept_by_upper_id : (s : Shelves) (new : Places) (id : List ℕ) (place : ℕ) → PutsUnder s.by_upper_id id place new → (other : Heading) (p : ℕ) → Contains (shelf s other) p → Contains (shelf (record s { by_upper_id = new }) other) p
+kept_by_upper_id s new id place put (of_id other) p has = has
+kept_by_upper_id s new id place put (of_class other) p has = has
+kept_by_upper_id s new id place put (of_type other) p has = has
+kept_by_upper_id s new id place put (of_upper_id other) p has = kept_under s.by_upper_id new id place put other p has
+kept_by_upper_id s new id place put (of_upper_class other) p has = has
+kept_by_upper_id s new id place put of_any p has = has
 
-pub put_other : (old new : Shelves) (place : ℕ) → new.by_id ≡ old.by_id → new.by_class ≡ old.by_class → new.by_type ≡ old.by_type → new.others.items ≡ old.others.items ++ place ∷ [] → IsPut old new of_any place
-put_other old new place ids classes types others = record {
-  placed = subst (λ (l : List ℕ). Contains l place) (sym others) (Contains-push old.others.items place);
-  kept = kept_other old new place ids classes types others;
+pub put_by_upper_id : (s : Shelves) (new : Places) (id : List ℕ) (place : ℕ) → PutsUnder s.by_upper_id id place new → IsPut s (record s { by_upper_id = new }) (of_upper_id id) place
+put_by_upper_id s new id place put = record { placed = placed_under s.by_upper_id new id place put; kept = kept_by_upper_id s new id place put }
+
+kept_by_upper_class : (s : Shelves) (new : Places) (class : List ℕ) (place : ℕ) → PutsUnder s.by_upper_class class place new → (other : Heading) (p : ℕ) → Contains (shelf s other) p → Contains (shelf (record s { by_upper_class = new }) other) p
+kept_by_upper_class s new class place put (of_id other) p has = has
+kept_by_upper_class s new class place put (of_class other) p has = has
+kept_by_upper_class s new class place put (of_type other) p has = has
+kept_by_upper_class s new class place put (of_upper_id other) p has = has
+kept_by_upper_class s new class place put (of_upper_class other) p has = kept_under s.by_upper_class new class place put other p has
+kept_by_upper_class s new class place put of_any p has = has
+
+pub put_by_upper_class : (s : Shelves) (new : Places) (class : List ℕ) (place : ℕ) → PutsUnder s.by_upper_class class place new → IsPut s (record s { by_upper_class = new }) (of_upper_class class) place
+put_by_upper_class s new class place put = record { placed = placed_under s.by_upper_class new class place put; kept = kept_by_upper_class s new class place put }
+
+kept_other : (s : Shelves) (new : Vec ℕ Global) (place : ℕ) → new.items ≡ s.others.items ++ place ∷ [] → (other : Heading) (p : ℕ) → Contains (shelf s other) p → Contains (shelf (record s { others = new }) other) p
+kept_other s new place others (of_id other) p has = has
+kept_other s new place others (of_class other) p has = has
+kept_other s new place others (of_type other) p has = has
+kept_other s new place others (of_upper_id other) p has = has
+kept_other s new place others (of_upper_class other) p has = has
+kept_other s new place others of_any p has = subst (λ (l : List ℕ). Contains l p) (sym others) (Contains-append_left s.others.items (place ∷ []) p has)
+
+pub put_other : (s : Shelves) (new : Vec ℕ Global) (place : ℕ) → new.items ≡ s.others.items ++ place ∷ [] → IsPut s (record s { others = new }) of_any place
+put_other s new place others = record {
+  placed = subst (λ (l : List ℕ). Contains l place) (sym others) (Contains-push s.others.items place);
+  kept = kept_other s new place others;
 }
 
 -- ---- the heading of a compound
@@ -93,49 +121,52 @@ no_first : (names : List Letters) → None ≡ slice_get names 0 → names ≡ [
 no_first [] none = refl
 no_first (name ∷ names) none = absurd cc
 
-by_first_id : (names : List Letters) (name : Letters) (other : Heading) → Some name ≡ slice_get names 0 → by_id (map (λ i. string_bytes i) names) other ≡ of_id (string_bytes name)
-by_first_id [] name other is = absurd cc
-by_first_id (first ∷ names) name other is = let same : first ≡ name = cc in ap (λ (n : Letters). of_id (string_bytes n)) same
+first_name : (of : List ℕ → Heading) (names : List Letters) (name : Letters) (other : Heading) → Some name ≡ slice_get names 0 → by_first of (map (λ n. string_bytes n) names) other ≡ of (string_bytes name)
+first_name of [] name other is = absurd cc
+first_name of (first ∷ names) name other is = let same : first ≡ name = cc in ap (λ (n : Letters). of (string_bytes n)) same
 
-by_first_class : (names : List Letters) (name : Letters) (other : Heading) → Some name ≡ slice_get names 0 → by_class (map (λ c. string_bytes c) names) other ≡ of_class (string_bytes name)
-by_first_class [] name other is = absurd cc
-by_first_class (first ∷ names) name other is = let same : first ≡ name = cc in ap (λ (n : Letters). of_class (string_bytes n)) same
+-- the first id of a compound, or else its first class
+abbrev pub by_names : (of_ids of_classes : List ℕ → Heading) → Part → Heading → Heading
+by_names of_ids of_classes part other = by_first of_ids (map (λ i. string_bytes i) part.ids.items) (by_first of_classes (map (λ c. string_bytes c) part.classes.items) other)
 
-abbrev pub as_types : Option Letters → Heading
-as_types tag = by_type (option_map (λ t. string_bytes t) tag)
+pub heading_by_id : (of_ids of_classes : List ℕ → Heading) (part : Part) (other : Heading) (ids : List Letters) (id : Letters) (name : List ℕ) → ids ≡ part.ids.items → Some id ≡ slice_get ids 0 → name ≡ string_bytes id
+    → of_ids name ≡ by_names of_ids of_classes part other
+heading_by_id of_ids of_classes part other ids id name of_part first is =
+    ap of_ids is ∙ sym (first_name of_ids ids id _ first) ∙ ap (λ (l : List Letters). by_first of_ids (map (λ i. string_bytes i) l) (by_first of_classes (map (λ c. string_bytes c) part.classes.items) other)) of_part
 
-pub heading_by_id : (last : Part) (ids : List Letters) (id : Letters) (name : List ℕ) → ids ≡ last.ids.items → Some id ≡ slice_get ids 0 → name ≡ string_bytes id → of_id name ≡ heading_of (compound_of last)
-heading_by_id last ids id name of_last first is =
-    ap of_id is ∙ sym (by_first_id ids id _ first) ∙ ap (λ (l : List Letters). by_id (map (λ i. string_bytes i) l) (by_class (map (λ c. string_bytes c) last.classes.items) (as_types last.tag))) of_last
+without_id : (of_ids of_classes : List ℕ → Heading) (part : Part) (other : Heading) (ids : List Letters) → ids ≡ part.ids.items → None ≡ slice_get ids 0
+    → by_names of_ids of_classes part other ≡ by_first of_classes (map (λ c. string_bytes c) part.classes.items) other
+without_id of_ids of_classes part other ids of_part none =
+    ap (λ (l : List Letters). by_first of_ids (map (λ i. string_bytes i) l) (by_first of_classes (map (λ c. string_bytes c) part.classes.items) other)) (sym of_part ∙ no_first ids none)
 
-without_id : (last : Part) (ids : List Letters) → ids ≡ last.ids.items → None ≡ slice_get ids 0 → heading_of (compound_of last) ≡ by_class (map (λ c. string_bytes c) last.classes.items) (as_types last.tag)
-without_id last ids of_last none =
-    ap (λ (l : List Letters). by_id (map (λ i. string_bytes i) l) (by_class (map (λ c. string_bytes c) last.classes.items) (as_types last.tag))) (sym of_last ∙ no_first ids none)
+pub heading_by_class : (of_ids of_classes : List ℕ → Heading) (part : Part) (other : Heading) (ids classes : List Letters) (class : Letters) (name : List ℕ) → ids ≡ part.ids.items → None ≡ slice_get ids 0
+    → classes ≡ part.classes.items → Some class ≡ slice_get classes 0 → name ≡ string_bytes class → of_classes name ≡ by_names of_ids of_classes part other
+heading_by_class of_ids of_classes part other ids classes class name ids_of_part no_id of_part first is =
+    ap of_classes is ∙ sym (first_name of_classes classes class _ first) ∙ ap (λ (l : List Letters). by_first of_classes (map (λ c. string_bytes c) l) other) of_part
+    ∙ sym (without_id of_ids of_classes part other ids ids_of_part no_id)
 
-pub heading_by_class : (last : Part) (ids classes : List Letters) (class : Letters) (name : List ℕ) → ids ≡ last.ids.items → None ≡ slice_get ids 0
-    → classes ≡ last.classes.items → Some class ≡ slice_get classes 0 → name ≡ string_bytes class → of_class name ≡ heading_of (compound_of last)
-heading_by_class last ids classes class name ids_of_last no_id of_last first is =
-    ap of_class is ∙ sym (by_first_class classes class _ first) ∙ ap (λ (l : List Letters). by_class (map (λ c. string_bytes c) l) (as_types last.tag)) of_last ∙ sym (without_id last ids ids_of_last no_id)
-
-pub heading_by_tag : (last : Part) (ids classes : List Letters) → ids ≡ last.ids.items → None ≡ slice_get ids 0 → classes ≡ last.classes.items → None ≡ slice_get classes 0 → as_types last.tag ≡ heading_of (compound_of last)
-heading_by_tag last ids classes ids_of_last no_id of_last no_class =
-    sym (ap (λ (l : List Letters). by_class (map (λ c. string_bytes c) l) (as_types last.tag)) (sym of_last ∙ no_first classes no_class)) ∙ sym (without_id last ids ids_of_last no_id)
+pub heading_by_other : (of_ids of_classes : List ℕ → Heading) (part : Part) (other : Heading) (ids classes : List Letters) → ids ≡ part.ids.items → None ≡ slice_get ids 0 → classes ≡ part.classes.items → None ≡ slice_get classes 0
+    → other ≡ by_names of_ids of_classes part other
+heading_by_other of_ids of_classes part other ids classes ids_of_part no_id of_part no_class =
+    sym (ap (λ (l : List Letters). by_first of_classes (map (λ c. string_bytes c) l) other) (sym of_part ∙ no_first classes no_class)) ∙ sym (without_id of_ids of_classes part other ids ids_of_part no_id)
 
 -- ---- and of a selector
 
-some_parts : (parts : List Part) (last : Part) → Some last ≡ slice_get parts (length parts - 1) → 1 ≤ length parts
-some_parts [] last is = absurd cc
-some_parts (part ∷ parts) last is = omega arith
+pub heading_of_parts : (parts : List Part) (last : Part) → 1 ≤ length parts → last ≡ get_or parts (length parts - 1) last
+    → heading_from_right (compound_of last ∷ from_right (take (length parts - 1) parts)) ≡ heading (compounds_of parts)
+heading_of_parts parts last le is = sym (ap heading_from_right (ends_in parts last le is))
 
-pub heading_by_last : (parts : List Part) (last : Part) → Some last ≡ slice_get parts (length parts - 1) → heading_of (compound_of last) ≡ heading (compounds_of parts)
-heading_by_last parts last is =
-    sym (ap heading_from_right (ends_in parts last (some_parts parts last is) (sym (get_or_from_slice_get parts (length parts - 1) last last (sym is)))))
+pub heading_of_none : (parts : List Part) → length parts < 1 → of_any ≡ heading (compounds_of parts)
+heading_of_none parts lt = ap (λ (l : List Part). heading (compounds_of l)) (sym (no_parts parts lt))
 
-pub heading_of_none : (parts : List Part) → None ≡ slice_get parts (length parts - 1) → of_any ≡ heading (compounds_of parts)
-heading_of_none [] none = refl
-heading_of_none (part ∷ parts) none =
-    let some = slice_get-get_or (part ∷ parts) (length (part ∷ parts) - 1) part (omega arith) in
-    absurd cc
+pub above_of_parts : (parts : List Part) (last : Part) (other : Heading) → 1 ≤ length parts → last ≡ get_or parts (length parts - 1) last
+    → by_names of_upper_id of_upper_class last (heading_above (from_right (take (length parts - 1) parts)) other) ≡ heading_above (from_right parts) other
+unfolding heading_above
+above_of_parts parts last other le is = sym (ap (λ (left : List Compound). heading_above left other) (ends_in parts last le is))
+
+pub above_of_none : (parts : List Part) (other : Heading) → length parts < 1 → other ≡ heading_above (from_right parts) other
+unfolding heading_above
+above_of_none parts other lt = ap (λ (l : List Part). heading_above (from_right l) other) (sym (no_parts parts lt))
 
 -- ---- the places of all rules
 

@@ -1,4 +1,4 @@
--- Rules under the id, class or type of their last compound.
+-- Rules under an id or a class of their last compound, or one of a compound to its left, or else under a type.
 use Rattle.std.specs.Prelude.{◌≡◌, ℕ, ◌<◌, nat_eq, Bool, true, List, [], ◌∷◌, ◌++◌, map, reverse, get_or, Option, Some, None, slice_get}
 use Rattle.std.specs.List.{Contains, list_any}
 use Rattle.html_tokens.specs.Tag.{name_of}
@@ -17,45 +17,57 @@ pub data Heading : Type 0 where
   of_class : (class : List ℕ) → Heading
   of_type : (name : List ℕ) → Heading
   of_any : Heading
+  -- these an element above it must have
+  of_upper_id : (id : List ℕ) → Heading
+  of_upper_class : (class : List ℕ) → Heading
 
--- ---- the heading of a rule: an id of its last compound, or else a class, or else its type
+-- ---- the heading of a rule: an id of its last compound, or else a class, or else an id or a class of the nearest
+-- compound to its left that has one, or else its type
 
 abbrev pub by_type : Option (List ℕ) → Heading
 by_type None = of_any
 by_type (Some name) = of_type name
 
-abbrev pub by_class : (classes : List (List ℕ)) → Heading → Heading
-by_class [] other = other
-by_class (class ∷ classes) other = of_class class
+-- the first of these names, or what counts where there is none
+abbrev pub by_first : (of : List ℕ → Heading) → (names : List (List ℕ)) → Heading → Heading
+by_first of [] other = other
+by_first of (name ∷ names) other = of name
 
-abbrev pub by_id : (ids : List (List ℕ)) → Heading → Heading
-by_id [] other = other
-by_id (id ∷ ids) other = of_id id
-
-abbrev pub heading_of : Compound → Heading
-heading_of compound = by_id compound.ids (by_class compound.classes (by_type compound.tag))
+-- compounds are listed from right to left
+unfoldable pub heading_above : (left : List Compound) → Heading → Heading
+heading_above [] other = other
+heading_above (compound ∷ left) other = by_first of_upper_id compound.ids (by_first of_upper_class compound.classes (heading_above left other))
 
 abbrev pub heading_from_right : List Compound → Heading
 heading_from_right [] = of_any
-heading_from_right (compound ∷ left) = heading_of compound
+heading_from_right (compound ∷ left) = by_first of_id compound.ids (by_first of_class compound.classes (heading_above left (by_type compound.tag)))
 
 abbrev pub heading : (selector : List Compound) → Heading
 heading selector = heading_from_right (reverse selector)
 
 -- ---- the headings under which an element is looked for
 
-abbrev pub headings_of_id : Option (List ℕ) → List Heading
-headings_of_id None = []
-headings_of_id (Some id) = of_id id ∷ []
+abbrev pub headings_of_id : (of : List ℕ → Heading) → Option (List ℕ) → List Heading
+headings_of_id of None = []
+headings_of_id of (Some id) = of id ∷ []
 
 abbrev pub headings_of : What → List Heading
 headings_of (text letters) = []
-headings_of (element tag id classes dir own) = of_type (name_of tag) ∷ (headings_of_id id ++ map of_class classes)
+headings_of (element tag id classes dir own) = of_type (name_of tag) ∷ (headings_of_id of_id id ++ map of_class classes)
+
+-- those under which what stands below an element is looked for
+abbrev pub upper_headings_of : What → List Heading
+upper_headings_of (text letters) = []
+upper_headings_of (element tag id classes dir own) = headings_of_id of_upper_id id ++ map of_upper_class classes
+
+unfoldable pub upper_headings : (above : List What) → List Heading
+upper_headings [] = []
+upper_headings (what ∷ above) = upper_headings_of what ++ upper_headings above
 
 -- those of the first of a line
 abbrev pub headings : (line : List What) → List Heading
 headings [] = of_any ∷ []
-headings (what ∷ above) = of_any ∷ headings_of what
+headings (what ∷ above) = of_any ∷ (headings_of what ++ upper_headings above)
 
 -- ---- places
 
@@ -64,6 +76,8 @@ shelf shelves (of_id id) = places_under shelves.by_id id
 shelf shelves (of_class class) = places_under shelves.by_class class
 shelf shelves (of_type name) = places_under shelves.by_type name
 shelf shelves of_any = shelves.others.items
+shelf shelves (of_upper_id id) = places_under shelves.by_upper_id id
+shelf shelves (of_upper_class class) = places_under shelves.by_upper_class class
 
 -- a place is put under a heading, and all others stay
 pub record IsPut (old new : Shelves) (under : Heading) (place : ℕ) : Type 0 where

@@ -4,7 +4,7 @@ ghost use Rattle.std.specs.Prelude.{◌≡◌, ◌++◌, length, map, option_map
 ghost use Rattle.std.specs.String.{string_bytes};
 ghost use Rattle.style_types.specs.Rule.{rulings_of};
 ghost use Rattle.dom_store.specs.State.{what_of};
-ghost use Rattle.cascade.specs.Filing.{AreShelved, claims_at, claims_if, claims_under, headings, headings_of, headings_of_id, of_class};
+ghost use Rattle.cascade.specs.Filing.{AreShelved, claims_at, claims_if, claims_under, headings, headings_of, headings_of_id, of_class, of_id, of_upper_class, of_upper_id, upper_headings, upper_headings_of};
 ghost use Rattle.cascade.specs.Line.{whats_of};
 ghost use Rattle.cascade.specs.Sheet.{origin_in};
 
@@ -43,8 +43,77 @@ impl Filed {
         ensures { OnOk result (all.new.items ≡ all.old.items ++ claims_under (origin_in sheet) self.now.rules.items self.now.shelves (headings (whats_of line.now)) (whats_of line.now)) }
     {
         self.put_at(all, sheet, &self.shelves.others, line)?;
-        if let [node, ..] = line {
+        if let [node, above @ ..] = line {
             self.put_of(all, sheet, &node.kind, line)?;
+            self.put_of_above(all, sheet, above, line)?;
+        }
+        Ok(())
+    }
+
+    // Those that are found by the ids and the classes of the elements above.
+    #[tactic(auto, using(crate::proofs::Filing::above_none), unfolding(crate::specs::Filing::upper_headings))]
+    fn put_of_above(
+        &self,
+        all: &mut Vec<Claim>,
+        sheet: Sheet,
+        above: &[&Node],
+        line: &[&Node],
+    ) -> Result<(), AllocError>
+        ensures { OnOk result (all.new.items ≡ all.old.items ++ claims_under (origin_in sheet) self.now.rules.items self.now.shelves (upper_headings (whats_of above.now)) (whats_of line.now)) }
+    {
+        for node in above {
+            self.put_of_upper(all, sheet, &node.kind, line)?;
+        }
+        Ok(())
+    }
+
+    // Those that are found by the id and the classes of one of them.
+    fn put_of_upper(
+        &self,
+        all: &mut Vec<Claim>,
+        sheet: Sheet,
+        kind: &NodeKind,
+        line: &[&Node],
+    ) -> Result<(), AllocError>
+        ensures { OnOk result (all.new.items ≡ all.old.items ++ claims_under (origin_in sheet) self.now.rules.items self.now.shelves (upper_headings_of (what_of kind.now)) (whats_of line.now)) }
+    {
+        match kind {
+            NodeKind::Element { id, classes, .. } => {
+                self.put_of_upper_id(all, sheet, id, line)?;
+                self.put_of_upper_classes(all, sheet, classes, line)?;
+                Ok(())
+            }
+            NodeKind::Text { .. } => Ok(()),
+        }
+    }
+
+    fn put_of_upper_id(
+        &self,
+        all: &mut Vec<Claim>,
+        sheet: Sheet,
+        id: &Option<Letters>,
+        line: &[&Node],
+    ) -> Result<(), AllocError>
+        ensures { OnOk result (all.new.items ≡ all.old.items ++ claims_under (origin_in sheet) self.now.rules.items self.now.shelves (headings_of_id of_upper_id (option_map (λ i. string_bytes i) id.now)) (whats_of line.now)) }
+    {
+        if let Some(id) = id {
+            self.put_at(all, sheet, self.shelves.by_upper_id.under(id), line)?;
+        }
+        Ok(())
+    }
+
+    #[tactic(auto, using(crate::proofs::Filing::classes_none), unfolding(crate::specs::Filing::claims_under))]
+    fn put_of_upper_classes(
+        &self,
+        all: &mut Vec<Claim>,
+        sheet: Sheet,
+        classes: &[Letters],
+        line: &[&Node],
+    ) -> Result<(), AllocError>
+        ensures { OnOk result (all.new.items ≡ all.old.items ++ claims_under (origin_in sheet) self.now.rules.items self.now.shelves (map of_upper_class (map (λ c. string_bytes c) classes.now)) (whats_of line.now)) }
+    {
+        for name in classes {
+            self.put_at(all, sheet, self.shelves.by_upper_class.under(name), line)?;
         }
         Ok(())
     }
@@ -82,7 +151,7 @@ impl Filed {
         id: &Option<Letters>,
         line: &[&Node],
     ) -> Result<(), AllocError>
-        ensures { OnOk result (all.new.items ≡ all.old.items ++ claims_under (origin_in sheet) self.now.rules.items self.now.shelves (headings_of_id (option_map (λ i. string_bytes i) id.now)) (whats_of line.now)) }
+        ensures { OnOk result (all.new.items ≡ all.old.items ++ claims_under (origin_in sheet) self.now.rules.items self.now.shelves (headings_of_id of_id (option_map (λ i. string_bytes i) id.now)) (whats_of line.now)) }
     {
         if let Some(id) = id {
             self.put_at(all, sheet, self.shelves.by_id.under(id), line)?;

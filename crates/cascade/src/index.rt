@@ -64,7 +64,9 @@ fn winners_on(
 }
 
 /// Author's rules made ready for many elements, with the default sheet beside them. For an element it goes only through
-/// the rules whose last compound has an id, or else a class, or else the type of that element, or none of the three.
+/// the rules whose last compound has an id, or else a class of that element. Where it has neither, the nearest compound
+/// to its left that has one must have an id, or else a class of an element above. Where none has one, the last compound
+/// has the element's type, or no type.
 #[derive(Drop)]
 pub struct RuleIndex {
     rules: Filed,

@@ -1,21 +1,25 @@
 //! Places of rules, each where an element that the rule may match looks for it.
 
-ghost use Rattle.std.specs.Prelude.{IfOk, OnOk, length};
-ghost use Rattle.style_types.specs.Rule.{compound_of, selector_of};
-ghost use Rattle.cascade.specs.Filing.{AreShelved, IsPut, heading, heading_of};
+ghost use Rattle.std.specs.Prelude.{◌∷◌, IfOk, OnOk, length, option_map, reverse};
+ghost use Rattle.std.specs.String.{string_bytes};
+ghost use Rattle.style_types.specs.Rule.{compound_of, compounds_of, selector_of};
+ghost use Rattle.cascade.specs.Filing.{AreShelved, IsPut, by_type, heading, heading_above, heading_from_right};
 
 use crate::places::Places;
 use std::alloc::{AllocError, Global};
-use style_types::{Part, Rule, Selector};
+use style_types::{Letters, Part, Rule, Selector};
 
 /// Places of rules. Each stands once: under one of the ids of the rule's last compound, or else under one of its classes,
-/// or else under its type, or else among the others.
+/// or else under an id or a class of the nearest compound to its left that has one, or else under its type, or else among
+/// the others.
 #[derive(Drop)]
 pub(crate) struct Shelves {
     pub(crate) by_id: Places,
     pub(crate) by_class: Places,
     pub(crate) by_type: Places,
     pub(crate) others: Vec<usize>,
+    pub(crate) by_upper_id: Places,
+    pub(crate) by_upper_class: Places,
 }
 
 impl Shelves {
@@ -26,6 +30,8 @@ impl Shelves {
             by_class: Places::new(alloc),
             by_type: Places::new(alloc),
             others: Vec::new(alloc),
+            by_upper_id: Places::new(alloc),
+            by_upper_class: Places::new(alloc),
         }
     }
 
@@ -46,25 +52,70 @@ impl Shelves {
     fn put(&mut self, alloc: Global, selector: &Selector, place: usize) -> Result<(), AllocError>
         ensures { OnOk result (IsPut self.old self.new (heading (selector_of selector.now)) place) }
     {
-        match selector.parts.last() {
-            Some(last) => self.put_by(alloc, last, place)?,
-            None => self.others.push(place)?,
+        let parts: &[Part] = &selector.parts;
+        match parts {
+            [left @ .., last] => self.put_by(alloc, left, last, place)?,
+            [] => self.others.push(place)?,
         }
         Ok(())
     }
 
-    // Puts the place of a rule whose last compound this is.
-    fn put_by(&mut self, alloc: Global, last: &Part, place: usize) -> Result<(), AllocError>
-        ensures { OnOk result (IsPut self.old self.new (heading_of (compound_of last.now)) place) }
+    // Puts the place of a rule with this last compound and those to its left.
+    fn put_by(
+        &mut self,
+        alloc: Global,
+        left: &[Part],
+        last: &Part,
+        place: usize,
+    ) -> Result<(), AllocError>
+        ensures { OnOk result (IsPut self.old self.new (heading_from_right (compound_of last.now ∷ reverse (compounds_of left.now))) place) }
     {
         if let Some(id) = last.ids.first() {
             self.by_id.put(alloc, id, place)?;
         } else if let Some(class) = last.classes.first() {
             self.by_class.put(alloc, class, place)?;
-        } else if let Some(name) = &last.tag {
-            self.by_type.put(alloc, name, place)?;
         } else {
-            self.others.push(place)?;
+            self.put_by_left(alloc, left, &last.tag, place)?;
+        }
+        Ok(())
+    }
+
+    // Puts the place of a rule whose last compound has neither id nor class.
+    fn put_by_left(
+        &mut self,
+        alloc: Global,
+        left: &[Part],
+        tag: &Option<Letters>,
+        place: usize,
+    ) -> Result<(), AllocError>
+        ensures { OnOk result (IsPut self.old self.new (heading_above (reverse (compounds_of left.now)) (by_type (option_map (λ t. string_bytes t) tag.now))) place) }
+    {
+        let [further @ .., nearest] = left else {
+            self.put_by_type(alloc, tag, place)?;
+            return Ok(());
+        };
+        if let Some(id) = nearest.ids.first() {
+            self.by_upper_id.put(alloc, id, place)?;
+        } else if let Some(class) = nearest.classes.first() {
+            self.by_upper_class.put(alloc, class, place)?;
+        } else {
+            self.put_by_left(alloc, further, tag, place)?;
+        }
+        Ok(())
+    }
+
+    // Puts the place of a rule with no id and no class.
+    fn put_by_type(
+        &mut self,
+        alloc: Global,
+        tag: &Option<Letters>,
+        place: usize,
+    ) -> Result<(), AllocError>
+        ensures { OnOk result (IsPut self.old self.new (by_type (option_map (λ t. string_bytes t) tag.now)) place) }
+    {
+        match tag {
+            Some(name) => self.by_type.put(alloc, name, place)?,
+            None => self.others.push(place)?,
         }
         Ok(())
     }
