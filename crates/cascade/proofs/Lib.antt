@@ -13,6 +13,7 @@ pub mod SameClaims
 mod GreatestLaws
 pub mod SaidWinners
 pub mod Shelving
+mod UpperNames
 pub mod Filing
 pub mod Candidates
 mod Examples

@@ -6,4 +6,5 @@ pub mod Line
 pub mod Matching
 pub mod Places
 pub mod Sheet
+pub mod Shelves
 pub mod Winners

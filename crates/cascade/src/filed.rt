@@ -13,13 +13,18 @@ use crate::claims::{Sheet, put_rule_if_matching};
 use crate::shelves::Shelves;
 use dom_store::{Node, NodeKind};
 use std::alloc::{AllocError, Global};
-use style_types::{Letters, Rules};
+use style_types::{Letters, Rule, Rules};
+
+/// How many names a line may have whose rules are looked up at once, without a look at how many they are.
+const FEW: usize = 8;
 
 /// Rules, with the place of each on a shelf.
 #[derive(Drop)]
 pub(crate) struct Filed {
     pub(crate) rules: Rules,
     pub(crate) shelves: Shelves,
+    // What all rules come to, each with its declarations.
+    weight: usize,
 
     ghost are_shelved: { AreShelved shelves rules.items (length rules.items) },
 }
@@ -30,7 +35,12 @@ impl Filed {
         ensures { IfOk result (λ filed. filed.rules ≡ rules) }
     {
         let shelves = Shelves::of(alloc, &rules)?;
-        Ok(Filed { rules, shelves })
+        let weight = weight_of(&rules);
+        Ok(Filed {
+            rules,
+            shelves,
+            weight,
+        })
     }
 
     /// The declarations of all rules that match the first of the line. Those of a rule may stand there more than once.
@@ -206,4 +216,85 @@ impl Filed {
         }
         Ok(())
     }
+
+    /// Whether the rules that are found for a line are fewer than all. A name that stands at many elements of the line, or
+    /// many times at one, finds its rules each time.
+    pub(crate) fn finds_fewer(&self, line: &[&Node]) -> bool {
+        names_of(line) <= FEW || self.left_of(line) > 0
+    }
+
+    // What is left of the weight of all rules when those that are found for the line are taken from it.
+    fn left_of(&self, line: &[&Node]) -> usize {
+        let mut left = self.weight;
+        for node in line {
+            left = self.left_behind(left, &node.kind);
+        }
+        left
+    }
+
+    // The same for the names of one element.
+    fn left_behind(&self, left: usize, kind: &NodeKind) -> usize {
+        match kind {
+            NodeKind::Element { id, classes, .. } => self.left_by(left, id, classes),
+            NodeKind::Text { .. } => left,
+        }
+    }
+
+    fn left_by(&self, left: usize, id: &Option<Letters>, classes: &[Letters]) -> usize {
+        let mut left = match id {
+            Some(id) => {
+                let left = self.without(left, self.shelves.by_id.under(id));
+                self.without(left, self.shelves.by_upper_id.under(id))
+            }
+            None => left,
+        };
+        for name in classes {
+            if left == 0 {
+                break;
+            }
+            left = self.without(left, self.shelves.by_class.under(name));
+            left = self.without(left, self.shelves.by_upper_class.under(name));
+        }
+        left
+    }
+
+    // The rest of a weight without the rules at these places.
+    fn without(&self, left: usize, places: &[usize]) -> usize {
+        let mut left = left;
+        for place in places {
+            if left == 0 {
+                break;
+            }
+            if let Some(rule) = self.rules.get(*place) {
+                left = left.saturating_sub(weight(rule));
+            }
+        }
+        left
+    }
+}
+
+// A rule counts as one more than its declarations.
+fn weight(rule: &Rule) -> usize {
+    rule.declarations.len().saturating_add(1)
+}
+
+fn weight_of(rules: &[Rule]) -> usize {
+    let mut sum: usize = 0;
+    for rule in rules {
+        sum = sum.saturating_add(weight(rule));
+    }
+    sum
+}
+
+// How many ids and classes the elements of a line have together.
+fn names_of(line: &[&Node]) -> usize {
+    let mut count: usize = 0;
+    for node in line {
+        if let NodeKind::Element { id, classes, .. } = &node.kind {
+            count = count
+                .saturating_add(classes.len())
+                .saturating_add(id.is_some() as usize);
+        }
+    }
+    count
 }

@@ -104,8 +104,26 @@ impl RuleIndex {
         Ok(winners)
     }
 
-    // The winners for the first of a line.
+    // The winners for the first of a line: by what is found for it, or by all rules in turn where these are fewer.
     fn winners_on(
+        &self,
+        alloc: Global,
+        line: &[&Node],
+        parent: &Style,
+    ) -> Result<Winners, AllocError>
+        ensures { IfOk result (λ w. w.items ≡ definitions.winners (index_rules self.now) (whats_of line.now) parent.now) }
+    {
+        if self.rules.finds_fewer(line) {
+            let winners = self.winners_found(alloc, line, parent)?;
+            return Ok(winners);
+        }
+        let defaults = &self.defaults.filed.rules;
+        let winners = winners_on(alloc, &self.rules.rules, defaults, line, parent)?;
+        Ok(winners)
+    }
+
+    // The winners by what is found.
+    fn winners_found(
         &self,
         alloc: Global,
         line: &[&Node],

@@ -1,13 +1,47 @@
 //! Places of rules, each where an element that the rule may match looks for it.
 
-ghost use Rattle.std.specs.Prelude.{◌∷◌, IfOk, OnOk, length, option_map, reverse};
+ghost use Rattle.std.specs.Prelude.{◌≡◌, ◌∷◌, IfOk, OnOk, length, option_map, reverse};
 ghost use Rattle.std.specs.String.{string_bytes};
 ghost use Rattle.style_types.specs.Rule.{compound_of, compounds_of, selector_of};
-ghost use Rattle.cascade.specs.Filing.{AreShelved, IsPut, by_type, heading, heading_above, heading_from_right};
+ghost use Rattle.cascade.specs.Filing.{AreShelved, Heading, IsPut, by_first, by_type, heading, heading_above, heading_from_right, of_upper_class, of_upper_id};
+ghost use Rattle.cascade.specs.Shelves.{upper_heading};
 
 use crate::places::Places;
 use std::alloc::{AllocError, Global};
 use style_types::{Letters, Part, Rule, Selector};
+
+// A name that an element above the one that is looked for must have.
+#[derive(Clone, Copy)]
+enum Upper<'a> {
+    Id(&'a Letters),
+    Class(&'a Letters),
+}
+
+// An id or a class of the nearest of these compounds that has one, from the last on.
+fn upper_name(left: &[Part]) -> Option<Upper<'_>>
+    ensures { (other : Heading) → heading_above (reverse (compounds_of left.now)) other ≡ upper_heading result other }
+{
+    let mut left = left;
+    while let [further @ .., nearest] = left {
+        let name = name_in(nearest);
+        if name.is_some() {
+            return name;
+        }
+        left = further;
+    }
+    None
+}
+
+// An id of the compound, or else a class.
+fn name_in(part: &Part) -> Option<Upper<'_>>
+    ensures { (other : Heading) → by_first of_upper_id (compound_of part.now).ids (by_first of_upper_class (compound_of part.now).classes other) ≡ upper_heading result other }
+{
+    match (part.ids.first(), part.classes.first()) {
+        (Some(id), _) => Some(Upper::Id(id)),
+        (None, Some(class)) => Some(Upper::Class(class)),
+        (None, None) => None,
+    }
+}
 
 /// Places of rules. Each stands once: under one of the ids of the rule's last compound, or else under one of its classes,
 /// or else under an id or a class of the nearest compound to its left that has one, or else under its type, or else among
@@ -90,16 +124,10 @@ impl Shelves {
     ) -> Result<(), AllocError>
         ensures { OnOk result (IsPut self.old self.new (heading_above (reverse (compounds_of left.now)) (by_type (option_map (λ t. string_bytes t) tag.now))) place) }
     {
-        let [further @ .., nearest] = left else {
-            self.put_by_type(alloc, tag, place)?;
-            return Ok(());
-        };
-        if let Some(id) = nearest.ids.first() {
-            self.by_upper_id.put(alloc, id, place)?;
-        } else if let Some(class) = nearest.classes.first() {
-            self.by_upper_class.put(alloc, class, place)?;
-        } else {
-            self.put_by_left(alloc, further, tag, place)?;
+        match upper_name(left) {
+            Some(Upper::Id(id)) => self.by_upper_id.put(alloc, id, place)?,
+            Some(Upper::Class(class)) => self.by_upper_class.put(alloc, class, place)?,
+            None => self.put_by_type(alloc, tag, place)?,
         }
         Ok(())
     }

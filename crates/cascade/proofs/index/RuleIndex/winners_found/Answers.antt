@@ -3,7 +3,7 @@ use Rattle.cascade.specs.declared.claim.Claim.{Claim}
 use Rattle.cascade.specs.Line.{whats_of}
 use Rattle.cascade.specs.Winners.{winners_in}
 use Rattle.cascade.proofs.Candidates.{winners_are_same}
-use Rattle.cascade.proofs.index.RuleIndex.winners_on.Goals as goal
+use Rattle.cascade.proofs.index.RuleIndex.winners_found.Goals as goal
 
 pub returns : goal.returns
 returns c =
