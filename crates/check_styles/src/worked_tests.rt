@@ -33,9 +33,11 @@ fn spellings_of_a_margin_compete(rt: HostRuntime) -> Result<(), Fail> {
     Ok(())
 }
 
-/// A document of `body` with this many blocks, each within the one before.
-fn nested(alloc: Global, count: usize) -> Result<String, AllocError> {
-    let mut text = String::from_str(alloc, "<html><body>")?;
+/// A document with this sheet, and in `body` this many blocks, each within the one before.
+fn nested(alloc: Global, sheet: &str, count: usize) -> Result<String, AllocError> {
+    let mut text = String::from_str(alloc, "<html><head><style>")?;
+    text.push_str(sheet)?;
+    text.push_str("</style></head><body>")?;
     for _ in 0..count {
         text.push_str("<div>")?;
     }
@@ -48,7 +50,7 @@ fn nested(alloc: Global, count: usize) -> Result<String, AllocError> {
 
 #[test]
 fn the_deepest_document_has_styles(rt: HostRuntime) -> Result<(), Fail> {
-    let text = nested(rt.alloc(), 62)?;
+    let text = nested(rt.alloc(), "", 62)?;
     let root = style(rt.alloc(), text.as_bytes()).ok().ok_or("styles")?;
     let mut node = &root;
     for _ in 1..64 {
@@ -61,7 +63,7 @@ fn the_deepest_document_has_styles(rt: HostRuntime) -> Result<(), Fail> {
 
 #[test]
 fn a_deeper_document_is_refused(rt: HostRuntime) -> Result<(), Fail> {
-    let text = nested(rt.alloc(), 63)?;
+    let text = nested(rt.alloc(), "", 63)?;
     let refused = style(rt.alloc(), text.as_bytes()).err();
     assert!(rt; matches!(refused, Some(StyleError::Edit(EditError::TooDeep(64)))));
     Ok(())
@@ -75,5 +77,23 @@ fn a_block_in_an_inline_box_is_refused(rt: HostRuntime) -> Result<(), Fail> {
         boxes(rt.alloc(), &root).err(),
         Some(BoxError::BlockInInline(3))
     );
+    Ok(())
+}
+
+/// A search that tries every way to choose the elements above would go some 10^12 ways for the innermost block.
+#[test]
+fn a_selector_that_fails_at_its_first_compound_ends(rt: HostRuntime) -> Result<(), Fail> {
+    let mut sheet = String::from_str(rt.alloc(), "x")?;
+    for _ in 0..15 {
+        sheet.push_str(" div > div div")?;
+    }
+    sheet.push_str("{width:1px}")?;
+    let text = nested(rt.alloc(), sheet.as_str(), 62)?;
+    let root = style(rt.alloc(), text.as_bytes()).ok().ok_or("styles")?;
+    let mut node = &root;
+    for _ in 1..64 {
+        node = node.children.first().ok_or("a node")?;
+    }
+    assert_eq!(rt; node.style.width, Size::Auto);
     Ok(())
 }
