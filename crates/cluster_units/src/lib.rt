@@ -9,4 +9,4 @@ mod text;
 mod unit;
 
 pub use text::units;
-pub use unit::{Unit, UnitKind, Units};
+pub use unit::{Unit, Units};

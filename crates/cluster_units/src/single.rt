@@ -4,10 +4,10 @@ ghost use Rattle.std.specs.Prelude.{◌≡◌, ◌≤◌, pos, ◌≤ℤ◌, uns
 ghost use Rattle.wm_chars.specs.Repertoire.{break_class};
 ghost use Rattle.cluster_units.specs.Unit as spec;
 
+use crate::Unit;
 use crate::cluster::Cluster;
-use crate::{Unit, UnitKind};
 use face_api::Face;
-use style_types::{Combine, Style, TextOrientation};
+use style_types::{Combine, Style, TextOrientation, UnitKind};
 use wm_chars::{BreakClass, Orient, break_class, orientation};
 use wm_modes::WritingMode;
 

@@ -11,10 +11,10 @@ ghost use Rattle.cluster_units.specs.Text.{added, joined, merged, is_combined, A
 use crate::cluster::{Cluster, cluster_at};
 use crate::plain::{is_plain, plain_units};
 use crate::single::unit_of;
-use crate::{Unit, UnitKind, Units};
+use crate::{Unit, Units};
 use face_api::{Face, Faces};
 use std::alloc::{AllocError, Global};
-use style_types::Style;
+use style_types::{Style, UnitKind};
 use unicode_segmentation::UnicodeSegmentation;
 
 /// The units of a text (CSS Writing Modes 4, 5.1 and 9.1; UAX 29): its extended grapheme clusters but for the

@@ -1,19 +1,7 @@
 //! Units: pieces of text that no line divides (CSS Writing Modes 4, 5.1 and 9.1).
 
+use style_types::UnitKind;
 use wm_chars::BreakClass;
-
-/// How a unit stands on its line (CSS Writing Modes 4, 5.1 and 9.1).
-#[derive(Clone, Copy, Debug, PartialEq, Eq)]
-pub enum UnitKind {
-    /// Along the line, in the modes that have no upright text.
-    Along,
-    /// Turned by a quarter, in a vertical line.
-    Turned,
-    /// Upright in a vertical line.
-    Upright,
-    /// A combined run: upright as a whole, its units side by side.
-    Combined,
-}
 
 /// A piece of text that no line divides: a grapheme cluster (UAX 29), or a combined run. Lengths are in units
 /// of 1/64 px.

@@ -1,4 +1,6 @@
 pub mod Defaulting
+pub mod Fragment
+pub mod Glyphs
 pub mod Initial
 pub mod Item
 pub mod Keywords

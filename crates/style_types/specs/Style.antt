@@ -1,6 +1,10 @@
 -- How far the numbers of computed styles reach, and which text is upright. CSS 2, 4.3.2; CSS Writing Modes 4, 5.1.
 use Rattle.std.specs.Prelude.{◌<◌, ◌≤◌, ◌^◌, Bool, true, false, ⊤, ℤ, pos, ◌≤ℤ◌, unsigned_abs}
+use Rattle.wm_modes.specs.declared.mode.WritingMode.{WritingMode}
+use Rattle.wm_modes.specs.declared.mode.WritingMode.TheVariants.{VerticalRl, VerticalLr}
 use Rattle.wm_units.specs.Numbers.{greatest_length}
+use Rattle.style_types.specs.declared.style.Baseline.{Baseline}
+use Rattle.style_types.specs.declared.style.Baseline.TheVariants.{Alphabetic, Central}
 use Rattle.style_types.specs.declared.style.Combine.{Combine}
 use Rattle.style_types.specs.declared.style.Combine.TheVariants as combines
 use Rattle.style_types.specs.declared.style.LineHeight.{LineHeight}
@@ -18,6 +22,17 @@ abbrev pub is_upright : TextOrientation → Bool
 is_upright Mixed = false
 is_upright Upright = true
 is_upright Sideways = false
+
+-- the kind of baseline in vertical lines
+abbrev pub vertical_baseline : TextOrientation → Baseline
+vertical_baseline Sideways = Alphabetic
+vertical_baseline _ = Central
+
+-- the kind of baseline of a paragraph
+abbrev pub baseline_of : WritingMode → TextOrientation → Baseline
+baseline_of VerticalRl orientation = vertical_baseline orientation
+baseline_of VerticalLr orientation = vertical_baseline orientation
+baseline_of _ orientation = Alphabetic
 
 -- a length that is held within the greatest length on both sides of 0
 abbrev pub IsLength : ℤ → Type 0

@@ -1,5 +1,6 @@
 //! The lists of this crate. A contract sees the items of a list, and the bytes of a text.
 
+use crate::fragment::{Fragment, RunUnit};
 use crate::item::Item;
 use crate::property::Property;
 use crate::rule::{Part, Rule};
@@ -32,3 +33,9 @@ pub type Winners = Vec<(Property, Value)>;
 
 /// The items of a paragraph in order.
 pub type Items = Vec<Item>;
+
+/// Fragments in order.
+pub type Fragments = Vec<Fragment>;
+
+/// The units of a run from line-left.
+pub type RunUnits = Vec<RunUnit>;

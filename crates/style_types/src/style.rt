@@ -2,7 +2,7 @@
 
 ghost use Rattle.std.specs.Prelude.{◌≡◌};
 ghost use Rattle.wm_modes.specs.Sides as sides;
-ghost use Rattle.style_types.specs.Style.{is_upright};
+ghost use Rattle.style_types.specs.Style.{baseline_of, is_upright, vertical_baseline};
 
 use wm_modes::{Direction, WritingMode, used_direction};
 
@@ -59,6 +59,13 @@ pub enum Align {
     Left,
     Right,
     Center,
+}
+
+/// Which baseline a paragraph aligns its boxes by (CSS Writing Modes 4, 4.2).
+#[derive(Clone, Copy, Debug, PartialEq, Eq)]
+pub enum Baseline {
+    Alphabetic,
+    Central,
 }
 
 /// A size, margin or padding: a length in units of 1/64 px, or hundredths of a percent. A maximum of none is
@@ -122,6 +129,19 @@ impl Style {
     {
         used_direction(self.mode, self.orientation.is_upright(), self.direction)
     }
+
+    /// The kind of baseline of a paragraph in this style: central in vertical lines, but where text is turned sideways
+    /// (CSS Writing Modes 4, 4.2). Takes no memory.
+    pub fn baseline(&self) -> Baseline
+        ensures { result ≡ baseline_of self.now.mode self.now.orientation }
+    {
+        match self.mode {
+            WritingMode::VerticalRl | WritingMode::VerticalLr => self.orientation.baseline(),
+            WritingMode::HorizontalTb | WritingMode::SidewaysRl | WritingMode::SidewaysLr => {
+                Baseline::Alphabetic
+            }
+        }
+    }
 }
 
 impl TextOrientation {
@@ -131,6 +151,16 @@ impl TextOrientation {
         match self {
             TextOrientation::Upright => true,
             TextOrientation::Mixed | TextOrientation::Sideways => false,
+        }
+    }
+
+    // The kind of baseline in vertical lines.
+    fn baseline(self) -> Baseline
+        ensures { result ≡ vertical_baseline self }
+    {
+        match self {
+            TextOrientation::Sideways => Baseline::Alphabetic,
+            TextOrientation::Mixed | TextOrientation::Upright => Baseline::Central,
         }
     }
 }

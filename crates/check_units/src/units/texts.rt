@@ -1,8 +1,8 @@
 //! Texts by their modes, with their units. The values are from outside: an independent implementation of UAX 29 for
 //! these characters and of the rules of orientation, advance and combining. That CR and LF are one cluster is rule GB3.
 
-use cluster_units::{Unit, UnitKind};
-use style_types::{Combine, TextOrientation};
+use cluster_units::Unit;
+use style_types::{Combine, TextOrientation, UnitKind};
 use wm_chars::BreakClass;
 
 /// A text, its orientation, combining, font size and face, and its units.

@@ -1,0 +1,99 @@
+//! What is seen of units of text: their characters, unit by unit from line-left.
+
+ghost use Rattle.std.specs.Prelude.{◌≡◌, ◌==◌, ◌<◌, [], ◌∷◌, length, slice_index_or, IfOk};
+ghost use Rattle.style_types.specs.Glyphs.{lists_of};
+
+use std::alloc::{AllocError, Global};
+use std::marker::Model;
+use std::slice;
+
+/// The characters of one unit, the base character first.
+pub type Characters = Vec<char>;
+
+/// The characters of units, one entry for each unit from line-left: one unit, or those inside a combined run. Characters
+/// that are mirrored stand as their mirrors. A contract sees the list of the lists. A unit of one character takes no memory.
+#[derive(Debug, Drop)]
+pub struct Glyphs {
+    kept: Kept,
+}
+
+#[derive(Debug, Drop)]
+enum Kept {
+    One(char),
+    Many(Vec<Characters>),
+}
+
+impl Model for Glyphs {
+    ghost use Rattle.std.specs.Prelude.{ℕ, List};
+    ghost use Rattle.style_types.specs.Glyphs.{lists_in};
+
+    ghost Value = { List (List ℕ) };
+
+    ghost view = { λ glyphs. lists_in glyphs.kept };
+}
+
+impl Glyphs {
+    /// One unit of one character.
+    pub fn one(c: char) -> Glyphs
+        ensures { result ≡ (c ∷ []) ∷ [] }
+    {
+        Glyphs { kept: Kept::One(c) }
+    }
+
+    /// Units with these characters.
+    pub fn many(units: Vec<Characters>) -> Glyphs
+        ensures { result ≡ lists_of units.items }
+    {
+        Glyphs {
+            kept: Kept::Many(units),
+        }
+    }
+
+    /// How many units there are.
+    pub fn len(&self) -> usize
+        ensures { result ≡ length self.now }
+    {
+        match &self.kept {
+            Kept::One(_) => 1,
+            Kept::Many(units) => units.len(),
+        }
+    }
+
+    /// Whether there is none.
+    pub fn is_empty(&self) -> bool
+        ensures { result ≡ (length self.now == 0) }
+    {
+        self.len() == 0
+    }
+
+    /// The characters of the unit at this place from line-left.
+    pub fn unit(&self, place: usize) -> &[char]
+        requires { place < length self.now }
+        ensures { result.now ≡ slice_index_or self.now place [] }
+    {
+        match &self.kept {
+            Kept::One(c) => slice::from_ref(c),
+            Kept::Many(units) => &units[place],
+        }
+    }
+
+    /// The same characters once more.
+    pub fn copy(&self, alloc: Global) -> Result<Glyphs, AllocError>
+        ensures { IfOk result (λ own. own ≡ self.now) }
+    {
+        match &self.kept {
+            Kept::One(c) => Ok(Glyphs::one(*c)),
+            Kept::Many(units) => Ok(Glyphs::many(copy_of_units(alloc, units)?)),
+        }
+    }
+}
+
+fn copy_of_units(alloc: Global, units: &[Characters]) -> Result<Vec<Characters>, AllocError>
+    ensures { IfOk result (λ own. lists_of own.items ≡ lists_of units.now) }
+{
+    let mut own = Vec::with_capacity(alloc, units.len())?;
+    for unit in units {
+        own.push(Vec::from_slice(alloc, unit)?)?;
+    }
+    Ok(own)
+}
