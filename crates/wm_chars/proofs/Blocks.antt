@@ -7,7 +7,7 @@ use Rattle.std.proofs.lemmas.List.{get_or_default}
 use Rattle.std.proofs.lemmas.List.Elements.{AllWithin-more}
 use Rattle.wm_chars.specs.Repertoire.{DividesAt}
 use Rattle.wm_chars.specs.declared.rows.Row.{Row}
-use Rattle.wm_chars.specs.declared.rows.TheConstants.{ROWS, ROWS_BEFORE_ASCII, ROWS_BEFORE_BLOCK}
+use Rattle.wm_chars.specs.declared.rows.TheConstants.{ROWS, ROWS_BEFORE_ASCII, ROWS_BEFORE_BLOCK, ROWS_BEFORE_HAN, ROWS_BEFORE_KANA}
 use Rattle.wm_chars.proofs.Ascending.{ends_ascend, the_rows_climb}
 
 -- the first n rows end before the character
@@ -51,6 +51,23 @@ ascii_rows_end c k d inside lt = row_ends c (slice_index_or ROWS_BEFORE_ASCII c 
 pub block_rows_end : (c block k : ℕ) (d : Row) → block < length ROWS_BEFORE_BLOCK → 16 * block ≤ c → k < slice_index_or ROWS_BEFORE_BLOCK block 0 → (slice_index_or ROWS k d).last < c
 block_rows_end c block k d inside le lt =
     let ends : (slice_index_or ROWS k d).last < 16 * block = row_ends (16 * block) (slice_index_or ROWS_BEFORE_BLOCK block 0) ROWS (count_at 16 0 (16 * block) ROWS_BEFORE_BLOCK blocks_are_before block 0 inside (omega arith)) k d lt in
+    omega arith
+
+kana_is_before : end_before 0x3041 ROWS_BEFORE_KANA ROWS ≡ true
+kana_is_before = refl
+
+han_is_before : end_before 0x4E00 ROWS_BEFORE_HAN ROWS ≡ true
+han_is_before = refl
+
+-- and before a character of Kana, or of Han or Hangul
+pub kana_rows_end : (c k : ℕ) (d : Row) → 0x3041 ≤ c → k < ROWS_BEFORE_KANA → (slice_index_or ROWS k d).last < c
+kana_rows_end c k d le lt =
+    let ends : (slice_index_or ROWS k d).last < 0x3041 = row_ends 0x3041 ROWS_BEFORE_KANA ROWS kana_is_before k d lt in
+    omega arith
+
+pub han_rows_end : (c k : ℕ) (d : Row) → 0x4E00 ≤ c → k < ROWS_BEFORE_HAN → (slice_index_or ROWS k d).last < c
+han_rows_end c k d le lt =
+    let ends : (slice_index_or ROWS k d).last < 0x4E00 = row_ends 0x4E00 ROWS_BEFORE_HAN ROWS han_is_before k d lt in
     omega arith
 
 -- the first row that doesn't end before the character

@@ -6,7 +6,9 @@ ghost use Rattle.wm_chars.specs.Repertoire as repertoire;
 ghost use Rattle.wm_chars.specs.declared.rows.TheConstants.{ROWS};
 
 use crate::classes::{BidiClass, BreakClass, Orient};
-use crate::rows::{ROWS, ROWS_BEFORE_ASCII, ROWS_BEFORE_BLOCK, Row};
+use crate::rows::{
+    ROWS, ROWS_BEFORE_ASCII, ROWS_BEFORE_BLOCK, ROWS_BEFORE_HAN, ROWS_BEFORE_KANA, Row,
+};
 
 /// The bidi class of a character (UAX 9, table 4), or None exactly where it isn't in the repertoire.
 #[tactic(auto, unfolding(crate::specs::Repertoire::bidi_class))]
@@ -44,8 +46,8 @@ fn row_of(c: char) -> Option<Row>
     if row.first <= c { Some(row) } else { None }
 }
 
-// How many rows end before the character. In ASCII the search begins with the character's own row, and in the blocks
-// up to Arabic with the block's own rows.
+// How many rows end before the character. In ASCII the search begins with the character's own row, in the blocks
+// up to Arabic with the block's own rows, and in Kana, Han and Hangul with those of their scripts.
 #[inline(always)]
 fn rows_before(c: char) -> usize
     ensures { repertoire.DividesAt c result }
@@ -57,6 +59,20 @@ fn rows_before(c: char) -> usize
     let block = code / 16;
     if block < ROWS_BEFORE_BLOCK.len() {
         return rows_before_from(usize::from(ROWS_BEFORE_BLOCK[block]), c);
+    }
+    rows_before_past_blocks(c)
+}
+
+// The same past the blocks.
+#[inline(always)]
+fn rows_before_past_blocks(c: char) -> usize
+    ensures { repertoire.DividesAt c result }
+{
+    if '\u{4E00}' <= c && c <= '\u{D7A3}' {
+        return rows_before_from(ROWS_BEFORE_HAN, c);
+    }
+    if '\u{3041}' <= c && c <= '\u{30FF}' {
+        return rows_before_from(ROWS_BEFORE_KANA, c);
     }
     rows_before_by_halves(c)
 }

@@ -157,3 +157,9 @@ pub(crate) static ROWS_BEFORE_ASCII: [u8; 128] = [
     23, 23, 23, 23, 23, 23, 23, 23, 23, 24, 25, 26, 27, 27, 27, 28, 28, 28, 28, 28, 28, 28, 28, 28,
     28, 28, 28, 28, 28, 28, 28, 28, 28, 28, 28, 28, 28, 28, 28, 28, 28, 29, 30, 31, 32, 33,
 ];
+
+// How many rows end before Kana, from U+3041 on.
+pub(crate) const ROWS_BEFORE_KANA: usize = 82;
+
+// How many rows end before Han, from U+4E00 on.
+pub(crate) const ROWS_BEFORE_HAN: usize = 85;
