@@ -1,5 +1,6 @@
 pub mod BracketLaws
 pub mod Examples
+pub mod LeftToRight
 pub mod LengthLaws
 pub mod NeutralLaws
 pub mod PairingLaws

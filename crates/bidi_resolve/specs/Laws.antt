@@ -1,7 +1,7 @@
 -- What holds of the rules.
-use Rattle.std.specs.List.{concat}
+use Rattle.std.specs.List.{concat, list_all}
 use Rattle.std.specs.List.Sorted.{IsPermutation}
-use Rattle.std.specs.Prelude.{fold, map, Bool, ⊤, ◌∷◌, ◌≡◌, ◌≢◌, ℕ, ◌+◌, ◌<◌, ◌≤◌, false, List, [], ◌∷◌, ⊤, length, get_or, take, drop, reverse, All}
+use Rattle.std.specs.Prelude.{fold, map, Bool, ⊤, ◌∷◌, ◌≡◌, ◌≢◌, ℕ, ◌+◌, ◌<◌, ◌≤◌, true, false, List, [], ◌∷◌, ⊤, length, get_or, take, drop, replicate, reverse, All}
 use Rattle.wm_chars.specs.declared.classes.BidiClass.{BidiClass}
 use Rattle.wm_chars.specs.declared.classes.BidiClass.TheVariants.{L}
 use Rattle.bidi_explicit.specs.Sequences.{Rises, kept_places}
@@ -11,7 +11,7 @@ use Rattle.bidi_explicit.specs.declared.paragraph.Run.{Run}
 use Rattle.wm_chars.specs.Classes.{is_neutral}
 use Rattle.bidi_resolve.specs.Neutral.{raised}
 use Rattle.bidi_resolve.specs.Passes.{each}
-use Rattle.bidi_resolve.specs.Paragraph.{resolved_from}
+use Rattle.bidi_resolve.specs.Paragraph.{is_left_to_right, paragraph_levels, resolved_from}
 use Rattle.bidi_resolve.specs.Places.{gathered, scattered}
 use Rattle.bidi_resolve.specs.Sequence.{sequence_classes, sequence_levels, resolved, run_classes, run_levels, classes_with, levels_with}
 
@@ -75,3 +75,9 @@ MayComeInTurn = (chars : List ℕ) (originals : List BidiClass) (levels : List �
 -- sequences that together have each place that is kept once are apart
 abbrev pub AreApartWhereTheyCover : Type 0
 AreApartWhereTheyCover = (marks : List Bool) (sequences : List Sequence) → IsPermutation (kept_places marks) (concat (map (λ s. s.places) sequences)) → AreApart sequences
+
+-- ---- text that runs from left to right alone
+
+-- a paragraph of base level 0 in which no class asks for another level has level 0 everywhere, whatever its characters
+abbrev pub LeftToRightHasLevelZero : Type 0
+LeftToRightHasLevelZero = (chars : List ℕ) (classes : List BidiClass) → list_all is_left_to_right classes ≡ true → paragraph_levels chars classes 0 ≡ replicate (length classes) 0

@@ -1,9 +1,9 @@
 -- The resolved levels of a bidi paragraph: all rules of UAX 9 up to I2, in their order.
-use Rattle.std.specs.Prelude.{◌≡◌, ℕ, ◌≤◌, length, List, fold, map, Option}
+use Rattle.std.specs.Prelude.{◌≡◌, ℕ, ◌≤◌, Bool, true, false, length, List, fold, map, Option}
 use Rattle.std.specs.Option.{unwrap_or}
 use Rattle.wm_chars.specs.Repertoire.{bidi_class}
 use Rattle.wm_chars.specs.declared.classes.BidiClass.{BidiClass}
-use Rattle.wm_chars.specs.declared.classes.BidiClass.TheVariants.{ON}
+use Rattle.wm_chars.specs.declared.classes.BidiClass.TheVariants.{L, EN, ES, ET, CS, NSM, B, S, WS, ON}
 use Rattle.bidi_explicit.specs.Explicit.{explicit_levels, explicit_classes, removed_marks}
 use Rattle.bidi_explicit.specs.declared.paragraph.Levels.{Levels}
 use Rattle.bidi_explicit.specs.Base.{base_of}
@@ -41,3 +41,18 @@ text_levels chars base = paragraph_levels chars (classes_of chars) (base_of base
 pub record IsResolvedLevel (base level : ℕ) : Type 0 where
   pub low : base ≤ level
   pub high : level ≤ 126
+
+-- the classes that ask for no level but 0 in a paragraph of base level 0: neither R, AL nor AN, nor what begins or ends
+-- an embedding, an override or an isolate
+abbrev pub is_left_to_right : BidiClass → Bool
+is_left_to_right L = true
+is_left_to_right EN = true
+is_left_to_right ES = true
+is_left_to_right ET = true
+is_left_to_right CS = true
+is_left_to_right NSM = true
+is_left_to_right B = true
+is_left_to_right S = true
+is_left_to_right WS = true
+is_left_to_right ON = true
+is_left_to_right c = false

@@ -1,6 +1,6 @@
 //! Laws of the rules. These functions do nothing: their contracts are the laws.
 
-ghost use Rattle.bidi_resolve.specs.Laws.{AreApartWhereTheyCover, MayComeInTurn, NoNeutralIsLeft, RaiseByTwo, RulesLookAround, StandInside, StayOutside};
+ghost use Rattle.bidi_resolve.specs.Laws.{AreApartWhereTheyCover, LeftToRightHasLevelZero, MayComeInTurn, NoNeutralIsLeft, RaiseByTwo, RulesLookAround, StandInside, StayOutside};
 
 /// At places outside a sequence the classes and levels stay as they were.
 pub fn places_outside_stay()
@@ -36,4 +36,9 @@ pub fn sequences_may_come_in_turn()
 /// The sequences of a paragraph have no place in common, since together they have each place that is kept once.
 pub fn sequences_that_cover_are_apart()
     ensures { AreApartWhereTheyCover }
+{}
+
+/// In a paragraph of base level 0 without R, AL and AN, embeddings, overrides and isolates every level is 0.
+pub fn left_to_right_has_level_zero()
+    ensures { LeftToRightHasLevelZero }
 {}

@@ -7,12 +7,14 @@ ghost use Rattle.bidi_resolve.specs.Paragraph as paragraph;
 ghost use Rattle.bidi_resolve.specs.Paragraph.{AreAsMany, IsResolvedLevel, resolved_from};
 ghost use Rattle.bidi_resolve.specs.Places.{scattered};
 ghost use Rattle.bidi_resolve.specs.Sequence.{run_levels};
+ghost use Rattle.std.specs.List.{list_all};
 ghost use Rattle.std.specs.Prelude.{ℕ, ◌≡◌, ◌<◌, ◌≤◌, All, IfOk, IfSome, length, map};
 
 use crate::places::{level_of, write_levels};
 use crate::sequence::{Scratch, resolve_classes};
 use bidi_explicit::{ClassList, LevelList, Levels, Run, base_of, levels, runs};
 use std::alloc::{AllocError, Global};
+use wm_chars::BidiClass::{B, CS, EN, ES, ET, L, NSM, ON, S, WS};
 use wm_chars::{BidiClass, bidi_class};
 
 /// The resolved levels of a text that is one bidi paragraph, by all rules of UAX 9 up to I2: with this base level, 0 or
@@ -42,8 +44,46 @@ pub fn text_classes(alloc: Global, chars: &[char]) -> Result<ClassList, AllocErr
 
 /// The resolved levels of a bidi paragraph of these characters and classes with this base level, 0 or 1, by the rules
 /// X1 to X10, W1 to W7, N0 to N2, I1 and I2 of UAX 9. The characters count for brackets alone.
-#[tactic(auto, unfolding(crate::specs::Paragraph::paragraph_levels))]
 pub fn paragraph_levels(
+    alloc: Global,
+    chars: &[char],
+    classes: &[BidiClass],
+    base: u8,
+) -> Result<LevelList, AllocError>
+    requires base { base ≤ 1 }
+    requires chars { length chars.now ≡ length classes.now }
+    ensures levels { IfOk result (λ levels. levels.items ≡ paragraph.paragraph_levels chars.now classes.now base) }
+    ensures length { IfOk result (λ levels. length levels.items ≡ length classes.now) }
+    ensures between { IfOk result (λ levels. All (IsResolvedLevel base) levels.items) }
+{
+    if base == 0 && are_left_to_right(classes) {
+        let zeros = Vec::from_elem(alloc, 0, classes.len())?;
+        return Ok(zeros);
+    }
+    by_all_rules(alloc, chars, classes, base)
+}
+
+// Whether the classes of a paragraph of base level 0 ask for no other level.
+fn are_left_to_right(classes: &[BidiClass]) -> bool
+    ensures { result ≡ list_all paragraph.is_left_to_right classes.now }
+{
+    for class in classes {
+        if !is_left_to_right(*class) {
+            return false;
+        }
+    }
+    true
+}
+
+fn is_left_to_right(class: BidiClass) -> bool
+    ensures { result ≡ paragraph.is_left_to_right class }
+{
+    matches!(class, L | EN | ES | ET | CS | NSM | B | S | WS | ON)
+}
+
+// The levels of any paragraph.
+#[tactic(auto, unfolding(crate::specs::Paragraph::paragraph_levels))]
+fn by_all_rules(
     alloc: Global,
     chars: &[char],
     classes: &[BidiClass],
