@@ -10,4 +10,5 @@ pub mod PlaceLaws
 pub mod Seeing
 pub mod SortedPairs
 pub mod TurnLaws
+pub mod Unchanged
 pub mod WeakLaws

@@ -1,8 +1,8 @@
 -- One isolating run sequence by all rules in their order: W1 to W7, then N0 to N2, then I1 and I2 (UAX 9, 3.3.4 to
 -- 3.3.6), in the lists of its whole paragraph.
-use Rattle.std.specs.Prelude.{ℕ, List}
+use Rattle.std.specs.Prelude.{ℕ, Bool, true, false, List}
 use Rattle.wm_chars.specs.declared.classes.BidiClass.{BidiClass}
-use Rattle.wm_chars.specs.declared.classes.BidiClass.TheVariants.{L}
+use Rattle.wm_chars.specs.declared.classes.BidiClass.TheVariants.{L, AL, EN, ES, ET, CS, NSM}
 use Rattle.bidi_explicit.specs.Links.{sequence_of}
 use Rattle.bidi_explicit.specs.Sequences.{Sequence}
 use Rattle.bidi_explicit.specs.declared.paragraph.Levels.{Levels}
@@ -15,6 +15,16 @@ use Rattle.bidi_resolve.specs.Places.{gathered, scattered, run_level}
 -- the classes of a sequence by the rules W1 to W7
 unfoldable pub weak : (sos : BidiClass) → List BidiClass → List BidiClass
 weak sos classes = w7 sos (w6 (w5 (w4 (w3 (w2 sos (w1 sos classes))))))
+
+-- the classes that these rules change: where none of them stands, all stay
+abbrev pub is_changed_by_weak_rules : BidiClass → Bool
+is_changed_by_weak_rules AL = true
+is_changed_by_weak_rules EN = true
+is_changed_by_weak_rules ES = true
+is_changed_by_weak_rules ET = true
+is_changed_by_weak_rules CS = true
+is_changed_by_weak_rules NSM = true
+is_changed_by_weak_rules c = false
 
 -- and by N0 to N2
 unfoldable pub resolved : (level : ℕ) → (sos eos : BidiClass) → (chars : List ℕ) → (originals classes : List BidiClass) → List BidiClass

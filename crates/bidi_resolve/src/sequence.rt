@@ -1,8 +1,12 @@
 //! One isolating run sequence by all rules (UAX 9, 3.3.4 to 3.3.6).
 
 ghost use Rattle.bidi_resolve.specs.Places.{gathered, run_level};
+ghost use Rattle.bidi_resolve.specs.Brackets as brackets;
+ghost use Rattle.bidi_resolve.specs.Neutral as neutrals;
 ghost use Rattle.bidi_resolve.specs.Sequence as sequence;
+ghost use Rattle.std.specs.List.{list_any};
 ghost use Rattle.std.specs.Prelude.{◌≡◌, ◌<◌, ◌≤◌, All, IfOk, OnErr, OnOk, length, slice_index};
+ghost use Rattle.wm_chars.specs.Classes.{is_neutral};
 ghost use Rattle.wm_chars.specs.declared.classes.BidiClass.TheVariants.{L};
 
 use crate::brackets::n0;
@@ -13,6 +17,7 @@ use crate::weak::{w1, w2, w3, w4, w5, w6, w7};
 use bidi_explicit::{ClassList, Levels, Run};
 use std::alloc::{AllocError, Global};
 use wm_chars::BidiClass;
+use wm_chars::BidiClass::{AL, CS, EN, ES, ET, NSM};
 
 /// Resolves one isolating run sequence (UAX 9, 3.3.4 to 3.3.6): the rules W1 to W7, N0 to N2, I1 and I2. The
 /// characters and each list in `levels` have one length, and the places of the sequence stand below it and have
@@ -107,22 +112,38 @@ fn rules(
     ensures { IfOk result (λ _. classes.new ≡ sequence.resolved level run.now.sos run.now.eos (gathered 0 chars.now run.now.places.items) (gathered L originals.now run.now.places.items) classes.old) }
 {
     weak(classes, run.sos);
-    n0(
-        pairing,
-        classes,
-        originals,
-        chars,
-        &run.places,
-        level,
-        run.sos,
-    )?;
-    n1_n2(classes, level, run.sos, run.eos);
-    Ok(())
+    neutral(pairing, classes, originals, chars, level, run)
 }
 
-// W1 to W7.
-#[tactic(auto, unfolding(crate::specs::Sequence::weak))]
+// W1 to W7, where there is a class that they change.
+#[tactic(auto, using(crate::proofs::Unchanged::weak_same))]
 fn weak(classes: &mut [BidiClass], sos: BidiClass)
+    ensures { classes.new ≡ sequence.weak sos classes.old }
+{
+    if has_weak(classes) {
+        weak_rules(classes, sos);
+    }
+}
+
+fn has_weak(classes: &[BidiClass]) -> bool
+    ensures { result ≡ list_any sequence.is_changed_by_weak_rules classes.now }
+{
+    for class in classes {
+        if is_changed_by_weak_rules(*class) {
+            return true;
+        }
+    }
+    false
+}
+
+fn is_changed_by_weak_rules(class: BidiClass) -> bool
+    ensures { result ≡ sequence.is_changed_by_weak_rules class }
+{
+    matches!(class, AL | EN | ES | ET | CS | NSM)
+}
+
+#[tactic(auto, unfolding(crate::specs::Sequence::weak))]
+fn weak_rules(classes: &mut [BidiClass], sos: BidiClass)
     ensures { classes.new ≡ sequence.weak sos classes.old }
 {
     w1(classes, sos);
@@ -132,4 +153,45 @@ fn weak(classes: &mut [BidiClass], sos: BidiClass)
     w5(classes);
     w6(classes);
     w7(classes, sos);
+}
+
+// N0 to N2, where there is a neutral.
+#[tactic(auto, using(crate::proofs::Unchanged::neutral_same))]
+fn neutral(
+    pairing: &mut Pairing,
+    classes: &mut [BidiClass],
+    originals: &[BidiClass],
+    chars: &[char],
+    level: u8,
+    run: &Run,
+) -> Result<(), AllocError>
+    requires places { length run.now.places.items ≡ length classes.old }
+    requires chars { All (λ place. place < length chars.now) run.now.places.items }
+    requires originals { length originals.now ≡ length chars.now }
+    ensures { IfOk result (λ _. classes.new ≡ neutrals.n2 level (neutrals.n1 run.now.sos run.now.eos (brackets.n0 level run.now.sos (gathered 0 chars.now run.now.places.items) (gathered L originals.now run.now.places.items) classes.old))) }
+{
+    if has_neutral(classes) {
+        n0(
+            pairing,
+            classes,
+            originals,
+            chars,
+            &run.places,
+            level,
+            run.sos,
+        )?;
+        n1_n2(classes, level, run.sos, run.eos);
+    }
+    Ok(())
+}
+
+fn has_neutral(classes: &[BidiClass]) -> bool
+    ensures { result ≡ list_any is_neutral classes.now }
+{
+    for class in classes {
+        if class.is_neutral() {
+            return true;
+        }
+    }
+    false
 }
