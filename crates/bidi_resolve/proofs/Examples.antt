@@ -2,7 +2,7 @@
 use Rattle.std.specs.Prelude.{◌≡◌, refl, [], ◌∷◌, Some, None}
 use Rattle.wm_chars.specs.Pairs.{bracket}
 use Rattle.wm_chars.specs.Repertoire.{bidi_class, row_of}
-use Rattle.wm_chars.specs.declared.classes.BidiClass.TheVariants.{L, R, AL, EN, ES, ET, AN, CS, NSM, S, WS, ON, LRI, PDI}
+use Rattle.wm_chars.specs.declared.classes.BidiClass.TheVariants.{L, R, AL, EN, ES, ET, AN, CS, NSM, B, S, WS, ON, LRI, PDI}
 use Rattle.bidi_explicit.specs.Explicit.{explicit_levels, explicit_classes}
 use Rattle.bidi_explicit.specs.Sequences.{isolating_runs}
 use Rattle.bidi_resolve.specs.Brackets.{n0}
@@ -95,3 +95,12 @@ arabic_digit = refl
 first_strong : text_levels (0x2068 ∷ 0x61 ∷ 0x2069 ∷ 0x28 ∷ 0x5D0 ∷ 0x29 ∷ []) None ≡ (1 ∷ 2 ∷ 1 ∷ 1 ∷ 1 ∷ 1 ∷ [])
 unfolding bidi_class row_of bracket weak resolved sequence_classes sequence_levels explicit_levels explicit_classes isolating_runs paragraph_levels text_levels
 first_strong = refl
+
+-- text from left to right alone, with brackets, numbers and marks, and with an Arabic number
+left_to_right : paragraph_levels (0x28 ∷ 0x31 ∷ 0x2B ∷ 0x32 ∷ 0x25 ∷ 0x29 ∷ 0x301 ∷ 0x0A ∷ 0x09 ∷ 0x20 ∷ 0x2C ∷ []) (ON ∷ EN ∷ ES ∷ EN ∷ ET ∷ ON ∷ NSM ∷ B ∷ S ∷ WS ∷ CS ∷ []) 0 ≡ (0 ∷ 0 ∷ 0 ∷ 0 ∷ 0 ∷ 0 ∷ 0 ∷ 0 ∷ 0 ∷ 0 ∷ 0 ∷ [])
+unfolding bracket weak resolved sequence_classes sequence_levels explicit_levels explicit_classes isolating_runs paragraph_levels
+left_to_right = refl
+
+an_arabic_number : paragraph_levels (0x61 ∷ 0x661 ∷ 0x28 ∷ []) (L ∷ AN ∷ ON ∷ []) 0 ≡ (0 ∷ 2 ∷ 0 ∷ [])
+unfolding bracket weak resolved sequence_classes sequence_levels explicit_levels explicit_classes isolating_runs paragraph_levels
+an_arabic_number = refl
