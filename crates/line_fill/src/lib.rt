@@ -1,0 +1,15 @@
+//! Where the lines of a paragraph end, and how narrow and how wide its content can be (CSS Text 3, 4.1.3 and 5.1;
+//! CSS Sizing 3, 2.1).
+#![tactic(auto)]
+
+mod ahead;
+mod filling;
+mod item;
+mod sizes;
+mod sums;
+mod widest;
+
+pub use filling::{Lines, fill};
+pub use item::{FillItem, Intrinsic};
+pub use sizes::intrinsic;
+pub use sums::Sums;
