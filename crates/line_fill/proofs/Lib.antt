@@ -1,5 +1,6 @@
 pub mod Ending
 pub mod Examples
+pub mod LawsOfLines
 pub mod Lengths
 pub mod Lining
 pub mod Reaching

@@ -5,6 +5,7 @@
 mod ahead;
 mod filling;
 mod item;
+pub mod laws;
 mod sizes;
 mod sums;
 mod widest;
