@@ -1,7 +1,7 @@
 pub mod Ending
 pub mod Examples
-pub mod LawsOfLines
 pub mod Lengths
+pub mod LineLaws
 pub mod Lining
 pub mod Reaching
 pub mod Summing

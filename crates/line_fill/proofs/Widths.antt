@@ -153,7 +153,7 @@ place_more items i d inside =
     let a = advances_append (take i items) (x ∷ []) in
     let s = solid_last (take i items) x in
     let s' : solid (take i items ++ x ∷ []) ≡ solid_after x.space (solid (take i items)) (suc i) = rw l at s in
-    rw t (place_is _ _ _ (place_before' (take i items ++ x ∷ [])) (omega (arith, ints)) (omega (arith, ints)) (sym s'))
+    rw t (place_is _ _ _ (place_told_by (take i items ++ x ∷ [])) (omega (arith, ints)) (omega (arith, ints)) (sym s'))
   where
-    place_before' : List FillItem → Place
-    place_before' xs = record { edges = edges xs; advances = advances xs; solid = solid xs }
+    place_told_by : List FillItem → Place
+    place_told_by xs = record { edges = edges xs; advances = advances xs; solid = solid xs }

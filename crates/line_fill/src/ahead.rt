@@ -1,7 +1,7 @@
 //! What a line can still reach from a place on, told by two lengths. Edges may come to less than 0, so that a line that
 //! doesn't fit up to some place may fit up to a later one.
 
-ghost use Rattle.std.specs.Prelude.{◌≡◌, ◌≤◌, ◌<◌, ◌^◌, length, IfOk, unsigned_abs, ◌||◌, ◌-ℤ◌, ◌+ℤ◌};
+ghost use Rattle.std.specs.Prelude.{◌≡◌, ◌≤◌, ◌<◌, ◌^◌, length, IfOk, unsigned_abs};
 ghost use Rattle.line_fill.specs.Ahead.{AreAhead, IsNearAhead, Within, with_end, behind, lesser, moved, is_within, break_at};
 ghost use Rattle.line_fill.specs.Sums.{StandFor};
 

@@ -1,6 +1,6 @@
 //! The lines of a paragraph (CSS Text 3, 5.1).
 
-ghost use Rattle.std.specs.Prelude.{◌≡◌, ◌+◌, ◌≤◌, ◌<◌, ◌^◌, length, IfOk, ℕ, List};
+ghost use Rattle.std.specs.Prelude.{◌≡◌, ◌+◌, ◌≤◌, ◌<◌, ◌^◌, length, IfOk};
 ghost use Rattle.std.specs.List.{list_any};
 ghost use Rattle.line_fill.specs.Item.{spread};
 ghost use Rattle.line_fill.specs.Ahead.{AreAhead};
@@ -41,7 +41,8 @@ impl Lines {
 
 /// The lines of a paragraph in so much room, in units of 1/64 px (CSS Text 3, 5.1), and counts one step. A line ends at the
 /// last place where a break is allowed and up to which it fits, else at the first where one is allowed, and never
-/// behind a forced break. All lengths, without their signs, come to at most 2^60.
+/// behind a forced break. All lengths, without their signs, come to at most 2^60. Each item is looked at three times,
+/// whatever the lengths are.
 pub fn fill<M: Ledger>(
     alloc: Global,
     items: &[FillItem],
