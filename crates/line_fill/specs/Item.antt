@@ -1,4 +1,4 @@
--- How wide pieces of a paragraph are. CSS Text 3, 4.1.3: spaces at the end of a line hang, so their advances don't count;
+-- How wide pieces of a paragraph are. CSS Text 3, 4.1: spaces at the end of a line hang, so their advances don't count;
 -- the edges of boxes that begin or end with them do.
 use Rattle.std.specs.Prelude.{Bool, true, false, ℕ, zero, suc, ◌+◌, List, [], ◌∷◌, drop, ℤ, pos, ◌+ℤ◌, ◌-ℤ◌, unsigned_abs}
 use Rattle.std.specs.List.{slice_range, sum_by}

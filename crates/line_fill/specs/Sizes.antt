@@ -1,4 +1,4 @@
--- Intrinsic sizes. CSS Sizing 3, 2.1: the max-content size is that of the widest piece between forced breaks, the
+-- Intrinsic sizes. CSS 2, 10.3.5: the max-content size is that of the widest piece between forced breaks, the
 -- min-content size that of the widest piece between any breaks.
 use Rattle.std.specs.Prelude.{Bool, true, false, List, [], ◌∷◌, ℤ, pos}
 use Rattle.std.specs.Int.{int_max}

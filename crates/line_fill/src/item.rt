@@ -18,7 +18,7 @@ pub struct FillItem {
     pub end: Breaking,
 }
 
-/// The intrinsic sizes of a paragraph (CSS Sizing 3, 2.1), each from 0 to 2^32 units of 1/64 px.
+/// The intrinsic sizes of a paragraph (CSS 2, 10.3.5), each from 0 to 2^32 units of 1/64 px.
 #[derive(Clone, Copy, Debug, PartialEq, Eq)]
 pub struct Intrinsic {
     /// The min-content size: with every break taken.

@@ -1,5 +1,5 @@
-//! Where the lines of a paragraph end, and how narrow and how wide its content can be (CSS Text 3, 4.1.3 and 5.1;
-//! CSS Sizing 3, 2.1).
+//! Where the lines of a paragraph end, and how narrow and how wide its content can be (CSS Text 3, 4.1 and 5.1; CSS 2,
+//! 10.3.5).
 #![tactic(auto)]
 
 mod ahead;

@@ -1,4 +1,4 @@
-//! The intrinsic sizes of a paragraph (CSS Sizing 3, 2.1).
+//! The intrinsic sizes of a paragraph (CSS 2, 10.3.5).
 
 ghost use Rattle.std.specs.Prelude.{◌≡◌, ◌≤◌, ◌^◌};
 ghost use Rattle.line_fill.specs.Item.{spread};
@@ -9,7 +9,7 @@ use crate::{FillItem, Intrinsic};
 use style_types::Breaking;
 use wm_units::cap_size;
 
-/// The min-content and the max-content size of a paragraph (CSS Sizing 3, 2.1): the width of its widest piece between any
+/// The min-content and the max-content size of a paragraph (CSS 2, 10.3.5): the width of its widest piece between any
 /// breaks, and between forced ones. Both are held within 0 and 2^32 units; a paragraph without items has 0. Takes no
 /// memory. All lengths, without their signs, come to at most 2^60.
 pub fn intrinsic(items: &[FillItem]) -> Intrinsic

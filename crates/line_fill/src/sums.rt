@@ -1,4 +1,4 @@
-//! Sums over the items of a paragraph, which tell the width of any piece of it (CSS Text 3, 4.1.3).
+//! Sums over the items of a paragraph, which tell the width of any piece of it (CSS Text 3, 4.1).
 
 ghost use Rattle.std.specs.Prelude.{◌≡◌, ◌+◌, ◌≤◌, ◌<◌, ◌^◌, length, IfOk, List, max, take, unsigned_abs, ◌+ℤ◌};
 ghost use Rattle.line_fill.specs.declared.item.FillItem.{FillItem};
@@ -59,7 +59,7 @@ impl Sums {
     }
 
     /// How wide a piece of the paragraph is, from one place up to another: its edges and advances, without the advances of
-    /// the spaces at its end (CSS Text 3, 4.1.3).
+    /// the spaces at its end (CSS Text 3, 4.1).
     pub fn width(&self, from: usize, to: usize) -> i64
         requires order { from ≤ to }
         requires within { to < length self.now }

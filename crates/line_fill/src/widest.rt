@@ -1,4 +1,4 @@
-//! The widest of the pieces that a paragraph is cut into (CSS Sizing 3, 2.1).
+//! The widest of the pieces that a paragraph is cut into (CSS 2, 10.3.5).
 
 ghost use Rattle.std.specs.Prelude.{◌≡◌, ◌≤◌, ◌+◌, ◌^◌, pos};
 ghost use Rattle.std.specs.Int.{int_max};
