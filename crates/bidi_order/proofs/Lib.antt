@@ -1,5 +1,6 @@
 pub mod AllLevels
 pub mod Examples
+pub mod FilterMap
 pub mod LeavingOut
 pub mod LineLaws
 pub mod Resets

@@ -1,3 +1,4 @@
+pub mod Visual
 pub mod Blanks
 pub mod Laws
 pub mod Line

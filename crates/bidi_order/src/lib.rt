@@ -8,9 +8,11 @@ mod line;
 mod paragraph;
 mod places;
 mod reversals;
+mod visual;
 
 pub use blanks::reset;
 pub use line::line_order;
 pub use paragraph::{BidiParagraph, text_line_order};
 pub use places::Order;
 pub use reversals::order;
+pub use visual::visual_order;

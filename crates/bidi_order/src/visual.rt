@@ -1,0 +1,100 @@
+//! The visual order of a line's items, where what stands between two of them and is no item parts them (UAX 9, X9 and
+//! L2).
+
+ghost use Rattle.std.specs.Prelude.{◌≡◌, ◌<◌, ◌++◌, [], ◌∷◌, Some, None, length, map, slice_index_or, All, IfOk, OnOk};
+ghost use Rattle.std.specs.List.{filter_map};
+ghost use Rattle.bidi_order.specs.Visual.{parting, seat, seats, visual_order, within_line};
+
+use crate::places::Order;
+use crate::reversals::order;
+use std::alloc::{AllocError, Global};
+
+// A place of the list that L2 orders, with its level: an item, or what parts two items.
+#[derive(Clone, Copy)]
+struct Seat {
+    level: u8,
+    item: Option<usize>,
+}
+
+type Seats = Vec<Seat>;
+
+/// The places of a line's items from left to right, by their levels after L1. `aparts` has for each item the least level of
+/// the bidi controls between it and the item before it that X9 leaves in the line, or none; that of the first item of a
+/// line counts nothing. L2 orders the list in which these levels stand between the items; they are then left out.
+#[tactic(auto, unfolding(crate::specs::Visual::visual_order))]
+pub fn visual_order(
+    alloc: Global,
+    levels: &[u8],
+    aparts: &[Option<u8>],
+) -> Result<Order, AllocError>
+    requires { length levels.now ≡ length aparts.now }
+    ensures { IfOk result (λ places. places.items ≡ visual_order levels.now aparts.now) }
+{
+    let seats = seats(alloc, levels, aparts)?;
+    let own = seat_levels(alloc, &seats)?;
+    let order = order(alloc, &own)?;
+    let places = items_of(alloc, &seats, &order)?;
+    Ok(places)
+}
+
+fn seats(alloc: Global, levels: &[u8], aparts: &[Option<u8>]) -> Result<Seats, AllocError>
+    requires { length levels.now ≡ length aparts.now }
+    ensures { IfOk result (λ made. made.items ≡ seats levels.now aparts.now) }
+{
+    let mut seats = Vec::with_capacity(alloc, levels.len())?;
+    for i in 0..levels.len() {
+        add_seat(&mut seats, apart_within(aparts, i), levels[i], i)?;
+    }
+    Ok(seats)
+}
+
+// What parts the item from the one before it on the line.
+fn apart_within(aparts: &[Option<u8>], i: usize) -> Option<u8>
+    requires { i < length aparts.now }
+    ensures { result ≡ slice_index_or (within_line aparts.now) i None }
+{
+    if i == 0 { None } else { aparts[i] }
+}
+
+fn add_seat(seats: &mut Seats, apart: Option<u8>, level: u8, item: usize) -> Result<(), AllocError>
+    ensures { OnOk result (seats.new.items ≡ seats.old.items ++ parting apart (seat level (Some item) ∷ [])) }
+{
+    if let Some(apart) = apart {
+        seats.push(Seat {
+            level: apart,
+            item: None,
+        })?;
+    }
+    seats.push(Seat {
+        level,
+        item: Some(item),
+    })?;
+    Ok(())
+}
+
+fn seat_levels(alloc: Global, seats: &[Seat]) -> Result<Vec<u8>, AllocError>
+    ensures { IfOk result (λ levels. levels.items ≡ map (λ seat. seat.level) seats.now) }
+{
+    seats.iter().map(|seat| seat.level).collect(alloc)
+}
+
+// The items alone, in this order of the seats.
+fn items_of(alloc: Global, seats: &[Seat], order: &[usize]) -> Result<Order, AllocError>
+    requires { All (λ p. p < length seats.now) order.now }
+    ensures { IfOk result (λ places. places.items ≡ filter_map (λ p. (slice_index_or seats.now p (seat 0 None)).item) order.now) }
+{
+    let mut places = Vec::with_capacity(alloc, order.len())?;
+    for place in order {
+        add_item(&mut places, seats[*place].item)?;
+    }
+    Ok(places)
+}
+
+fn add_item(places: &mut Order, item: Option<usize>) -> Result<(), AllocError>
+    ensures { OnOk result (places.new.items ≡ places.old.items ++ filter_map (λ x. x) (item ∷ [])) }
+{
+    if let Some(place) = item {
+        places.push(place)?;
+    }
+    Ok(())
+}
