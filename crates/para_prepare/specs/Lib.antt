@@ -1,0 +1,17 @@
+pub mod BidiParagraphs
+pub mod BidiText
+pub mod Boxes
+pub mod Breaks
+pub mod Content
+pub mod Glyph
+pub mod Inside
+pub mod Items
+pub mod Kept
+pub mod Limits
+pub mod Marker
+pub mod Parts
+pub mod Preparation
+pub mod Reach
+pub mod Standing
+pub mod Views
+pub mod White

@@ -1,0 +1,8 @@
+//! Characters of a paragraph that are kept.
+
+/// A kept character, and its place in its node's whole text.
+#[derive(Clone, Copy)]
+pub(crate) struct Letter {
+    pub(crate) place: usize,
+    pub(crate) char: char,
+}

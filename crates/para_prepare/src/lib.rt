@@ -1,0 +1,25 @@
+//! The text of a paragraph, prepared for its lines: kept white space (CSS Text 3, 4.1), units and combined runs (CSS
+//! Writing Modes 4), bidi levels (UAX 9), places where lines may end.
+#![tactic(auto)]
+
+mod bidi_paragraphs;
+mod bidi_text;
+mod boxes;
+mod breaks;
+mod classes;
+mod content;
+mod inside;
+mod item;
+mod items;
+mod kept;
+mod letter;
+mod marker;
+mod parts;
+mod preparation;
+mod standing;
+mod text;
+mod white;
+
+pub use breaks::BreakList;
+pub use item::{PreparedContent, PreparedItem, PreparedItems};
+pub use preparation::{Paragraph, Prepared, prepare};

@@ -1,0 +1,216 @@
+//! A paragraph that is prepared for its lines: all of it that hangs on no width.
+
+ghost use Rattle.std.specs.Prelude.{◌≡◌, ◌+◌, ◌≤◌, length, All, IfOk, IfSome};
+ghost use Rattle.face_api.specs.Faces.{faces_of};
+ghost use Rattle.style_types.specs.Item.{entries_of};
+ghost use Rattle.para_prepare.specs.Boxes.{taking_part};
+ghost use Rattle.para_prepare.specs.Limits.{HasFontSize, text_bytes};
+ghost use Rattle.para_prepare.specs.Parts.{raws};
+ghost use Rattle.para_prepare.specs.Preparation as spec;
+ghost use Rattle.para_prepare.specs.Preparation.{AreFrom, HasBounds, preparation};
+ghost use Rattle.para_prepare.specs.Standing.{IsStanding};
+ghost use Rattle.para_prepare.specs.Views.{HasSize, IsPart, IsPlaced, parts_of};
+
+use crate::bidi_paragraphs::{Reading, standings};
+use crate::bidi_text::Around;
+use crate::boxes::taking;
+use crate::breaks::{BreakList, breaks};
+use crate::classes::classes;
+use crate::content::{Content, content_of};
+use crate::item::{PreparedItem, PreparedItems};
+use crate::items::prepared_items;
+use crate::letter::Letter;
+use crate::parts::Part;
+use crate::standing::{Standing, Standings, bases_of, levels_of};
+use bidi_explicit::{ClassList, LevelList};
+use bumpalo::Bump;
+use face_api::{Face, Faces};
+use std::alloc::{AllocError, Global};
+use std::marker::Model;
+use std::sync::ledger::Ledger;
+use style_types::{Breaking, Items, Style};
+use wm_chars::BidiClass;
+use wm_units::Steps;
+
+/// A paragraph: inline content of a block container of this style (CSS 2, 9.2.1). Its base level is 0 or 1, or none, where
+/// each of its bidi paragraphs has that of its first strong character (CSS Writing Modes 4, 2.4.3).
+#[derive(Debug, Drop)]
+pub struct Paragraph {
+    pub base: Option<u8>,
+    pub style: Style,
+    pub items: Items,
+}
+
+/// A prepared paragraph: its items, and for each its level, the class by which L1 takes it, the base level of its bidi
+/// paragraph, and whether a line may end behind it.
+#[derive(Drop)]
+pub struct Prepared {
+    items: PreparedItems,
+    levels: LevelList,
+    classes: ClassList,
+    bases: LevelList,
+    breaks: BreakList,
+}
+
+impl Model for Prepared {
+    ghost use Rattle.para_prepare.specs.Preparation.{AreWhole, Preparation};
+
+    ghost Value = { Preparation };
+
+    ghost view = { λ p. record { items = p.items.items; levels = p.levels.items; classes = p.classes.items; bases = p.bases.items; breaks = p.breaks.items } };
+
+    ghost invariant = { λ p. AreWhole p.items.items p.levels.items p.classes.items p.bases.items p.breaks.items };
+}
+
+impl Prepared {
+    /// The items in logical order.
+    pub fn items(&self) -> &[PreparedItem]
+        ensures are { result.now ≡ self.now.items }
+    {
+        &self.items
+    }
+
+    /// The level of each item, at most 126 (UAX 9, X1 to I2).
+    pub fn levels(&self) -> &[u8]
+        ensures are { result.now ≡ self.now.levels }
+        ensures length { length self.now.levels ≡ length self.now.items }
+        ensures bounds { All (λ level. level ≤ 126) self.now.levels }
+    {
+        &self.levels
+    }
+
+    /// The class by which L1 takes each item.
+    pub fn classes(&self) -> &[BidiClass]
+        ensures are { result.now ≡ self.now.classes }
+        ensures length { length self.now.classes ≡ length self.now.items }
+    {
+        &self.classes
+    }
+
+    /// The base level of each item's bidi paragraph, 0 or 1.
+    pub fn bases(&self) -> &[u8]
+        ensures are { result.now ≡ self.now.bases }
+        ensures length { length self.now.bases ≡ length self.now.items }
+        ensures bounds { All (λ base. base ≤ 1) self.now.bases }
+    {
+        &self.bases
+    }
+
+    /// For each item whether a line may end behind it (CSS Text 3, 5.1).
+    pub fn breaks(&self) -> &[Breaking]
+        ensures are { result.now ≡ self.now.breaks }
+        ensures length { length self.now.breaks ≡ length self.now.items }
+    {
+        &self.breaks
+    }
+}
+
+/// Prepares a paragraph. All its texts together have at most 1,048,576 bytes, and their font sizes are from 0 to 65,536.
+/// `arena` is for scratch memory, and empty when the call returns. The call is a step, also one that runs out of memory. The
+/// items come in the order of the paragraph's, and there are at most as many as bytes of text and items together. None
+/// advances by less than 0 or by more than 655,360.
+pub fn prepare<L: Ledger>(
+    alloc: Global,
+    paragraph: &Paragraph,
+    faces: &Faces,
+    arena: &mut Bump,
+    steps: &mut Steps<L>,
+) -> Result<Prepared, AllocError>
+    requires base { IfSome paragraph.now.base (λ base. base ≤ 1) }
+    requires bytes { text_bytes (entries_of paragraph.now.items.items) ≤ 1048576 }
+    requires sizes { All HasFontSize (entries_of paragraph.now.items.items) }
+    ensures ticks { steps.new ≡ steps.old + 1 }
+    ensures prepared { IfOk result (λ p. p ≡ preparation (faces_of ⟦<dyn Face as Face>⟧ faces.now) paragraph.now.base paragraph.now.style (entries_of paragraph.now.items.items)) }
+    ensures count { IfOk result (λ p. length p.items ≤ text_bytes (entries_of paragraph.now.items.items) + length paragraph.now.items.items) }
+    ensures sources { IfOk result (λ p. AreFrom 0 (length paragraph.now.items.items) p.items) }
+    ensures lengths { IfOk result (λ p. All (λ item. HasBounds item.what) p.items) }
+{
+    steps.tick();
+    let prepared = scratch(alloc, paragraph, faces, arena);
+    let _ = arena.reset();
+    prepared
+}
+
+fn scratch(
+    alloc: Global,
+    paragraph: &Paragraph,
+    faces: &Faces,
+    arena: &Bump,
+) -> Result<Prepared, AllocError>
+    requires base { IfSome paragraph.now.base (λ base. base ≤ 1) }
+    requires bytes { text_bytes (entries_of paragraph.now.items.items) ≤ 1048576 }
+    requires sizes { All HasFontSize (entries_of paragraph.now.items.items) }
+    ensures prepared { IfOk result (λ p. p ≡ preparation (faces_of ⟦<dyn Face as Face>⟧ faces.now) paragraph.now.base paragraph.now.style (entries_of paragraph.now.items.items)) }
+    ensures count { IfOk result (λ p. length p.items ≤ text_bytes (entries_of paragraph.now.items.items) + length paragraph.now.items.items) }
+    ensures sources { IfOk result (λ p. AreFrom 0 (length paragraph.now.items.items) p.items) }
+    ensures lengths { IfOk result (λ p. All (λ item. HasBounds item.what) p.items) }
+{
+    let content = content_of(alloc, arena, &paragraph.items, faces)?;
+    let standings = standings_of(alloc, arena, paragraph, &content.letters, &content.parts)?;
+    let prepared = prepared_by(alloc, arena, &content.letters, &content.parts, &standings)?;
+    Ok(prepared)
+}
+
+// How the items of these parts of the paragraph stand.
+fn standings_of<'a>(
+    alloc: Global,
+    arena: &'a Bump,
+    paragraph: &Paragraph,
+    letters: &[Letter],
+    parts: &[Part],
+) -> Result<Standings<'a>, AllocError>
+    requires base { IfSome paragraph.now.base (λ base. base ≤ 1) }
+    requires parts { All (IsPart (length letters.now)) parts.now }
+    ensures standings { IfOk result (λ out. out.items ≡ spec.standings_of paragraph.now.base paragraph.now.style (parts_of letters.now parts.now)) }
+    ensures count { IfOk result (λ out. length out.items ≡ length (raws (parts_of letters.now parts.now))) }
+    ensures bounds { IfOk result (λ out. All IsStanding out.items) }
+{
+    let reading = Reading {
+        given: paragraph.base,
+        container: container_of(&paragraph.style),
+    };
+    let marks = taking(arena, parts)?;
+    let out = standings(alloc, arena, reading, letters, parts, &marks)?;
+    Ok(out)
+}
+
+// What a block container of this style puts round its bidi paragraphs.
+fn container_of(style: &Style) -> Around
+    ensures { result ≡ spec.container_of style.now }
+{
+    Around {
+        bidi: style.bidi,
+        dir: style.used_direction(),
+    }
+}
+
+// What is made of these parts, whose items stand so.
+fn prepared_by(
+    alloc: Global,
+    arena: &Bump,
+    letters: &[Letter],
+    parts: &[Part],
+    standings: &[Standing],
+) -> Result<Prepared, AllocError>
+    requires parts { All (IsPart (length letters.now)) parts.now }
+    requires letters { All IsPlaced letters.now }
+    requires count { length standings.now ≡ length (raws (parts_of letters.now parts.now)) }
+    requires bounds { All IsStanding standings.now }
+    requires sizes { All HasSize parts.now }
+    ensures prepared { IfOk result (λ p. p ≡ spec.prepared_by (raws (parts_of letters.now parts.now)) standings.now) }
+    ensures count { IfOk result (λ p. length p.items ≤ length parts.now) }
+    ensures lengths { IfOk result (λ p. All (λ item. HasBounds item.what) p.items) }
+{
+    let items = prepared_items(alloc, letters, parts, standings)?;
+    let levels = levels_of(alloc, standings)?;
+    let classes = classes(alloc, letters, parts)?;
+    let bases = bases_of(alloc, standings)?;
+    let breaks = breaks(alloc, arena, parts)?;
+    Ok(Prepared {
+        items,
+        levels,
+        classes,
+        bases,
+        breaks,
+    })
+}
