@@ -8,6 +8,7 @@ pub mod KeptLaws
 pub mod LastLetter
 pub mod MarkerLaws
 pub mod MoreItems
+pub mod OneSize
 pub mod PartsLaws
 pub mod PlacedLaws
 pub mod PreparationLaws

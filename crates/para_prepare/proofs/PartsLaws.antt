@@ -1,5 +1,5 @@
 -- The parts of a text as the code holds them stand for the parts of its definition.
-use Rattle.std.proofs.Common.{append_assoc, ◌≡◌, ℕ, ◌+◌, ◌-◌, ◌<◌, ◌≤◌, Bool, List, [], ◌∷◌, ◌++◌, length, slice_index_or, take, drop, inl, inr, ap, ap₂, subst, sym, ◌∙◌, refl, arith}
+use Rattle.std.proofs.Common.{append_assoc, ◌≡◌, ℕ, suc, pos, ◌≤ℤ◌, ◌+◌, ◌-◌, ◌<◌, ◌≤◌, Bool, List, [], ◌∷◌, ◌++◌, length, slice_index_or, take, drop, inl, inr, ap, ap₂, subst, sym, ◌∙◌, refl, arith}
 use Rattle.std.specs.Prelude.{map, Option, All, encode_utf8_all}
 use Rattle.std.specs.List.{slice_range}
 use Rattle.std.proofs.lemmas.Bool.{cases_Bool}
@@ -13,6 +13,7 @@ use Rattle.cluster_units.specs.Laws.{AreInOrder, IsUnitIn}
 use Rattle.cluster_units.specs.Text.{is_combined}
 use Rattle.cluster_units.specs.Unit.{units_of}
 use Rattle.cluster_units.specs.declared.unit.Unit.{Unit}
+use Rattle.para_prepare.proofs.OneSize.{HasOneSize}
 use Rattle.para_prepare.specs.declared.letter.Letter.{Letter}
 use Rattle.para_prepare.specs.declared.parts.Part as code
 use Rattle.para_prepare.specs.Content.{raw_of, text_parts}
@@ -147,36 +148,36 @@ controls_sound : (many : ℕ) (upright : Bool) (letters : List Letter) → All (
 controls_sound many upright [] = λ k d lt. absurd (omega arith)
 controls_sound many upright (l ∷ letters) = All-cons (IsSound many) (stored_control upright l) (map (stored_control upright) letters) (tt, tt) (controls_sound many upright letters)
 
-module _ (many : ℕ) (letters : List Letter) (upright : Bool) (stored : Unit → code.Part)
-    (is : (place : ℕ) (unit : Unit) → IsUnitIn place (length letters) unit → IsSound many (stored unit))
+module _ (many : ℕ) (letters : List Letter) (style : Style) (upright : Bool) (stored : Unit → code.Part)
+    (is : (place : ℕ) (unit : Unit) → IsUnitIn place (length letters) unit → HasOneSize style unit → IsSound many (stored unit))
   where
-    pub all_sound : (at : ℕ) (units : List Unit) → AreInOrder at (length letters) units → All (IsSound many) (stored_by upright stored letters at units)
-    all_sound at [] order = controls_sound many upright (drop at letters)
-    all_sound at (unit ∷ units) order =
+    pub all_sound : (at : ℕ) (units : List Unit) → AreInOrder at (length letters) units → All (HasOneSize style) units → All (IsSound many) (stored_by upright stored letters at units)
+    all_sound at [] order sizes = controls_sound many upright (drop at letters)
+    all_sound at (unit ∷ units) order sizes =
         All-append (IsSound many) (map (stored_control upright) (slice_range letters at unit.first)) (stored unit ∷ stored_by upright stored letters unit.end units)
         (controls_sound many upright (slice_range letters at unit.first))
-        (All-cons (IsSound many) (stored unit) (stored_by upright stored letters unit.end units) (is at unit order.0) (all_sound unit.end units order.1))
+        (All-cons (IsSound many) (stored unit) (stored_by upright stored letters unit.end units) (is at unit order.0 (sizes 0 unit (omega arith))) (all_sound unit.end units order.1 (λ k d lt. sizes (suc k) d (omega arith))))
 
 run_sound : (faces : List (Option Table)) (flat : List Letter) (source node : ℕ) (style : Style) (from many end_ place : ℕ) (unit : Unit)
-    → from + end_ ≤ many → IsUnitIn place end_ unit → IsSound many (stored_run faces flat source node style from unit)
-run_sound faces flat source node style from many end_ place unit within is =
+    → from + end_ ≤ many → style.font_size ≤ℤ pos 65536 → IsUnitIn place end_ unit → HasOneSize style unit → IsSound many (stored_run faces flat source node style from unit)
+run_sound faces flat source node style from many end_ place unit within high is one =
     let some = is.some in
     let inside_ = is.within in
     let span : IsSpan many (span_of from unit) = record { some = omega arith; within = omega arith } in
     let size : IsSize unit = record { advance_low = is.advance_low; advance_high = is.advance_high; natural_low = is.natural_low; natural_high = is.natural_high } in
     elim (cases_Bool (is_combined unit.kind)) [
-      | inl combined ↦ rw combined (span, size)
+      | inl combined ↦ rw combined (span, record { size = size; one = subst (λ advance. advance ≤ℤ pos 65536) (sym (one combined)) high; many = omega arith })
       | inr single ↦ rw single (span, size)
     ]
 
 pub runs_sound : (faces : List (Option Table)) (flat : List Letter) (source node : ℕ) (style : Style) (from to : ℕ) (units : List Unit)
-    → AreInOrder 0 (length (slice_range flat from to)) units → from ≤ to → to ≤ length flat
+    → AreInOrder 0 (length (slice_range flat from to)) units → All (HasOneSize style) units → style.font_size ≤ℤ pos 65536 → from ≤ to → to ≤ length flat
     → All (IsSound (length flat)) (stored_by (sets_upright style) (stored_run faces flat source node style from) (slice_range flat from to) 0 units)
-runs_sound faces flat source node style from to units order first end_ =
+runs_sound faces flat source node style from to units order sizes high first end_ =
     let long = stretch_length flat from to end_ in
-    all_sound (length flat) (slice_range flat from to) (sets_upright style) (stored_run faces flat source node style from)
-    (λ place unit is. run_sound faces flat source node style from (length flat) (length (slice_range flat from to)) place unit (omega arith) is)
-    0 units order
+    all_sound (length flat) (slice_range flat from to) style (sets_upright style) (stored_run faces flat source node style from)
+    (λ place unit is one. run_sound faces flat source node style from (length flat) (length (slice_range flat from to)) place unit (omega arith) high is one)
+    0 units order sizes
 
 -- ---- how many they are
 
@@ -211,12 +212,12 @@ text_more faces flat source node style from to text units made old more order en
     ∙ ap (parts_by (sets_upright style) (raw_of faces source node style) (slice_range flat from to) 0) (m ∙ u ∙ ap (units_of style (used_table faces style.face)) t))
 
 pub sound_more : (faces : List (Option Table)) (flat : List Letter) (source node : ℕ) (style : Style) (from to : ℕ) (units : List Unit) (old more : List code.Part)
-    → AreInOrder 0 (length (slice_range flat from to)) units → from ≤ to → to ≤ length flat
+    → AreInOrder 0 (length (slice_range flat from to)) units → All (HasOneSize style) units → style.font_size ≤ℤ pos 65536 → from ≤ to → to ≤ length flat
     → more ≡ old ++ stored_by (sets_upright style) (stored_run faces flat source node style from) (slice_range flat from to) 0 units
     → All (IsSound (length flat)) old → All (IsSound (length flat)) more
-sound_more faces flat source node style from to units old more order first end_ is sound =
+sound_more faces flat source node style from to units old more order sizes high first end_ is sound =
     let stored = stored_by (sets_upright style) (stored_run faces flat source node style from) (slice_range flat from to) 0 units in
-    subst (All (IsSound (length flat))) (sym is) (All-append (IsSound (length flat)) old stored sound (runs_sound faces flat source node style from to units order first end_))
+    subst (All (IsSound (length flat))) (sym is) (All-append (IsSound (length flat)) old stored sound (runs_sound faces flat source node style from to units order sizes high first end_))
 
 pub count_more : (letters : List Letter) (upright : Bool) (stored : Unit → code.Part) (units : List Unit) (old more : List code.Part)
     → AreInOrder 0 (length letters) units → more ≡ old ++ stored_by upright stored letters 0 units → length more ≤ length old + length letters

@@ -1,5 +1,5 @@
 -- A paragraph that is prepared for its lines.
-use Rattle.std.specs.Prelude.{ℕ, ◌≡◌, ◌<◌, ◌≤◌, ⊤, List, [], ◌∷◌, length, map, All, Option, pos, ◌≤ℤ◌}
+use Rattle.std.specs.Prelude.{ℕ, ◌≡◌, ◌-◌, ◌*◌, ◌<◌, ◌≤◌, ⊤, List, [], ◌∷◌, length, map, All, Option, pos, ◌≤ℤ◌}
 use Rattle.face_api.specs.Table.{Table}
 use Rattle.wm_chars.specs.declared.classes.BidiClass.{BidiClass}
 use Rattle.style_types.specs.declared.breaking.Breaking.{Breaking}
@@ -36,10 +36,10 @@ pub record AreWhole (items : List PreparedItem) (levels : List ℕ) (classes : L
   pub levels_bounds : All (λ level. level ≤ 126) levels
   pub bases_bounds : All (λ base. base ≤ 1) bases
 
--- the bounds of an item's lengths: no character advances by more than 655,360
+-- the bounds of an item's lengths: no character advances by more than 655,360, and a combined run by one font size
 abbrev pub HasBounds : content.PreparedContent → Type 0
 HasBounds (contents.Unit node first end_ form advance space glyphs) = (pos 0 ≤ℤ advance) × (advance ≤ℤ pos 655360)
-HasBounds (contents.Combined node first end_ advance natural glyphs) = (pos 0 ≤ℤ advance) × (advance ≤ℤ pos 655360) × (pos 0 ≤ℤ natural)
+HasBounds (contents.Combined node first end_ advance natural glyphs) = (pos 0 ≤ℤ advance) × (advance ≤ℤ pos 65536) × (pos 0 ≤ℤ natural) × (natural ≤ℤ pos (655360 * (end_ - first)))
 HasBounds (contents.Atom name) = ⊤
 HasBounds (contents.Break node) = ⊤
 

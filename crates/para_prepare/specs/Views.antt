@@ -1,5 +1,5 @@
 -- The parts of a paragraph as the code holds them: places in the list of all kept characters stand for these characters.
-use Rattle.std.specs.Prelude.{ℕ, ◌+◌, ◌-◌, ◌*◌, ◌<◌, ◌≤◌, ◌^◌, ⊤, Bool, cond, List, [], ◌∷◌, ◌++◌, map, drop, Option, pos, ◌≤ℤ◌}
+use Rattle.std.specs.Prelude.{ℕ, ◌≡◌, length, ◌+◌, ◌-◌, ◌*◌, ◌<◌, ◌≤◌, ◌^◌, ⊤, Bool, cond, List, [], ◌∷◌, ◌++◌, map, drop, Option, pos, ◌≤ℤ◌}
 use Rattle.std.specs.List.{slice_range}
 use Rattle.face_api.specs.Table.{Table}
 use Rattle.style_types.specs.declared.style.Style.{Style}
@@ -12,7 +12,8 @@ use Rattle.para_prepare.specs.Inside.{inside}
 use Rattle.para_prepare.specs.declared.parts.Part as code
 use Rattle.para_prepare.specs.declared.parts.Part.TheVariants as codes
 use Rattle.para_prepare.specs.declared.parts.Span.{Span}
-use Rattle.para_prepare.specs.Parts.{Part, opens, closes, control, item, of_unit, of_combined, of_atom, of_break, class_in, sets_upright, used_direction}
+use Rattle.para_prepare.specs.Items.{first_place, place_behind}
+use Rattle.para_prepare.specs.Parts.{Part, Raw, opens, closes, control, item, of_unit, of_combined, of_atom, of_break, class_in, sets_upright, used_direction}
 
 abbrev pub letters_at : List Letter → Span → List Letter
 letters_at letters span = slice_range letters span.from span.to
@@ -55,13 +56,24 @@ pub record IsSize (unit : Unit) : Type 0 where
   pub natural_low : pos 0 ≤ℤ unit.natural
   pub natural_high : unit.natural ≤ℤ pos (655360 * (unit.end - unit.first))
 
+-- a combined run has the characters of its span, and advances one font size
+pub record IsRunSize (unit : Unit) (span : Span) : Type 0 where
+  pub size : IsSize unit
+  pub one : unit.advance ≤ℤ pos 65536
+  pub many : unit.end - unit.first ≡ span.to - span.from
+
 abbrev pub HasSize : code.Part → Type 0
 HasSize (codes.Unit source node upright unit span) = IsSize unit
-HasSize (codes.Combined source node unit span inside) = IsSize unit
+HasSize (codes.Combined source node unit span inside) = IsRunSize unit span
 HasSize _ = ⊤
 
 abbrev pub IsSound : (many : ℕ) → code.Part → Type 0
 IsSound many part = IsPart many part × HasSize part
+
+-- a combined run has as many places as characters at least
+abbrev pub IsCovered : Raw → Type 0
+IsCovered (of_combined source node unit letters inside) = length letters ≤ place_behind letters - first_place letters
+IsCovered _ = ⊤
 
 -- a control as the code holds it
 abbrev pub stored_control : (upright : Bool) → Letter → code.Part

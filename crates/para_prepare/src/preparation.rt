@@ -9,7 +9,7 @@ ghost use Rattle.para_prepare.specs.Parts.{raws};
 ghost use Rattle.para_prepare.specs.Preparation as spec;
 ghost use Rattle.para_prepare.specs.Preparation.{AreFrom, HasBounds, preparation};
 ghost use Rattle.para_prepare.specs.Standing.{IsStanding};
-ghost use Rattle.para_prepare.specs.Views.{HasSize, IsPart, IsPlaced, parts_of};
+ghost use Rattle.para_prepare.specs.Views.{HasSize, IsCovered, IsPart, IsPlaced, parts_of};
 
 use crate::bidi_paragraphs::{Reading, standings};
 use crate::bidi_text::Around;
@@ -107,8 +107,8 @@ impl Prepared {
 
 /// Prepares a paragraph. All its texts together have at most 1,048,576 bytes, and their font sizes are from 0 to 65,536.
 /// `arena` is for scratch memory, and empty when the call returns. The call is a step, also one that runs out of memory. The
-/// items come in the order of the paragraph's, and there are at most as many as bytes of text and items together. None
-/// advances by less than 0 or by more than 655,360.
+/// items come in the order of the paragraph's, and there are at most as many as bytes of text and items together. No unit
+/// advances by less than 0 or by more than 655,360, and no combined run by more than 65,536.
 pub fn prepare<L: Ledger>(
     alloc: Global,
     paragraph: &Paragraph,
@@ -197,6 +197,7 @@ fn prepared_by(
     requires count { length standings.now ≡ length (raws (parts_of letters.now parts.now)) }
     requires bounds { All IsStanding standings.now }
     requires sizes { All HasSize parts.now }
+    requires covered { All IsCovered (raws (parts_of letters.now parts.now)) }
     ensures prepared { IfOk result (λ p. p ≡ spec.prepared_by (raws (parts_of letters.now parts.now)) standings.now) }
     ensures count { IfOk result (λ p. length p.items ≤ length parts.now) }
     ensures lengths { IfOk result (λ p. All (λ item. HasBounds item.what) p.items) }

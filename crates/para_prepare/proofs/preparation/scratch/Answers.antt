@@ -1,10 +1,11 @@
-use Rattle.std.proofs.Common.{ap, length, subst, sym, arith}
+use Rattle.std.proofs.Common.{◌∙◌, ap₂, ap, length, subst, sym, arith}
 use Rattle.std.proofs.lemmas.List.{length-map}
 use Rattle.style_types.specs.Item.{entries_of, entry_of}
+use Rattle.para_prepare.specs.Views.{parts_of}
 use Rattle.para_prepare.specs.Limits.{text_bytes}
 use Rattle.para_prepare.specs.Preparation.{AreFrom}
 use Rattle.para_prepare.proofs.PreparationLaws.{prepared_from}
-use Rattle.para_prepare.proofs.SourceLaws.{are_from}
+use Rattle.para_prepare.proofs.SourceLaws.{are_from, covered}
 use Rattle.para_prepare.proofs.preparation.scratch.Goals as goal
 
 pub returns-clause-prepared : goal.returns-clause-prepared
@@ -27,3 +28,8 @@ returns-clause-sources g c =
     let items = c.args.paragraph.now.items.items in
     subst (λ n. AreFrom 0 n c.in_ok-prepared.prepared.items) (length-map items entry_of)
     (subst (λ p. AreFrom 0 (length (entries_of items)) p.items) (sym (returns-clause-prepared g c)) (are_from _ c.args.paragraph.now.base c.args.paragraph.now.style (entries_of items)))
+
+pub prepared_by-requires-clause-covered : goal.prepared_by-requires-clause-covered
+prepared_by-requires-clause-covered g c =
+    covered _ _ (parts_of c.deref-4.result.now c.deref-5.result.now)
+    (ap₂ (λ letters made. parts_of letters made) c.deref-4.ensures.value c.deref-5.ensures.value ∙ c.in_ok-content.ensures.parts)
