@@ -1,0 +1,112 @@
+//! The program `check_paragraphs` answers for parts of paragraphs, one a line, so that what is prepared of a paragraph and
+//! where its lines end can be compared with others; its tests are those of the public calls of these crates.
+//!
+//! A question is a line of words. Numbers are decimal, lengths in units of 1/64 px; `-` stands for none; what has a variant
+//! is named by it; a list begins with how many it has. The answer is a line in the same form, with items in brackets.
+//!
+//! - `fill`: the room; the items, each with advance, edges before and after, `yes` where it is a space, and the break
+//!   behind it; pairs of places. The answer has the ends of the lines, the min-content and the max-content size, and the
+//!   width between the places of each pair.
+//! - `paragraph`: the base level; styles (mode, direction, orientation, combine, bidi, font size, face), the container's
+//!   first; the items, `text` (node, place of its style, bytes in hexadecimal), `open` (node, place of its style, whether it
+//!   opens), `close` (node, whether it closes), `atom` (node, ordinal) or `break` (node). The answer has the items, each with its
+//!   source and its level apart, and then the lists of levels, classes, base levels and breaks.
+//! - What is not such a line is `not a case`.
+#![tactic(auto)]
+
+ghost use Rattle.std.specs.Prelude.{◌≡◌, ◌<◌};
+
+mod fills;
+mod glyphs;
+mod names;
+mod preparings;
+mod printed;
+mod sums;
+mod words;
+
+use face_api::{Face, Faces, MonoFace, TableFace, WideFace};
+use fills::{answer_fill, fill_case};
+use preparings::{answer_paragraph, paragraph_case};
+use std::alloc::Global;
+use std::io;
+use std::io::{BufRead, BufReader, BufWriter, Write};
+use std::marker::Brand;
+use std::sync::ledger::{Blank, Ledger};
+use wm_units::Steps;
+use words::{CaseError, Words};
+
+fn main(rt: HostRuntime) -> io::Result<()> {
+    let input = BufReader::new(rt.alloc(), rt.reader())?;
+    let mut output = BufWriter::new(rt.alloc(), io::writer(&rt))?;
+    counted::<_, _, Brand, Brand>(rt.alloc(), input, &mut output, Blank::new(1), Blank::new(1))?;
+    output.flush()
+}
+
+// Answers each line, with three faces and counters of its own.
+fn counted<R: BufRead + Drop, W: Write, L: Ledger, M: Ledger>(
+    alloc: Global,
+    input: R,
+    output: &mut W,
+    first: Blank,
+    second: Blank,
+) -> io::Result<()>
+    requires first_name { first.name ≡ L.name }
+    requires first_parts { first.parts ≡ L.parts }
+    requires first_some { 0 < first.parts }
+    requires second_name { second.name ≡ M.name }
+    requires second_parts { second.parts ≡ M.parts }
+    requires second_some { 0 < second.parts }
+{
+    let mut boxes: Vec<Box<dyn Face>> = Vec::new(alloc);
+    boxes.push(Box::new(alloc, MonoFace::new())?)?;
+    boxes.push(Box::new(alloc, WideFace::new())?)?;
+    boxes.push(Box::new(alloc, TableFace::new(alloc)?)?)?;
+    let faces = Faces::new(alloc, boxes)?;
+    let mut prepared = Steps::<L>::open(first);
+    let mut arranged = Steps::<M>::open(second);
+    for line in input.lines(alloc) {
+        let line = line?;
+        answer(
+            alloc,
+            line.as_str(),
+            &faces,
+            &mut prepared,
+            &mut arranged,
+            output,
+        )?;
+        writeln!(output)?;
+    }
+    Ok(())
+}
+
+fn answer<W: Write, L: Ledger, M: Ledger>(
+    alloc: Global,
+    line: &str,
+    faces: &Faces,
+    prepared: &mut Steps<L>,
+    arranged: &mut Steps<M>,
+    output: &mut W,
+) -> io::Result<()> {
+    let mut words = Words::new(line);
+    match words.word() {
+        Ok("fill") => match fill_case(alloc, &mut words) {
+            Ok(case) => answer_fill(alloc, &case, arranged, output),
+            Err(error) => print_error(output, error),
+        },
+        Ok("paragraph") => match paragraph_case(alloc, &mut words) {
+            Ok(paragraph) => answer_paragraph(alloc, &paragraph, faces, prepared, output),
+            Err(error) => print_error(output, error),
+        },
+        _ => print_error(output, CaseError::Malformed),
+    }
+}
+
+fn print_error<W: Write>(output: &mut W, error: CaseError) -> io::Result<()> {
+    match error {
+        CaseError::Malformed => write!(output, "not a case"),
+        CaseError::Memory => Err(io::ErrorKind::OutOfMemory.into()),
+    }
+}
+
+#[cfg(test)]
+mod tests;
