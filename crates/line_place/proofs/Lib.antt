@@ -1,0 +1,15 @@
+mod Examples
+pub mod Chains
+pub mod EdgeLaws
+pub mod Fragments
+pub mod Hanging
+pub mod Leaf
+pub mod Lengths
+pub mod Lists
+pub mod MarkLaws
+pub mod PairLaws
+pub mod PlaceLaws
+pub mod ReachLaws
+pub mod RunLaws
+pub mod SumLaws
+pub mod WalkLaws

@@ -1,0 +1,83 @@
+-- The first run of leaves.
+use Rattle.std.proofs.Common.{◌≡◌, ◌∙◌, ap, sym, refl, arith, Bool, true, false, cond, ℕ, zero, suc, ◌+◌, ◌-◌, ◌<◌, List, [], ◌∷◌, length, map, get_or, take, drop, subst}
+use Rattle.std.proofs.lemmas.List.{drop_more, get_or-map, length-map, take-map, drop-map}
+use Rattle.line_place.specs.declared.leaves.Leaf as code
+use Rattle.line_place.specs.Leaves.{Leaf, leaf_of}
+use Rattle.line_place.specs.Runs.{goes_on, joined, runs}
+
+-- how many of these leaves go on the run that this one begins
+abbrev pub followers : Leaf → List Leaf → ℕ
+followers leaf [] = 0
+followers leaf (next ∷ leaves) = cond (goes_on leaf next) (suc (followers next leaves)) 0
+
+abbrev pub run_size : List Leaf → ℕ
+run_size [] = 0
+run_size (leaf ∷ leaves) = suc (followers leaf leaves)
+
+joined_by : (go : Bool) (leaf next : Leaf) (leaves : List Leaf) → goes_on leaf next ≡ go
+    → runs (next ∷ leaves) ≡ take (suc (followers next leaves)) (next ∷ leaves) ∷ runs (drop (suc (followers next leaves)) (next ∷ leaves))
+    → runs (leaf ∷ next ∷ leaves)
+    ≡ take (suc (cond go (suc (followers next leaves)) 0)) (leaf ∷ next ∷ leaves) ∷ runs (drop (suc (cond go (suc (followers next leaves)) 0)) (leaf ∷ next ∷ leaves))
+joined_by true leaf next leaves is rest = ap (joined leaf) rest ∙ rw is refl
+joined_by false leaf next leaves is rest =
+    ap (joined leaf) rest ∙ rw is (ap (λ (rs : List (List Leaf)). (leaf ∷ []) ∷ rs) (sym rest))
+
+first_is : (leaf : Leaf) (leaves : List Leaf)
+    → runs (leaf ∷ leaves) ≡ take (suc (followers leaf leaves)) (leaf ∷ leaves) ∷ runs (drop (suc (followers leaf leaves)) (leaf ∷ leaves))
+first_is leaf [] = refl
+first_is leaf (next ∷ leaves) = rw (joined_by (goes_on leaf next) leaf next leaves refl (first_is next leaves)) refl
+
+pub front : (leaves : List Leaf) → 0 < length leaves → runs leaves ≡ take (run_size leaves) leaves ∷ runs (drop (run_size leaves) leaves)
+front [] some = absurd (omega arith)
+front (leaf ∷ leaves) some = first_is leaf leaves
+
+-- a run as the code counts it
+pub counted : (leaves : List code.Leaf) (n : ℕ) → 0 < length leaves → run_size (map leaf_of leaves) ≡ n
+    → runs (map leaf_of leaves) ≡ map leaf_of (take n leaves) ∷ runs (map leaf_of (drop n leaves))
+counted leaves n some is =
+    let l = length-map leaves leaf_of in
+    front (map leaf_of leaves) (omega arith)
+    ∙ ap (λ (k : ℕ). take k (map leaf_of leaves) ∷ runs (drop k (map leaf_of leaves))) is
+    ∙ ap (λ (run : List Leaf). run ∷ runs (drop n (map leaf_of leaves))) (take-map leaf_of n leaves)
+    ∙ ap (λ (rest : List Leaf). map leaf_of (take n leaves) ∷ runs rest) (drop-map leaf_of n leaves)
+
+two : (a b : Leaf) (rest : List Leaf) (go : Bool) → goes_on a b ≡ go → run_size (a ∷ b ∷ rest) ≡ suc (cond go (suc (followers b rest)) 0)
+two a b rest go is = rw is refl
+
+-- one leaf more, where the run goes on to it and where it doesn't
+step : (leaves : List code.Leaf) (n : ℕ) (x y : code.Leaf) (go : Bool) → n + 1 < length leaves → x ≡ get_or leaves n x → y ≡ get_or leaves (n + 1) y
+    → go ≡ goes_on (leaf_of x) (leaf_of y) → run_size (drop n (map leaf_of leaves)) ≡ suc (cond go (run_size (drop (n + 1) (map leaf_of leaves))) 0)
+step leaves n x y go lt p q is =
+    let l = length-map leaves leaf_of in
+    let a : drop n (map leaf_of leaves) ≡ leaf_of x ∷ drop (n + 1) (map leaf_of leaves) =
+    drop_more (map leaf_of leaves) n (leaf_of x) (omega arith)
+    ∙ ap (λ (v : Leaf). v ∷ drop (n + 1) (map leaf_of leaves)) (get_or-map leaf_of leaves n x (leaf_of x) (omega arith) ∙ ap leaf_of (sym p)) in
+    let b : drop (n + 1) (map leaf_of leaves) ≡ leaf_of y ∷ drop (n + 1 + 1) (map leaf_of leaves) =
+    drop_more (map leaf_of leaves) (n + 1) (leaf_of y) (omega arith)
+    ∙ ap (λ (v : Leaf). v ∷ drop (n + 1 + 1) (map leaf_of leaves)) (get_or-map leaf_of leaves (n + 1) y (leaf_of y) (omega arith) ∙ ap leaf_of (sym q)) in
+    ap run_size (a ∙ ap (λ (rest : List Leaf). leaf_of x ∷ rest) b)
+    ∙ two (leaf_of x) (leaf_of y) (drop (n + 1 + 1) (map leaf_of leaves)) go (sym is)
+    ∙ ap (λ (rest : List Leaf). suc (cond go (run_size rest) 0)) (sym b)
+
+pub goes_further : (leaves : List code.Leaf) (n : ℕ) (x y : code.Leaf) (go : Bool) → 0 < n → n < length leaves → x ≡ get_or leaves (n - 1) x → y ≡ get_or leaves n y
+    → go ≡ goes_on (leaf_of x) (leaf_of y) → go ≡ true → run_size (drop (n - 1) (map leaf_of leaves)) ≡ suc (run_size (drop n (map leaf_of leaves)))
+goes_further leaves n x y go some lt p q is on =
+    let e : n - 1 + 1 ≡ n = omega arith in
+    let s = step leaves (n - 1) x y go (omega arith) p (let P : ℕ → Type 0 = λ k. y ≡ get_or leaves k y in subst P (sym e) q) is in
+    s ∙ rw (on, e) refl
+
+pub ends_there : (leaves : List code.Leaf) (n : ℕ) (x y : code.Leaf) (go : Bool) → 0 < n → n < length leaves → x ≡ get_or leaves (n - 1) x → y ≡ get_or leaves n y
+    → go ≡ goes_on (leaf_of x) (leaf_of y) → go ≡ false → run_size (drop (n - 1) (map leaf_of leaves)) ≡ 1
+ends_there leaves n x y go some lt p q is off =
+    let e : n - 1 + 1 ≡ n = omega arith in
+    let s = step leaves (n - 1) x y go (omega arith) p (let P : ℕ → Type 0 = λ k. y ≡ get_or leaves k y in subst P (sym e) q) is in
+    s ∙ rw off refl
+
+alone : (leaves : List Leaf) (n : ℕ) → n + 1 ≡ length leaves → run_size (drop n leaves) ≡ 1
+alone [] n is = absurd (omega arith)
+alone (leaf ∷ []) zero is = refl
+alone (leaf ∷ next ∷ leaves) zero is = absurd (omega arith)
+alone (leaf ∷ leaves) (suc n) is = alone leaves n (omega arith)
+
+pub is_last : (leaves : List code.Leaf) (n : ℕ) → 0 < n → n ≡ length leaves → run_size (drop (n - 1) (map leaf_of leaves)) ≡ 1
+is_last leaves n some is = let l = length-map leaves leaf_of in alone (map leaf_of leaves) (n - 1) (omega arith)

@@ -1,0 +1,123 @@
+-- How far the lengths of a line reach.
+use Rattle.std.specs.Prelude.{◌≡◌, ℕ, suc, ◌+◌, ◌-◌, ◌<◌, ◌≤◌, ◌^◌, ⊤, Bool, true, false, List, [], ◌∷◌, length, Option, IfSome, slice_index_or, unsigned_abs}
+use Rattle.std.specs.List.{list_any}
+use Rattle.line_place.specs.declared.line.Extents.{Extents}
+use Rattle.line_place.specs.declared.line.LineBox.{LineBox}
+use Rattle.style_types.specs.Fragment.{Pieces, none, piece}
+use Rattle.line_place.specs.Line.{Content, unit, combined, atom, nothing, Item, Line}
+use Rattle.line_place.specs.Leaves.{Leaf}
+use Rattle.line_place.specs.Marks.{Mark, begins, ends, shows, box_at, inside_of}
+
+-- the extents of an inline box in a style
+pub record AreNear (extents : Extents) : Type 0 where
+  pub ascent : unsigned_abs extents.ascent ≤ 2 ^ 18
+  pub descent : unsigned_abs extents.descent ≤ 2 ^ 19
+  pub over : unsigned_abs extents.over ≤ 2 ^ 34
+  pub under : unsigned_abs extents.under ≤ 2 ^ 34
+  pub raised : unsigned_abs extents.raised ≤ 2 ^ 32
+
+-- no box, or one before that place
+abbrev pub IsBefore : (end_ : ℕ) → Option ℕ → Type 0
+IsBefore end_ box = IfSome box (λ p. p < end_)
+
+-- the box round another one stands before it
+abbrev pub AreNested : List LineBox → Type 0
+AreNested boxes = (p : ℕ) → p < length boxes → IsBefore p (box_at boxes p).outer
+
+-- what stands in boxes stands in boxes that there are
+abbrev pub AreWithin : (count : ℕ) → List Leaf → Type 0
+AreWithin count [] = ⊤
+AreWithin count (leaf ∷ leaves) = IsBefore count leaf.inside × AreWithin count leaves
+
+-- marks are of boxes that there are
+abbrev pub IsOfBox : (count : ℕ) → Mark → Type 0
+IsOfBox count (begins p edge) = p < count
+IsOfBox count (ends p edge) = p < count
+IsOfBox count (shows run) = ⊤
+
+abbrev pub AreOfBoxes : (count : ℕ) → List Mark → Type 0
+AreOfBoxes count [] = ⊤
+AreOfBoxes count (mark ∷ marks) = IsOfBox count mark × AreOfBoxes count marks
+
+-- what stands there has a first leaf, which stands in boxes that there are
+abbrev pub IsInBox : (count : ℕ) → Mark → Type 0
+IsInBox count (begins p edge) = ⊤
+IsInBox count (ends p edge) = ⊤
+IsInBox count (shows run) = (0 < length run) × IsBefore count (inside_of run)
+
+abbrev pub AreInBoxes : (count : ℕ) → List Mark → Type 0
+AreInBoxes count [] = ⊤
+AreInBoxes count (mark ∷ marks) = IsInBox count mark × AreInBoxes count marks
+
+-- a flag for each box says whether a mark of the kind that is looked for is of it
+abbrev pub Tells : (test : ℕ → Mark → Bool) → (flags : List Bool) → List Mark → Type 0
+Tells test flags marks = (p : ℕ) → p < length flags → slice_index_or flags p false ≡ list_any (test p) marks
+
+-- ---- lengths without their signs
+
+abbrev pub extents_reach : Extents → ℕ
+extents_reach e = unsigned_abs e.ascent + unsigned_abs e.descent + unsigned_abs e.over + unsigned_abs e.under + unsigned_abs e.raised
+
+abbrev pub left_reach : LineBox → ℕ
+left_reach box = unsigned_abs box.left_margin + unsigned_abs box.left
+
+abbrev pub right_reach : LineBox → ℕ
+right_reach box = unsigned_abs box.right + unsigned_abs box.right_margin
+
+abbrev pub box_reach : LineBox → ℕ
+box_reach box = extents_reach box.extents + left_reach box + right_reach box + unsigned_abs box.over + unsigned_abs box.under
+
+abbrev pub piece_reach : Pieces → ℕ
+piece_reach none = 0
+piece_reach (piece name rect kind inner next) = unsigned_abs rect.inline + unsigned_abs rect.block
+
+abbrev pub content_reach : Content → ℕ
+content_reach (unit node first end_ form glyphs) = 0
+content_reach (combined node first end_ natural glyphs) = unsigned_abs natural
+content_reach (atom fragment left_margin over_margin over under) =
+    piece_reach fragment + unsigned_abs left_margin + unsigned_abs over_margin + unsigned_abs over + unsigned_abs under
+content_reach nothing = 0
+
+abbrev pub total : {X : Type 0} → (X → ℕ) → List X → ℕ
+total reach [] = 0
+total reach (x ∷ xs) = reach x + total reach xs
+
+abbrev pub item_reach : Item → ℕ
+item_reach item = unsigned_abs item.extent + content_reach item.what
+
+-- the lengths that come in, but for those inside an atom
+abbrev pub line_reach : Line → ℕ
+line_reach line = unsigned_abs line.available + extents_reach line.strut + total item_reach line.items + total box_reach line.boxes
+
+-- ---- the lengths of a row of marks
+
+abbrev pub leaf_reach : Leaf → ℕ
+leaf_reach leaf = unsigned_abs leaf.extent + content_reach leaf.what
+
+abbrev pub mark_reach : List LineBox → Mark → ℕ
+mark_reach boxes (begins p true) = left_reach (box_at boxes p)
+mark_reach boxes (begins p false) = 0
+mark_reach boxes (ends p true) = right_reach (box_at boxes p)
+mark_reach boxes (ends p false) = 0
+mark_reach boxes (shows run) = total leaf_reach run
+
+-- the boxes that are open behind a mark, by their number before it
+abbrev pub open_behind : (open_before : ℕ) → Mark → ℕ
+open_behind n (begins p edge) = suc n
+open_behind n (ends p edge) = n - 1
+open_behind n (shows run) = n
+
+-- a box ends where one is open
+abbrev pub CanStand : (open_before : ℕ) → Mark → Type 0
+CanStand n (begins p edge) = ⊤
+CanStand n (ends p edge) = 0 < n
+CanStand n (shows run) = ⊤
+
+-- each box that begins ends
+abbrev pub ArePaired : (open_before : ℕ) → List Mark → Type 0
+ArePaired n [] = n ≡ 0
+ArePaired n (mark ∷ marks) = CanStand n mark × ArePaired (open_behind n mark) marks
+
+-- no box reaches further than that
+abbrev pub AreReached : List LineBox → Type 0
+AreReached boxes = (p : ℕ) → p < length boxes → box_reach (box_at boxes p) ≤ 2 ^ 60

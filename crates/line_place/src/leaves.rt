@@ -1,0 +1,130 @@
+//! The items of a line from line-left (CSS Text 3, 4.1.2; UAX 9, 3.4).
+
+ghost use Rattle.std.specs.Prelude.{◌≡◌, ℕ, ◌<◌, ◌≤◌, ◌++◌, [], ◌∷◌, leb, length, map, drop, option_map, slice_get, IfOk, OnOk};
+ghost use Rattle.std.specs.List.{filter_map};
+ghost use Rattle.line_place.specs.Leaves.{are_spaces, leaf_of, seen, leaves, leaves_from, levels_of};
+ghost use Rattle.line_place.specs.Line.{item_of, line_of};
+ghost use Rattle.line_place.specs.Reach.{item_reach, leaf_reach, total};
+
+use crate::line::{LineContent, LineInput, LineItem};
+use crate::order::visual_order;
+use bidi_explicit::{ClassList, LevelList};
+use bidi_order::reset;
+use std::alloc::{AllocError, Global};
+
+/// An item of a line: its place in logical order, its level after L1, and whether it is a Space at the end of the line, which
+/// has no extent there and isn't seen.
+#[derive(Clone, Copy, Debug)]
+pub(crate) struct Leaf<'a> {
+    pub(crate) item: &'a LineItem,
+    pub(crate) place: usize,
+    pub(crate) level: u8,
+    pub(crate) hangs: bool,
+}
+
+pub(crate) type Leaves<'a> = Vec<Leaf<'a>>;
+
+impl Leaf<'_> {
+    /// Its extent along the line.
+    pub(crate) fn extent(&self) -> i64
+        ensures { result ≡ (leaf_of self.now).extent }
+    {
+        if self.hangs { 0 } else { self.item.extent }
+    }
+
+    /// What is seen of it.
+    pub(crate) fn what(&self) -> Option<&LineContent>
+        ensures { seen result ≡ (leaf_of self.now).what }
+    {
+        if self.hangs {
+            None
+        } else {
+            Some(&self.item.what)
+        }
+    }
+}
+
+/// The items of a line from line-left.
+#[tactic(auto, unfolding(crate::specs::Leaves::leaves))]
+pub(crate) fn leaves<'a>(alloc: Global, line: &'a LineInput) -> Result<Leaves<'a>, AllocError>
+    ensures are { IfOk result (λ made. map leaf_of made.items ≡ leaves (line_of line.now)) }
+    ensures reach { IfOk result (λ made. total leaf_reach (map leaf_of made.items) ≤ total item_reach (line_of line.now).items) }
+{
+    let levels = levels_of(alloc, line)?;
+    let order = visual_order(alloc, &levels, &line.items)?;
+    let hanging = hanging_from(&line.items);
+    let mut leaves = Vec::with_capacity(alloc, order.len())?;
+    for place in &order {
+        add_leaf(&mut leaves, leaf_at(line, &levels, hanging, *place))?;
+    }
+    Ok(leaves)
+}
+
+// The item at this place of the line, where its Spaces hang from `hanging` on.
+fn leaf_at<'a>(line: &'a LineInput, levels: &[u8], hanging: usize, place: usize) -> Option<Leaf<'a>>
+    requires levels { length levels.now ≡ length line.now.items.items }
+    requires hanging { (k : ℕ) → k < length line.now.items.items → are_spaces (drop k (map item_of line.now.items.items)) ≡ leb hanging k }
+    ensures { option_map leaf_of result ≡ slice_get (leaves_from 0 levels.now (map item_of line.now.items.items)) place }
+{
+    if place < line.items.len() {
+        Some(Leaf {
+            item: &line.items[place],
+            place,
+            level: levels[place],
+            hangs: place >= hanging,
+        })
+    } else {
+        None
+    }
+}
+
+fn add_leaf<'a>(leaves: &mut Leaves<'a>, leaf: Option<Leaf<'a>>) -> Result<(), AllocError>
+    ensures { OnOk result (map leaf_of leaves.new.items ≡ map leaf_of leaves.old.items ++ filter_map (λ x. x) (option_map leaf_of leaf.entry ∷ [])) }
+{
+    if let Some(leaf) = leaf {
+        leaves.push(leaf)?;
+    }
+    Ok(())
+}
+
+// The levels of the line's items after L1.
+fn levels_of(alloc: Global, line: &LineInput) -> Result<LevelList, AllocError>
+    ensures levels { IfOk result (λ levels. levels.items ≡ levels_of (line_of line.now)) }
+    ensures length { IfOk result (λ levels. length levels.items ≡ length line.now.items.items) }
+{
+    let classes = own_classes(alloc, &line.items)?;
+    let mut levels = own_levels(alloc, &line.items)?;
+    reset(&mut levels, &classes, line.base);
+    Ok(levels)
+}
+
+#[tactic(auto, using(crate::proofs::Lists::levels_are))]
+fn own_levels(alloc: Global, items: &[LineItem]) -> Result<LevelList, AllocError>
+    ensures levels { IfOk result (λ levels. levels.items ≡ map (λ item. item.level) (map item_of items.now)) }
+    ensures length { IfOk result (λ levels. length levels.items ≡ length items.now) }
+{
+    items.iter().map(|item| item.level).collect(alloc)
+}
+
+fn own_classes(alloc: Global, items: &[LineItem]) -> Result<ClassList, AllocError>
+    ensures classes { IfOk result (λ classes. classes.items ≡ map (λ item. item.class) (map item_of items.now)) }
+    ensures length { IfOk result (λ classes. length classes.items ≡ length items.now) }
+{
+    let mut classes = Vec::with_capacity(alloc, items.len())?;
+    for item in items {
+        classes.push(item.class)?;
+    }
+    Ok(classes)
+}
+
+// The place from which on the line has nothing but Spaces.
+fn hanging_from(items: &[LineItem]) -> usize
+    ensures within { result ≤ length items.now }
+    ensures is { (k : ℕ) → k < length items.now → are_spaces (drop k (map item_of items.now)) ≡ leb result k }
+{
+    let mut from = items.len();
+    while from > 0 && items[from - 1].space {
+        from -= 1;
+    }
+    from
+}

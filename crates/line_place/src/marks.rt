@@ -1,0 +1,234 @@
+//! A line from line-left as a row of marks: where an inline box begins, where one ends, and what stands there (CSS 2, 9.4.2).
+
+ghost use Rattle.std.specs.Prelude.{◌≡◌, ℕ, ◌<◌, ◌++◌, [], ◌∷◌, ◌⊎◌, List, false, All, IfNone, IfOk, IfSome, OnOk, length, map, reverse};
+ghost use Rattle.line_place.specs.Leaves.{leaf_of};
+ghost use Rattle.line_place.specs.Marks.{Mark as SeenMark, at_left, at_right, begins, between, box_at, ends, inside_of, is_begin_of, is_end_of, left_behind, leftmost, mark_of, marks_after, marks_of, rightmost};
+ghost use Rattle.line_place.specs.Reach.{AreNested, AreWithin, AreOfBoxes, IsBefore, IsOfBox, Tells};
+ghost use Rattle.line_place.specs.Runs as runs;
+
+use crate::leaves::Leaf;
+use crate::line::LineBox;
+use crate::runs::{is_place, run_at};
+use std::alloc::{AllocError, Global};
+
+/// What a line has from line-left: a fragment of an inline box begins or ends, by the place of the box, or leaves stand
+/// there. `edge` says that the fragment is the leftmost one of its box where it begins, and the rightmost one where it ends.
+#[derive(Clone, Copy, Debug)]
+pub(crate) enum Mark<'a> {
+    Begins { place: usize, edge: bool },
+    Ends { place: usize, edge: bool },
+    Shows(&'a [Leaf<'a>]),
+}
+
+pub(crate) type Marks<'a> = Vec<Mark<'a>>;
+
+// The places of boxes, innermost first.
+type Places = Vec<usize>;
+
+// For each box whether a mark was met that is looked for.
+type Flags = Vec<bool>;
+
+/// The marks of leaves that stand in these boxes.
+pub(crate) fn marks<'a>(
+    alloc: Global,
+    boxes: &[LineBox],
+    leaves: &'a [Leaf<'a>],
+) -> Result<Marks<'a>, AllocError>
+    requires nested { AreNested boxes.now }
+    requires within { AreWithin (length boxes.now) (map leaf_of leaves.now) }
+    ensures { IfOk result (λ made. map mark_of made.items ≡ marks_of boxes.now (map leaf_of leaves.now)) }
+{
+    let bare = bare_marks(alloc, boxes, leaves)?;
+    let from_right = with_rightmost(alloc, &bare, boxes.len())?;
+    let marks = with_leftmost(alloc, &from_right, boxes.len())?;
+    Ok(marks)
+}
+
+// The box that is passed first on the way from the one place to the other: the deeper one of two boxes.
+fn deeper(one: Option<usize>, other: Option<usize>) -> Option<usize>
+    ensures same { IfNone result (one ≡ other) }
+    ensures deeper { IfSome result (λ p. ((one ≡ Some p) × IsBefore p other) ⊎ ((other ≡ Some p) × IsBefore p one)) }
+{
+    match (one, other) {
+        (None, None) => None,
+        (Some(p), None) | (None, Some(p)) => Some(p),
+        (Some(p), Some(q)) => { if p == q { None } else { Some(p.max(q)) } }
+    }
+}
+
+fn outer_of(boxes: &[LineBox], place: usize) -> Option<usize>
+    requires nested { AreNested boxes.now }
+    requires within { place < length boxes.now }
+    ensures outer { result ≡ (box_at boxes.now place).outer }
+    ensures before { IsBefore place result }
+{
+    boxes[place].outer
+}
+
+// Ends the boxes round the one place that are not round the other. The boxes round the other that are not round the one are
+// yet to begin.
+fn end_boxes(
+    alloc: Global,
+    marks: &mut Marks,
+    boxes: &[LineBox],
+    from: Option<usize>,
+    to: Option<usize>,
+) -> Result<Places, AllocError>
+    requires nested { AreNested boxes.now }
+    requires from { IsBefore (length boxes.now) from }
+    requires to { IsBefore (length boxes.now) to }
+    ensures ends { OnOk result (map mark_of marks.new.items ≡ map mark_of marks.old.items ++ map (λ p. ends p false) (left_behind boxes.now from to)) }
+    ensures fresh { IfOk result (λ fresh. fresh.items ≡ left_behind boxes.now to from) }
+{
+    let mut fresh = Vec::new(alloc);
+    let (mut one, mut other) = (from, to);
+    while let Some(place) = deeper(one, other) {
+        if is_place(one, Some(place)) {
+            marks.push(Mark::Ends { place, edge: false })?;
+            one = outer_of(boxes, place);
+        } else {
+            fresh.push(place)?;
+            other = outer_of(boxes, place);
+        }
+    }
+    Ok(fresh)
+}
+
+fn begin_boxes(marks: &mut Marks, fresh: &[usize]) -> Result<(), AllocError>
+    ensures { OnOk result (map mark_of marks.new.items ≡ map mark_of marks.old.items ++ map (λ p. begins p false) (reverse fresh.now)) }
+{
+    let mut left = fresh.len();
+    while left > 0 {
+        left -= 1;
+        marks.push(Mark::Begins {
+            place: fresh[left],
+            edge: false,
+        })?;
+    }
+    Ok(())
+}
+
+// Goes from what stands inside the one box to what stands inside the other.
+fn pass(
+    alloc: Global,
+    marks: &mut Marks,
+    boxes: &[LineBox],
+    from: Option<usize>,
+    to: Option<usize>,
+) -> Result<(), AllocError>
+    requires nested { AreNested boxes.now }
+    requires from { IsBefore (length boxes.now) from }
+    requires to { IsBefore (length boxes.now) to }
+    ensures { OnOk result (map mark_of marks.new.items ≡ map mark_of marks.old.items ++ between boxes.now from to) }
+{
+    let fresh = end_boxes(alloc, marks, boxes, from, to)?;
+    begin_boxes(marks, &fresh)?;
+    Ok(())
+}
+
+fn inside_of(run: &[Leaf]) -> Option<usize>
+    requires { 0 < length run.now }
+    ensures { result ≡ inside_of (map leaf_of run.now) }
+{
+    run[0].item.inside
+}
+
+// The marks of leaves, which don't tell yet which fragment of a box is the leftmost and which the rightmost.
+fn bare_marks<'a>(
+    alloc: Global,
+    boxes: &[LineBox],
+    leaves: &'a [Leaf<'a>],
+) -> Result<Marks<'a>, AllocError>
+    requires nested { AreNested boxes.now }
+    requires within { AreWithin (length boxes.now) (map leaf_of leaves.now) }
+    ensures { IfOk result (λ made. map mark_of made.items ≡ marks_after boxes.now None (runs.runs (map leaf_of leaves.now))) }
+{
+    let mut marks = Vec::new(alloc);
+    let mut inside = None;
+    let mut at = 0;
+    while at < leaves.len() {
+        let run = run_at(leaves, at);
+        let next = inside_of(run);
+        pass(alloc, &mut marks, boxes, inside, next)?;
+        marks.push(Mark::Shows(run))?;
+        inside = next;
+        at += run.len();
+    }
+    pass(alloc, &mut marks, boxes, inside, None)?;
+    Ok(marks)
+}
+
+// The marks from line-left, from the same marks from line-right, which now tell which fragment of each of so many boxes is
+// the leftmost one.
+fn with_leftmost<'a>(
+    alloc: Global,
+    from_right: &[Mark<'a>],
+    count: usize,
+) -> Result<Marks<'a>, AllocError>
+    requires { AreOfBoxes count (reverse (map mark_of from_right.now)) }
+    ensures { IfOk result (λ made. map mark_of made.items ≡ leftmost [] (reverse (map mark_of from_right.now))) }
+{
+    let mut begun = vec![in alloc; false; count]?;
+    let mut made = Vec::with_capacity(alloc, from_right.len())?;
+    let mut left = from_right.len();
+    while left > 0 {
+        left -= 1;
+        made.push(at_left(&mut begun, from_right[left]))?;
+    }
+    Ok(made)
+}
+
+// The same mark where these boxes have begun before.
+fn at_left<'a>(begun: &mut Flags, mark: Mark<'a>) -> Mark<'a>
+    requires { IsOfBox (length begun.old.items) (mark_of mark) }
+    ensures same { length begun.new.items ≡ length begun.old.items }
+    ensures mark { (before : List SeenMark) → Tells is_begin_of begun.old.items before → mark_of result ≡ at_left before (mark_of mark.entry) }
+    ensures begun { (before : List SeenMark) → Tells is_begin_of begun.old.items before → Tells is_begin_of begun.new.items (before ++ mark_of mark.entry ∷ []) }
+{
+    match mark {
+        Mark::Begins { place, edge: _ } => {
+            let edge = !begun[place];
+            begun[place] = true;
+            Mark::Begins { place, edge }
+        }
+        Mark::Ends { place, edge } => Mark::Ends { place, edge },
+        Mark::Shows(run) => Mark::Shows(run),
+    }
+}
+
+// The marks from line-right, which tell which fragment of each of so many boxes is the rightmost one.
+fn with_rightmost<'a>(
+    alloc: Global,
+    marks: &[Mark<'a>],
+    count: usize,
+) -> Result<Marks<'a>, AllocError>
+    requires { AreOfBoxes count (map mark_of marks.now) }
+    ensures { IfOk result (λ made. reverse (map mark_of made.items) ≡ rightmost (map mark_of marks.now)) }
+{
+    let mut ended = vec![in alloc; false; count]?;
+    let mut made = Vec::with_capacity(alloc, marks.len())?;
+    let mut from = marks.len();
+    while from > 0 {
+        from -= 1;
+        made.push(at_right(&mut ended, marks[from]))?;
+    }
+    Ok(made)
+}
+
+// The same mark where these boxes end behind it.
+fn at_right<'a>(ended: &mut Flags, mark: Mark<'a>) -> Mark<'a>
+    requires { IsOfBox (length ended.old.items) (mark_of mark) }
+    ensures same { length ended.new.items ≡ length ended.old.items }
+    ensures mark { (after : List SeenMark) → Tells is_end_of ended.old.items after → mark_of result ≡ at_right after (mark_of mark.entry) }
+    ensures ended { (after : List SeenMark) → Tells is_end_of ended.old.items after → Tells is_end_of ended.new.items (mark_of mark.entry ∷ after) }
+{
+    match mark {
+        Mark::Begins { place, edge } => Mark::Begins { place, edge },
+        Mark::Ends { place, edge: _ } => {
+            let edge = !ended[place];
+            ended[place] = true;
+            Mark::Ends { place, edge }
+        }
+        Mark::Shows(run) => Mark::Shows(run),
+    }
+}

@@ -1,0 +1,264 @@
+//! How wide a line is, where its content starts, and how far it reaches over and under its baseline (CSS 2, 8.3, 10.8 and
+//! 16.2).
+
+ghost use Rattle.std.specs.Prelude.{◌≡◌, ◌+◌, ◌<◌, ◌≤◌, ◌^◌, ◌-ℤ◌, length, map, unsigned_abs};
+ghost use Rattle.std.specs.Int.{int_max};
+ghost use Rattle.std.specs.List.{flat_map, fold};
+ghost use Rattle.line_place.specs.Leaves.{leaf_of, seen};
+ghost use Rattle.line_place.specs.Marks.{box_at, mark_of};
+ghost use Rattle.line_place.specs.Placing as rule;
+ghost use Rattle.line_place.specs.Reach.{AreOfBoxes, IsOfBox, box_reach, leaf_reach, left_reach, mark_reach, right_reach, total};
+
+use crate::leaves::Leaf;
+use crate::line::{LineBox, LineContent};
+use crate::marks::Mark;
+use style_types::Align;
+use wm_modes::Direction;
+use wm_units::half;
+
+/// Whether the line-left edges of a box stand on this line.
+fn has_left(inline_box: &LineBox) -> bool
+    ensures { result ≡ rule.has_left inline_box.now }
+{
+    match inline_box.dir {
+        Direction::Ltr => inline_box.first,
+        Direction::Rtl => inline_box.last,
+    }
+}
+
+/// Whether the line-right edges of a box stand on this line.
+fn has_right(inline_box: &LineBox) -> bool
+    ensures { result ≡ rule.has_right inline_box.now }
+{
+    match inline_box.dir {
+        Direction::Ltr => inline_box.last,
+        Direction::Rtl => inline_box.first,
+    }
+}
+
+/// The margin where a fragment of the box begins.
+pub(crate) fn left_margin(inline_box: &LineBox, edge: bool) -> i64
+    ensures { result ≡ rule.left_margin inline_box.now edge }
+{
+    if edge && has_left(inline_box) {
+        inline_box.left_margin
+    } else {
+        0
+    }
+}
+
+/// The border and the padding where a fragment of the box begins.
+pub(crate) fn left(inline_box: &LineBox, edge: bool) -> i64
+    ensures { result ≡ rule.left inline_box.now edge }
+{
+    if edge && has_left(inline_box) {
+        inline_box.left
+    } else {
+        0
+    }
+}
+
+/// The border and the padding where a fragment of the box ends.
+pub(crate) fn right(inline_box: &LineBox, edge: bool) -> i64
+    ensures { result ≡ rule.right inline_box.now edge }
+{
+    if edge && has_right(inline_box) {
+        inline_box.right
+    } else {
+        0
+    }
+}
+
+/// The margin where a fragment of the box ends.
+pub(crate) fn right_margin(inline_box: &LineBox, edge: bool) -> i64
+    ensures { result ≡ rule.right_margin inline_box.now edge }
+{
+    if edge && has_right(inline_box) {
+        inline_box.right_margin
+    } else {
+        0
+    }
+}
+
+/// The extent of a run along the line.
+pub(crate) fn extent_of(run: &[Leaf]) -> i64
+    requires { total leaf_reach (map leaf_of run.now) ≤ 2 ^ 60 }
+    ensures is { result ≡ rule.extent_of (map leaf_of run.now) }
+    ensures near { unsigned_abs result ≤ total leaf_reach (map leaf_of run.now) }
+{
+    let mut extent = 0;
+    let mut from = run.len();
+    while from > 0 {
+        from -= 1;
+        extent += run[from].extent();
+    }
+    extent
+}
+
+/// How far a mark advances along the line.
+pub(crate) fn advance(boxes: &[LineBox], mark: &Mark) -> i64
+    requires of_box { IsOfBox (length boxes.now) (mark_of mark.now) }
+    requires reach { mark_reach boxes.now (mark_of mark.now) ≤ 2 ^ 60 }
+    ensures is { result ≡ rule.advance boxes.now (mark_of mark.now) }
+    ensures near { unsigned_abs result ≤ mark_reach boxes.now (mark_of mark.now) }
+{
+    match mark {
+        Mark::Begins { place, edge } => {
+            left_margin(&boxes[*place], *edge) + left(&boxes[*place], *edge)
+        }
+        Mark::Ends { place, edge } => {
+            right(&boxes[*place], *edge) + right_margin(&boxes[*place], *edge)
+        }
+        Mark::Shows(run) => extent_of(run),
+    }
+}
+
+/// The width of a line.
+pub(crate) fn width(boxes: &[LineBox], marks: &[Mark]) -> i64
+    requires of_boxes { AreOfBoxes (length boxes.now) (map mark_of marks.now) }
+    requires reach { total (mark_reach boxes.now) (map mark_of marks.now) ≤ 2 ^ 60 }
+    ensures is { result ≡ rule.width boxes.now (map mark_of marks.now) }
+    ensures near { unsigned_abs result ≤ total (mark_reach boxes.now) (map mark_of marks.now) }
+{
+    let mut width = 0;
+    let mut from = marks.len();
+    while from > 0 {
+        from -= 1;
+        width += advance(boxes, &marks[from]);
+    }
+    width
+}
+
+/// Where the content of a line starts from line-left, where that much is left of the available size (CSS 2, 16.2).
+pub(crate) fn offset(align: Align, base: u8, rest: i64) -> i64
+    ensures is { result ≡ rule.offset align base rest }
+    ensures near { unsigned_abs result ≤ unsigned_abs rest }
+{
+    if rest < 0 {
+        at_start(base, rest)
+    } else {
+        aligned(align, base, rest)
+    }
+}
+
+#[tactic(auto, using(crate::proofs::Lengths::half_near))]
+fn aligned(align: Align, base: u8, rest: i64) -> i64
+    ensures is { result ≡ rule.aligned align base rest }
+    ensures near { unsigned_abs result ≤ unsigned_abs rest }
+{
+    match align {
+        Align::Start => at_start(base, rest),
+        Align::End => at_end(base, rest),
+        Align::Left => 0,
+        Align::Right => rest,
+        Align::Center => half(rest),
+    }
+}
+
+fn at_start(base: u8, rest: i64) -> i64
+    ensures is { result ≡ rule.at_start base rest }
+    ensures near { unsigned_abs result ≤ unsigned_abs rest }
+{
+    if base == 0 { 0 } else { rest }
+}
+
+fn at_end(base: u8, rest: i64) -> i64
+    ensures is { result ≡ rule.at_end base rest }
+    ensures near { unsigned_abs result ≤ unsigned_abs rest }
+{
+    if base == 0 { rest } else { 0 }
+}
+
+/// How far a line reaches over its baseline: as far as the strut, its inline boxes and its atoms do (CSS 2, 10.8.1).
+pub(crate) fn line_over(boxes: &[LineBox], strut: i64, marks: &[Mark]) -> i64
+    requires { AreOfBoxes (length boxes.now) (map mark_of marks.now) }
+    ensures { result ≡ fold int_max strut (flat_map (rule.over_of boxes.now) (map mark_of marks.now)) }
+{
+    let mut over = strut;
+    for mark in marks {
+        over = with_over(boxes, over, mark);
+    }
+    over
+}
+
+/// How far a line reaches under its baseline (CSS 2, 10.8.1).
+pub(crate) fn line_under(boxes: &[LineBox], strut: i64, marks: &[Mark]) -> i64
+    requires { AreOfBoxes (length boxes.now) (map mark_of marks.now) }
+    ensures { result ≡ fold int_max strut (flat_map (rule.under_of boxes.now) (map mark_of marks.now)) }
+{
+    let mut under = strut;
+    for mark in marks {
+        under = with_under(boxes, under, mark);
+    }
+    under
+}
+
+fn with_over(boxes: &[LineBox], over: i64, mark: &Mark) -> i64
+    requires { IsOfBox (length boxes.now) (mark_of mark.now) }
+    ensures { result ≡ fold int_max over (rule.over_of boxes.now (mark_of mark.now)) }
+{
+    match mark {
+        Mark::Begins { place, edge: _ } => over.max(boxes[*place].extents.over),
+        Mark::Ends { .. } => over,
+        Mark::Shows(run) => with_atoms_over(over, run),
+    }
+}
+
+fn with_under(boxes: &[LineBox], under: i64, mark: &Mark) -> i64
+    requires { IsOfBox (length boxes.now) (mark_of mark.now) }
+    ensures { result ≡ fold int_max under (rule.under_of boxes.now (mark_of mark.now)) }
+{
+    match mark {
+        Mark::Begins { place, edge: _ } => under.max(boxes[*place].extents.under),
+        Mark::Ends { .. } => under,
+        Mark::Shows(run) => with_atoms_under(under, run),
+    }
+}
+
+fn with_atoms_over(mut over: i64, run: &[Leaf]) -> i64
+    ensures { result ≡ fold int_max over (flat_map (λ leaf. rule.atom_over leaf.what) (map leaf_of run.now)) }
+{
+    for leaf in run {
+        over = with_atom_over(over, leaf.what());
+    }
+    over
+}
+
+fn with_atoms_under(mut under: i64, run: &[Leaf]) -> i64
+    ensures { result ≡ fold int_max under (flat_map (λ leaf. rule.atom_under leaf.what) (map leaf_of run.now)) }
+{
+    for leaf in run {
+        under = with_atom_under(under, leaf.what());
+    }
+    under
+}
+
+fn with_atom_over(over: i64, what: Option<&LineContent>) -> i64
+    ensures { result ≡ fold int_max over (rule.atom_over (seen what.entry)) }
+{
+    match what {
+        Some(
+            LineContent::Atom {
+                over: atom_over,
+                ..
+            },
+        ) => over.max(*atom_over),
+        Some(LineContent::Unit { .. } | LineContent::Combined { .. } | LineContent::Break) | None =>
+            over,
+    }
+}
+
+fn with_atom_under(under: i64, what: Option<&LineContent>) -> i64
+    ensures { result ≡ fold int_max under (rule.atom_under (seen what.entry)) }
+{
+    match what {
+        Some(
+            LineContent::Atom {
+                under: atom_under,
+                ..
+            },
+        ) => under.max(*atom_under),
+        Some(LineContent::Unit { .. } | LineContent::Combined { .. } | LineContent::Break) | None =>
+            under,
+    }
+}
