@@ -1,19 +1,15 @@
 -- Each edge of an inline box stands once on a line, and each item.
-use Rattle.std.proofs.Common.{◌≡◌, ◌∙◌, ap, sym, refl, arith, subst, Bool, true, false, not, ◌||◌, ◌==◌, cond, ℕ, zero, suc, ◌+◌, ◌<◌, ◌≤◌, ◌^◌, List, [], ◌∷◌, ◌++◌, length, map, reverse, Option, Some, None, ◌⊎◌, inl, inr, ℤ, unsigned_abs, slice_index_or}
-use Rattle.std.specs.Prelude.{slice_get}
-use Rattle.std.specs.Int.{int_max}
-use Rattle.std.specs.List.{cons_option, filter_map, flat_map, fold, list_any, range_with_len}
-use Rattle.std.proofs.lemmas.Int.{ints, clamps}
+use Rattle.std.proofs.Common.{◌≡◌, ◌∙◌, ap, sym, refl, arith, Bool, true, false, not, ◌||◌, cond, ℕ, zero, suc, ◌+◌, ◌<◌, ◌≤◌, List, [], ◌∷◌, ◌++◌, length, map, reverse, Option, None, inl, inr}
+use Rattle.std.specs.List.{list_any, range_with_len}
 use Rattle.line_place.specs.declared.line.LineBox.{LineBox}
-use Rattle.line_place.specs.Line.{Content, unit, combined, atom, nothing, Item, Line, no_box}
-use Rattle.line_place.specs.Leaves.{Leaf, leaves, leaves_from, levels_of, leaf, are_spaces}
+use Rattle.line_place.specs.Line.{no_box}
+use Rattle.line_place.specs.Leaves.{Leaf, leaf}
 use Rattle.line_place.specs.Runs.{goes_on, joined, runs}
-use Rattle.line_place.specs.Marks.{Mark, begins, ends, shows, at_left, at_right, between, box_at, inside_of, is_begin_of, is_end_of, left_behind, leftmost, marks_after, marks_of, rightmost}
-use Rattle.line_place.specs.Placing.{atom_over, atom_under, over_of, under_of}
-use Rattle.line_place.specs.Reach.{AreInBoxes, AreOfBoxes, AreReached, AreWithin, IsBefore, IsInBox, IsOfBox, box_reach, content_reach, leaf_reach, left_reach, mark_reach, right_reach, total}
+use Rattle.line_place.specs.Marks.{Mark, begins, ends, shows, between, box_at, inside_of, is_begin_of, is_end_of, left_behind, leftmost, marks_after, marks_of, rightmost}
+use Rattle.line_place.specs.Reach.{AreOfBoxes, box_reach, leaf_reach, left_reach, mark_reach, right_reach, total}
 use Rattle.line_place.proofs.Chains.{same_place, other_place, or_true}
 use Rattle.line_place.proofs.MarkLaws.{of_boxes, of_right}
-use Rattle.line_place.proofs.PairLaws.{AreRunsIn, lies}
+use Rattle.line_place.proofs.PairLaws.{lies}
 use Rattle.line_place.proofs.ReachLaws.{by_index, same_total, total_append}
 
 -- ---- what isn't spent yet

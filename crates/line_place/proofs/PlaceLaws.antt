@@ -1,5 +1,5 @@
 -- What a line's own lengths and places give its row of marks.
-use Rattle.std.proofs.Common.{◌≡◌, ◌∙◌, ap, sym, refl, arith, subst, Bool, true, false, cond, ℕ, zero, suc, ◌+◌, ◌<◌, ◌≤◌, ◌^◌, List, [], ◌∷◌, ◌++◌, length, map, reverse, Option, Some, None, ℤ, unsigned_abs, slice_index_or}
+use Rattle.std.proofs.Common.{◌≡◌, refl, arith, Bool, true, false, cond, ℕ, zero, suc, ◌+◌, ◌<◌, ◌≤◌, ◌^◌, List, [], ◌∷◌, ◌++◌, length, map, reverse, Option, Some, None, ℤ, unsigned_abs, slice_index_or}
 use Rattle.std.specs.Prelude.{slice_get}
 use Rattle.std.specs.Int.{int_max}
 use Rattle.std.specs.List.{All, cons_option, filter_map, flat_map, fold}
@@ -7,10 +7,10 @@ use Rattle.std.proofs.lemmas.Int.{ints, clamps}
 use Rattle.std.proofs.lemmas.List.Elements.{All-head, All-tail}
 use Rattle.line_place.specs.declared.line.LineBox.{LineBox}
 use Rattle.line_place.specs.Line.{Content, unit, combined, atom, nothing, Item, Line, no_box}
-use Rattle.line_place.specs.Leaves.{Leaf, are_spaces, leaf, leaves, leaves_from, levels_of}
+use Rattle.line_place.specs.Leaves.{Leaf, leaves, leaves_from, levels_of}
 use Rattle.line_place.specs.Order.{visual_order}
 use Rattle.line_place.specs.Runs.{goes_on, joined, runs}
-use Rattle.line_place.specs.Marks.{Mark, begins, ends, shows, at_left, at_right, between, box_at, inside_of, left_behind, leftmost, marks, marks_after, marks_of, rightmost}
+use Rattle.line_place.specs.Marks.{Mark, begins, ends, shows, at_left, at_right, between, inside_of, left_behind, leftmost, marks, marks_after, marks_of, rightmost}
 use Rattle.line_place.specs.Placing.{atom_over, atom_under, over_of, under_of}
 use Rattle.line_place.specs.Reach.{AreInBoxes, AreNested, AreOfBoxes, ArePaired, AreReached, AreWithin, IsBefore, IsInBox, IsOfBox, box_reach, content_reach, leaf_reach, mark_reach, total}
 use Rattle.line_place.proofs.MarkLaws.{of_boxes, of_right}

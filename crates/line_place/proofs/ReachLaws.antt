@@ -1,19 +1,15 @@
 -- How far the lengths of a line reach.
-use Rattle.std.proofs.Common.{◌≡◌, ◌∙◌, ap, sym, refl, arith, subst, Bool, true, false, not, ◌||◌, ◌==◌, cond, ℕ, zero, suc, ◌+◌, ◌-◌, ◌<◌, ◌≤◌, ◌^◌, List, [], ◌∷◌, ◌++◌, length, map, reverse, Option, Some, None, ◌⊎◌, inl, inr, take, drop, get_or, ℤ, pos, unsigned_abs, slice_index_or}
+use Rattle.std.proofs.Common.{◌≡◌, ◌∙◌, ap, sym, refl, arith, Bool, true, false, ℕ, zero, suc, ◌+◌, ◌≤◌, List, [], ◌∷◌, ◌++◌, length, Option, Some, None, take, slice_index_or}
 use Rattle.std.specs.Prelude.{slice_get}
-use Rattle.std.specs.Int.{int_max}
-use Rattle.std.specs.List.{cons_option, filter_map, flat_map, fold, list_any, range_with_len, sum_by}
+use Rattle.std.specs.List.{cons_option, filter_map, range_with_len, sum_by}
 use Rattle.std.specs.List.Sorted.{IsPermutation}
-use Rattle.std.proofs.lemmas.Int.{ints, clamps}
-use Rattle.std.proofs.lemmas.List.{length-map, take_all}
+use Rattle.std.proofs.lemmas.List.{take_all}
 use Rattle.std.proofs.lemmas.List.Sums.{sum_by-append}
 use Rattle.std.proofs.lemmas.List.Sorted.{sum_by-IsPermutation}
-use Rattle.line_place.specs.declared.line.LineBox.{LineBox}
-use Rattle.line_place.specs.declared.order.Seat.{Seat}
-use Rattle.line_place.specs.Line.{Content, Item, no_box}
+use Rattle.line_place.specs.Line.{Item}
 use Rattle.line_place.specs.Leaves.{Leaf, are_spaces, leaf, leaves_from}
-use Rattle.line_place.specs.Order.{empty_seat, parting, seats, seats_from, within_line}
-use Rattle.line_place.specs.Reach.{item_reach, leaf_reach, content_reach, total}
+use Rattle.line_place.specs.Order.{empty_seat, seats, seats_from, within_line}
+use Rattle.line_place.specs.Reach.{item_reach, leaf_reach, total}
 
 -- ---- sums
 

@@ -12,7 +12,7 @@ use Rattle.line_place.specs.Leaves.{Leaf}
 use Rattle.line_place.specs.Line.{Line}
 use Rattle.line_place.specs.Marks.{Mark, begins, ends, shows, box_at, mark_of}
 use Rattle.line_place.specs.Placing.{Row, advance, box_rect, extent_of, has_left, has_right, left, left_margin, put_box, put_first, right, right_margin, rows, run_piece, unnumbered}
-use Rattle.line_place.specs.Reach.{AreInBoxes, ArePaired, IsInBox, leaf_reach, mark_reach, open_behind, total}
+use Rattle.line_place.specs.Reach.{AreInBoxes, ArePaired, IsInBox, leaf_reach, mark_reach, total}
 use Rattle.line_place.specs.Walk.{AreOpen, closed, followed, whole}
 
 -- the innermost box that is open

@@ -1,4 +1,4 @@
-use Rattle.std.proofs.Common.{◌∙◌, ◌≡◌, ap, sym, refl, arith, length, map, List, Option, ℕ, slice_index_or}
+use Rattle.std.proofs.Common.{◌∙◌, ◌≡◌, ap, sym, length, map, List, Option, ℕ, slice_index_or}
 use Rattle.std.specs.List.{filter_map, range_with_len}
 use Rattle.std.proofs.lemmas.List.{length-map}
 use Rattle.line_place.specs.declared.line.LineItem.{LineItem}

@@ -1,4 +1,4 @@
-use Rattle.std.proofs.Common.{◌≡◌, ◌∙◌, ap, sym, refl, arith, subst, ◌≤◌, ◌^◌, ◌+◌, List, map, length, ℕ, ℤ, ◌-ℤ◌, unsigned_abs, to_z, of_z, w64}
+use Rattle.std.proofs.Common.{◌≡◌, ◌∙◌, ap, arith, ◌≤◌, ◌^◌, List, map, ℤ, ◌-ℤ◌, unsigned_abs, to_z, of_z, w64}
 use Rattle.std.specs.Int.{int_max}
 use Rattle.std.specs.List.{flat_map, fold}
 use Rattle.std.proofs.lemmas.Int.{ints}

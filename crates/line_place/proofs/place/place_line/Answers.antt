@@ -1,4 +1,4 @@
-use Rattle.std.proofs.Common.{◌≡◌, ◌∙◌, ap, sym, refl, arith, subst, ◌≤◌, ◌^◌, ◌+◌, List, map, length, ℕ, ℤ, ◌-ℤ◌}
+use Rattle.std.proofs.Common.{◌≡◌, ◌∙◌, ap, sym, arith, subst, List, map, length, ℤ, ◌-ℤ◌}
 use Rattle.std.specs.Int.{int_max}
 use Rattle.std.specs.List.{flat_map, fold}
 use Rattle.line_place.specs.declared.line.LineBox.{LineBox}
@@ -7,7 +7,7 @@ use Rattle.line_place.specs.declared.leaves.Leaf as code_leaf
 use Rattle.line_place.specs.declared.marks.Mark as code_mark
 use Rattle.line_place.specs.Leaves.{Leaf, leaf_of, leaves}
 use Rattle.line_place.specs.Line.{line_of}
-use Rattle.line_place.specs.Marks.{Mark, mark_of, marks, marks_of}
+use Rattle.line_place.specs.Marks.{Mark, mark_of, marks_of}
 use Rattle.line_place.specs.Placing as rule
 use Rattle.line_place.specs.Reach.{AreInBoxes, AreOfBoxes, ArePaired, AreWithin, leaf_reach, mark_reach, total}
 use Rattle.line_place.proofs.EdgeLaws.{marks_reach}

@@ -1,4 +1,4 @@
-use Rattle.std.proofs.Common.{◌≡◌, ◌∙◌, ◌+◌, ap, sym, refl, arith, subst, List, ◌∷◌, length, map, drop, ℕ, ℤ, to_z, of_z, w64}
+use Rattle.std.proofs.Common.{◌∙◌, ◌+◌, ap, sym, arith, subst, List, length, map, drop, ℕ, ℤ, to_z, of_z, w64}
 use Rattle.std.proofs.lemmas.Int.{ints}
 use Rattle.std.proofs.lemmas.List.{drop_all, length-map}
 use Rattle.line_place.specs.Line.{line_of}

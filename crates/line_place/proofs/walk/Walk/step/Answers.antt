@@ -6,7 +6,7 @@ use Rattle.line_place.specs.declared.line.LineBox.{LineBox}
 use Rattle.line_place.specs.declared.walk.Open.{Open}
 use Rattle.line_place.specs.Leaves.{leaf_of}
 use Rattle.line_place.specs.Line.{line_of, no_box}
-use Rattle.line_place.specs.Marks.{Mark, begins, ends, shows, box_at, mark_of}
+use Rattle.line_place.specs.Marks.{Mark, begins, ends, box_at, mark_of}
 use Rattle.line_place.specs.Placing as rule
 use Rattle.line_place.specs.Reach.{CanStand, IsOfBox, mark_reach, open_behind}
 use Rattle.line_place.specs.Walk.{AreOpen, whole}
