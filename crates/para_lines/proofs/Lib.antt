@@ -1,0 +1,7 @@
+pub mod Chaining
+pub mod Examples
+pub mod FillLaws
+pub mod LineLaws
+pub mod OnLine
+pub mod Spreading
+pub mod StandLaws

@@ -1,0 +1,173 @@
+-- The boxes of a line.
+use Rattle.std.proofs.Common.{inl, inr, ◌≡◌, ◌∙◌, refl, sym, ap, arith, Bool, true, false, ◌||◌, ℕ, suc, ◌+◌, ◌-◌, ◌<◌, ◌≤◌, List, [], ◌∷◌, ◌++◌, length, map, get_or, set, drop, reverse, append_assoc, append-nil, Option, Some, ℤ}
+use Rattle.std.specs.Prelude.{All, ◌==◌, option_map}
+use Rattle.std.proofs.lemmas.List.{drop_all, drop_more, get_or-set_same, get_or-set_other, length-set}
+use Rattle.std.proofs.lemmas.Bool.{cases_eq, eq-eqb, ne_eqb}
+use Rattle.wm_chars.specs.declared.classes.BidiClass.{BidiClass}
+use Rattle.wm_modes.specs.declared.mode.Direction.{Direction}
+use Rattle.wm_modes.specs.declared.rects.FlowRect.{FlowRect}
+use Rattle.style_types.specs.declared.fragment.Fragment.{Fragment, out-Fragment}
+use Rattle.style_types.specs.declared.fragment.Fragment.TheFolds.{fold_out-Fragment}
+use Rattle.style_types.specs.Fragment.{Pieces, before, in_line, kind_of, moved_to, none, piece, piece_of, piece_step}
+use Rattle.style_types.specs.Item.{Entry}
+use Rattle.line_place.specs.declared.line.Extents.{Extents}
+use Rattle.line_place.specs.declared.line.LineBox.{LineBox}
+use Rattle.line_place.specs.Line as place
+use Rattle.para_prepare.specs.declared.item.PreparedContent.{PreparedContent}
+use Rattle.para_prepare.specs.declared.item.PreparedContent.TheVariants.{Unit, Combined, Atom, Break}
+use Rattle.para_lines.specs.declared.boxes.Round.{Round}
+use Rattle.para_lines.specs.declared.standing.Standing as code
+use Rattle.para_lines.specs.Edges.{shifts}
+use Rattle.para_lines.specs.Filling.{is_space}
+use Rattle.para_lines.specs.Lines as rule
+use Rattle.para_prepare.specs.declared.item.PreparedItem.{PreparedItem}
+use Rattle.para_lines.specs.Around.{fresh, has}
+use Rattle.para_lines.specs.Boxes.{apart, chain_at, chain_behind, innermost, round_of}
+use Rattle.para_lines.specs.Line.{AreSeats, content_in, first_atom, on_line, standing_of}
+use Rattle.para_lines.specs.Lines.{innermost_in, place_in}
+use Rattle.para_lines.specs.Prepared.{first_source, source_before}
+
+-- one item more
+pub on_line_more : (entries : List Entry) (items : List PreparedItem) (k : ℕ) (item : PreparedItem) (places more fresh_ : List ℕ) (total : List ℕ) → k < length items → item ≡ get_or items k item
+    → fresh_ ≡ apart (chain_at entries item.source) (chain_behind entries (source_before items k)) → more ≡ places ++ reverse fresh_
+    → places ++ on_line entries (chain_behind entries (source_before items k)) (drop k items) ≡ total
+    → more ++ on_line entries (chain_behind entries (source_before items (k + 1))) (drop (k + 1) items) ≡ total
+on_line_more entries items k item places more fresh_ total lt read is pushed all =
+    let e : suc k ≡ k + 1 = omega arith in
+    let before : List ℕ = chain_behind entries (source_before items k) in
+    let next : chain_behind entries (source_before items (k + 1)) ≡ chain_at entries item.source =
+    sym (ap (λ (i : PreparedItem). chain_behind entries (Some i.source)) read
+    ∙ ap (λ (is : List PreparedItem). chain_behind entries (first_source is)) (sym (drop_more items k item lt))
+    ∙ ap (λ j. chain_behind entries (source_before items j)) e) in
+    let here : drop k items ≡ item ∷ drop (k + 1) items = drop_more items k item lt ∙ ap (λ (i : PreparedItem). i ∷ drop (k + 1) items) (sym read) in
+    ap (λ (b : List ℕ). more ++ on_line entries b (drop (k + 1) items)) next
+    ∙ ap (λ (m : List ℕ). m ++ on_line entries (chain_at entries item.source) (drop (k + 1) items)) (pushed ∙ ap (λ (f : List ℕ). places ++ reverse f) is)
+    ∙ append_assoc places (fresh (chain_at entries item.source) before) (on_line entries (chain_at entries item.source) (drop (k + 1) items))
+    ∙ ap (λ (is : List PreparedItem). places ++ on_line entries before is) (sym here)
+    ∙ all
+
+pub on_line_all : (entries : List Entry) (items : List PreparedItem) (k : ℕ) (places total before : List ℕ) → length items ≤ k → places ++ on_line entries before (drop k items) ≡ total → places ≡ total
+on_line_all entries items k places total before past all =
+    sym (append-nil places) ∙ ap (λ (is : List PreparedItem). places ++ on_line entries before is) (sym (drop_all k items past)) ∙ all
+
+-- the boxes from one on are seated
+pub record Seating (places seats old : List ℕ) (left : ℕ) : Type 0 where
+  pub within : left ≤ length places
+  pub same : length seats ≡ length old
+  pub told : (box : ℕ) → has (drop left places) box ≡ true → (box < length seats) × (get_or seats box 0 ≡ left + place_in (drop left places) box)
+
+pub seating_first : (places old : List ℕ) → Seating places old old (length places)
+seating_first places old =
+    let none : drop (length places) places ≡ [] = drop_all (length places) places (omega arith) in
+    record { within = omega arith; same = refl; told = λ box in_. absurd (let no : false ≡ true = ap (λ (ps : List ℕ). has ps box) (sym none) ∙ in_ in cc) }
+
+pub seating_on : (places seats more old : List ℕ) (left own : ℕ) → 0 < left → All (λ place. place < length old) places → own ≡ get_or places (left - 1) own → more ≡ set seats own (left - 1)
+    → Seating places seats old left → Seating places more old (left - 1)
+seating_on places seats more old left own some within read is h =
+    let w = h.within in
+    let same = h.same in
+    let e : left - 1 + 1 ≡ left = omega arith in
+    let here : drop (left - 1) places ≡ own ∷ drop left places =
+    drop_more places (left - 1) own (omega arith) ∙ ap (λ (p : ℕ). p ∷ drop (left - 1 + 1) places) (sym read) ∙ ap (λ j. own ∷ drop j places) e in
+    let l = length-set seats own (left - 1) in
+    let own_lt : own < length old = rw read (within (left - 1) own (omega arith)) in
+    let n = ap length is in
+    record {
+      within = omega arith;
+      same = n ∙ l ∙ h.same;
+      told = λ box in_.
+          let in2 : has (own ∷ drop left places) box ≡ true = ap (λ (ps : List ℕ). has ps box) (sym here) ∙ in_ in
+          elim (cases_eq box own) [
+            | inl b ↦ (
+              omega arith,
+              ap (λ (s : List ℕ). get_or s box 0) is
+                  ∙ ap (λ j. get_or (set seats own (left - 1)) j 0) b
+                  ∙ get_or-set_same seats own (left - 1) 0 (omega arith)
+                  ∙ sym (ap (λ (ps : List ℕ). left - 1 + place_in ps box) here ∙ rw (eq-eqb own box (sym b)) (let z : left - 1 + 0 ≡ left - 1 = omega arith in z)),
+            )
+            | inr b ↦
+                let no : (own == box) ≡ false = ne_eqb own box (λ x. b (sym x)) in
+                let rest = h.told box (or_false (own == box) (has (drop left places) box) no in2) in
+                let lt = rest.0 in
+                let v = rest.1 in (
+                  omega arith,
+                  ap (λ (s : List ℕ). get_or s box 0) is
+                      ∙ get_or-set_other seats own box (left - 1) 0 b
+                      ∙ rest.1
+                      ∙ sym (ap (λ (ps : List ℕ). left - 1 + place_in ps box) here ∙ rw no (let z : left - 1 + suc (place_in (drop left places) box) ≡ left + place_in (drop left places) box = omega arith in z)),
+                )
+          ];
+    } where
+      or_false : (a b : Bool) → a ≡ false → (a || b) ≡ true → b ≡ true
+      or_false false b e f = f
+      or_false true b e f = cc
+
+pub seating_all : (places seats old : List ℕ) → Seating places seats old 0 → AreSeats places seats
+seating_all places seats old h = λ box in_. let t = h.told box in_ in (t.0, t.1 ∙ (let z : 0 + place_in places box ≡ place_in places box = omega arith in z))
+
+-- the place in the list of the innermost box of a chain
+pub innermost_is : (boxes chain : List ℕ) → innermost_in boxes chain ≡ option_map (place_in boxes) (innermost chain)
+innermost_is boxes [] = refl
+innermost_is boxes (box ∷ chain) = refl
+
+-- ---- a box of a line
+
+abbrev pub box_with : ℕ → Option ℕ → Extents → Direction → ℤ → ℤ → ℤ → ℤ → ℤ → ℤ → Bool → Bool → LineBox
+box_with node outer extents dir left right over under left_margin right_margin first last = record {
+  node = node;
+  outer = outer;
+  extents = extents;
+  dir = dir;
+  left = left;
+  right = right;
+  over = over;
+  under = under;
+  left_margin = left_margin;
+  right_margin = right_margin;
+  first = first;
+  last = last;
+}
+
+pub line_box_is : (node node2 : ℕ) (outer outer2 : Option ℕ) (extents extents2 : Extents) (dir dir2 : Direction) (a a2 b b2 o o2 u u2 m m2 n n2 : ℤ) (first first2 last last2 : Bool)
+    → node ≡ node2 → outer ≡ outer2 → extents ≡ extents2 → dir ≡ dir2 → a ≡ a2 → b ≡ b2 → o ≡ o2 → u ≡ u2 → m ≡ m2 → n ≡ n2 → first ≡ first2 → last ≡ last2
+    → box_with node outer extents dir a b o u m n first last ≡ box_with node2 outer2 extents2 dir2 a2 b2 o2 u2 m2 n2 first2 last2
+line_box_is node node2 outer outer2 extents extents2 dir dir2 a a2 b b2 o o2 u u2 m m2 n n2 first first2 last last2 e1 e2 e3 e4 e5 e6 e7 e8 e9 e10 e11 e12 =
+    rw (e1, e2, e3, e4, e5, e6, e7, e8, e9, e10, e11, e12) refl
+
+-- ---- an item of a line
+
+abbrev item_with : ℕ → BidiClass → ℤ → Option ℕ → Bool → Option ℕ → place.Content → place.Item
+item_with level class extent inside space apart what = record { level = level; class = class; extent = extent; inside = inside; space = space; apart = apart; what = what }
+
+content_by : (entries : List Entry) (chain : List ℕ) (what : PreparedContent) (atom : rule.Atom) → content_in (shifts entries chain) what atom ≡ rule.content_of entries chain atom what
+content_by entries chain (Unit node first end_ form advance space glyphs) atom = refl
+content_by entries chain (Combined node first end_ advance natural glyphs) atom = refl
+content_by entries chain (Atom name) atom = refl
+content_by entries chain (Break node) atom = refl
+
+pub line_item_is : (entries : List Entry) (boxes : List ℕ) (standing : code.Standing) (round : Round) (extent : ℤ) (inside : Option ℕ) (space : Bool) (what : place.Content)
+    → round ≡ round_of entries (chain_at entries standing.item.now.source) → extent ≡ standing.extent → inside ≡ option_map (place_in boxes) round.inside → space ≡ is_space standing.item.now.what
+    → what ≡ content_in round.shifts standing.item.now.what (first_atom standing.atoms.now)
+    → item_with standing.level standing.class extent inside space standing.item.now.apart what ≡ rule.line_item entries boxes (standing_of entries standing)
+line_item_is entries boxes standing round extent inside space what is e f g h =
+    let chain : List ℕ = chain_at entries standing.item.now.source in
+    let i : inside ≡ innermost_in boxes chain = f ∙ ap (λ (r : Round). option_map (place_in boxes) r.inside) is ∙ sym (innermost_is boxes chain) in
+    let w : what ≡ rule.content_of entries chain (first_atom standing.atoms.now) standing.item.now.what =
+    h ∙ ap (λ (r : Round). content_in r.shifts standing.item.now.what (first_atom standing.atoms.now)) is ∙ content_by entries chain standing.item.now.what (first_atom standing.atoms.now) in
+    rw (e, i, g, w) refl
+
+-- a copy of a fragment
+as_piece : (f : Fragment) → piece_of f ≡ piece (out-Fragment f).name (out-Fragment f).rect (kind_of (out-Fragment f).kind) (in_line (map before (out-Fragment f).children.value.items)) none
+as_piece f = ap (λ (g : Pieces → Pieces). g none) (fold_out-Fragment (Pieces → Pieces) piece_step f)
+
+pub copy_is : (own f : Fragment) (rect : FlowRect) → piece_of own ≡ moved_to rect (piece_of f) → rect ≡ (out-Fragment f).rect → piece_of own ≡ piece_of f
+copy_is own f rect is same =
+    is ∙ ap (moved_to rect) (as_piece f)
+    ∙ ap (λ (r : FlowRect). piece (out-Fragment f).name r (kind_of (out-Fragment f).kind) (in_line (map before (out-Fragment f).children.value.items)) none) same
+    ∙ sym (as_piece f)
+
+abbrev atom_with : Pieces → ℤ → ℤ → ℤ → ℤ → place.Content
+atom_with fragment left over_margin over under = place.atom fragment left over_margin over under
+
+pub atom_is : (fragment fragment2 : Pieces) (l l2 m m2 o o2 u u2 : ℤ) → fragment ≡ fragment2 → l ≡ l2 → m ≡ m2 → o ≡ o2 → u ≡ u2 → atom_with fragment l m o u ≡ atom_with fragment2 l2 m2 o2 u2
+atom_is fragment fragment2 l l2 m m2 o o2 u u2 a b c d e = rw (a, b, c, d, e) refl

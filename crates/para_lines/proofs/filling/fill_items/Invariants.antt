@@ -1,0 +1,7 @@
+use Rattle.style_types.specs.Item.{entries_of}
+use Rattle.para_lines.proofs.FillLaws.{Filling}
+use Rattle.para_lines.proofs.filling.fill_items.Given as goal
+
+abbrev pub invariant-loop-place : goal.invariant-loop-place
+invariant-loop-place l =
+    Filling l.inline (entries_of l.boxes.items.now) l.prepared.items.now l.prepared.breaks.now l.fn.advances l.advances l.made.items l.place

@@ -1,0 +1,9 @@
+pub mod Around
+pub mod Boxes
+pub mod Edges
+pub mod Filling
+pub mod Line
+pub mod Lines
+pub mod Paragraph
+pub mod Prepared
+pub mod Reach

@@ -1,0 +1,84 @@
+-- The boxes of a line by their places among the paragraph's entries.
+use Rattle.std.specs.Prelude.{◌≡◌, ℕ, ◌<◌, ◌≤◌, ◌^◌, ⊤, true, List, [], ◌∷◌, ◌++◌, All, length, IfSome, slice_index_or, ℤ, ◌+ℤ◌, ◌-ℤ◌, unsigned_abs}
+use Rattle.wm_units.specs.Numbers.{cap}
+use Rattle.line_place.specs.Line as place
+use Rattle.para_prepare.specs.declared.item.PreparedContent.{PreparedContent}
+use Rattle.para_prepare.specs.declared.item.PreparedContent.TheVariants.{Unit, Combined, Atom as atoms_of, Break}
+use Rattle.para_lines.specs.declared.standing.Standing as code
+use Rattle.para_lines.specs.declared.paragraph.Atom as code_atom
+use Rattle.para_lines.specs.Paragraph.{atom_of}
+use Rattle.style_types.specs.Item.{Entry}
+use Rattle.para_prepare.specs.declared.item.PreparedItem.{PreparedItem}
+use Rattle.para_lines.specs.Around.{fresh, has, no_entry}
+use Rattle.para_lines.specs.Boxes.{Begins, chain_at, innermost}
+use Rattle.para_lines.specs.Lines as rule
+use Rattle.para_lines.specs.Lines.{no_atom, place_in}
+
+-- the boxes on the line of these items, where the item before the first stands in these
+abbrev pub on_line : List Entry → (before : List ℕ) → List PreparedItem → List ℕ
+on_line entries before [] = []
+on_line entries before (item ∷ items) = fresh (chain_at entries item.source) before ++ on_line entries (chain_at entries item.source) items
+
+-- a table by box tells for each of these boxes its place in their list
+abbrev pub AreSeats : (boxes seats : List ℕ) → Type 0
+AreSeats boxes seats = (box : ℕ) → has boxes box ≡ true → (box < length seats) × (slice_index_or seats box 0 ≡ place_in boxes box)
+
+-- ---- an item of a line
+
+abbrev pub first_atom : List code_atom.Atom → rule.Atom
+first_atom [] = no_atom
+first_atom (atom ∷ atoms) = atom_of atom
+
+-- an item as the code holds it: the atoms from it on stand for its own
+abbrev pub standing_of : List Entry → code.Standing → rule.Standing
+standing_of entries standing = record {
+  item = standing.item.now;
+  level = standing.level;
+  class = standing.class;
+  base = standing.base;
+  extent = standing.extent;
+  chain = chain_at entries standing.item.now.source;
+  atom = first_atom standing.atoms.now;
+}
+
+-- there is an atom for an item that is one
+abbrev pub HasAtom : PreparedContent → List code_atom.Atom → Type 0
+HasAtom (atoms_of name) atoms = 0 < length atoms
+HasAtom (Unit node first end_ form advance space glyphs) atoms = ⊤
+HasAtom (Combined node first end_ advance natural glyphs) atoms = ⊤
+HasAtom (Break node) atoms = ⊤
+
+-- how far the lengths of an atom reach
+pub record IsNearAtom (atom : code_atom.Atom) : Type 0 where
+  pub over : unsigned_abs atom.over ≤ 2 ^ 59
+  pub under : unsigned_abs atom.under ≤ 2 ^ 59
+  pub shift : unsigned_abs atom.shift ≤ 2 ^ 59
+
+-- an atom inside boxes with these lengths of `vertical-align`
+abbrev pub atom_in : (shifts : ℤ) → rule.Atom → place.Content
+atom_in shifts atom =
+    place.atom atom.fragment atom.left_margin atom.over_margin (atom.over +ℤ cap (atom.shift +ℤ shifts)) (atom.under -ℤ cap (atom.shift +ℤ shifts))
+
+abbrev pub content_in : (shifts : ℤ) → PreparedContent → rule.Atom → place.Content
+content_in shifts (Unit node first end_ form advance space glyphs) atom = place.unit node first end_ form glyphs
+content_in shifts (Combined node first end_ advance natural glyphs) atom = place.combined node first end_ natural glyphs
+content_in shifts (atoms_of name) atom = atom_in shifts atom
+content_in shifts (Break node) atom = place.nothing
+
+-- ---- the boxes of a line
+
+-- a box of a line is one that begins, and the box round it is on the line too
+pub record IsOnLine (entries : List Entry) (places : List ℕ) (box : ℕ) : Type 0 where
+  pub within : box < length entries
+  pub begins : Begins (slice_index_or entries box no_entry)
+  pub outer : IfSome (innermost (chain_at entries box)) (λ outer. has places outer ≡ true)
+
+abbrev pub AreOnLine : List Entry → (places : List ℕ) → Type 0
+AreOnLine entries places = (box : ℕ) → has places box ≡ true → IsOnLine entries places box
+
+-- an item that can stand on a line with these boxes
+pub record IsReady (entries : List Entry) (places : List ℕ) (standing : code.Standing) : Type 0 where
+  pub source : standing.item.now.source < length entries
+  pub inside : IfSome (innermost (chain_at entries standing.item.now.source)) (λ box. has places box ≡ true)
+  pub atom : HasAtom standing.item.now.what standing.atoms.now
+  pub near : All IsNearAtom standing.atoms.now

@@ -1,0 +1,171 @@
+//! The items of a paragraph as lines are filled with them (CSS 2, 9.4.2).
+
+ghost use Rattle.std.specs.Prelude.{◌≡◌, ◌+◌, ◌-◌, ◌<◌, ◌≤◌, ◌^◌, [], All, IfOk, IfSome, length, drop, pos, slice_index_or, unsigned_abs};
+ghost use Rattle.style_types.specs.Item.{entries_of};
+ghost use Rattle.style_types.specs.declared.breaking.Breaking.{Breaking};
+ghost use Rattle.para_prepare.specs.declared.item.PreparedItem.{PreparedItem};
+ghost use Rattle.para_lines.specs.Boxes.{AreBoxes, chain_at, chain_behind};
+ghost use Rattle.para_lines.specs.Filling as rule;
+ghost use Rattle.para_lines.specs.Filling.{fill_item, fill_items};
+ghost use Rattle.para_lines.specs.Prepared.{AreSources, IsWhole, edge_of, edges_of, preparation_of, source_before, source_behind};
+ghost use Rattle.para_lines.specs.Reach.{IsInlineSize};
+
+use crate::boxes::Boxes;
+use crate::edges::inline_edge;
+use crate::prepared::PreparedLists;
+use line_fill::FillItem;
+use para_prepare::{PreparedContent, PreparedItem};
+use std::alloc::{AllocError, Global};
+use wm_modes::FlowSide;
+
+/// The two ends of an inline box.
+#[derive(Clone, Copy, Debug, PartialEq, Eq)]
+pub(crate) enum BoxSide {
+    Start,
+    End,
+}
+
+/// Items with the edges of boxes round them.
+pub(crate) type FillItems = Vec<FillItem>;
+
+/// The items of a paragraph whose containing block has this inline size, or one that isn't known, and whose atoms advance so.
+pub(crate) fn fill_items(
+    alloc: Global,
+    boxes: &Boxes,
+    prepared: &PreparedLists,
+    inline: Option<i64>,
+    advances: &[i64],
+) -> Result<FillItems, AllocError>
+    requires boxes { AreBoxes boxes.now }
+    requires whole { IsWhole prepared.now }
+    requires sources { AreSources (length boxes.now.items.now) prepared.now.items.now }
+    requires inline { IsInlineSize inline }
+    ensures { IfOk result (λ made. made.items ≡ fill_items inline (entries_of boxes.now.items.now) (preparation_of prepared.now) advances.now) }
+{
+    let mut made = Vec::with_capacity(alloc, prepared.items.len())?;
+    let mut advances = advances;
+    for place in 0..prepared.items.len() {
+        made.push(fill_item(alloc, boxes, prepared, inline, place, advances)?)?;
+        advances = past(&prepared.items[place].what, advances);
+    }
+    Ok(made)
+}
+
+// An item with the edges of the boxes that begin before it and end behind it.
+fn fill_item(
+    alloc: Global,
+    boxes: &Boxes,
+    prepared: &PreparedLists,
+    inline: Option<i64>,
+    place: usize,
+    advances: &[i64],
+) -> Result<FillItem, AllocError>
+    requires boxes { AreBoxes boxes.now }
+    requires whole { IsWhole prepared.now }
+    requires sources { AreSources (length boxes.now.items.now) prepared.now.items.now }
+    requires inline { IsInlineSize inline }
+    requires place { place < length prepared.now.items.now }
+    ensures { IfOk result (λ made. (item : PreparedItem) (end_ : Breaking) → item ≡ slice_index_or prepared.now.items.now place item → end_ ≡ slice_index_or prepared.now.breaks.now place end_ → made ≡ fill_item inline (entries_of boxes.now.items.now) item end_ (chain_behind (entries_of boxes.now.items.now) (source_before prepared.now.items.now place)) (chain_at (entries_of boxes.now.items.now) item.source) (chain_behind (entries_of boxes.now.items.now) (source_behind prepared.now.items.now place)) (rule.advance_of item.what advances.now)) }
+{
+    let item = &prepared.items[place];
+    let before = boxes.apart(alloc, item.source, prepared.source_before(place))?;
+    let after = boxes.apart(alloc, item.source, prepared.source_behind(place))?;
+    Ok(FillItem {
+        advance: advance_of(&item.what, advances),
+        before: edges_of(boxes, inline, BoxSide::Start, &before),
+        after: edges_of(boxes, inline, BoxSide::End, &after),
+        space: is_space(&item.what),
+        end: prepared.breaks[place],
+    })
+}
+
+// The edges of these boxes on one side together.
+fn edges_of(boxes: &Boxes, inline: Option<i64>, side: BoxSide, places: &[usize]) -> i64
+    requires boxes { AreBoxes boxes.now }
+    requires inline { IsInlineSize inline }
+    requires within { All (λ place. place < length boxes.now.items.now) places.now }
+    requires few { length places.now ≤ 2 ^ 20 }
+    ensures { result ≡ edges_of inline (entries_of boxes.now.items.now) side places.now }
+{
+    let mut edges = 0;
+    for place in places {
+        edges += edge_of(boxes, inline, side, *place);
+    }
+    edges
+}
+
+// The edge of a box on one side, where it has one there.
+fn edge_of(boxes: &Boxes, inline: Option<i64>, side: BoxSide, place: usize) -> i64
+    requires boxes { AreBoxes boxes.now }
+    requires inline { IsInlineSize inline }
+    requires place { place < length boxes.now.items.now }
+    ensures value { result ≡ edge_of inline (entries_of boxes.now.items.now) side place }
+    ensures near { unsigned_abs result ≤ 2 ^ 34 }
+{
+    let own = boxes.at(place);
+    match side {
+        BoxSide::Start => {
+            if own.opens {
+                inline_edge(inline, &own.style, FlowSide::InlineStart)
+            } else {
+                0
+            }
+        }
+        BoxSide::End => {
+            if own.closes {
+                inline_edge(inline, &own.style, FlowSide::InlineEnd)
+            } else {
+                0
+            }
+        }
+    }
+}
+
+/// How far an item advances, where these are the advances of the atoms from it on.
+pub(crate) fn advance_of(what: &PreparedContent, advances: &[i64]) -> i64
+    ensures { result ≡ rule.advance_of what.now advances.now }
+{
+    match what {
+        PreparedContent::Unit { advance, .. } | PreparedContent::Combined { advance, .. } => {
+            *advance
+        }
+        PreparedContent::Atom { .. } => first_advance(advances),
+        PreparedContent::Break { .. } => 0,
+    }
+}
+
+fn first_advance(advances: &[i64]) -> i64
+    ensures { result ≡ slice_index_or advances.now 0 (pos 0) }
+{
+    if advances.is_empty() { 0 } else { advances[0] }
+}
+
+/// The atoms behind an item, of those from it on.
+pub(crate) fn past<'a, T>(what: &PreparedContent, atoms: &'a [T]) -> &'a [T]
+    ensures { result.now ≡ rule.past what.now atoms.now }
+{
+    match what {
+        PreparedContent::Atom { .. } => without_first(atoms),
+        PreparedContent::Unit { .. }
+        | PreparedContent::Combined { .. }
+        | PreparedContent::Break { .. } => atoms,
+    }
+}
+
+fn without_first<T>(atoms: &[T]) -> &[T]
+    ensures { result.now ≡ drop 1 atoms.now }
+{
+    if atoms.is_empty() { atoms } else { &atoms[1..] }
+}
+
+/// Whether an item is a space.
+pub(crate) fn is_space(what: &PreparedContent) -> bool
+    ensures { result ≡ rule.is_space what.now }
+{
+    match what {
+        PreparedContent::Unit { space, .. } => *space,
+        PreparedContent::Combined { .. }
+        | PreparedContent::Atom { .. }
+        | PreparedContent::Break { .. } => false,
+    }
+}

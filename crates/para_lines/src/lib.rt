@@ -1,0 +1,15 @@
+//! The lines of a paragraph: prepared text, filled and placed (CSS 2, 9.4.2 and 10.8).
+#![tactic(auto)]
+
+mod boxes;
+mod edges;
+mod filling;
+mod line;
+mod paragraph;
+mod prepared;
+mod sizes;
+mod standing;
+
+pub use paragraph::{Atom, Container};
+pub use prepared::PreparedLists;
+pub use sizes::paragraph_sizes;

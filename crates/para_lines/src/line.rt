@@ -1,0 +1,290 @@
+//! The inline boxes of a line (CSS 2, 9.4.2 and 10.8.1).
+
+ghost use Rattle.std.specs.Prelude.{◌≡◌, ◌+◌, ◌<◌, ◌≤◌, ◌^◌, ◌≤ℤ◌, ◌+ℤ◌, ◌++◌, ◌&&◌, true, not, [], ℕ, All, IfOk, IfSome, List, OnOk, Option, length, map, option_map, pos, reverse, slice_index_or, unsigned_abs};
+ghost use Rattle.face_api.specs.Faces.{faces_of};
+ghost use Rattle.style_types.specs.Item.{entries_of};
+ghost use Rattle.style_types.specs.Style.{IsBounded};
+ghost use Rattle.line_place.specs.Reach.{AreNear};
+ghost use Rattle.wm_units.specs.Numbers.{cap};
+ghost use Rattle.face_api.specs.Table.{Table};
+ghost use Rattle.para_lines.specs.Around.{box_at, has, no_entry};
+ghost use Rattle.para_lines.specs.Edges.{raised_in};
+ghost use Rattle.para_lines.specs.Boxes.{AreBoxes, Begins, chain_at, chain_behind, innermost};
+ghost use Rattle.para_lines.specs.Line.{AreOnLine, AreSeats, on_line};
+ghost use Rattle.para_lines.specs.Lines as rule;
+ghost use Rattle.para_lines.specs.Prepared.{AreSources, source_before};
+
+use crate::boxes::{Boxes, Places};
+use crate::edges::{inner_edge_on, margin_on};
+use crate::paragraph::Container;
+use face_api::{Face, Faces};
+use line_place::{Extents, LineBox, LineBoxes, extents};
+use para_prepare::PreparedItem;
+use std::alloc::{AllocError, Global};
+use style_types::Style;
+use wm_modes::{Direction, FlowSide, side_of};
+use wm_units::cap;
+
+/// The boxes that stand on the line of these items, the outer before the inner: those round its first item, then those that
+/// begin on it.
+pub(crate) fn boxes_on(
+    alloc: Global,
+    boxes: &Boxes,
+    items: &[PreparedItem],
+) -> Result<Places, AllocError>
+    requires boxes { AreBoxes boxes.now }
+    requires sources { AreSources (length boxes.now.items.now) items.now }
+    ensures places { IfOk result (λ made. made.items ≡ on_line (entries_of boxes.now.items.now) [] items.now) }
+    ensures on_line { IfOk result (λ made. AreOnLine (entries_of boxes.now.items.now) made.items) }
+{
+    let mut places = Vec::new(alloc);
+    for place in 0..items.len() {
+        let fresh = boxes.apart(alloc, items[place].source, source_before(items, place))?;
+        add_reversed(&mut places, &fresh)?;
+    }
+    Ok(places)
+}
+
+fn source_before(items: &[PreparedItem], place: usize) -> Option<usize>
+    requires { place < length items.now }
+    ensures is { result ≡ source_before items.now place }
+    ensures within { (count : ℕ) → AreSources count items.now → IfSome result (λ source. source < count) }
+{
+    if place == 0 {
+        None
+    } else {
+        Some(items[place - 1].source)
+    }
+}
+
+fn add_reversed(places: &mut Places, fresh: &[usize]) -> Result<(), AllocError>
+    ensures { OnOk result (places.new.items ≡ places.old.items ++ reverse fresh.now) }
+{
+    let mut left = fresh.len();
+    while left > 0 {
+        left -= 1;
+        places.push(fresh[left])?;
+    }
+    Ok(())
+}
+
+/// The boxes of a line, and a table by box of their places in this list.
+#[derive(Clone, Copy, Debug)]
+pub(crate) struct Seated<'a> {
+    pub(crate) places: &'a [usize],
+    pub(crate) seats: &'a [usize],
+}
+
+/// What the items on both sides of a line come from.
+#[derive(Clone, Copy, Debug)]
+pub(crate) struct Sides {
+    pub(crate) before: Option<usize>,
+    pub(crate) after: Option<usize>,
+}
+
+impl Seated<'_> {
+    /// The place of a box in the line's list.
+    pub(crate) fn seat_of(&self, inside: Option<usize>) -> Option<usize>
+        requires seats { AreSeats self.now.places.now self.now.seats.now }
+        requires inside { IfSome inside (λ box. has self.now.places.now box ≡ true) }
+        ensures { result ≡ option_map (rule.place_in self.now.places.now) inside }
+    {
+        match inside {
+            Some(place) => Some(self.seats[place]),
+            None => None,
+        }
+    }
+}
+
+/// Writes down at which place of the line's list each of its boxes stands.
+pub(crate) fn seat(seats: &mut Places, places: &[usize])
+    requires { All (λ place. place < length seats.old.items) places.now }
+    ensures seats { AreSeats places.now seats.new.items }
+    ensures same { length seats.new.items ≡ length seats.old.items }
+{
+    let mut left = places.len();
+    while left > 0 {
+        left -= 1;
+        seats[places[left]] = left;
+    }
+}
+
+/// The margin of an inline box on a side of its container's lines.
+fn margin_at(container: &Container, style: &Style, side: FlowSide) -> i64
+    requires style { IsBounded style.now }
+    requires low { pos 0 ≤ℤ container.now.size }
+    requires high { container.now.size ≤ℤ pos (2 ^ 32) }
+    ensures value { result ≡ rule.margin_at container.now style.now side }
+    ensures near { unsigned_abs result ≤ 2 ^ 32 }
+{
+    margin_on(
+        Some(container.size),
+        style,
+        side_of(container.style.mode, Direction::Ltr, side),
+    )
+}
+
+/// Its border and padding there.
+fn inner_edge_at(container: &Container, style: &Style, side: FlowSide) -> i64
+    requires style { IsBounded style.now }
+    requires low { pos 0 ≤ℤ container.now.size }
+    requires high { container.now.size ≤ℤ pos (2 ^ 32) }
+    ensures value { result ≡ rule.inner_edge_at container.now style.now side }
+    ensures near { unsigned_abs result ≤ 2 ^ 33 }
+{
+    inner_edge_on(
+        Some(container.size),
+        style,
+        side_of(container.style.mode, Direction::Ltr, side),
+    )
+}
+
+/// The extents of a box in this style by its used face.
+fn extents_in(faces: &Faces, container: &Container, style: &Style, raised: i64) -> Extents
+    requires style { IsBounded style.now }
+    requires raised { unsigned_abs raised ≤ 2 ^ 32 }
+    ensures are { result ≡ rule.extents_in (faces_of ⟦<dyn Face as Face>⟧ faces.now) container.now style.now raised }
+    ensures near { AreNear result }
+{
+    let metrics = faces.used(style.face).metrics();
+    extents(
+        metrics.ascent,
+        metrics.descent,
+        style,
+        container.style.baseline(),
+        raised,
+    )
+}
+
+// How far what has this length of its own is raised inside boxes with these lengths.
+pub(crate) fn raised(shift: i64, shifts: i64) -> i64
+    requires shift { unsigned_abs shift ≤ 2 ^ 60 }
+    requires shifts { unsigned_abs shifts ≤ 2 ^ 60 }
+    ensures value { result ≡ cap (shift +ℤ shifts) }
+    ensures near { unsigned_abs result ≤ 2 ^ 32 }
+{
+    cap(shift + shifts)
+}
+
+/// The boxes of a line between items that come from these.
+pub(crate) fn line_boxes(
+    alloc: Global,
+    boxes: &Boxes,
+    container: &Container,
+    faces: &Faces,
+    seated: &Seated,
+    sides: Sides,
+) -> Result<LineBoxes, AllocError>
+    requires boxes { AreBoxes boxes.now }
+    requires low { pos 0 ≤ℤ container.now.size }
+    requires high { container.now.size ≤ℤ pos (2 ^ 32) }
+    requires seats { AreSeats seated.now.places.now seated.now.seats.now }
+    requires on_line { AreOnLine (entries_of boxes.now.items.now) seated.now.places.now }
+    requires before { IfSome sides.before (λ before. before < length boxes.now.items.now) }
+    requires after { IfSome sides.after (λ after. after < length boxes.now.items.now) }
+    ensures { IfOk result (λ made. made.items ≡ map (rule.line_box (faces_of ⟦<dyn Face as Face>⟧ faces.now) container.now (entries_of boxes.now.items.now) seated.now.places.now (chain_behind (entries_of boxes.now.items.now) sides.before) (chain_behind (entries_of boxes.now.items.now) sides.after)) seated.now.places.now) }
+{
+    let mut made = Vec::with_capacity(alloc, seated.places.len())?;
+    for k in 0..seated.places.len() {
+        let place = seated.places[k];
+        made.push(line_box(boxes, container, faces, seated, sides, place))?;
+    }
+    Ok(made)
+}
+
+// One of them.
+fn line_box(
+    boxes: &Boxes,
+    container: &Container,
+    faces: &Faces,
+    seated: &Seated,
+    sides: Sides,
+    place: usize,
+) -> LineBox
+    requires boxes { AreBoxes boxes.now }
+    requires low { pos 0 ≤ℤ container.now.size }
+    requires high { container.now.size ≤ℤ pos (2 ^ 32) }
+    requires seats { AreSeats seated.now.places.now seated.now.seats.now }
+    requires place { place < length boxes.now.items.now }
+    requires begins { Begins (slice_index_or (entries_of boxes.now.items.now) place no_entry) }
+    requires outer { IfSome (innermost (chain_at (entries_of boxes.now.items.now) place)) (λ box. has seated.now.places.now box ≡ true) }
+    requires before { IfSome sides.before (λ before. before < length boxes.now.items.now) }
+    requires after { IfSome sides.after (λ after. after < length boxes.now.items.now) }
+    ensures { result ≡ rule.line_box (faces_of ⟦<dyn Face as Face>⟧ faces.now) container.now (entries_of boxes.now.items.now) seated.now.places.now (chain_behind (entries_of boxes.now.items.now) sides.before) (chain_behind (entries_of boxes.now.items.now) sides.after) place }
+{
+    let extents = extents_of(boxes, container, faces, place);
+    let made = box_with(boxes, container, seated, sides, place, extents);
+    made
+}
+
+// The extents of a box.
+fn extents_of(boxes: &Boxes, container: &Container, faces: &Faces, place: usize) -> Extents
+    requires boxes { AreBoxes boxes.now }
+    requires place { place < length boxes.now.items.now }
+    ensures { result ≡ rule.extents_in (faces_of ⟦<dyn Face as Face>⟧ faces.now) container.now (box_at (entries_of boxes.now.items.now) place).style (raised_in (entries_of boxes.now.items.now) (box_at (entries_of boxes.now.items.now) place).style.shift (box_at (entries_of boxes.now.items.now) place).outer) }
+{
+    let own = boxes.at(place);
+    let raised = box_raised(boxes, &own.style, place);
+    extents_in(faces, container, &own.style, raised)
+}
+
+// How far a box in this style is raised.
+fn box_raised(boxes: &Boxes, style: &Style, place: usize) -> i64
+    requires boxes { AreBoxes boxes.now }
+    requires place { place < length boxes.now.items.now }
+    requires style { IsBounded style.now }
+    ensures value { result ≡ raised_in (entries_of boxes.now.items.now) style.now.shift (box_at (entries_of boxes.now.items.now) place).outer }
+    ensures near { unsigned_abs result ≤ 2 ^ 32 }
+{
+    let round = boxes.round(place);
+    raised(style.shift, round.shifts)
+}
+
+// The box with these extents.
+fn box_with(
+    boxes: &Boxes,
+    container: &Container,
+    seated: &Seated,
+    sides: Sides,
+    place: usize,
+    extents: Extents,
+) -> LineBox
+    requires boxes { AreBoxes boxes.now }
+    requires low { pos 0 ≤ℤ container.now.size }
+    requires high { container.now.size ≤ℤ pos (2 ^ 32) }
+    requires seats { AreSeats seated.now.places.now seated.now.seats.now }
+    requires place { place < length boxes.now.items.now }
+    requires begins { Begins (slice_index_or (entries_of boxes.now.items.now) place no_entry) }
+    requires outer { IfSome (innermost (chain_at (entries_of boxes.now.items.now) place)) (λ box. has seated.now.places.now box ≡ true) }
+    requires before { IfSome sides.before (λ before. before < length boxes.now.items.now) }
+    requires after { IfSome sides.after (λ after. after < length boxes.now.items.now) }
+    ensures { (tables : List (Option Table)) → extents ≡ rule.extents_in tables container.now (box_at (entries_of boxes.now.items.now) place).style (raised_in (entries_of boxes.now.items.now) (box_at (entries_of boxes.now.items.now) place).style.shift (box_at (entries_of boxes.now.items.now) place).outer) → result ≡ rule.line_box tables container.now (entries_of boxes.now.items.now) seated.now.places.now (chain_behind (entries_of boxes.now.items.now) sides.before) (chain_behind (entries_of boxes.now.items.now) sides.after) place }
+{
+    let own = boxes.at(place);
+    let round = boxes.round(place);
+    let style = &own.style;
+    LineBox {
+        node: own.node,
+        outer: seated.seat_of(round.inside),
+        extents,
+        dir: style.used_direction(),
+        left: inner_edge_at(container, style, FlowSide::LineLeft),
+        right: inner_edge_at(container, style, FlowSide::LineRight),
+        over: inner_edge_at(container, style, FlowSide::LineOver),
+        under: inner_edge_at(container, style, FlowSide::LineUnder),
+        left_margin: margin_at(container, style, FlowSide::LineLeft),
+        right_margin: margin_at(container, style, FlowSide::LineRight),
+        first: has_edge(boxes, own.opens, place, sides.before),
+        last: has_edge(boxes, own.closes, place, sides.after),
+    }
+}
+
+// Whether the edges of a box stand on a line: not where it stands round the item beyond them too.
+fn has_edge(boxes: &Boxes, edges: bool, place: usize, beyond: Option<usize>) -> bool
+    requires boxes { AreBoxes boxes.now }
+    requires begins { Begins (slice_index_or (entries_of boxes.now.items.now) place no_entry) }
+    requires beyond { IfSome beyond (λ other. other < length boxes.now.items.now) }
+    ensures { result ≡ (edges && not (has (chain_behind (entries_of boxes.now.items.now) beyond) place)) }
+{
+    edges && !boxes.stands_round(place, beyond)
+}

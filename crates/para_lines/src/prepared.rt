@@ -1,0 +1,47 @@
+//! What lines are told of a prepared paragraph.
+
+ghost use Rattle.std.specs.Prelude.{◌≡◌, ℕ, ◌<◌, IfSome, length};
+ghost use Rattle.para_lines.specs.Prepared.{AreSources, source_before, source_behind};
+
+use para_prepare::PreparedItem;
+use style_types::Breaking;
+use wm_chars::BidiClass;
+
+/// The items of a prepared paragraph, and for each its level, its class for L1 of UAX 9, the base level of its bidi paragraph
+/// and whether a line may end behind it.
+#[derive(Clone, Copy, Debug)]
+pub struct PreparedLists<'a> {
+    pub items: &'a [PreparedItem],
+    pub levels: &'a [u8],
+    pub classes: &'a [BidiClass],
+    pub bases: &'a [u8],
+    pub breaks: &'a [Breaking],
+}
+
+impl PreparedLists<'_> {
+    /// The paragraph's item that the prepared one before this comes from.
+    pub(crate) fn source_before(&self, place: usize) -> Option<usize>
+        requires { place < length self.now.items.now }
+        ensures is { result ≡ source_before self.now.items.now place }
+        ensures within { (count : ℕ) → AreSources count self.now.items.now → IfSome result (λ source. source < count) }
+    {
+        if place == 0 {
+            None
+        } else {
+            Some(self.items[place - 1].source)
+        }
+    }
+
+    /// The paragraph's item that the prepared one behind this comes from.
+    pub(crate) fn source_behind(&self, place: usize) -> Option<usize>
+        requires { place < length self.now.items.now }
+        ensures is { result ≡ source_behind self.now.items.now place }
+        ensures within { (count : ℕ) → AreSources count self.now.items.now → IfSome result (λ source. source < count) }
+    {
+        if place + 1 < self.items.len() {
+            Some(self.items[place + 1].source)
+        } else {
+            None
+        }
+    }
+}

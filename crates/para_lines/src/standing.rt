@@ -1,0 +1,181 @@
+//! The items of a paragraph on their way to its lines (CSS 2, 9.4.2 and 10.8.1).
+
+ghost use Rattle.std.specs.Prelude.{◌≡◌, ◌+◌, ◌<◌, ◌≤◌, ◌^◌, ◌≤ℤ◌, ◌+ℤ◌, ◌++◌, ◌&&◌, true, not, [], ℕ, All, IfOk, IfSome, List, OnOk, Option, length, map, option_map, pos, reverse, slice_index_or, unsigned_abs};
+ghost use Rattle.style_types.specs.Item.{Entry, entries_of};
+ghost use Rattle.para_lines.specs.Filling.{item_chains};
+ghost use Rattle.para_lines.specs.Boxes.{AreBoxes, chain_at, innermost};
+ghost use Rattle.line_place.specs.Line.{content_of, item_of};
+ghost use Rattle.para_lines.specs.Line.{AreSeats, HasAtom, IsNearAtom, IsReady, atom_in, content_in, first_atom, standing_of};
+ghost use Rattle.para_lines.specs.Paragraph.{atom_of};
+ghost use Rattle.para_lines.specs.Lines as rule;
+ghost use Rattle.para_lines.specs.Prepared.{IsWhole};
+ghost use Rattle.para_lines.specs.Around.{has};
+
+use crate::boxes::Boxes;
+use crate::filling::{is_space, past};
+use crate::line::{Seated, raised};
+use crate::paragraph::Atom;
+use crate::prepared::PreparedLists;
+use line_fill::FillItem;
+use line_place::{LineContent, LineItem, LineItems};
+use para_prepare::{PreparedContent, PreparedItem};
+use std::alloc::{AllocError, Global};
+use wm_chars::BidiClass;
+
+/// An item of a paragraph on its way to a line: all that is prepared of it, its extent along the line, and the atoms from it on.
+#[derive(Clone, Copy, Debug)]
+pub(crate) struct Standing<'a> {
+    pub(crate) item: &'a PreparedItem,
+    pub(crate) level: u8,
+    pub(crate) class: BidiClass,
+    /// The base level of its bidi paragraph.
+    pub(crate) base: u8,
+    pub(crate) extent: i64,
+    pub(crate) atoms: &'a [Atom],
+}
+
+/// All items of a paragraph on their way to its lines, in order.
+pub(crate) type Standings<'a> = Vec<Standing<'a>>;
+
+/// The items of a prepared paragraph with the extents that lines are filled with, and with its atoms in order.
+pub(crate) fn standings<'a>(
+    alloc: Global,
+    lists: &PreparedLists<'a>,
+    fills: &[FillItem],
+    atoms: &'a [Atom],
+) -> Result<Standings<'a>, AllocError>
+    requires whole { IsWhole lists.now }
+    requires fills { length fills.now ≡ length lists.now.items.now }
+    ensures { IfOk result (λ made. (entries : List Entry) → map (standing_of entries) made.items ≡ rule.standings_by lists.now.items.now lists.now.levels.now lists.now.classes.now lists.now.bases.now (map (λ item. item.advance) fills.now) (item_chains entries lists.now.items.now) (map atom_of atoms.now)) }
+{
+    let mut made = Vec::with_capacity(alloc, lists.items.len())?;
+    let mut atoms = atoms;
+    for k in 0..lists.items.len() {
+        let item = &lists.items[k];
+        made.push(Standing {
+            item,
+            level: lists.levels[k],
+            class: lists.classes[k],
+            base: lists.bases[k],
+            extent: fills[k].advance,
+            atoms,
+        })?;
+        atoms = past(&item.what, atoms);
+    }
+    Ok(made)
+}
+
+/// The items of a line with these boxes.
+pub(crate) fn line_items(
+    alloc: Global,
+    boxes: &Boxes,
+    seated: &Seated,
+    standings: &[Standing],
+) -> Result<LineItems, AllocError>
+    requires boxes { AreBoxes boxes.now }
+    requires seats { AreSeats seated.now.places.now seated.now.seats.now }
+    requires ready { All (IsReady (entries_of boxes.now.items.now) seated.now.places.now) standings.now }
+    ensures { IfOk result (λ made. map item_of made.items ≡ map (λ standing. rule.line_item (entries_of boxes.now.items.now) seated.now.places.now (standing_of (entries_of boxes.now.items.now) standing)) standings.now) }
+{
+    let mut made = Vec::with_capacity(alloc, standings.len())?;
+    for k in 0..standings.len() {
+        made.push(line_item(alloc, boxes, seated, &standings[k])?)?;
+    }
+    Ok(made)
+}
+
+// One of them.
+fn line_item(
+    alloc: Global,
+    boxes: &Boxes,
+    seated: &Seated,
+    standing: &Standing,
+) -> Result<LineItem, AllocError>
+    requires boxes { AreBoxes boxes.now }
+    requires seats { AreSeats seated.now.places.now seated.now.seats.now }
+    requires source { standing.now.item.now.source < length boxes.now.items.now }
+    requires inside { IfSome (innermost (chain_at (entries_of boxes.now.items.now) standing.now.item.now.source)) (λ box. has seated.now.places.now box ≡ true) }
+    requires atom { HasAtom standing.now.item.now.what standing.now.atoms.now }
+    requires near { All IsNearAtom standing.now.atoms.now }
+    ensures { IfOk result (λ made. item_of made ≡ rule.line_item (entries_of boxes.now.items.now) seated.now.places.now (standing_of (entries_of boxes.now.items.now) standing.now)) }
+{
+    let item = standing.item;
+    let round = boxes.round(item.source);
+    let what = content(alloc, &item.what, round.shifts, standing.atoms)?;
+    Ok(LineItem {
+        level: standing.level,
+        class: standing.class,
+        extent: standing.extent,
+        inside: seated.seat_of(round.inside),
+        space: is_space(&item.what),
+        apart: item.apart,
+        what,
+    })
+}
+
+// What an item is, inside boxes with these lengths of `vertical-align`.
+fn content(
+    alloc: Global,
+    what: &PreparedContent,
+    shifts: i64,
+    atoms: &[Atom],
+) -> Result<LineContent, AllocError>
+    requires shifts { unsigned_abs shifts ≤ 2 ^ 53 }
+    requires atom { HasAtom what.now atoms.now }
+    requires near { All IsNearAtom atoms.now }
+    ensures { IfOk result (λ made. content_of made ≡ content_in shifts what.now (first_atom atoms.now)) }
+{
+    match what {
+        PreparedContent::Unit {
+            node,
+            first,
+            end,
+            form,
+            advance: _,
+            space: _,
+            glyphs,
+        } => Ok(LineContent::Unit {
+            node: *node,
+            first: *first,
+            end: *end,
+            form: *form,
+            glyphs: glyphs.copy(alloc)?,
+        }),
+        PreparedContent::Combined {
+            node,
+            first,
+            end,
+            advance: _,
+            natural,
+            glyphs,
+        } => Ok(LineContent::Combined {
+            node: *node,
+            first: *first,
+            end: *end,
+            natural: *natural,
+            glyphs: glyphs.copy(alloc)?,
+        }),
+        PreparedContent::Atom { .. } => {
+            let made = atom_content(&atoms[0], shifts)?;
+            Ok(made)
+        }
+        PreparedContent::Break { .. } => Ok(LineContent::Break),
+    }
+}
+
+// An atom, raised by its own length and those of the boxes round it.
+fn atom_content(atom: &Atom, shifts: i64) -> Result<LineContent, AllocError>
+    requires shifts { unsigned_abs shifts ≤ 2 ^ 53 }
+    requires near { IsNearAtom atom.now }
+    ensures { IfOk result (λ made. content_of made ≡ atom_in shifts (atom_of atom.now)) }
+{
+    let raised = raised(atom.shift, shifts);
+    let fragment = atom.fragment.moved_to(atom.fragment.rect)?;
+    Ok(LineContent::Atom {
+        fragment,
+        left_margin: atom.left_margin,
+        over_margin: atom.over_margin,
+        over: atom.over + raised,
+        under: atom.under - raised,
+    })
+}
