@@ -1,8 +1,40 @@
 //! What is seen of units, as a word: code points in hexadecimal, `.` between those of one unit and `,` between units.
 
+use crate::words::{CaseError, Words};
+use std::alloc::Global;
 use std::io;
 use std::io::Write;
-use style_types::Glyphs;
+use style_types::{Characters, Glyphs};
+
+/// The next word as what is seen of units; `-` is none.
+pub(crate) fn glyphs(alloc: Global, words: &mut Words<'_>) -> Result<Glyphs, CaseError> {
+    let word = words.word()?;
+    let mut units = Vec::new(alloc);
+    if word != "-" {
+        for unit in word.split(',') {
+            units.push(characters(alloc, unit)?)?;
+        }
+    }
+    Ok(Glyphs::many(units))
+}
+
+fn characters(alloc: Global, unit: &str) -> Result<Characters, CaseError> {
+    let mut characters = Vec::new(alloc);
+    for code in unit.split('.') {
+        characters.push(character(code)?)?;
+    }
+    Ok(characters)
+}
+
+fn character(code: &str) -> Result<char, CaseError> {
+    match u32::from_str_radix(code, 16) {
+        Ok(code) => match char::from_u32(code) {
+            Some(c) => Ok(c),
+            None => Err(CaseError::Malformed),
+        },
+        Err(_) => Err(CaseError::Malformed),
+    }
+}
 
 /// Prints what is seen of units; `-` is none.
 pub(crate) fn print_glyphs<W: Write>(output: &mut W, glyphs: &Glyphs) -> io::Result<()> {

@@ -1,24 +1,34 @@
-//! The program `check_paragraphs` answers for parts of paragraphs, one a line, so that what is prepared of a paragraph and
-//! where its lines end can be compared with others; its tests are those of the public calls of these crates.
+//! The program `check_paragraphs` answers for parts of paragraphs, one a line, so that what is prepared of a paragraph, where
+//! its lines end and how they are placed can be compared with others; its tests are those of the public calls of these
+//! crates.
 //!
 //! A question is a line of words. Numbers are decimal, lengths in units of 1/64 px; `-` stands for none; what has a variant
-//! is named by it; a list begins with how many it has. The answer is a line in the same form, with items in brackets.
+//! is named by it; a list begins with how many it has. The answer is a line in the same form, with fragments and items in
+//! brackets.
 //!
 //! - `fill`: the room; the items, each with advance, edges before and after, `yes` where it is a space, and the break
 //!   behind it; pairs of places. The answer has the ends of the lines, the min-content and the max-content size, and the
 //!   width between the places of each pair.
+//! - `line`: the fields of a `LineInput` in order. An item ends with `unit` (node, first, end, form, glyphs), `combined`
+//!   (node, first, end, natural, glyphs), `atom` (its two margins, over, under, a fragment) or `break`. Of a fragment stand
+//!   how many fragments there are in all, and then each behind those inside it, with its name, rectangle, kind and how many
+//!   are right inside. The answer has the extents over and under, and the fragments.
 //! - `paragraph`: the base level; styles (mode, direction, orientation, combine, bidi, font size, face), the container's
 //!   first; the items, `text` (node, place of its style, bytes in hexadecimal), `open` (node, place of its style, whether it
 //!   opens), `close` (node, whether it closes), `atom` (node, ordinal) or `break` (node). The answer has the items, each with its
 //!   source and its level apart, and then the lists of levels, classes, base levels and breaks.
-//! - What is not such a line is `not a case`.
+//! - A question that no call takes is `outside`, and `too long` where it is of the kind `fill`. What is not such a line is
+//!   `not a case`.
 #![tactic(auto)]
 
 ghost use Rattle.std.specs.Prelude.{◌≡◌, ◌<◌};
 
 mod fills;
+mod fragments;
 mod glyphs;
+mod limits;
 mod names;
+mod placings;
 mod preparings;
 mod printed;
 mod sums;
@@ -26,6 +36,7 @@ mod words;
 
 use face_api::{Face, Faces, MonoFace, TableFace, WideFace};
 use fills::{answer_fill, fill_case};
+use placings::{answer_line, line_case};
 use preparings::{answer_paragraph, paragraph_case};
 use std::alloc::Global;
 use std::io;
@@ -91,6 +102,10 @@ fn answer<W: Write, L: Ledger, M: Ledger>(
     match words.word() {
         Ok("fill") => match fill_case(alloc, &mut words) {
             Ok(case) => answer_fill(alloc, &case, arranged, output),
+            Err(error) => print_error(output, error),
+        },
+        Ok("line") => match line_case(alloc, &mut words) {
+            Ok(line) => answer_line(alloc, &line, output),
             Err(error) => print_error(output, error),
         },
         Ok("paragraph") => match paragraph_case(alloc, &mut words) {

@@ -1,6 +1,7 @@
 //! The names of what stands in a case.
 
-use style_types::{Breaking, Combine, TextOrientation, UnicodeBidi};
+use style_types::{Align, Baseline, Breaking, Combine, TextOrientation, UnicodeBidi, UnitKind};
+use wm_chars::BidiClass;
 use wm_modes::{Direction, WritingMode};
 
 pub(crate) const MODES: [(&'static str, WritingMode); 5] = [
@@ -39,8 +40,53 @@ pub(crate) const BIDIS: [(&'static str, UnicodeBidi); 6] = [
     ("Plaintext", UnicodeBidi::Plaintext),
 ];
 
+pub(crate) const ALIGNS: [(&'static str, Align); 5] = [
+    ("Start", Align::Start),
+    ("End", Align::End),
+    ("Left", Align::Left),
+    ("Right", Align::Right),
+    ("Center", Align::Center),
+];
+
+pub(crate) const BASELINES: [(&'static str, Baseline); 2] = [
+    ("Alphabetic", Baseline::Alphabetic),
+    ("Central", Baseline::Central),
+];
+
 pub(crate) const BREAKS: [(&'static str, Breaking); 3] = [
     ("No", Breaking::No),
     ("May", Breaking::May),
     ("Must", Breaking::Must),
+];
+
+pub(crate) const FORMS: [(&'static str, UnitKind); 4] = [
+    ("Along", UnitKind::Along),
+    ("Turned", UnitKind::Turned),
+    ("Upright", UnitKind::Upright),
+    ("Combined", UnitKind::Combined),
+];
+
+pub(crate) const CLASSES: [(&'static str, BidiClass); 22] = [
+    ("L", BidiClass::L),
+    ("R", BidiClass::R),
+    ("AL", BidiClass::AL),
+    ("EN", BidiClass::EN),
+    ("ES", BidiClass::ES),
+    ("ET", BidiClass::ET),
+    ("AN", BidiClass::AN),
+    ("CS", BidiClass::CS),
+    ("NSM", BidiClass::NSM),
+    ("B", BidiClass::B),
+    ("S", BidiClass::S),
+    ("WS", BidiClass::WS),
+    ("ON", BidiClass::ON),
+    ("LRE", BidiClass::LRE),
+    ("LRO", BidiClass::LRO),
+    ("RLE", BidiClass::RLE),
+    ("RLO", BidiClass::RLO),
+    ("PDF", BidiClass::PDF),
+    ("LRI", BidiClass::LRI),
+    ("RLI", BidiClass::RLI),
+    ("FSI", BidiClass::FSI),
+    ("PDI", BidiClass::PDI),
 ];

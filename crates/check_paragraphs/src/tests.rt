@@ -1,10 +1,12 @@
-//! Paragraphs prepared and filled into lines, by values from outside: through the program's own lines, which print
+//! Paragraphs prepared, filled into lines and placed, by values from outside: through the program's own lines, which print
 //! all that the public calls answer.
 
 mod filled;
+mod placed;
 mod prepared;
 
 use self::filled::FILLED;
+use self::placed::PLACED;
 use self::prepared::PREPARED;
 use crate::counted;
 use std::marker::Brand;
@@ -41,4 +43,9 @@ fn paragraphs_are_prepared(rt: HostRuntime) -> Result<(), Fail> {
 #[test]
 fn lines_end_where_they_should(rt: HostRuntime) -> Result<(), Fail> {
     check(&rt, &FILLED)
+}
+
+#[test]
+fn lines_are_placed(rt: HostRuntime) -> Result<(), Fail> {
+    check(&rt, &PLACED)
 }

@@ -62,11 +62,33 @@ impl<'a> Words<'a> {
         }
     }
 
+    /// A length, or `-` for none.
+    pub(crate) fn length_if_any(&mut self) -> Result<Option<i64>, CaseError> {
+        match self.word()? {
+            "-" => Ok(None),
+            word => match word.parse::<i64>() {
+                Ok(length) => Ok(Some(length)),
+                Err(_) => Err(CaseError::Malformed),
+            },
+        }
+    }
+
     /// A place in a list or a text, or how many there are.
     pub(crate) fn place(&mut self) -> Result<usize, CaseError> {
         match self.word()?.parse::<usize>() {
             Ok(place) => Ok(place),
             Err(_) => Err(CaseError::Malformed),
+        }
+    }
+
+    /// A place, or `-` for none.
+    pub(crate) fn place_if_any(&mut self) -> Result<Option<usize>, CaseError> {
+        match self.word()? {
+            "-" => Ok(None),
+            word => match word.parse::<usize>() {
+                Ok(place) => Ok(Some(place)),
+                Err(_) => Err(CaseError::Malformed),
+            },
         }
     }
 
