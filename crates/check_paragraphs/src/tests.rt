@@ -6,7 +6,7 @@ mod placed;
 mod prepared;
 
 use self::filled::FILLED;
-use self::placed::PLACED;
+use self::placed::{BOXES, TEXTS};
 use self::prepared::PREPARED;
 use crate::counted;
 use std::marker::Brand;
@@ -46,6 +46,11 @@ fn lines_end_where_they_should(rt: HostRuntime) -> Result<(), Fail> {
 }
 
 #[test]
-fn lines_are_placed(rt: HostRuntime) -> Result<(), Fail> {
-    check(&rt, &PLACED)
+fn texts_are_placed(rt: HostRuntime) -> Result<(), Fail> {
+    check(&rt, &TEXTS)
+}
+
+#[test]
+fn boxes_are_placed(rt: HostRuntime) -> Result<(), Fail> {
+    check(&rt, &BOXES)
 }

@@ -2,8 +2,8 @@
 
 use super::Row;
 
-/// The lines of the same paragraphs, with their fragments.
-pub(crate) const PLACED: [Row; 39] = [
+/// Lines of text in its order, of the same paragraphs, with their fragments.
+pub(crate) const TEXTS: [Row; 26] = [
     (
         "kept white space, line 0",
         "line HorizontalTb 0 Start 1280 768 256 768 256 0 5 0 L 512 - no - unit 3 0 1 Along 61 0 L 512 - \
@@ -194,6 +194,10 @@ pub(crate) const PLACED: [Row; 39] = [
         "768 256 (3.0 8704 0 4096 1024 Run Along 2 - 0 1 512 61 1 2 512 20 2 3 512 28 3 4 512 31 4 5 512 \
          29 5 6 512 20 6 7 1024 3042)",
     ),
+];
+
+/// Lines with inline boxes and atoms, and lines by their alignment.
+pub(crate) const BOXES: [Row; 13] = [
     (
         "combined brackets from right to left",
         "line VerticalRl 1 Start 12800 512 512 512 512 0 1 2 L 1024 0 no - combined 4 0 4 2048 \
