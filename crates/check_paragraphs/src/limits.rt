@@ -109,8 +109,7 @@ fn with_content(sum: u64, what: &LineContent) -> Option<u64>
     ensures { IfSome result (λ more. (more ≡ sum + content_reach (content_of what.now)) × (more ≤ 2 ^ 60)) }
 {
     match what {
-        LineContent::Unit { .. } | LineContent::Break => Some(sum),
-        LineContent::Combined { natural, .. } => with_length(sum, *natural),
+        LineContent::Unit { .. } | LineContent::Combined { .. } | LineContent::Break => Some(sum),
         LineContent::Atom {
             fragment,
             left_margin,

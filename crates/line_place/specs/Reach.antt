@@ -71,9 +71,10 @@ abbrev pub piece_reach : Pieces → ℕ
 piece_reach none = 0
 piece_reach (piece name rect kind inner next) = unsigned_abs rect.inline + unsigned_abs rect.block
 
+-- the natural width of a combined run is only handed on
 abbrev pub content_reach : Content → ℕ
 content_reach (unit node first end_ form glyphs) = 0
-content_reach (combined node first end_ natural glyphs) = unsigned_abs natural
+content_reach (combined node first end_ natural glyphs) = 0
 content_reach (atom fragment left_margin over_margin over under) =
     piece_reach fragment + unsigned_abs left_margin + unsigned_abs over_margin + unsigned_abs over + unsigned_abs under
 content_reach nothing = 0
