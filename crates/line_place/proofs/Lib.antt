@@ -11,5 +11,6 @@ pub mod PairLaws
 pub mod PlaceLaws
 pub mod ReachLaws
 pub mod RunLaws
+pub mod ShownLaws
 pub mod SumLaws
 pub mod WalkLaws

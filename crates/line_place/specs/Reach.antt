@@ -1,6 +1,6 @@
 -- How far the lengths of a line reach.
 use Rattle.std.specs.Prelude.{◌≡◌, ℕ, suc, ◌+◌, ◌-◌, ◌<◌, ◌≤◌, ◌^◌, ⊤, Bool, true, false, List, [], ◌∷◌, length, Option, IfSome, slice_index_or, unsigned_abs}
-use Rattle.std.specs.List.{list_any}
+use Rattle.std.specs.List.{All, list_any}
 use Rattle.line_place.specs.declared.line.Extents.{Extents}
 use Rattle.line_place.specs.declared.line.LineBox.{LineBox}
 use Rattle.style_types.specs.Fragment.{Pieces, none, piece}
@@ -89,6 +89,22 @@ item_reach item = unsigned_abs item.extent + content_reach item.what
 -- the lengths that come in, but for those inside an atom
 abbrev pub line_reach : Line → ℕ
 line_reach line = unsigned_abs line.available + extents_reach line.strut + total item_reach line.items + total box_reach line.boxes
+
+-- ---- over and under the baseline
+
+-- an atom reaches no further over or under the baseline
+abbrev pub IsInLimit : (limit : ℕ) → Content → Type 0
+IsInLimit limit (unit node first end_ form glyphs) = ⊤
+IsInLimit limit (combined node first end_ natural glyphs) = ⊤
+IsInLimit limit (atom fragment left_margin over_margin over under) = (unsigned_abs over ≤ limit) × (unsigned_abs under ≤ limit)
+IsInLimit limit nothing = ⊤
+
+-- neither the strut nor a box nor an atom reaches further over or under the baseline
+pub record HasLimit (limit : ℕ) (line : Line) : Type 0 where
+  pub strut_over : unsigned_abs line.strut.over ≤ limit
+  pub strut_under : unsigned_abs line.strut.under ≤ limit
+  pub boxes : All (λ box. (unsigned_abs box.extents.over ≤ limit) × (unsigned_abs box.extents.under ≤ limit)) line.boxes
+  pub items : All (λ item. IsInLimit limit item.what) line.items
 
 -- ---- the lengths of a row of marks
 

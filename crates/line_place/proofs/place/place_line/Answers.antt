@@ -1,4 +1,4 @@
-use Rattle.std.proofs.Common.{◌≡◌, ◌∙◌, ap, sym, arith, subst, List, map, length, ℤ, ◌-ℤ◌}
+use Rattle.std.proofs.Common.{◌≡◌, ◌∙◌, ap, sym, arith, subst, ◌≤◌, List, map, length, ℤ, ◌-ℤ◌, unsigned_abs}
 use Rattle.std.specs.Int.{int_max}
 use Rattle.std.specs.List.{flat_map, fold}
 use Rattle.line_place.specs.declared.line.LineBox.{LineBox}
@@ -11,7 +11,7 @@ use Rattle.line_place.specs.Marks.{Mark, mark_of, marks_of}
 use Rattle.line_place.specs.Placing as rule
 use Rattle.line_place.specs.Reach.{AreInBoxes, AreOfBoxes, ArePaired, AreWithin, leaf_reach, mark_reach, total}
 use Rattle.line_place.proofs.EdgeLaws.{marks_reach}
-use Rattle.line_place.proofs.PlaceLaws.{leaves_within, marks_are, marks_in, marks_of_boxes, marks_paired, reached}
+use Rattle.line_place.proofs.PlaceLaws.{in_limit, leaves_within, marks_are, marks_in, marks_of_boxes, marks_paired, reached}
 use Rattle.line_place.proofs.place.place_line.Goals as goal
 
 made : (line : LineInput) (bs : List LineBox) (ls own : List code_leaf.Leaf) (ms all : List code_mark.Mark) → map mark_of ms ≡ marks_of bs (map leaf_of ls) → all ≡ ms
@@ -76,3 +76,14 @@ returns-clause-parts c =
     (rule.offset c.args.line.now.align c.args.line.now.base (c.args.line.now.available -ℤ rule.width c.args.line.now.boxes.items (map mark_of c.deref-3.result.now))) (map mark_of c.deref-3.result.now))) o
     ∙ ap (λ (ms : List Mark). rule.outermost (rule.rows (line_of c.args.line.now) (rule.line_over (line_of c.args.line.now))
     (rule.offset c.args.line.now.align c.args.line.now.base (c.args.line.now.available -ℤ rule.width c.args.line.now.boxes.items ms)) ms)) m
+
+pub returns-clause-within : goal.returns-clause-within
+returns-clause-within c limit has =
+    let k = in_limit limit (line_of c.args.line.now) has in
+    let m = made c.args.line.now _ _ _ _ _ c.in_ok-marks.ensures c.deref-3.ensures.value c.deref.ensures.value c.deref-2.ensures.value c.in_ok-leaves.ensures.are ∙ sym (marks_are (line_of c.args.line.now)) in
+    let o : c.in_ok-made.made.over ≡ rule.line_over (line_of c.args.line.now) =
+    c.in_ok-made.ensures.over ∙ ap (λ (ms : List Mark). fold int_max c.args.line.now.strut.over (flat_map (rule.over_of c.args.line.now.boxes.items) ms)) m in
+    let u : c.in_ok-made.made.under ≡ rule.line_under (line_of c.args.line.now) =
+    c.in_ok-made.ensures.under ∙ ap (λ (ms : List Mark). fold int_max c.args.line.now.strut.under (flat_map (rule.under_of c.args.line.now.boxes.items) ms)) m in
+    let P : ℤ → Type 0 = λ z. unsigned_abs z ≤ limit in
+    (subst P (sym o) k.0, subst P (sym u) k.1)
