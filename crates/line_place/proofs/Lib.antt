@@ -1,6 +1,7 @@
 mod Examples
 pub mod Chains
 pub mod EdgeLaws
+pub mod FragmentLaws
 pub mod Fragments
 pub mod Hanging
 pub mod Leaf

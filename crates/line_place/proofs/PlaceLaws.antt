@@ -62,7 +62,7 @@ marks_in boxes ls h = all_in (length boxes) (marks_of boxes ls) (marks_each (Sta
 
 -- ---- lengths
 
-index_reach : {X : Type 0} (reach : X → ℕ) (xs : List X) (p : ℕ) (d : X) → p < length xs → reach (slice_index_or xs p d) ≤ total reach xs
+pub index_reach : {X : Type 0} (reach : X → ℕ) (xs : List X) (p : ℕ) (d : X) → p < length xs → reach (slice_index_or xs p d) ≤ total reach xs
 index_reach reach [] p d lt = absurd (omega (arith, lt))
 index_reach reach (x ∷ xs) zero d lt = omega arith
 index_reach reach (x ∷ xs) (suc p) d lt = let h = index_reach reach xs p d (omega (arith, lt)) in omega (arith, h)
@@ -127,15 +127,15 @@ marks_low limit boxes (shows run ∷ marks) of low h =
     )
 
 -- a row of marks reaches at most as far as its lengths sum to
-leaf_low : (what : Content) → content_reach what ≤ 2 ^ 60 → IsInLimit (2 ^ 60) what
-leaf_low (unit node first end_ form glyphs) le = tt
-leaf_low (combined node first end_ natural glyphs) le = tt
-leaf_low (atom fragment left_margin over_margin over under) le = (omega (arith, le), omega (arith, le))
-leaf_low nothing le = tt
+pub leaf_low : (limit : ℕ) (what : Content) → content_reach what ≤ limit → IsInLimit limit what
+leaf_low limit (unit node first end_ form glyphs) le = tt
+leaf_low limit (combined node first end_ natural glyphs) le = tt
+leaf_low limit (atom fragment left_margin over_margin over under) le = (omega (arith, le), omega (arith, le))
+leaf_low limit nothing le = tt
 
 leaves_low : (run : List Leaf) → total leaf_reach run ≤ 2 ^ 60 → Each (IsLow (2 ^ 60)) run
 leaves_low [] le = tt
-leaves_low (l ∷ run) le = (leaf_low l.what (omega (arith, le)), leaves_low run (omega (arith, le)))
+leaves_low (l ∷ run) le = (leaf_low (2 ^ 60) l.what (omega (arith, le)), leaves_low run (omega (arith, le)))
 
 shown_low : (boxes : List LineBox) (marks : List Mark) → total (mark_reach boxes) marks ≤ 2 ^ 60 → Each (IsShown (Each (IsLow (2 ^ 60)))) marks
 shown_low boxes [] le = tt
@@ -191,6 +191,11 @@ pub line_of_boxes : (line : Line) → AreOfBoxes (length line.boxes) (marks line
 line_of_boxes line =
     let P : List Mark → Type 0 = λ ms. AreOfBoxes (length line.boxes) ms in
     subst P (sym (marks_are line)) (marks_of_boxes line.boxes (leaves line))
+
+pub line_in : (line : Line) → All (λ item. IsBefore (length line.boxes) item.inside) line.items → AreInBoxes (length line.boxes) (marks line)
+line_in line h =
+    let P : List Mark → Type 0 = λ ms. AreInBoxes (length line.boxes) ms in
+    subst P (sym (marks_are line)) (marks_in line.boxes (leaves line) (leaves_within (length line.boxes) line h))
 
 hung_low : (limit place level : ℕ) (item : Item) (hangs : Bool) → IsInLimit limit item.what → IsLow limit (leaf place level item hangs)
 hung_low limit place level item true h = tt

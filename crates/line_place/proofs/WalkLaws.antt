@@ -189,10 +189,10 @@ end_near boxes p true =
     omega (arith, m, r)
 end_near boxes p false = omega arith
 
-sum_near : (a b : ℤ) → unsigned_abs (a +ℤ b) ≤ unsigned_abs a + unsigned_abs b
+pub sum_near : (a b : ℤ) → unsigned_abs (a +ℤ b) ≤ unsigned_abs a + unsigned_abs b
 sum_near a b = omega (arith, ints)
 
-extent_near : (run : List Leaf) → unsigned_abs (extent_of run) ≤ total leaf_reach run
+pub extent_near : (run : List Leaf) → unsigned_abs (extent_of run) ≤ total leaf_reach run
 extent_near [] = omega arith
 extent_near (leaf ∷ run) = let s = sum_near leaf.extent (extent_of run) in let h = extent_near run in omega (arith, s, h)
 

@@ -3,7 +3,8 @@ use Rattle.std.specs.Prelude.{◌≡◌, ℕ, suc, ◌+◌, ◌-◌, ◌<◌, �
 use Rattle.std.specs.List.{All, list_any}
 use Rattle.line_place.specs.declared.line.Extents.{Extents}
 use Rattle.line_place.specs.declared.line.LineBox.{LineBox}
-use Rattle.style_types.specs.Fragment.{Pieces, none, piece}
+use Rattle.wm_modes.specs.declared.rects.FlowRect.{FlowRect}
+use Rattle.style_types.specs.Fragment.{Pieces, none, piece, span}
 use Rattle.line_place.specs.Line.{Content, unit, combined, atom, nothing, Item, Line}
 use Rattle.line_place.specs.Leaves.{Leaf}
 use Rattle.line_place.specs.Marks.{Mark, begins, ends, shows, box_at, inside_of}
@@ -105,6 +106,23 @@ pub record HasLimit (limit : ℕ) (line : Line) : Type 0 where
   pub strut_under : unsigned_abs line.strut.under ≤ limit
   pub boxes : All (λ box. (unsigned_abs box.extents.over ≤ limit) × (unsigned_abs box.extents.under ≤ limit)) line.boxes
   pub items : All (λ item. IsInLimit limit item.what) line.items
+
+-- ---- fragments
+
+-- an atom is no piece of an inline box
+abbrev pub IsAtomic : Content → Type 0
+IsAtomic (atom (piece name rect span inner next) left_margin over_margin over under) = ⊥
+IsAtomic _ = ⊤
+
+-- no coordinate and no size is further from 0
+abbrev pub IsRectInLimit : (limit : ℕ) → FlowRect → Type 0
+IsRectInLimit limit rect = (unsigned_abs rect.i ≤ limit) × (unsigned_abs rect.b ≤ limit) × (unsigned_abs rect.inline ≤ limit) × (unsigned_abs rect.block ≤ limit)
+
+-- nor are those of these fragments, also inside the pieces of inline boxes
+abbrev pub AreInLimit : (limit : ℕ) → Pieces → Type 0
+AreInLimit limit none = ⊤
+AreInLimit limit (piece name rect span inner next) = IsRectInLimit limit rect × AreInLimit limit inner × AreInLimit limit next
+AreInLimit limit (piece name rect _ inner next) = IsRectInLimit limit rect × AreInLimit limit next
 
 -- ---- the lengths of a row of marks
 

@@ -1,13 +1,13 @@
 //! A whole line (CSS 2, 9.4.2 and 10.8).
 
-ghost use Rattle.std.specs.Prelude.{◌≡◌, ℕ, ◌+◌, ◌≤◌, ◌^◌, ◌-ℤ◌, IfOk, length, map, unsigned_abs};
+ghost use Rattle.std.specs.Prelude.{◌≡◌, ℕ, ◌+◌, ◌*◌, ◌≤◌, ◌^◌, ◌-ℤ◌, IfOk, length, map, unsigned_abs};
 ghost use Rattle.std.specs.Int.{int_max};
 ghost use Rattle.std.specs.List.{All, flat_map, fold};
 ghost use Rattle.style_types.specs.Fragment.{pieces_of};
 ghost use Rattle.line_place.specs.Line.{line_of};
 ghost use Rattle.line_place.specs.Marks.{mark_of};
 ghost use Rattle.line_place.specs.Placing as rule;
-ghost use Rattle.line_place.specs.Reach.{AreInBoxes, AreNested, AreOfBoxes, ArePaired, AreReached, HasLimit, IsBefore, extents_reach, line_reach, mark_reach, total};
+ghost use Rattle.line_place.specs.Reach.{AreInBoxes, AreInLimit, AreNested, AreOfBoxes, ArePaired, AreReached, HasLimit, IsAtomic, IsBefore, extents_reach, line_reach, mark_reach, total};
 
 use crate::leaves::leaves;
 use crate::line::LineInput;
@@ -29,6 +29,7 @@ pub fn place_line(alloc: Global, line: &LineInput) -> Result<LineFragment, Alloc
     ensures parts { IfOk result (λ made. pieces_of made.parts.items ≡ rule.parts (line_of line.now)) }
     ensures near { IfOk result (λ made. (unsigned_abs made.over ≤ 2 ^ 60) × (unsigned_abs made.under ≤ 2 ^ 60)) }
     ensures within { (limit : ℕ) → HasLimit limit (line_of line.now) → IfOk result (λ made. (unsigned_abs made.over ≤ limit) × (unsigned_abs made.under ≤ limit)) }
+    ensures reach { All (λ item. IsAtomic item.what) (line_of line.now).items → IfOk result (λ made. AreInLimit (4 * line_reach (line_of line.now)) (pieces_of made.parts.items)) }
 {
     let leaves = leaves(alloc, line)?;
     let marks = marks(alloc, &line.boxes, &leaves)?;

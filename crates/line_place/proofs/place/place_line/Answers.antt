@@ -1,6 +1,7 @@
-use Rattle.std.proofs.Common.{◌≡◌, ◌∙◌, ap, sym, arith, subst, ◌≤◌, List, map, length, ℤ, ◌-ℤ◌, unsigned_abs}
+use Rattle.std.proofs.Common.{◌≡◌, ◌∙◌, ap, sym, arith, subst, ◌*◌, ◌≤◌, List, map, length, ℤ, ◌-ℤ◌, unsigned_abs}
 use Rattle.std.specs.Int.{int_max}
 use Rattle.std.specs.List.{flat_map, fold}
+use Rattle.style_types.specs.Fragment.{Pieces}
 use Rattle.line_place.specs.declared.line.LineBox.{LineBox}
 use Rattle.line_place.specs.declared.line.LineInput.{LineInput}
 use Rattle.line_place.specs.declared.leaves.Leaf as code_leaf
@@ -9,8 +10,9 @@ use Rattle.line_place.specs.Leaves.{Leaf, leaf_of, leaves}
 use Rattle.line_place.specs.Line.{line_of}
 use Rattle.line_place.specs.Marks.{Mark, mark_of, marks_of}
 use Rattle.line_place.specs.Placing as rule
-use Rattle.line_place.specs.Reach.{AreInBoxes, AreOfBoxes, ArePaired, AreWithin, leaf_reach, mark_reach, total}
+use Rattle.line_place.specs.Reach.{AreInBoxes, AreInLimit, AreOfBoxes, ArePaired, AreWithin, leaf_reach, line_reach, mark_reach, total}
 use Rattle.line_place.proofs.EdgeLaws.{marks_reach}
+use Rattle.line_place.proofs.FragmentLaws.{parts_in}
 use Rattle.line_place.proofs.PlaceLaws.{in_limit, leaves_within, marks_are, marks_in, marks_of_boxes, marks_paired, reached}
 use Rattle.line_place.proofs.place.place_line.Goals as goal
 
@@ -66,8 +68,8 @@ returns-clause-under c =
     let m = made c.args.line.now _ _ _ _ _ c.in_ok-marks.ensures c.deref-3.ensures.value c.deref.ensures.value c.deref-2.ensures.value c.in_ok-leaves.ensures.are ∙ sym (marks_are (line_of c.args.line.now)) in
     c.in_ok-made.ensures.under ∙ ap (λ (ms : List Mark). fold int_max c.args.line.now.strut.under (flat_map (rule.under_of c.args.line.now.boxes.items) ms)) m
 
-pub returns-clause-parts : goal.returns-clause-parts
-returns-clause-parts c =
+placed : goal.returns-clause-parts
+placed c =
     let m = made c.args.line.now _ _ _ _ _ c.in_ok-marks.ensures c.deref-3.ensures.value c.deref.ensures.value c.deref-2.ensures.value c.in_ok-leaves.ensures.are ∙ sym (marks_are (line_of c.args.line.now)) in
     let o : c.in_ok-made.made.over ≡ rule.line_over (line_of c.args.line.now) =
     c.in_ok-made.ensures.over ∙ ap (λ (ms : List Mark). fold int_max c.args.line.now.strut.over (flat_map (rule.over_of c.args.line.now.boxes.items) ms)) m in
@@ -76,6 +78,9 @@ returns-clause-parts c =
     (rule.offset c.args.line.now.align c.args.line.now.base (c.args.line.now.available -ℤ rule.width c.args.line.now.boxes.items (map mark_of c.deref-3.result.now))) (map mark_of c.deref-3.result.now))) o
     ∙ ap (λ (ms : List Mark). rule.outermost (rule.rows (line_of c.args.line.now) (rule.line_over (line_of c.args.line.now))
     (rule.offset c.args.line.now.align c.args.line.now.base (c.args.line.now.available -ℤ rule.width c.args.line.now.boxes.items ms)) ms)) m
+
+pub returns-clause-parts : goal.returns-clause-parts
+returns-clause-parts c = placed c
 
 pub returns-clause-within : goal.returns-clause-within
 returns-clause-within c limit has =
@@ -87,3 +92,11 @@ returns-clause-within c limit has =
     c.in_ok-made.ensures.under ∙ ap (λ (ms : List Mark). fold int_max c.args.line.now.strut.under (flat_map (rule.under_of c.args.line.now.boxes.items) ms)) m in
     let P : ℤ → Type 0 = λ z. unsigned_abs z ≤ limit in
     (subst P (sym o) k.0, subst P (sym u) k.1)
+
+pub returns-clause-reach : goal.returns-clause-reach
+returns-clause-reach c own =
+    let t = ap (total (mark_reach c.args.line.now.boxes.items)) (marks_are (line_of c.args.line.now)) in
+    let l = ap (total leaf_reach) c.in_ok-leaves.ensures.are in
+    let r = marks_reach c.args.line.now.boxes.items (leaves (line_of c.args.line.now)) in
+    let P : Pieces → Type 0 = λ ps. AreInLimit (4 * line_reach (line_of c.args.line.now)) ps in
+    subst P (sym (placed c)) (parts_in (line_of c.args.line.now) own c.requires.inside (omega (arith, t, l, r, c.in_ok-leaves.ensures.reach)))
