@@ -1,5 +1,5 @@
 -- The boxes of a line.
-use Rattle.std.proofs.Common.{inl, inr, ◌≡◌, ◌∙◌, refl, sym, ap, arith, Bool, true, false, ◌||◌, ℕ, suc, ◌+◌, ◌-◌, ◌<◌, ◌≤◌, List, [], ◌∷◌, ◌++◌, length, map, get_or, set, drop, reverse, append_assoc, append-nil, Option, Some, ℤ}
+use Rattle.std.proofs.Common.{inl, inr, ◌≡◌, ◌∙◌, refl, sym, ap, arith, Bool, true, false, ◌||◌, ℕ, suc, ◌+◌, ◌-◌, ◌<◌, ◌≤◌, List, [], ◌∷◌, length, map, get_or, set, drop, Option, ℤ}
 use Rattle.std.specs.Prelude.{All, ◌==◌, option_map}
 use Rattle.std.proofs.lemmas.List.{drop_all, drop_more, get_or-set_same, get_or-set_other, length-set}
 use Rattle.std.proofs.lemmas.Bool.{cases_eq, eq-eqb, ne_eqb}
@@ -20,35 +20,10 @@ use Rattle.para_lines.specs.declared.standing.Standing as code
 use Rattle.para_lines.specs.Edges.{shifts}
 use Rattle.para_lines.specs.Filling.{is_space}
 use Rattle.para_lines.specs.Lines as rule
-use Rattle.para_prepare.specs.declared.item.PreparedItem.{PreparedItem}
-use Rattle.para_lines.specs.Around.{fresh, has}
-use Rattle.para_lines.specs.Boxes.{apart, chain_at, chain_behind, innermost, round_of}
+use Rattle.para_lines.specs.Around.{has}
+use Rattle.para_lines.specs.Boxes.{apart, chain_at, innermost, round_of}
 use Rattle.para_lines.specs.Line.{AreSeats, content_in, first_atom, on_line, standing_of}
 use Rattle.para_lines.specs.Lines.{innermost_in, place_in}
-use Rattle.para_lines.specs.Prepared.{first_source, source_before}
-
--- one item more
-pub on_line_more : (entries : List Entry) (items : List PreparedItem) (k : ℕ) (item : PreparedItem) (places more fresh_ : List ℕ) (total : List ℕ) → k < length items → item ≡ get_or items k item
-    → fresh_ ≡ apart (chain_at entries item.source) (chain_behind entries (source_before items k)) → more ≡ places ++ reverse fresh_
-    → places ++ on_line entries (chain_behind entries (source_before items k)) (drop k items) ≡ total
-    → more ++ on_line entries (chain_behind entries (source_before items (k + 1))) (drop (k + 1) items) ≡ total
-on_line_more entries items k item places more fresh_ total lt read is pushed all =
-    let e : suc k ≡ k + 1 = omega arith in
-    let before : List ℕ = chain_behind entries (source_before items k) in
-    let next : chain_behind entries (source_before items (k + 1)) ≡ chain_at entries item.source =
-    sym (ap (λ (i : PreparedItem). chain_behind entries (Some i.source)) read
-    ∙ ap (λ (is : List PreparedItem). chain_behind entries (first_source is)) (sym (drop_more items k item lt))
-    ∙ ap (λ j. chain_behind entries (source_before items j)) e) in
-    let here : drop k items ≡ item ∷ drop (k + 1) items = drop_more items k item lt ∙ ap (λ (i : PreparedItem). i ∷ drop (k + 1) items) (sym read) in
-    ap (λ (b : List ℕ). more ++ on_line entries b (drop (k + 1) items)) next
-    ∙ ap (λ (m : List ℕ). m ++ on_line entries (chain_at entries item.source) (drop (k + 1) items)) (pushed ∙ ap (λ (f : List ℕ). places ++ reverse f) is)
-    ∙ append_assoc places (fresh (chain_at entries item.source) before) (on_line entries (chain_at entries item.source) (drop (k + 1) items))
-    ∙ ap (λ (is : List PreparedItem). places ++ on_line entries before is) (sym here)
-    ∙ all
-
-pub on_line_all : (entries : List Entry) (items : List PreparedItem) (k : ℕ) (places total before : List ℕ) → length items ≤ k → places ++ on_line entries before (drop k items) ≡ total → places ≡ total
-on_line_all entries items k places total before past all =
-    sym (append-nil places) ∙ ap (λ (is : List PreparedItem). places ++ on_line entries before is) (sym (drop_all k items past)) ∙ all
 
 -- the boxes from one on are seated
 pub record Seating (places seats old : List ℕ) (left : ℕ) : Type 0 where

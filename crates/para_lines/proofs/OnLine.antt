@@ -1,14 +1,13 @@
 -- Which boxes stand on a line.
-use Rattle.std.proofs.Common.{inl, inr, ◌≡◌, ◌∙◌, refl, sym, ap, arith, subst, Bool, true, false, not, ◌||◌, ◌⊎◌, if◌then◌else◌, ℕ, zero, suc, ◌+◌, ◌<◌, ◌≤◌, List, [], ◌∷◌, ◌++◌, length, map, get_or, reverse, take}
-use Rattle.std.specs.Prelude.{IfSome, ◌==◌}
-use Rattle.std.proofs.lemmas.List.{reverse-append, take_more, map-append}
+use Rattle.std.proofs.Common.{inl, inr, ◌≡◌, ◌∙◌, refl, sym, ap, arith, subst, Bool, true, false, not, ◌||◌, ◌⊎◌, if◌then◌else◌, ℕ, zero, suc, ◌+◌, ◌<◌, ◌≤◌, List, [], ◌∷◌, ◌++◌, length, get_or, reverse}
+use Rattle.std.specs.Prelude.{All, IfSome, ◌==◌}
+use Rattle.std.proofs.lemmas.List.{reverse-append}
 use Rattle.std.proofs.lemmas.Bool.{cases_Bool, cases_eq, eq-eqb, ne_eqb}
 use Rattle.style_types.specs.Item.{Entry}
-use Rattle.para_prepare.specs.declared.item.PreparedItem.{PreparedItem}
+use Rattle.para_lines.specs.declared.standing.Standing as code
 use Rattle.para_lines.specs.Around.{fresh, has, no_entry}
 use Rattle.para_lines.specs.Boxes.{Begins, apart, chain_at, innermost}
-use Rattle.para_lines.specs.Line.{AreOnLine, IsOnLine, on_line}
-use Rattle.para_lines.specs.Prepared.{AreSources}
+use Rattle.para_lines.specs.Line.{AreOnLine, IsAble, IsOnLine, on_line}
 use Rattle.para_lines.proofs.Chaining.{AreLinked, at, linked, outer_too, there}
 
 has_append : (xs ys : List ℕ) (x : ℕ) → has (xs ++ ys) x ≡ (has xs x || has ys x)
@@ -28,19 +27,19 @@ has_reverse (y ∷ xs) x =
       turn false true = refl
       turn false false = refl
 
-or_left : (a b : Bool) → a ≡ true → (a || b) ≡ true
+pub or_left : (a b : Bool) → a ≡ true → (a || b) ≡ true
 or_left true b e = refl
 or_left false b e = cc
 
-or_right : (a b : Bool) → b ≡ true → (a || b) ≡ true
+pub or_right : (a b : Bool) → b ≡ true → (a || b) ≡ true
 or_right true b e = refl
 or_right false b e = e
 
-or_false : (a b : Bool) → a ≡ false → (a || b) ≡ true → b ≡ true
+pub or_false : (a b : Bool) → a ≡ false → (a || b) ≡ true → b ≡ true
 or_false false b e f = f
 or_false true b e f = cc
 
-or_cases : (a b : Bool) → (a || b) ≡ true → (a ≡ true) ⊎ (b ≡ true)
+pub or_cases : (a b : Bool) → (a || b) ≡ true → (a ≡ true) ⊎ (b ≡ true)
 or_cases true b e = inl refl
 or_cases false b e = inr e
 
@@ -67,11 +66,18 @@ apart_has (y ∷ chain) other x h out =
       go false e = or_right (y == x) (has (apart chain other) x) e
 
 -- a box of a chain is in the other one or among those that are fresh
-fresh_or : (chain other rest : List ℕ) (x : ℕ) → has chain x ≡ true → (has other x ≡ true) ⊎ (has (fresh chain other ++ rest) x ≡ true)
-fresh_or chain other rest x h =
+pub fresh_in : (chain other : List ℕ) (x : ℕ) → has chain x ≡ true → (has other x ≡ true) ⊎ (has (fresh chain other) x ≡ true)
+fresh_in chain other x h =
     elim (cases_Bool (has other x)) [
       | inl e ↦ inl e
-      | inr e ↦ inr (has_append (fresh chain other) rest x ∙ or_left (has (fresh chain other) x) (has rest x) (has_reverse (apart chain other) x ∙ apart_has chain other x h e))
+      | inr e ↦ inr (has_reverse (apart chain other) x ∙ apart_has chain other x h e)
+    ]
+
+fresh_or : (chain other rest : List ℕ) (x : ℕ) → has chain x ≡ true → (has other x ≡ true) ⊎ (has (fresh chain other ++ rest) x ≡ true)
+fresh_or chain other rest x h =
+    elim (fresh_in chain other x h) [
+      | inl e ↦ inl e
+      | inr e ↦ inr (has_append (fresh chain other) rest x ∙ or_left (has (fresh chain other) x) (has rest x) e)
     ]
 
 later : (chain other rest : List ℕ) (x : ℕ) → (has chain x ≡ true) ⊎ (has rest x ≡ true) → (has other x ≡ true) ⊎ (has (fresh chain other ++ rest) x ≡ true)
@@ -79,20 +85,20 @@ later chain other rest x (inl e) = fresh_or chain other rest x e
 later chain other rest x (inr e) = inr (has_append (fresh chain other) rest x ∙ or_right (has (fresh chain other) x) (has rest x) e)
 
 -- each box on a line stands round an item of it, and so do all round that one
-abbrev Origin : List Entry → (before : List ℕ) → List PreparedItem → (box : ℕ) → Type 0
-Origin entries before items box =
+abbrev Origin : List Entry → (before : List ℕ) → List code.Standing → (box : ℕ) → Type 0
+Origin entries before standings box =
     (s : ℕ) × (s < length entries) × (has (chain_at entries s) box ≡ true)
-    × ((x : ℕ) → has (chain_at entries s) x ≡ true → (has before x ≡ true) ⊎ (has (on_line entries before items) x ≡ true))
+    × ((x : ℕ) → has (chain_at entries s) x ≡ true → (has before x ≡ true) ⊎ (has (on_line entries before standings) x ≡ true))
 
-origin : (entries : List Entry) (before : List ℕ) (items : List PreparedItem) (box : ℕ) → AreSources (length entries) items → has (on_line entries before items) box ≡ true → Origin entries before items box
+origin : (entries : List Entry) (before : List ℕ) (standings : List code.Standing) (box : ℕ) → All (IsAble (length entries)) standings → has (on_line entries before standings) box ≡ true → Origin entries before standings box
 origin entries before [] box within h = cc
-origin entries before (item ∷ items) box within h =
-    let chain : List ℕ = chain_at entries item.source in
-    let rest : List ℕ = on_line entries chain items in
+origin entries before (s ∷ standings) box within h =
+    let chain : List ℕ = chain_at entries s.item.now.source in
+    let rest : List ℕ = on_line entries chain standings in
     elim (or_cases (has (fresh chain before) box) (has rest box) (sym (has_append (fresh chain before) rest box) ∙ h)) [
-      | inl e ↦ (item.source, within 0 item (omega arith), apart_in chain before box (sym (has_reverse (apart chain before) box) ∙ e), λ x i. fresh_or chain before rest x i)
+      | inl e ↦ (s.item.now.source, (within 0 s (omega arith)).source, apart_in chain before box (sym (has_reverse (apart chain before) box) ∙ e), λ x i. fresh_or chain before rest x i)
       | inr e ↦
-          let o = origin entries chain items box (λ k d lt. within (suc k) d (omega arith)) e in
+          let o = origin entries chain standings box (λ k d lt. within (suc k) d (omega arith)) e in
           (o.0, o.1, o.2, λ x i. later chain before rest x (o.3 x i))
     ]
 
@@ -105,7 +111,7 @@ linked_box entries limit box (other ∷ chain) h i =
       | inr n ↦ linked_box entries other box chain h.4 (or_false (other == box) (has chain box) (ne_eqb other box n) i)
     ]
 
-first_of : (chain : List ℕ) (P : ℕ → Type 0) → ((x : ℕ) → has chain x ≡ true → P x) → IfSome (innermost chain) P
+pub first_of : (chain : List ℕ) (P : ℕ → Type 0) → ((x : ℕ) → has chain x ≡ true → P x) → IfSome (innermost chain) P
 first_of [] P h = tt
 first_of (x ∷ chain) P h = h x (or_left (x == x) (has chain x) (eq-eqb x x refl))
 
@@ -113,9 +119,9 @@ no_before : (x : ℕ) (b : Bool) → (has [] x ≡ true) ⊎ (b ≡ true) → b 
 no_before x b (inl e) = cc
 no_before x b (inr e) = e
 
-pub all_on_line : (entries : List Entry) (items : List PreparedItem) → AreSources (length entries) items → AreOnLine entries (on_line entries [] items)
-all_on_line entries items within = λ box i.
-    let o = origin entries [] items box within i in
+pub all_on_line : (entries : List Entry) (standings : List code.Standing) → All (IsAble (length entries)) standings → AreOnLine entries (on_line entries [] standings)
+all_on_line entries standings within = λ box i.
+    let o = origin entries [] standings box within i in
     let s : ℕ = o.0 in
     let lt : s < length entries = o.1 in
     let here : chain_at entries s ≡ at 0 [] entries s = there entries s [] lt in
@@ -126,24 +132,24 @@ all_on_line entries items within = λ box i.
       within = b.0;
       begins = b.1;
       outer =
-          first_of (chain_at entries box) (λ x. has (on_line entries [] items) x ≡ true) (λ x h.
-          no_before x (has (on_line entries [] items) x) (o.3 x (
+          first_of (chain_at entries box) (λ x. has (on_line entries [] standings) x ≡ true) (λ x h.
+          no_before x (has (on_line entries [] standings) x) (o.3 x (
           ap (λ (c : List ℕ). has c x) here ∙ outer_too entries s box (at 0 [] entries s) l in_ x (ap (λ (c : List ℕ). has c x) (sym (there entries box [] b.0)) ∙ h))));
     }
 
 -- the boxes round each item of a line are on it
-covers : (entries : List Entry) (before : List ℕ) (items : List PreparedItem) (k : ℕ) (d : PreparedItem) (x : ℕ) → k < length items → has (chain_at entries (get_or items k d).source) x ≡ true
-    → (has before x ≡ true) ⊎ (has (on_line entries before items) x ≡ true)
+covers : (entries : List Entry) (before : List ℕ) (standings : List code.Standing) (k : ℕ) (d : code.Standing) (x : ℕ) → k < length standings → has (chain_at entries (get_or standings k d).item.now.source) x ≡ true
+    → (has before x ≡ true) ⊎ (has (on_line entries before standings) x ≡ true)
 covers entries before [] k d x lt h = absurd (omega arith)
-covers entries before (item ∷ items) zero d x lt h = fresh_or (chain_at entries item.source) before (on_line entries (chain_at entries item.source) items) x h
-covers entries before (item ∷ items) (suc k) d x lt h =
-    later (chain_at entries item.source) before (on_line entries (chain_at entries item.source) items) x (covers entries (chain_at entries item.source) items k d x (omega arith) h)
+covers entries before (s ∷ standings) zero d x lt h = fresh_or (chain_at entries s.item.now.source) before (on_line entries (chain_at entries s.item.now.source) standings) x h
+covers entries before (s ∷ standings) (suc k) d x lt h =
+    later (chain_at entries s.item.now.source) before (on_line entries (chain_at entries s.item.now.source) standings) x (covers entries (chain_at entries s.item.now.source) standings k d x (omega arith) h)
 
-pub item_on_line : (entries : List Entry) (items : List PreparedItem) (k : ℕ) (d : PreparedItem) → k < length items
-    → IfSome (innermost (chain_at entries (get_or items k d).source)) (λ box. has (on_line entries [] items) box ≡ true)
-item_on_line entries items k d lt =
-    first_of (chain_at entries (get_or items k d).source) (λ x. has (on_line entries [] items) x ≡ true) (λ x h.
-    no_before x (has (on_line entries [] items) x) (covers entries [] items k d x lt h))
+pub item_on_line : (entries : List Entry) (standings : List code.Standing) (k : ℕ) (d : code.Standing) → k < length standings
+    → IfSome (innermost (chain_at entries (get_or standings k d).item.now.source)) (λ box. has (on_line entries [] standings) box ≡ true)
+item_on_line entries standings k d lt =
+    first_of (chain_at entries (get_or standings k d).item.now.source) (λ x. has (on_line entries [] standings) x ≡ true) (λ x h.
+    no_before x (has (on_line entries [] standings) x) (covers entries [] standings k d x lt h))
 
 -- a place in a list is a box of it
 pub has_there : (places : List ℕ) (k d : ℕ) → k < length places → has places (get_or places k d) ≡ true
@@ -151,11 +157,13 @@ has_there [] k d lt = absurd (omega arith)
 has_there (place ∷ places) zero d lt = or_left (place == place) (has places place) (eq-eqb place place refl)
 has_there (place ∷ places) (suc k) d lt = or_right (place == get_or places k d) (has places (get_or places k d)) (has_there places k d (omega arith))
 
+pub on_line_within : (entries : List Entry) (standings : List code.Standing) (places : List ℕ) (n : ℕ) → places ≡ on_line entries [] standings → length entries ≡ n → All (IsAble (length entries)) standings
+    → All (λ place. place < n) places
+on_line_within entries standings places n are same able = λ k d lt.
+    let m = ap length are in
+    let own = (all_on_line entries standings able (get_or (on_line entries [] standings) k d) (has_there (on_line entries [] standings) k d (omega arith))).within in
+    let read = ap (λ (ps : List ℕ). get_or ps k d) are in
+    omega arith
+
 pub on_line_there : (entries : List Entry) (places : List ℕ) (k d : ℕ) → AreOnLine entries places → k < length places → IsOnLine entries places (get_or places k d)
 on_line_there entries places k d on lt = on (get_or places k d) (has_there places k d lt)
-
-pub map_more : {X Y : Type 0} (f : X → Y) (xs : List X) (k : ℕ) (d x : X) (done more : List Y) (y : Y) → k < length xs → x ≡ get_or xs k d → y ≡ f x → done ≡ map f (take k xs) → more ≡ done ++ y ∷ []
-    → more ≡ map f (take (k + 1) xs)
-map_more f xs k d x done more y lt read is before pushed =
-    pushed ∙ ap (λ (l : List _). l ++ y ∷ []) before ∙ ap (λ z. map f (take k xs) ++ z ∷ []) (is ∙ ap f read)
-    ∙ sym (ap (map f) (take_more xs k d lt) ∙ map-append f (take k xs) (get_or xs k d ∷ []))

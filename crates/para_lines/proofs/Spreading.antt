@@ -43,10 +43,6 @@ inside_before entries box s t (inr (out, past_)) (inl (in_, is)) le there_ =
     absurd (omega arith)
 inside_before entries box s t (inr (out, past_)) (inr (out2, past2)) le there_ = absurd (let no : false ≡ true = sym out2 ∙ there_ in cc)
 
-has_self : (chain : List ℕ) (x : ℕ) (pre : Bool) → (pre || (x == x)) ≡ true
-has_self chain x true = refl
-has_self chain x false = eq-eqb x x refl
-
 first_in : (box : ℕ) (chain : List ℕ) → has (box ∷ chain) box ≡ true
 first_in box chain = rw (eq-eqb box box refl) refl
 

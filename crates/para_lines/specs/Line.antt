@@ -1,5 +1,5 @@
 -- The boxes of a line by their places among the paragraph's entries.
-use Rattle.std.specs.Prelude.{◌≡◌, ℕ, ◌<◌, ◌≤◌, ◌^◌, ⊤, true, List, [], ◌∷◌, ◌++◌, All, length, IfSome, slice_index_or, ℤ, ◌+ℤ◌, ◌-ℤ◌, unsigned_abs}
+use Rattle.std.specs.Prelude.{◌≡◌, ℕ, ◌<◌, ◌≤◌, ◌^◌, ⊤, true, List, [], ◌∷◌, All, length, map, IfSome, slice_index_or, ℤ, ◌+ℤ◌, ◌-ℤ◌, unsigned_abs}
 use Rattle.wm_units.specs.Numbers.{cap}
 use Rattle.line_place.specs.Line as place
 use Rattle.para_prepare.specs.declared.item.PreparedContent.{PreparedContent}
@@ -8,16 +8,10 @@ use Rattle.para_lines.specs.declared.standing.Standing as code
 use Rattle.para_lines.specs.declared.paragraph.Atom as code_atom
 use Rattle.para_lines.specs.Paragraph.{atom_of}
 use Rattle.style_types.specs.Item.{Entry}
-use Rattle.para_prepare.specs.declared.item.PreparedItem.{PreparedItem}
-use Rattle.para_lines.specs.Around.{fresh, has, no_entry}
+use Rattle.para_lines.specs.Around.{has, no_entry}
 use Rattle.para_lines.specs.Boxes.{Begins, chain_at, innermost}
 use Rattle.para_lines.specs.Lines as rule
-use Rattle.para_lines.specs.Lines.{no_atom, place_in}
-
--- the boxes on the line of these items, where the item before the first stands in these
-abbrev pub on_line : List Entry → (before : List ℕ) → List PreparedItem → List ℕ
-on_line entries before [] = []
-on_line entries before (item ∷ items) = fresh (chain_at entries item.source) before ++ on_line entries (chain_at entries item.source) items
+use Rattle.para_lines.specs.Lines.{boxes_on, no_atom, place_in}
 
 -- a table by box tells for each of these boxes its place in their list
 abbrev pub AreSeats : (boxes seats : List ℕ) → Type 0
@@ -67,6 +61,10 @@ content_in shifts (Break node) atom = place.nothing
 
 -- ---- the boxes of a line
 
+-- the boxes on the line of these items, where the item before the first stands in these
+abbrev pub on_line : List Entry → (before : List ℕ) → List code.Standing → List ℕ
+on_line entries before standings = boxes_on before (map (standing_of entries) standings)
+
 -- a box of a line is one that begins, and the box round it is on the line too
 pub record IsOnLine (entries : List Entry) (places : List ℕ) (box : ℕ) : Type 0 where
   pub within : box < length entries
@@ -76,9 +74,10 @@ pub record IsOnLine (entries : List Entry) (places : List ℕ) (box : ℕ) : Typ
 abbrev pub AreOnLine : List Entry → (places : List ℕ) → Type 0
 AreOnLine entries places = (box : ℕ) → has places box ≡ true → IsOnLine entries places box
 
--- an item that can stand on a line with these boxes
-pub record IsReady (entries : List Entry) (places : List ℕ) (standing : code.Standing) : Type 0 where
-  pub source : standing.item.now.source < length entries
-  pub inside : IfSome (innermost (chain_at entries standing.item.now.source)) (λ box. has places box ≡ true)
+-- ---- the items that a line is made of
+
+-- an item that can stand on a line: it comes from an entry that there is, and has its atom
+pub record IsAble (count : ℕ) (standing : code.Standing) : Type 0 where
+  pub source : standing.item.now.source < count
   pub atom : HasAtom standing.item.now.what standing.atoms.now
   pub near : All IsNearAtom standing.atoms.now

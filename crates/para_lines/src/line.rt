@@ -1,6 +1,6 @@
 //! The inline boxes of a line (CSS 2, 9.4.2 and 10.8.1).
 
-ghost use Rattle.std.specs.Prelude.{◌≡◌, ◌+◌, ◌<◌, ◌≤◌, ◌^◌, ◌≤ℤ◌, ◌+ℤ◌, ◌++◌, ◌&&◌, true, not, [], ℕ, All, IfOk, IfSome, List, OnOk, Option, length, map, option_map, pos, reverse, slice_index_or, unsigned_abs};
+ghost use Rattle.std.specs.Prelude.{◌≡◌, ◌+◌, ◌<◌, ◌≤◌, ◌^◌, ◌≤ℤ◌, ◌+ℤ◌, ◌++◌, ◌&&◌, true, not, [], All, IfOk, IfSome, List, OnOk, Option, length, map, option_map, pos, reverse, slice_index_or, unsigned_abs};
 ghost use Rattle.face_api.specs.Faces.{faces_of};
 ghost use Rattle.style_types.specs.Item.{entries_of};
 ghost use Rattle.style_types.specs.Style.{IsBounded};
@@ -9,17 +9,16 @@ ghost use Rattle.wm_units.specs.Numbers.{cap};
 ghost use Rattle.face_api.specs.Table.{Table};
 ghost use Rattle.para_lines.specs.Around.{box_at, has, no_entry};
 ghost use Rattle.para_lines.specs.Edges.{raised_in};
-ghost use Rattle.para_lines.specs.Boxes.{AreBoxes, Begins, chain_at, chain_behind, innermost};
-ghost use Rattle.para_lines.specs.Line.{AreOnLine, AreSeats, on_line};
+ghost use Rattle.para_lines.specs.Boxes.{AreBoxes, Begins, chain_behind};
+ghost use Rattle.para_lines.specs.Line.{AreOnLine, AreSeats, IsAble, IsOnLine, on_line};
 ghost use Rattle.para_lines.specs.Lines as rule;
-ghost use Rattle.para_lines.specs.Prepared.{AreSources, source_before};
 
 use crate::boxes::{Boxes, Places};
 use crate::edges::{inner_edge_on, margin_on};
 use crate::paragraph::Container;
+use crate::standing::Standing;
 use face_api::{Face, Faces};
 use line_place::{Extents, LineBox, LineBoxes, extents};
-use para_prepare::PreparedItem;
 use std::alloc::{AllocError, Global};
 use style_types::Style;
 use wm_modes::{Direction, FlowSide, side_of};
@@ -30,31 +29,21 @@ use wm_units::cap;
 pub(crate) fn boxes_on(
     alloc: Global,
     boxes: &Boxes,
-    items: &[PreparedItem],
+    standings: &[Standing],
 ) -> Result<Places, AllocError>
     requires boxes { AreBoxes boxes.now }
-    requires sources { AreSources (length boxes.now.items.now) items.now }
-    ensures places { IfOk result (λ made. made.items ≡ on_line (entries_of boxes.now.items.now) [] items.now) }
-    ensures on_line { IfOk result (λ made. AreOnLine (entries_of boxes.now.items.now) made.items) }
+    requires able { All (IsAble (length boxes.now.items.now)) standings.now }
+    ensures { IfOk result (λ made. made.items ≡ on_line (entries_of boxes.now.items.now) [] standings.now) }
 {
     let mut places = Vec::new(alloc);
-    for place in 0..items.len() {
-        let fresh = boxes.apart(alloc, items[place].source, source_before(items, place))?;
+    let mut before = None;
+    for k in 0..standings.len() {
+        let source = standings[k].item.source;
+        let fresh = boxes.apart(alloc, source, before)?;
         add_reversed(&mut places, &fresh)?;
+        before = Some(source);
     }
     Ok(places)
-}
-
-fn source_before(items: &[PreparedItem], place: usize) -> Option<usize>
-    requires { place < length items.now }
-    ensures is { result ≡ source_before items.now place }
-    ensures within { (count : ℕ) → AreSources count items.now → IfSome result (λ source. source < count) }
-{
-    if place == 0 {
-        None
-    } else {
-        Some(items[place - 1].source)
-    }
 }
 
 fn add_reversed(places: &mut Places, fresh: &[usize]) -> Result<(), AllocError>
@@ -140,7 +129,12 @@ fn inner_edge_at(container: &Container, style: &Style, side: FlowSide) -> i64
 }
 
 /// The extents of a box in this style by its used face.
-fn extents_in(faces: &Faces, container: &Container, style: &Style, raised: i64) -> Extents
+pub(crate) fn extents_in(
+    faces: &Faces,
+    container: &Container,
+    style: &Style,
+    raised: i64,
+) -> Extents
     requires style { IsBounded style.now }
     requires raised { unsigned_abs raised ≤ 2 ^ 32 }
     ensures are { result ≡ rule.extents_in (faces_of ⟦<dyn Face as Face>⟧ faces.now) container.now style.now raised }
@@ -182,7 +176,8 @@ pub(crate) fn line_boxes(
     requires on_line { AreOnLine (entries_of boxes.now.items.now) seated.now.places.now }
     requires before { IfSome sides.before (λ before. before < length boxes.now.items.now) }
     requires after { IfSome sides.after (λ after. after < length boxes.now.items.now) }
-    ensures { IfOk result (λ made. made.items ≡ map (rule.line_box (faces_of ⟦<dyn Face as Face>⟧ faces.now) container.now (entries_of boxes.now.items.now) seated.now.places.now (chain_behind (entries_of boxes.now.items.now) sides.before) (chain_behind (entries_of boxes.now.items.now) sides.after)) seated.now.places.now) }
+    ensures are { IfOk result (λ made. made.items ≡ map (rule.line_box (faces_of ⟦<dyn Face as Face>⟧ faces.now) container.now (entries_of boxes.now.items.now) seated.now.places.now (chain_behind (entries_of boxes.now.items.now) sides.before) (chain_behind (entries_of boxes.now.items.now) sides.after)) seated.now.places.now) }
+    ensures near { IfOk result (λ made. All (λ b. AreNear b.extents) made.items) }
 {
     let mut made = Vec::with_capacity(alloc, seated.places.len())?;
     for k in 0..seated.places.len() {
@@ -205,12 +200,11 @@ fn line_box(
     requires low { pos 0 ≤ℤ container.now.size }
     requires high { container.now.size ≤ℤ pos (2 ^ 32) }
     requires seats { AreSeats seated.now.places.now seated.now.seats.now }
-    requires place { place < length boxes.now.items.now }
-    requires begins { Begins (slice_index_or (entries_of boxes.now.items.now) place no_entry) }
-    requires outer { IfSome (innermost (chain_at (entries_of boxes.now.items.now) place)) (λ box. has seated.now.places.now box ≡ true) }
+    requires on_line { IsOnLine (entries_of boxes.now.items.now) seated.now.places.now place }
     requires before { IfSome sides.before (λ before. before < length boxes.now.items.now) }
     requires after { IfSome sides.after (λ after. after < length boxes.now.items.now) }
-    ensures { result ≡ rule.line_box (faces_of ⟦<dyn Face as Face>⟧ faces.now) container.now (entries_of boxes.now.items.now) seated.now.places.now (chain_behind (entries_of boxes.now.items.now) sides.before) (chain_behind (entries_of boxes.now.items.now) sides.after) place }
+    ensures is { result ≡ rule.line_box (faces_of ⟦<dyn Face as Face>⟧ faces.now) container.now (entries_of boxes.now.items.now) seated.now.places.now (chain_behind (entries_of boxes.now.items.now) sides.before) (chain_behind (entries_of boxes.now.items.now) sides.after) place }
+    ensures near { AreNear result.extents }
 {
     let extents = extents_of(boxes, container, faces, place);
     let made = box_with(boxes, container, seated, sides, place, extents);
@@ -221,7 +215,8 @@ fn line_box(
 fn extents_of(boxes: &Boxes, container: &Container, faces: &Faces, place: usize) -> Extents
     requires boxes { AreBoxes boxes.now }
     requires place { place < length boxes.now.items.now }
-    ensures { result ≡ rule.extents_in (faces_of ⟦<dyn Face as Face>⟧ faces.now) container.now (box_at (entries_of boxes.now.items.now) place).style (raised_in (entries_of boxes.now.items.now) (box_at (entries_of boxes.now.items.now) place).style.shift (box_at (entries_of boxes.now.items.now) place).outer) }
+    ensures are { result ≡ rule.extents_in (faces_of ⟦<dyn Face as Face>⟧ faces.now) container.now (box_at (entries_of boxes.now.items.now) place).style (raised_in (entries_of boxes.now.items.now) (box_at (entries_of boxes.now.items.now) place).style.shift (box_at (entries_of boxes.now.items.now) place).outer) }
+    ensures near { AreNear result }
 {
     let own = boxes.at(place);
     let raised = box_raised(boxes, &own.style, place);
@@ -253,12 +248,11 @@ fn box_with(
     requires low { pos 0 ≤ℤ container.now.size }
     requires high { container.now.size ≤ℤ pos (2 ^ 32) }
     requires seats { AreSeats seated.now.places.now seated.now.seats.now }
-    requires place { place < length boxes.now.items.now }
-    requires begins { Begins (slice_index_or (entries_of boxes.now.items.now) place no_entry) }
-    requires outer { IfSome (innermost (chain_at (entries_of boxes.now.items.now) place)) (λ box. has seated.now.places.now box ≡ true) }
+    requires on_line { IsOnLine (entries_of boxes.now.items.now) seated.now.places.now place }
     requires before { IfSome sides.before (λ before. before < length boxes.now.items.now) }
     requires after { IfSome sides.after (λ after. after < length boxes.now.items.now) }
-    ensures { (tables : List (Option Table)) → extents ≡ rule.extents_in tables container.now (box_at (entries_of boxes.now.items.now) place).style (raised_in (entries_of boxes.now.items.now) (box_at (entries_of boxes.now.items.now) place).style.shift (box_at (entries_of boxes.now.items.now) place).outer) → result ≡ rule.line_box tables container.now (entries_of boxes.now.items.now) seated.now.places.now (chain_behind (entries_of boxes.now.items.now) sides.before) (chain_behind (entries_of boxes.now.items.now) sides.after) place }
+    ensures is { (tables : List (Option Table)) → extents ≡ rule.extents_in tables container.now (box_at (entries_of boxes.now.items.now) place).style (raised_in (entries_of boxes.now.items.now) (box_at (entries_of boxes.now.items.now) place).style.shift (box_at (entries_of boxes.now.items.now) place).outer) → result ≡ rule.line_box tables container.now (entries_of boxes.now.items.now) seated.now.places.now (chain_behind (entries_of boxes.now.items.now) sides.before) (chain_behind (entries_of boxes.now.items.now) sides.after) place }
+    ensures extents { result.extents ≡ extents }
 {
     let own = boxes.at(place);
     let round = boxes.round(place);

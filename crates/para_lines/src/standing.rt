@@ -1,11 +1,11 @@
 //! The items of a paragraph on their way to its lines (CSS 2, 9.4.2 and 10.8.1).
 
-ghost use Rattle.std.specs.Prelude.{◌≡◌, ◌+◌, ◌<◌, ◌≤◌, ◌^◌, ◌≤ℤ◌, ◌+ℤ◌, ◌++◌, ◌&&◌, true, not, [], ℕ, All, IfOk, IfSome, List, OnOk, Option, length, map, option_map, pos, reverse, slice_index_or, unsigned_abs};
+ghost use Rattle.std.specs.Prelude.{◌≡◌, ◌+◌, ◌<◌, ◌≤◌, ◌^◌, true, [], All, IfOk, IfSome, List, length, map, unsigned_abs};
 ghost use Rattle.style_types.specs.Item.{Entry, entries_of};
 ghost use Rattle.para_lines.specs.Filling.{item_chains};
 ghost use Rattle.para_lines.specs.Boxes.{AreBoxes, chain_at, innermost};
 ghost use Rattle.line_place.specs.Line.{content_of, item_of};
-ghost use Rattle.para_lines.specs.Line.{AreSeats, HasAtom, IsNearAtom, IsReady, atom_in, content_in, first_atom, standing_of};
+ghost use Rattle.para_lines.specs.Line.{AreSeats, HasAtom, IsAble, IsNearAtom, atom_in, content_in, first_atom, on_line, standing_of};
 ghost use Rattle.para_lines.specs.Paragraph.{atom_of};
 ghost use Rattle.para_lines.specs.Lines as rule;
 ghost use Rattle.para_lines.specs.Prepared.{IsWhole};
@@ -74,7 +74,8 @@ pub(crate) fn line_items(
 ) -> Result<LineItems, AllocError>
     requires boxes { AreBoxes boxes.now }
     requires seats { AreSeats seated.now.places.now seated.now.seats.now }
-    requires ready { All (IsReady (entries_of boxes.now.items.now) seated.now.places.now) standings.now }
+    requires able { All (IsAble (length boxes.now.items.now)) standings.now }
+    requires places { seated.now.places.now ≡ on_line (entries_of boxes.now.items.now) [] standings.now }
     ensures { IfOk result (λ made. map item_of made.items ≡ map (λ standing. rule.line_item (entries_of boxes.now.items.now) seated.now.places.now (standing_of (entries_of boxes.now.items.now) standing)) standings.now) }
 {
     let mut made = Vec::with_capacity(alloc, standings.len())?;
@@ -93,10 +94,8 @@ fn line_item(
 ) -> Result<LineItem, AllocError>
     requires boxes { AreBoxes boxes.now }
     requires seats { AreSeats seated.now.places.now seated.now.seats.now }
-    requires source { standing.now.item.now.source < length boxes.now.items.now }
+    requires able { IsAble (length boxes.now.items.now) standing.now }
     requires inside { IfSome (innermost (chain_at (entries_of boxes.now.items.now) standing.now.item.now.source)) (λ box. has seated.now.places.now box ≡ true) }
-    requires atom { HasAtom standing.now.item.now.what standing.now.atoms.now }
-    requires near { All IsNearAtom standing.now.atoms.now }
     ensures { IfOk result (λ made. item_of made ≡ rule.line_item (entries_of boxes.now.items.now) seated.now.places.now (standing_of (entries_of boxes.now.items.now) standing.now)) }
 {
     let item = standing.item;

@@ -14,8 +14,8 @@ use Rattle.para_lines.proofs.Chaining.{outer_is}
 use Rattle.para_lines.proofs.LineLaws.{innermost_is, line_box_is}
 use Rattle.para_lines.proofs.line.box_with.Goals as goal
 
-pub returns : goal.returns
-returns c = λ tables extents.
+pub returns-clause-is : goal.returns-clause-is
+returns-clause-is c = λ tables extents.
     let entries : List Entry = entries_of c.args.boxes.now.items.now in
     let places : List ℕ = c.args.seated.now.places.now in
     let fits : FitsSigned w64 c.inner_edge_at.result = search rules in

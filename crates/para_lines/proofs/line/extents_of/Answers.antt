@@ -17,7 +17,7 @@ told tables container entries own style raised held place extents are same is st
     are ∙ ap (rule.extents_in tables container own) (same ∙ is)
     ∙ ap (λ (s : Style). rule.extents_in tables container s (raised_in entries s.shift (box_at entries place).outer)) style_is
 
-pub returns : goal.returns
-returns g c =
+pub returns-clause-are : goal.returns-clause-are
+returns-clause-are g c =
     let fits : FitsSigned w64 c.box_raised-raised.result = search rules in
     told _ c.args.container.now (entries_of c.args.boxes.now.items.now) _ _ c.box_raised-raised.result _ c.args.place _ c.extents_in.ensures.are (to_z-of_z w64 c.box_raised-raised.result fits) c.box_raised-raised.ensures.value c.at-own.ensures.style
