@@ -1,11 +1,14 @@
 -- The boxes of a line.
-use Rattle.std.proofs.Common.{inl, inr, ◌≡◌, ◌∙◌, refl, sym, ap, arith, Bool, true, false, ◌||◌, ℕ, suc, ◌+◌, ◌-◌, ◌<◌, ◌≤◌, List, [], ◌∷◌, length, map, get_or, set, drop, Option, ℤ}
+use Rattle.std.proofs.Common.{inl, inr, ◌≡◌, ◌∙◌, refl, sym, ap, arith, Bool, true, false, ◌||◌, ℕ, suc, ◌+◌, ◌-◌, ◌<◌, ◌≤◌, List, [], ◌∷◌, length, map, get_or, set, drop, Option, ℤ, pos}
 use Rattle.std.specs.Prelude.{All, ◌==◌, option_map}
 use Rattle.std.proofs.lemmas.List.{drop_all, drop_more, get_or-set_same, get_or-set_other, length-set}
 use Rattle.std.proofs.lemmas.Bool.{cases_eq, eq-eqb, ne_eqb}
+use Rattle.std.proofs.lemmas.Simd.{map-map}
+use Rattle.face_api.specs.Table.{Table}
 use Rattle.wm_chars.specs.declared.classes.BidiClass.{BidiClass}
 use Rattle.wm_modes.specs.declared.mode.Direction.{Direction}
 use Rattle.wm_modes.specs.declared.rects.FlowRect.{FlowRect}
+use Rattle.style_types.specs.declared.style.Align.{Align}
 use Rattle.style_types.specs.declared.fragment.Fragment.{Fragment, out-Fragment}
 use Rattle.style_types.specs.declared.fragment.Fragment.TheFolds.{fold_out-Fragment}
 use Rattle.style_types.specs.Fragment.{Pieces, before, in_line, kind_of, moved_to, none, piece, piece_of, piece_step}
@@ -16,6 +19,7 @@ use Rattle.line_place.specs.Line as place
 use Rattle.para_prepare.specs.declared.item.PreparedContent.{PreparedContent}
 use Rattle.para_prepare.specs.declared.item.PreparedContent.TheVariants.{Unit, Combined, Atom, Break}
 use Rattle.para_lines.specs.declared.boxes.Round.{Round}
+use Rattle.para_lines.specs.declared.paragraph.Container.{Container}
 use Rattle.para_lines.specs.declared.standing.Standing as code
 use Rattle.para_lines.specs.Edges.{shifts}
 use Rattle.para_lines.specs.Filling.{is_space}
@@ -146,3 +150,22 @@ atom_with fragment left over_margin over under = place.atom fragment left over_m
 
 pub atom_is : (fragment fragment2 : Pieces) (l l2 m m2 o o2 u u2 : ℤ) → fragment ≡ fragment2 → l ≡ l2 → m ≡ m2 → o ≡ o2 → u ≡ u2 → atom_with fragment l m o u ≡ atom_with fragment2 l2 m2 o2 u2
 atom_is fragment fragment2 l l2 m m2 o o2 u u2 a b c d e = rw (a, b, c, d, e) refl
+
+-- ---- a whole line
+
+abbrev line_with : ℕ → Align → ℤ → Extents → List place.Item → List LineBox → place.Line
+line_with base align available strut items boxes = record { base = base; align = align; available = available; strut = strut; items = items; boxes = boxes }
+
+both_is : (base base2 : ℕ) (align : Align) (size size2 : ℤ) (strut strut2 : Extents) (items items2 : List place.Item) (boxes boxes2 : List LineBox)
+    → base ≡ base2 → size ≡ size2 → strut ≡ strut2 → items ≡ items2 → boxes ≡ boxes2 → line_with base align size strut items boxes ≡ line_with base2 align size2 strut2 items2 boxes2
+both_is base base2 align size size2 strut strut2 items items2 boxes boxes2 a b c d e = rw (a, b, c, d, e) refl
+
+pub line_is : (tables : List (Option Table)) (container : Container) (entries : List Entry) (before after places : List ℕ) (standings : List code.Standing) (base : ℕ) (size : ℤ) (strut : Extents)
+    (items : List place.Item) (boxes : List LineBox) → places ≡ on_line entries [] standings → base ≡ rule.first_base (map (standing_of entries) standings) → size ≡ container.size
+    → strut ≡ rule.extents_in tables container container.style (pos 0) → items ≡ map (λ standing. rule.line_item entries places (standing_of entries standing)) standings
+    → boxes ≡ map (rule.line_box tables container entries places before after) places
+    → line_with base container.style.align size strut items boxes ≡ rule.line tables container entries before after (map (standing_of entries) standings)
+line_is tables container entries before after places standings base size strut items boxes on is_base is_size is_strut are_items are_boxes =
+    both_is _ _ container.style.align _ _ _ _ _ _ _ _ is_base is_size is_strut
+    (are_items ∙ sym (map-map (rule.line_item entries places) (standing_of entries) standings) ∙ ap (λ (bs : List ℕ). map (rule.line_item entries bs) (map (standing_of entries) standings)) on)
+    (are_boxes ∙ ap (λ (bs : List ℕ). map (rule.line_box tables container entries bs before after) bs) on)

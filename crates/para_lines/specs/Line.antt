@@ -81,3 +81,8 @@ pub record IsAble (count : ℕ) (standing : code.Standing) : Type 0 where
   pub source : standing.item.now.source < count
   pub atom : HasAtom standing.item.now.what standing.atoms.now
   pub near : All IsNearAtom standing.atoms.now
+
+-- items come in the order of what they come from
+abbrev pub RiseIn : (from : ℕ) → List code.Standing → Type 0
+RiseIn from [] = ⊤
+RiseIn from (standing ∷ standings) = (from ≤ standing.item.now.source) × RiseIn standing.item.now.source standings

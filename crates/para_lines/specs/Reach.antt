@@ -1,9 +1,11 @@
 -- How far the lengths of a paragraph reach.
-use Rattle.std.specs.Prelude.{◌≤◌, ◌^◌, ℕ, ⊤, List, [], ◌∷◌, All, length, Option, IfSome, ℤ, pos, ◌≤ℤ◌, unsigned_abs}
+use Rattle.std.specs.Prelude.{◌≤◌, ◌+◌, ◌^◌, ℕ, ⊤, List, [], ◌∷◌, All, length, Option, IfSome, ℤ, pos, ◌≤ℤ◌, unsigned_abs}
 use Rattle.std.specs.List.{sum_by}
+use Rattle.line_place.specs.Reach.{piece_reach}
 use Rattle.para_prepare.specs.declared.item.PreparedItem.{PreparedItem}
 use Rattle.para_prepare.specs.declared.item.PreparedContent.{PreparedContent}
 use Rattle.para_prepare.specs.declared.item.PreparedContent.TheVariants.{Unit, Combined, Atom, Break}
+use Rattle.para_lines.specs.Lines as rule
 
 -- the inline size of a containing block, where it is known
 abbrev pub IsInlineSize : Option ℤ → Type 0
@@ -30,3 +32,14 @@ pub record AreNear (items : List PreparedItem) : Type 0 where
 -- the lengths of atoms together, without their signs
 abbrev pub lengths_of : List ℤ → ℕ
 lengths_of lengths = sum_by unsigned_abs lengths
+
+-- the lengths that an atom brings to a line, without their signs; raised, it reaches up to 2^32 further over and under
+abbrev pub atom_part : PreparedContent → rule.Atom → ℕ
+atom_part (Atom name) atom =
+    piece_reach atom.fragment + unsigned_abs atom.left_margin + unsigned_abs atom.over_margin + unsigned_abs atom.over + unsigned_abs atom.under + 2 ^ 33
+atom_part (Unit node first end_ form advance space glyphs) atom = 0
+atom_part (Combined node first end_ advance natural glyphs) atom = 0
+atom_part (Break node) atom = 0
+
+abbrev pub standing_reach : rule.Standing → ℕ
+standing_reach s = unsigned_abs s.extent + atom_part s.item.what s.atom

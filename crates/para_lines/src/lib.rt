@@ -4,6 +4,7 @@
 mod boxes;
 mod edges;
 mod filling;
+mod input;
 mod line;
 mod paragraph;
 mod prepared;
