@@ -2,6 +2,7 @@ pub mod Chaining
 pub mod Examples
 pub mod FillLaws
 pub mod LineLaws
+pub mod LineReach
 pub mod Nesting
 pub mod OnLine
 pub mod Spreading

@@ -141,7 +141,7 @@ all_apart limit entries (box ∷ chain) other h = go (has other box) (all_apart 
 
 -- ---- the edges of some boxes
 
-abs_add : (a b : ℤ) → unsigned_abs (a +ℤ b) ≤ unsigned_abs a + unsigned_abs b
+pub abs_add : (a b : ℤ) → unsigned_abs (a +ℤ b) ≤ unsigned_abs a + unsigned_abs b
 abs_add a b = omega (arith, ints)
 
 resolved_near : (inline : Option ℤ) (size : Size) → IsMargin size → unsigned_abs (resolved inline size) ≤ 2 ^ 32
@@ -152,7 +152,7 @@ resolved_near (Some size) (Percent hundredths) h = cap_near (percent hundredths 
   cap_near : (z : ℤ) → unsigned_abs (cap z) ≤ 2 ^ 32
   cap_near z = omega (arith, ints, clamps)
 
-margin_near : (inline : Option ℤ) (style : Style) (side : Side) → IsBounded style → unsigned_abs (margin_on inline style side) ≤ 2 ^ 32
+pub margin_near : (inline : Option ℤ) (style : Style) (side : Side) → IsBounded style → unsigned_abs (margin_on inline style side) ≤ 2 ^ 32
 margin_near inline style Top h = resolved_near inline style.margin.top h.margin.top
 margin_near inline style Right h = resolved_near inline style.margin.right h.margin.right
 margin_near inline style Bottom h = resolved_near inline style.margin.bottom h.margin.bottom
@@ -166,7 +166,7 @@ padding_near inline Auto h = elim h [ ]
 padding_near inline (Length length) h = extent_near length h
 padding_near inline (Percent hundredths) h = resolved_near inline (Percent hundredths) h.1
 
-inner_near : (inline : Option ℤ) (style : Style) (side : Side) → IsBounded style → unsigned_abs (inner_edge_on inline style side) ≤ 2 ^ 33
+pub inner_near : (inline : Option ℤ) (style : Style) (side : Side) → IsBounded style → unsigned_abs (inner_edge_on inline style side) ≤ 2 ^ 33
 inner_near inline style Top h =
     let a = extent_near style.border.top h.border.top in
     let b = padding_near inline style.padding.top h.padding.top in
@@ -269,7 +269,7 @@ after_near entries item (next ∷ items) lt rise within =
     let w = within.0 in
     rw (there entries item.source [] lt) (rw (there entries next.source [] w) (let c = closed_count entries item.source next.source r (omega arith) in omega arith))
 
-before_near : (entries : List Entry) (from to : ℕ) → from ≤ to → to < length entries → length (apart (chain_at entries to) (at 0 [] entries from)) ≤ to - from
+pub before_near : (entries : List Entry) (from to : ℕ) → from ≤ to → to < length entries → length (apart (chain_at entries to) (at 0 [] entries from)) ≤ to - from
 before_near entries from to le lt = rw (there entries to [] lt) (opened_count entries from to le (omega arith))
 
 first_is : (entries : List Entry) (items : List PreparedItem) → first_chain (map (λ item. chain_at entries item.source) items) ≡ chain_behind entries (first_source items)

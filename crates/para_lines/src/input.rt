@@ -5,7 +5,7 @@ ghost use Rattle.face_api.specs.Faces.{faces_of};
 ghost use Rattle.style_types.specs.Item.{Entry, entries_of};
 ghost use Rattle.style_types.specs.Style.{IsBounded};
 ghost use Rattle.line_place.specs.Line.{line_of};
-ghost use Rattle.line_place.specs.Reach.{AreNear, AreNested, IsBefore, total};
+ghost use Rattle.line_place.specs.Reach.{AreNear, AreNested, IsBefore, line_reach, total};
 ghost use Rattle.para_lines.specs.Boxes.{AreBoxes, chain_behind};
 ghost use Rattle.para_lines.specs.Line.{AreSeats, IsAble, RiseIn, on_line, standing_of};
 ghost use Rattle.para_lines.specs.Lines as rule;
@@ -43,6 +43,7 @@ pub(crate) fn line_input(
     ensures line { IfOk result (λ made. line_of made ≡ rule.line (faces_of ⟦<dyn Face as Face>⟧ faces.now) container.now (entries_of boxes.now.items.now) (chain_behind (entries_of boxes.now.items.now) sides.before) (chain_behind (entries_of boxes.now.items.now) sides.after) (map (standing_of (entries_of boxes.now.items.now)) standings.now)) }
     ensures nested { IfOk result (λ made. AreNested made.boxes.items) }
     ensures inside { IfOk result (λ made. All (λ item. IsBefore (length made.boxes.items) item.inside) (line_of made).items) }
+    ensures reach { IfOk result (λ made. line_reach (line_of made) ≤ 2 ^ 60) }
     ensures extents { IfOk result (λ made. AreNear made.strut × All (λ b. AreNear b.extents) made.boxes.items) }
 {
     let places = boxes_on(alloc, boxes, standings)?;
