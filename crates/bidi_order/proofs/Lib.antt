@@ -5,3 +5,4 @@ pub mod LeavingOut
 pub mod LineLaws
 pub mod Resets
 pub mod Runs
+pub mod VisualLaws

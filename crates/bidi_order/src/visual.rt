@@ -1,8 +1,8 @@
 //! The visual order of a line's items, where what stands between two of them and is no item parts them (UAX 9, X9 and
 //! L2).
 
-ghost use Rattle.std.specs.Prelude.{◌≡◌, ◌<◌, ◌++◌, [], ◌∷◌, Some, None, length, map, slice_index_or, All, IfOk, OnOk};
-ghost use Rattle.std.specs.List.{filter_map};
+ghost use Rattle.std.specs.Prelude.{◌≡◌, ◌<◌, ◌++◌, [], ◌∷◌, Some, None, length, map, slice_index_or, All, IfOk, IsPermutation, OnOk};
+ghost use Rattle.std.specs.List.{filter_map, range_with_len};
 ghost use Rattle.bidi_order.specs.Visual.{parting, seat, seats, visual_order, within_line};
 
 use crate::places::Order;
@@ -28,7 +28,9 @@ pub fn visual_order(
     aparts: &[Option<u8>],
 ) -> Result<Order, AllocError>
     requires { length levels.now ≡ length aparts.now }
-    ensures { IfOk result (λ places. places.items ≡ visual_order levels.now aparts.now) }
+    ensures order { IfOk result (λ places. places.items ≡ visual_order levels.now aparts.now) }
+    ensures rearranged { IfOk result (λ places. IsPermutation (range_with_len 0 (length levels.now)) places.items) }
+    ensures below { IfOk result (λ places. All (λ p. p < length levels.now) places.items) }
 {
     let seats = seats(alloc, levels, aparts)?;
     let own = seat_levels(alloc, &seats)?;

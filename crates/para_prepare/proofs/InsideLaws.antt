@@ -1,13 +1,12 @@
 -- The units inside a combined run, and the bidi text that they make with the controls between them.
-use Rattle.std.proofs.Common.{append_assoc, ◌≡◌, refl, sym, ap, subst, ◌∙◌, ℕ, zero, suc, ◌+◌, ◌-◌, ◌<◌, ◌≤◌, Bool, false, List, [], ◌∷◌, ◌++◌, length, map, drop, slice_index_or, Option, Some, None, arith}
-use Rattle.std.specs.Prelude.{All, ⊤}
-use Rattle.std.specs.List.{cons_option, filter_map, slice_range}
+use Rattle.std.proofs.Common.{append_assoc, ◌≡◌, refl, sym, ap, subst, ◌∙◌, ℕ, suc, ◌+◌, ◌-◌, ◌<◌, ◌≤◌, Bool, false, List, [], ◌∷◌, ◌++◌, length, map, drop, Option, None, arith}
+use Rattle.std.specs.Prelude.{All}
+use Rattle.std.specs.List.{slice_range}
 use Rattle.std.proofs.lemmas.List.{length-take, length-drop}
 use Rattle.std.proofs.lemmas.List.Elements.{All-cons}
 use Rattle.std.proofs.lemmas.Simd.{map-map}
 use Rattle.bidi_order.specs.Blanks.{reset}
 use Rattle.bidi_order.specs.Reversals.{order}
-use Rattle.bidi_order.specs.Visual.{seat, seats, seats_from, visual_order, within_line}
 use Rattle.cluster_units.specs.Laws.{AreInOrder, IsUnitIn}
 use Rattle.cluster_units.specs.declared.unit.Unit.{Unit}
 use Rattle.para_prepare.specs.BidiParagraphs.{begins}
@@ -131,39 +130,9 @@ reads_all text more upright letters controls at left units read none m =
 
 -- ---- the places of the visual order
 
-abbrev IsWithin : (many : ℕ) → Option ℕ → Type 0
-IsWithin many None = ⊤
-IsWithin many (Some k) = k < many
-
--- the seat of no item stands where there is none
-seat_within : (many at : ℕ) (levels : List ℕ) (aparts : List (Option ℕ)) (p : ℕ) → at + length levels ≤ many
-    → IsWithin many (slice_index_or (seats_from at levels aparts) p (seat 0 None)).item
-seat_within many at [] aparts p h = tt
-seat_within many at (level ∷ levels) [] p h = tt
-seat_within many at (level ∷ levels) (None ∷ aparts) zero h = omega arith
-seat_within many at (level ∷ levels) (None ∷ aparts) (suc p) h = seat_within many (at + 1) levels aparts p (omega arith)
-seat_within many at (level ∷ levels) (Some apart ∷ aparts) zero h = tt
-seat_within many at (level ∷ levels) (Some apart ∷ aparts) (suc zero) h = omega arith
-seat_within many at (level ∷ levels) (Some apart ∷ aparts) (suc (suc p)) h = seat_within many (at + 1) levels aparts p (omega arith)
-
-cons_within : (many : ℕ) (place : Option ℕ) (places : List ℕ) → IsWithin many place → All (λ k. k < many) places → All (λ k. k < many) (cons_option place places)
-cons_within many None places h rest = rest
-cons_within many (Some k) places h rest = All-cons (λ k. k < many) k places h rest
-
-places_within : (many : ℕ) (place_at : ℕ → Option ℕ) (places : List ℕ) → ((p : ℕ) → IsWithin many (place_at p)) → All (λ k. k < many) (filter_map place_at places)
-places_within many place_at [] h = λ k d lt. absurd (omega arith)
-places_within many place_at (p ∷ places) h = cons_within many (place_at p) (filter_map place_at places) (h p) (places_within many place_at places h)
-
-pub order_within : (levels : List ℕ) (aparts : List (Option ℕ)) → All (λ k. k < length levels) (visual_order levels aparts)
-unfolding visual_order
-order_within levels aparts =
-    places_within (length levels) (λ p. (slice_index_or (seats levels aparts) p (seat 0 None)).item) (order (map (λ seat. seat.level) (seats levels aparts)))
-    (λ p. seat_within (length levels) 0 levels (within_line aparts) p (omega arith))
-
-pub places_fit : (levels : List ℕ) (aparts : List (Option ℕ)) (units : List Unit) (places : List ℕ) → places ≡ visual_order levels aparts → length levels ≡ length units
+pub places_fit : (levels : List ℕ) (units : List Unit) (own places : List ℕ) → places ≡ own → All (λ k. k < length levels) own → length levels ≡ length units
     → All (λ k. k < length units) places
-places_fit levels aparts units places is same =
-    subst (λ n. All (λ k. k < n) places) same (subst (All (λ k. k < length levels)) (sym is) (order_within levels aparts))
+places_fit levels units own places is below same = subst (λ n. All (λ k. k < n) places) same (subst (All (λ k. k < length levels)) (sym is) below)
 
 -- ---- what is seen
 

@@ -1,4 +1,4 @@
-use Rattle.std.proofs.Common.{◌≡◌, ◌++◌, drop, map}
+use Rattle.std.proofs.Common.{◌≡◌, ◌++◌, drop}
 use Rattle.bidi_order.specs.Visual.{seats, seats_from, within_line}
 use Rattle.bidi_order.proofs.visual.seats.Given as goal
 
