@@ -15,10 +15,10 @@ use Rattle.style_types.specs.declared.fragment.RunUnit.{RunUnit}
 use Rattle.style_types.specs.Fragment.{none, piece, block, span, run}
 use Rattle.bidi_order.specs.Blanks.{reset}
 use Rattle.bidi_order.specs.Reversals.{order}
+use Rattle.bidi_order.specs.Visual.{visual_order}
 use Rattle.line_place.specs.declared.line.Extents.{Extents}
 use Rattle.line_place.specs.declared.line.LineBox.{LineBox}
 use Rattle.line_place.specs.Line.{Content, unit, combined, atom, nothing, Item, Line}
-use Rattle.line_place.specs.Order.{visual_order}
 use Rattle.line_place.specs.Leaves.{leaves}
 use Rattle.line_place.specs.Marks.{marks}
 use Rattle.line_place.specs.Placing.{line_over, line_under, parts}

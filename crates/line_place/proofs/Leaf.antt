@@ -1,5 +1,5 @@
 -- The item at a place of a line.
-use Rattle.std.proofs.Common.{◌≡◌, ◌∙◌, ap, sym, refl, arith, ℕ, zero, suc, ◌+◌, ◌<◌, ◌≤◌, List, [], ◌∷◌, length, get_or, drop, Some, None, add-zero}
+use Rattle.std.proofs.Common.{◌≡◌, ◌∙◌, ap, sym, arith, ℕ, zero, suc, ◌+◌, ◌<◌, List, [], ◌∷◌, length, get_or, drop, Some, add-zero}
 use Rattle.std.specs.Prelude.{slice_get}
 use Rattle.line_place.specs.Line.{Item}
 use Rattle.line_place.specs.Leaves.{leaf, leaves_from, are_spaces}
@@ -13,9 +13,3 @@ leaf_there s (level ∷ levels) (item ∷ items) (suc k) d lt same =
     let e : s + 1 + k ≡ s + suc k = omega arith in
     leaf_there (s + 1) levels items k d (omega arith) (omega arith)
     ∙ ap (λ (p : ℕ). Some (leaf p (get_or levels k 0) (get_or items k d) (are_spaces (drop k items)))) e
-
-pub none_there : (s : ℕ) (levels : List ℕ) (items : List Item) (k : ℕ) → length items ≤ k → length levels ≡ length items → slice_get (leaves_from s levels items) k ≡ None
-none_there s [] items k le same = refl
-none_there s (level ∷ levels) [] k le same = refl
-none_there s (level ∷ levels) (item ∷ items) zero le same = absurd (omega arith)
-none_there s (level ∷ levels) (item ∷ items) (suc k) le same = none_there (s + 1) levels items k (omega arith) (omega arith)

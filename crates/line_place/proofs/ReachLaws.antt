@@ -8,7 +8,6 @@ use Rattle.std.proofs.lemmas.List.Sums.{sum_by-append}
 use Rattle.std.proofs.lemmas.List.Sorted.{sum_by-IsPermutation}
 use Rattle.line_place.specs.Line.{Item}
 use Rattle.line_place.specs.Leaves.{Leaf, are_spaces, leaf, leaves_from}
-use Rattle.line_place.specs.Order.{empty_seat, seats, seats_from, within_line}
 use Rattle.line_place.specs.Reach.{item_reach, leaf_reach, total}
 
 -- ---- sums
@@ -65,32 +64,6 @@ filter_total : {X Y : Type 0} (h : X → Option Y) (reach : Y → ℕ) (xs : Lis
 filter_total h reach [] = refl
 filter_total h reach (x ∷ xs) = let o = one_weighed reach (h x) (filter_map h xs) in let r = filter_total h reach xs in omega (arith, o, r)
 
-seat_total : (reach : ℕ → ℕ) (place : ℕ) (levels : List ℕ) (aparts : List (Option ℕ)) → length levels ≡ length aparts
-    → total (λ seat. weigh reach seat.item) (seats_from place levels aparts) ≡ total reach (range_with_len place (length levels))
-seat_total reach place [] aparts same = refl
-seat_total reach place (level ∷ levels) [] same = absurd (omega (arith, same))
-seat_total reach place (level ∷ levels) (None ∷ aparts) same =
-    let h = seat_total reach (place + 1) levels aparts (omega (arith, same)) in omega (arith, h)
-seat_total reach place (level ∷ levels) (Some apart ∷ aparts) same =
-    let h = seat_total reach (place + 1) levels aparts (omega (arith, same)) in omega (arith, h)
-
-within_length : (aparts : List (Option ℕ)) → length (within_line aparts) ≡ length aparts
-within_length [] = refl
-within_length (apart ∷ aparts) = refl
-
-pub once : (levels : List ℕ) (aparts : List (Option ℕ)) (order places : List ℕ) (n : ℕ) (reach : ℕ → ℕ) → length levels ≡ length aparts
-    → n ≡ length (seats levels aparts) → IsPermutation (range_with_len 0 n) order
-    → places ≡ filter_map (λ p. (slice_index_or (seats levels aparts) p empty_seat).item) order
-    → total reach places ≡ total reach (range_with_len 0 (length aparts))
-once levels aparts order places n reach same count perm is =
-    ap (total reach) is
-    ∙ filter_total (λ p. (slice_index_or (seats levels aparts) p empty_seat).item) reach order
-    ∙ rearranged_total (λ p. weigh reach (slice_index_or (seats levels aparts) p empty_seat).item) (range_with_len 0 n) order perm
-    ∙ ap (λ (k : ℕ). total (λ p. weigh reach (slice_index_or (seats levels aparts) p empty_seat).item) (range_with_len 0 k)) count
-    ∙ by_index (λ seat. weigh reach seat.item) (seats levels aparts) empty_seat
-    ∙ seat_total reach 0 levels (within_line aparts) (same ∙ sym (within_length aparts))
-    ∙ ap (λ (k : ℕ). total reach (range_with_len 0 k)) same
-
 hanging_reach : (place level : ℕ) (item : Item) (hangs : Bool) → leaf_reach (leaf place level item hangs) ≤ item_reach item
 hanging_reach place level item true = omega arith
 hanging_reach place level item false = omega arith
@@ -110,17 +83,17 @@ from_length place (level ∷ levels) [] same = absurd (omega (arith, same))
 from_length place (level ∷ levels) (item ∷ items) same = ap suc (from_length (place + 1) levels items (omega (arith, same)))
 
 pub leaves_reach : (levels : List ℕ) (items : List Item) (own places : List ℕ) (i : ℕ) (made : List Leaf) → length levels ≡ length items
-    → ((reach : ℕ → ℕ) → total reach own ≡ total reach (range_with_len 0 (length items)))
+    → IsPermutation (range_with_len 0 (length levels)) own
     → made ≡ filter_map (λ place. slice_get (leaves_from 0 levels items) place) (take i places) → length places ≤ i → places ≡ own
     → total leaf_reach made ≤ total item_reach items
-leaves_reach levels items own places i made same each is le p =
+leaves_reach levels items own places i made same perm is le p =
     let e : made ≡ filter_map (λ place. slice_get (leaves_from 0 levels items) place) own =
     is ∙ ap (filter_map (λ place. slice_get (leaves_from 0 levels items) place)) (take_all i places le ∙ p) in
     let t : total leaf_reach made ≡ total leaf_reach (leaves_from 0 levels items) =
     ap (total leaf_reach) e
     ∙ filter_total (λ place. slice_get (leaves_from 0 levels items) place) leaf_reach own
-    ∙ each (λ place. weigh leaf_reach (slice_get (leaves_from 0 levels items) place))
-    ∙ ap (λ (n : ℕ). total (λ place. weigh leaf_reach (slice_get (leaves_from 0 levels items) place)) (range_with_len 0 n)) (sym (from_length 0 levels items same))
+    ∙ rearranged_total (λ place. weigh leaf_reach (slice_get (leaves_from 0 levels items) place)) (range_with_len 0 (length levels)) own perm
+    ∙ ap (λ (n : ℕ). total (λ place. weigh leaf_reach (slice_get (leaves_from 0 levels items) place)) (range_with_len 0 n)) (same ∙ sym (from_length 0 levels items same))
     ∙ by_place (weigh leaf_reach) (leaves_from 0 levels items) in
     let r = from_reach 0 levels items in
     omega (arith, t, r)

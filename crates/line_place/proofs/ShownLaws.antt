@@ -3,10 +3,10 @@ use Rattle.std.proofs.Common.{arith, Bool, true, false, cond, â„•, zero, suc, â—
 use Rattle.std.specs.Prelude.{IfSome, slice_get}
 use Rattle.std.specs.List.{All, cons_option, filter_map}
 use Rattle.std.proofs.lemmas.List.Elements.{All-head, All-tail}
+use Rattle.bidi_order.specs.Visual.{visual_order}
 use Rattle.line_place.specs.declared.line.LineBox.{LineBox}
 use Rattle.line_place.specs.Line.{Item, Line}
 use Rattle.line_place.specs.Leaves.{Leaf, are_spaces, leaf, leaves, leaves_from, levels_of}
-use Rattle.line_place.specs.Order.{visual_order}
 use Rattle.line_place.specs.Runs.{goes_on, joined, runs}
 use Rattle.line_place.specs.Marks.{Mark, begins, ends, shows, at_left, at_right, between, inside_of, left_behind, leftmost, marks_after, marks_of, rightmost}
 

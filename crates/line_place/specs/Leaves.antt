@@ -2,11 +2,11 @@
 use Rattle.std.specs.Prelude.{ℕ, ◌+◌, Bool, true, ◌&&◌, cond, List, [], ◌∷◌, map, Option, Some, None, slice_get, ℤ, pos}
 use Rattle.std.specs.List.{filter_map}
 use Rattle.bidi_order.specs.Blanks.{reset}
+use Rattle.bidi_order.specs.Visual.{visual_order}
 use Rattle.line_place.specs.Line.{Content, content_of, nothing, Item, item_of, Line}
 use Rattle.std.proofs.Common.{Bor}
 use Rattle.line_place.specs.declared.leaves.Leaf as code
 use Rattle.line_place.specs.declared.line.LineContent.{LineContent}
-use Rattle.line_place.specs.Order.{visual_order}
 
 pub record Leaf : Type 0 where
   pub inside : Option ℕ

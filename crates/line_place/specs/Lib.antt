@@ -2,7 +2,6 @@ pub mod Leading
 pub mod Leaves
 pub mod Line
 pub mod Marks
-pub mod Order
 pub mod Placing
 pub mod Reach
 pub mod Runs

@@ -1,15 +1,13 @@
 //! The items of a line from line-left (CSS Text 3, 4.1.2; UAX 9, 3.4).
 
-ghost use Rattle.std.specs.Prelude.{◌≡◌, ℕ, ◌<◌, ◌≤◌, ◌++◌, [], ◌∷◌, leb, length, map, drop, option_map, slice_get, IfOk, OnOk};
-ghost use Rattle.std.specs.List.{filter_map};
+ghost use Rattle.std.specs.Prelude.{◌≡◌, ℕ, ◌<◌, ◌≤◌, leb, length, map, drop, slice_get, Some, IfOk};
 ghost use Rattle.line_place.specs.Leaves.{are_spaces, leaf_of, seen, leaves, leaves_from, levels_of};
 ghost use Rattle.line_place.specs.Line.{item_of, line_of};
 ghost use Rattle.line_place.specs.Reach.{item_reach, leaf_reach, total};
 
 use crate::line::{LineContent, LineInput, LineItem};
-use crate::order::visual_order;
 use bidi_explicit::{ClassList, LevelList};
-use bidi_order::reset;
+use bidi_order::{reset, visual_order};
 use std::alloc::{AllocError, Global};
 
 /// An item of a line: its place in logical order, its level after L1, and whether it is a Space at the end of the line, which
@@ -23,6 +21,8 @@ pub(crate) struct Leaf<'a> {
 }
 
 pub(crate) type Leaves<'a> = Vec<Leaf<'a>>;
+
+type Aparts = Vec<Option<u8>>;
 
 impl Leaf<'_> {
     /// Its extent along the line.
@@ -51,40 +51,29 @@ pub(crate) fn leaves<'a>(alloc: Global, line: &'a LineInput) -> Result<Leaves<'a
     ensures reach { IfOk result (λ made. total leaf_reach (map leaf_of made.items) ≤ total item_reach (line_of line.now).items) }
 {
     let levels = levels_of(alloc, line)?;
-    let order = visual_order(alloc, &levels, &line.items)?;
+    let aparts = own_aparts(alloc, &line.items)?;
+    let order = visual_order(alloc, &levels, &aparts)?;
     let hanging = hanging_from(&line.items);
     let mut leaves = Vec::with_capacity(alloc, order.len())?;
     for place in &order {
-        add_leaf(&mut leaves, leaf_at(line, &levels, hanging, *place))?;
+        leaves.push(leaf_at(line, &levels, hanging, *place))?;
     }
     Ok(leaves)
 }
 
 // The item at this place of the line, where its Spaces hang from `hanging` on.
-fn leaf_at<'a>(line: &'a LineInput, levels: &[u8], hanging: usize, place: usize) -> Option<Leaf<'a>>
+fn leaf_at<'a>(line: &'a LineInput, levels: &[u8], hanging: usize, place: usize) -> Leaf<'a>
+    requires place { place < length line.now.items.items }
     requires levels { length levels.now ≡ length line.now.items.items }
     requires hanging { (k : ℕ) → k < length line.now.items.items → are_spaces (drop k (map item_of line.now.items.items)) ≡ leb hanging k }
-    ensures { option_map leaf_of result ≡ slice_get (leaves_from 0 levels.now (map item_of line.now.items.items)) place }
+    ensures { Some (leaf_of result) ≡ slice_get (leaves_from 0 levels.now (map item_of line.now.items.items)) place }
 {
-    if place < line.items.len() {
-        Some(Leaf {
-            item: &line.items[place],
-            place,
-            level: levels[place],
-            hangs: place >= hanging,
-        })
-    } else {
-        None
+    Leaf {
+        item: &line.items[place],
+        place,
+        level: levels[place],
+        hangs: place >= hanging,
     }
-}
-
-fn add_leaf<'a>(leaves: &mut Leaves<'a>, leaf: Option<Leaf<'a>>) -> Result<(), AllocError>
-    ensures { OnOk result (map leaf_of leaves.new.items ≡ map leaf_of leaves.old.items ++ filter_map (λ x. x) (option_map leaf_of leaf.entry ∷ [])) }
-{
-    if let Some(leaf) = leaf {
-        leaves.push(leaf)?;
-    }
-    Ok(())
 }
 
 // The levels of the line's items after L1.
@@ -104,6 +93,18 @@ fn own_levels(alloc: Global, items: &[LineItem]) -> Result<LevelList, AllocError
     ensures length { IfOk result (λ levels. length levels.items ≡ length items.now) }
 {
     items.iter().map(|item| item.level).collect(alloc)
+}
+
+// What parts each item from the one before it.
+fn own_aparts(alloc: Global, items: &[LineItem]) -> Result<Aparts, AllocError>
+    ensures aparts { IfOk result (λ aparts. aparts.items ≡ map (λ item. item.apart) (map item_of items.now)) }
+    ensures length { IfOk result (λ aparts. length aparts.items ≡ length items.now) }
+{
+    let mut aparts = Vec::with_capacity(alloc, items.len())?;
+    for item in items {
+        aparts.push(item.apart)?;
+    }
+    Ok(aparts)
 }
 
 fn own_classes(alloc: Global, items: &[LineItem]) -> Result<ClassList, AllocError>

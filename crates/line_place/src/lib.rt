@@ -7,7 +7,6 @@ mod leaves;
 mod line;
 mod marks;
 mod measure;
-mod order;
 mod place;
 mod runs;
 mod walk;

@@ -1,10 +1,10 @@
-use Rattle.std.proofs.Common.{◌≡◌, ◌∙◌, ap, sym, arith, rules, Bool, Some, None, ℕ, ◌+◌, ◌<◌, ◌≤◌, List, length, map, get_or, drop}
+use Rattle.std.proofs.Common.{◌≡◌, ◌∙◌, ap, sym, arith, Bool, Some, ℕ, ◌+◌, ◌<◌, List, length, map, get_or, drop}
 use Rattle.std.specs.Prelude.{slice_get}
 use Rattle.std.proofs.lemmas.List.{get_or-map, length-map}
 use Rattle.line_place.specs.declared.line.LineItem.{LineItem}
 use Rattle.line_place.specs.Line.{Item, item_of}
 use Rattle.line_place.specs.Leaves.{leaf, leaves_from, are_spaces}
-use Rattle.line_place.proofs.Leaf.{leaf_there, none_there}
+use Rattle.line_place.proofs.Leaf.{leaf_there}
 use Rattle.line_place.proofs.leaves.leaf_at.Goals as goal
 
 there : (levels : List ℕ) (items : List LineItem) (k : ℕ) (x : LineItem) (hangs : Bool) → k < length items → length levels ≡ length items
@@ -19,13 +19,6 @@ there levels items k x hangs lt same read is =
     ∙ ap (λ (v : Item). Some (leaf k (get_or levels k 0) v (are_spaces (drop k (map item_of items))))) i
     ∙ ap (λ (h : Bool). Some (leaf k (get_or levels k 0) (item_of x) h)) is)
 
-nothing : (levels : List ℕ) (items : List LineItem) (k : ℕ) → length items ≤ k → length levels ≡ length items → None ≡ slice_get (leaves_from 0 levels (map item_of items)) k
-nothing levels items k le same = let n = length-map items item_of in sym (none_there 0 levels (map item_of items) k (omega arith) (omega arith))
-
-pub returns-then-place-len : goal.returns-then-place-len
-returns-then-place-len c =
-    let lt : c.args.place < length c.args.line.now.items.items = search rules in
-    there c.args.levels.now c.args.line.now.items.items c.args.place c.index.result.now _ lt c.requires.levels c.index.ensures (c.requires.hanging c.args.place lt)
-
-pub returns-else-place-len : goal.returns-else-place-len
-returns-else-place-len c = nothing c.args.levels.now c.args.line.now.items.items c.args.place (search rules) c.requires.levels
+pub returns : goal.returns
+returns c =
+    there c.args.levels.now c.args.line.now.items.items c.args.place c.index.result.now _ c.requires.place c.requires.levels c.index.ensures (c.requires.hanging c.args.place c.requires.place)
