@@ -17,12 +17,17 @@
 //!   first; the items, `text` (node, place of its style, bytes in hexadecimal), `open` (node, place of its style, whether it
 //!   opens), `close` (node, whether it closes), `atom` (node, ordinal) or `break` (node). The answer has the items, each with its
 //!   source and its level apart, and then the lists of levels, classes, base levels and breaks.
+//! - `count`: how far the paragraph is taken, `read` or `prepared`; a paragraph as above, whose styles tell besides align, the
+//!   length of `vertical-align`, line height (`Normal`, or `Number` or `Length` with its value), and, each for top, right, bottom
+//!   and left, margins and paddings (`Auto`, or `Length` or `Percent` with its value) and border widths. The answer has how many items
+//!   there are: those that are read, or those that are prepared. It is for tools/count-paragraphs.
 //! - A question that no call takes is `outside`, and `too long` where it is of the kind `fill`. What is not such a line is
 //!   `not a case`.
 #![tactic(auto)]
 
 ghost use Rattle.std.specs.Prelude.{◌≡◌, ◌<◌};
 
+mod counts;
 mod fills;
 mod fragments;
 mod glyphs;
@@ -31,13 +36,15 @@ mod names;
 mod placings;
 mod preparings;
 mod printed;
+mod styles;
 mod sums;
 mod words;
 
+use counts::{answer_count, count_case};
 use face_api::{Face, Faces, MonoFace, TableFace, WideFace};
 use fills::{answer_fill, fill_case};
 use placings::{answer_line, line_case};
-use preparings::{answer_paragraph, paragraph_case};
+use preparings::{answer_paragraph, prepare_case};
 use std::alloc::Global;
 use std::io;
 use std::io::{BufRead, BufReader, BufWriter, Write};
@@ -108,7 +115,11 @@ fn answer<W: Write, L: Ledger, M: Ledger>(
             Ok(line) => answer_line(alloc, &line, output),
             Err(error) => print_error(output, error),
         },
-        Ok("paragraph") => match paragraph_case(alloc, &mut words) {
+        Ok("count") => match count_case(alloc, &mut words) {
+            Ok(case) => answer_count(alloc, &case, faces, prepared, output),
+            Err(error) => print_error(output, error),
+        },
+        Ok("paragraph") => match prepare_case(alloc, &mut words) {
             Ok(paragraph) => answer_paragraph(alloc, &paragraph, faces, prepared, output),
             Err(error) => print_error(output, error),
         },

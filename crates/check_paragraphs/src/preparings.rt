@@ -5,8 +5,8 @@ ghost use Rattle.style_types.specs.Item.{entries_of, entry_of};
 ghost use Rattle.para_prepare.specs.Limits.{HasFontSize, bytes_in, text_bytes};
 
 use crate::glyphs::print_glyphs;
-use crate::names::{BIDIS, COMBINES, DIRECTIONS, MODES, ORIENTATIONS};
 use crate::printed::{print_flag, print_if_any};
+use crate::styles::{StyleForm, style_at, styles};
 use crate::words::{CaseError, Words};
 use bumpalo::Bump;
 use face_api::Faces;
@@ -20,45 +20,24 @@ use std::sync::ledger::Ledger;
 use style_types::{Item, Items, Letters, Style};
 use wm_units::Steps;
 
-/// The styles of a case, which the paragraph and its items name by their places.
-type CaseStyles = Vec<Style>;
+/// The paragraph of these words, which is to be prepared.
+pub(crate) fn prepare_case(alloc: Global, words: &mut Words<'_>) -> Result<Paragraph, CaseError> {
+    let paragraph = paragraph_case(alloc, words, StyleForm::Text)?;
+    words.end()?;
+    Ok(paragraph)
+}
 
-/// The paragraph of these words.
-pub(crate) fn paragraph_case(alloc: Global, words: &mut Words<'_>) -> Result<Paragraph, CaseError> {
+/// The paragraph of the next words, whose styles tell so much.
+pub(crate) fn paragraph_case(
+    alloc: Global,
+    words: &mut Words<'_>,
+    form: StyleForm,
+) -> Result<Paragraph, CaseError> {
     let base = words.small_if_any()?;
-    let styles = styles(alloc, words)?;
+    let styles = styles(alloc, words, form)?;
     let style = style_at(&styles, 0)?;
     let items = items(alloc, words, &styles)?;
-    words.end()?;
     Ok(Paragraph { base, style, items })
-}
-
-fn styles(alloc: Global, words: &mut Words<'_>) -> Result<CaseStyles, CaseError> {
-    let mut styles = Vec::new(alloc);
-    for _ in 0..words.place()? {
-        styles.push(style(words)?)?;
-    }
-    Ok(styles)
-}
-
-fn style(words: &mut Words<'_>) -> Result<Style, CaseError> {
-    Ok(Style {
-        mode: words.named(&MODES)?,
-        direction: words.named(&DIRECTIONS)?,
-        orientation: words.named(&ORIENTATIONS)?,
-        combine: words.named(&COMBINES)?,
-        bidi: words.named(&BIDIS)?,
-        font_size: words.length()?,
-        face: words.small()?,
-        ..Style::initial()
-    })
-}
-
-fn style_at(styles: &[Style], place: usize) -> Result<Style, CaseError> {
-    match styles.get(place) {
-        Some(style) => Ok(*style),
-        None => Err(CaseError::Malformed),
-    }
 }
 
 fn items(alloc: Global, words: &mut Words<'_>, styles: &[Style]) -> Result<Items, CaseError> {
@@ -134,8 +113,8 @@ pub(crate) fn answer_paragraph<W: Write, L: Ledger>(
     print_all(output, "breaks", prepared.breaks())
 }
 
-// Whether the base level, the texts and the font sizes are such as `prepare` takes.
-fn can_be_prepared(paragraph: &Paragraph) -> bool
+/// Whether the base level, the texts and the font sizes are such as `prepare` takes.
+pub(crate) fn can_be_prepared(paragraph: &Paragraph) -> bool
     ensures base { result ≡ true → IfSome paragraph.now.base (λ base. base ≤ 1) }
     ensures bytes { result ≡ true → text_bytes (entries_of paragraph.now.items.items) ≤ 1048576 }
     ensures sizes { result ≡ true → All HasFontSize (entries_of paragraph.now.items.items) }
