@@ -5,5 +5,6 @@ pub mod LineLaws
 pub mod LineReach
 pub mod Nesting
 pub mod OnLine
+pub mod PreparedLaws
 pub mod Spreading
 pub mod StandLaws

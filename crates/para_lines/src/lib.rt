@@ -12,5 +12,4 @@ mod sizes;
 mod standing;
 
 pub use paragraph::{Atom, Container};
-pub use prepared::PreparedLists;
 pub use sizes::paragraph_sizes;

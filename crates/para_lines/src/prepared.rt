@@ -1,21 +1,35 @@
 //! What lines are told of a prepared paragraph.
 
 ghost use Rattle.std.specs.Prelude.{◌≡◌, ℕ, ◌<◌, IfSome, length};
-ghost use Rattle.para_lines.specs.Prepared.{AreSources, source_before, source_behind};
+ghost use Rattle.para_lines.specs.Prepared.{AreSources, IsWhole, preparation_of, source_before, source_behind};
 
-use para_prepare::PreparedItem;
+use para_prepare::{Prepared, PreparedItem};
 use style_types::Breaking;
 use wm_chars::BidiClass;
 
 /// The items of a prepared paragraph, and for each its level, its class for L1 of UAX 9, the base level of its bidi paragraph
 /// and whether a line may end behind it.
 #[derive(Clone, Copy, Debug)]
-pub struct PreparedLists<'a> {
-    pub items: &'a [PreparedItem],
-    pub levels: &'a [u8],
-    pub classes: &'a [BidiClass],
-    pub bases: &'a [u8],
-    pub breaks: &'a [Breaking],
+pub(crate) struct PreparedLists<'a> {
+    pub(crate) items: &'a [PreparedItem],
+    pub(crate) levels: &'a [u8],
+    pub(crate) classes: &'a [BidiClass],
+    pub(crate) bases: &'a [u8],
+    pub(crate) breaks: &'a [Breaking],
+}
+
+/// The lists of a prepared paragraph.
+pub(crate) fn lists_of(prepared: &Prepared) -> PreparedLists<'_>
+    ensures lists { preparation_of result ≡ prepared.now }
+    ensures whole { IsWhole result }
+{
+    PreparedLists {
+        items: prepared.items(),
+        levels: prepared.levels(),
+        classes: prepared.classes(),
+        bases: prepared.bases(),
+        breaks: prepared.breaks(),
+    }
 }
 
 impl PreparedLists<'_> {

@@ -2,6 +2,7 @@
 
 ghost use Rattle.std.specs.Prelude.{◌≡◌, ◌≤◌, ◌^◌, All, IfOk, length};
 ghost use Rattle.style_types.specs.Item.{entries_of};
+ghost use Rattle.para_prepare.specs.Preparation.{AreFrom, HasBounds as prepared_bounds};
 ghost use Rattle.para_lines.specs.Boxes.{AreBoxes, HasBounds};
 ghost use Rattle.para_lines.specs.Filling as rule;
 ghost use Rattle.para_lines.specs.Prepared.{AreSources, IsWhole, preparation_of};
@@ -9,32 +10,35 @@ ghost use Rattle.para_lines.specs.Reach.{AreNear, lengths_of};
 
 use crate::boxes::{Boxes, inline_boxes};
 use crate::filling::fill_items;
-use crate::prepared::PreparedLists;
+use crate::prepared::{PreparedLists, lists_of};
 use line_fill::{Intrinsic, intrinsic};
+use para_prepare::Prepared;
 use std::alloc::{AllocError, Global};
 use style_types::Item;
 
 /// The min-content and the max-content size of a paragraph of these items, prepared so, whose atoms in order have these
 /// min-content and max-content contributions (CSS 2, 10.3.5). Lengths are in units of 1/64 px. No percentage counts. The work
 /// grows with the items.
+#[tactic(auto, using(crate::proofs::PreparedLaws::prepared_near, crate::proofs::PreparedLaws::sources_there))]
 pub fn paragraph_sizes(
     alloc: Global,
     items: &[Item],
-    prepared: &PreparedLists,
+    prepared: &Prepared,
     mins: &[i64],
     maxs: &[i64],
 ) -> Result<Intrinsic, AllocError>
     requires count { length items.now ≤ 2 ^ 20 }
     requires bounds { All HasBounds (entries_of items.now) }
-    requires whole { IsWhole prepared.now }
-    requires sources { AreSources (length items.now) prepared.now.items.now }
-    requires near { AreNear prepared.now.items.now }
+    requires few { length prepared.now.items ≤ 2 ^ 21 }
+    requires sources { AreFrom 0 (length items.now) prepared.now.items }
+    requires lengths { All (λ item. prepared_bounds item.what) prepared.now.items }
     requires mins { lengths_of mins.now ≤ 2 ^ 59 }
     requires maxs { lengths_of maxs.now ≤ 2 ^ 59 }
-    ensures { IfOk result (λ sizes. sizes ≡ rule.paragraph_sizes (entries_of items.now) (preparation_of prepared.now) mins.now maxs.now) }
+    ensures { IfOk result (λ sizes. sizes ≡ rule.paragraph_sizes (entries_of items.now) prepared.now mins.now maxs.now) }
 {
     let boxes = inline_boxes(alloc, items)?;
-    let sizes = sizes_of(alloc, &boxes, prepared, mins, maxs)?;
+    let lists = lists_of(prepared);
+    let sizes = sizes_of(alloc, &boxes, &lists, mins, maxs)?;
     Ok(sizes)
 }
 
@@ -42,20 +46,20 @@ pub fn paragraph_sizes(
 fn sizes_of(
     alloc: Global,
     boxes: &Boxes,
-    prepared: &PreparedLists,
+    lists: &PreparedLists,
     mins: &[i64],
     maxs: &[i64],
 ) -> Result<Intrinsic, AllocError>
     requires boxes { AreBoxes boxes.now }
-    requires whole { IsWhole prepared.now }
-    requires sources { AreSources (length boxes.now.items.now) prepared.now.items.now }
-    requires near { AreNear prepared.now.items.now }
+    requires whole { IsWhole lists.now }
+    requires sources { AreSources (length boxes.now.items.now) lists.now.items.now }
+    requires near { AreNear lists.now.items.now }
     requires mins { lengths_of mins.now ≤ 2 ^ 59 }
     requires maxs { lengths_of maxs.now ≤ 2 ^ 59 }
-    ensures { IfOk result (λ sizes. sizes ≡ rule.paragraph_sizes (entries_of boxes.now.items.now) (preparation_of prepared.now) mins.now maxs.now) }
+    ensures { IfOk result (λ sizes. sizes ≡ rule.paragraph_sizes (entries_of boxes.now.items.now) (preparation_of lists.now) mins.now maxs.now) }
 {
-    let narrow = fill_items(alloc, boxes, prepared, None, mins)?;
-    let wide = fill_items(alloc, boxes, prepared, None, maxs)?;
+    let narrow = fill_items(alloc, boxes, lists, None, mins)?;
+    let wide = fill_items(alloc, boxes, lists, None, maxs)?;
     Ok(Intrinsic {
         min: intrinsic(&narrow).min,
         max: intrinsic(&wide).max,

@@ -18,7 +18,7 @@ intrinsic-requires c =
     let few = c.requires.boxes.count in
     let P : List FillItem → Type 0 = λ is. spread is ≤ 2 ^ 60 in
     subst P (sym (c.deref.ensures.value ∙ c.in_ok-narrow.ensures))
-    (fill_spread None (entries_of c.args.boxes.now.items.now) (preparation_of c.args.prepared.now) c.args.mins.now c.requires.boxes.bounds (omega arith) (rw many c.requires.sources) c.requires.near c.requires.mins)
+    (fill_spread None (entries_of c.args.boxes.now.items.now) (preparation_of c.args.lists.now) c.args.mins.now c.requires.boxes.bounds (omega arith) (rw many c.requires.sources) c.requires.near c.requires.mins)
 
 pub intrinsic-requires-2 : goal.intrinsic-requires-2
 intrinsic-requires-2 c =
@@ -26,7 +26,7 @@ intrinsic-requires-2 c =
     let few = c.requires.boxes.count in
     let P : List FillItem → Type 0 = λ is. spread is ≤ 2 ^ 60 in
     subst P (sym (c.deref-2.ensures.value ∙ c.in_ok-wide.ensures))
-    (fill_spread None (entries_of c.args.boxes.now.items.now) (preparation_of c.args.prepared.now) c.args.maxs.now c.requires.boxes.bounds (omega arith) (rw many c.requires.sources) c.requires.near c.requires.maxs)
+    (fill_spread None (entries_of c.args.boxes.now.items.now) (preparation_of c.args.lists.now) c.args.maxs.now c.requires.boxes.bounds (omega arith) (rw many c.requires.sources) c.requires.near c.requires.maxs)
 
 abbrev sizes : ℤ → ℤ → Intrinsic
 sizes least greatest = record { min = least; max = greatest }
@@ -42,7 +42,7 @@ pub returns : goal.returns
 returns c =
     let fits : FitsSigned w64 c.intrinsic.result.min = search rules in
     let fits-2 : FitsSigned w64 c.intrinsic-2.result.max = search rules in
-    both (entries_of c.args.boxes.now.items.now) (preparation_of c.args.prepared.now) c.args.mins.now c.args.maxs.now _ _ _ _
+    both (entries_of c.args.boxes.now.items.now) (preparation_of c.args.lists.now) c.args.mins.now c.args.maxs.now _ _ _ _
     (c.deref.ensures.value ∙ c.in_ok-narrow.ensures) (c.deref-2.ensures.value ∙ c.in_ok-wide.ensures)
     (to_z-of_z w64 c.intrinsic.result.min fits ∙ ap (λ (i : Intrinsic). i.min) c.intrinsic.ensures)
     (to_z-of_z w64 c.intrinsic-2.result.max fits-2 ∙ ap (λ (i : Intrinsic). i.max) c.intrinsic-2.ensures)
