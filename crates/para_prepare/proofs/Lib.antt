@@ -3,6 +3,8 @@ pub mod ContentLaws
 pub mod Controls
 pub mod Ends
 pub mod Examples
+pub mod FlatLaws
+pub mod FlatRuns
 pub mod InsideLaws
 pub mod KeptLaws
 pub mod LastLetter

@@ -1,5 +1,5 @@
 -- A combined run advances one font size.
-use Rattle.std.proofs.Common.{◌≡◌, refl, sym, subst, ◌∙◌, ℕ, true, false, List, [], ◌∷◌, map, inl, inr, arith}
+use Rattle.std.proofs.Common.{◌≡◌, refl, sym, subst, ◌∙◌, ℕ, false, List, [], ◌∷◌, map, inl, inr, arith}
 use Rattle.std.specs.Prelude.{All, Option, Some, None}
 use Rattle.std.proofs.lemmas.Bool.{cases_Bool, true≢false}
 use Rattle.std.proofs.lemmas.List.Elements.{All-cons}
@@ -15,9 +15,7 @@ use Rattle.cluster_units.specs.Runs.{runs_of}
 use Rattle.cluster_units.specs.Text.{is_combined}
 use Rattle.cluster_units.specs.Unit.{combines, is_vertical, kind_by, kind_of, unit_of, units_of, vertical_kind}
 use Rattle.cluster_units.specs.declared.unit.Unit.{Unit}
-
-abbrev pub HasOneSize : Style → Unit → Type 0
-HasOneSize style unit = is_combined unit.kind ≡ true → unit.advance ≡ style.font_size
+use Rattle.para_prepare.specs.Views.{HasOneSize}
 
 by_orient : (orient : Option Orient) → is_combined (kind_by orient) ≡ false
 by_orient None = refl

@@ -13,14 +13,13 @@ use Rattle.cluster_units.specs.Laws.{AreInOrder, IsUnitIn}
 use Rattle.cluster_units.specs.Text.{is_combined}
 use Rattle.cluster_units.specs.Unit.{units_of}
 use Rattle.cluster_units.specs.declared.unit.Unit.{Unit}
-use Rattle.para_prepare.proofs.OneSize.{HasOneSize}
 use Rattle.para_prepare.specs.declared.letter.Letter.{Letter}
 use Rattle.para_prepare.specs.declared.parts.Part as code
 use Rattle.para_prepare.specs.Content.{raw_of, text_parts}
 use Rattle.para_prepare.specs.Inside.{inside}
 use Rattle.para_prepare.specs.Kept.{chars_of}
 use Rattle.para_prepare.specs.Parts.{Raw, item, control_of, of_combined, of_unit, parts_by, sets_upright}
-use Rattle.para_prepare.specs.Views.{IsSize, IsSound, IsSpan, letters_at, part_of, parts_of, span_of, stored_by, stored_control, stored_run}
+use Rattle.para_prepare.specs.Views.{HasOneSize, IsSize, IsSound, IsSpan, letters_at, part_of, parts_of, span_of, stored_by, stored_control, stored_run}
 
 -- ---- a stretch of a stretch
 

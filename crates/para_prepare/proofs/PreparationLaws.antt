@@ -59,7 +59,7 @@ no_item : (mark : Bool) (part : Part) (parts : List Part) → raws (part ∷ par
 no_item true part parts h = h
 no_item false part parts h = refl
 
-raws_taken : (before : List Kind) (parts : List Part) → raws (marked (takes_from before (map kind_of parts)) parts) ≡ raws parts
+pub raws_taken : (before : List Kind) (parts : List Part) → raws (marked (takes_from before (map kind_of parts)) parts) ≡ raws parts
 raws_taken before [] = refl
 raws_taken before (opens bidi dir ∷ parts) =
     no_item (takes before Opening (map kind_of parts)) (opens bidi dir) (marked (takes_from (Opening ∷ before) (map kind_of parts)) parts) refl ∙ raws_taken (Opening ∷ before) parts

@@ -18,6 +18,7 @@ use Rattle.para_prepare.specs.declared.parts.Part as code
 use Rattle.para_prepare.specs.declared.parts.Part.TheVariants as codes
 use Rattle.para_prepare.specs.declared.standing.Standing.{Standing}
 use Rattle.para_prepare.specs.Content.{parts, parts_from, parts_in, raw_of}
+use Rattle.para_prepare.specs.Flat.{Rises}
 use Rattle.para_prepare.specs.Items.{items_by, source_of, first_place, place_behind}
 use Rattle.para_prepare.specs.Parts.{Part, opens, closes, control, item, Raw, raws, sets_upright, units_in, of_unit, of_combined, of_atom, of_break}
 use Rattle.para_prepare.specs.Preparation.{AreFrom, HasBounds, preparation, standings_of}
@@ -112,49 +113,38 @@ few_items letters parts standings =
 
 -- ---- how long they are
 
--- characters at places that rise, from one on
-Rises : ℕ → List Letter → Type 0
-Rises place [] = ⊤
-Rises place (l ∷ letters) = (place ≤ l.place) × Rises (l.place + 1) letters
-
 rises_later : (place next : ℕ) (letters : List Letter) → place ≤ next → Rises next letters → Rises place letters
-unfolding Rises
 rises_later place next [] h r = tt
 rises_later place next (l ∷ letters) h r = let low = r.0 in (omega arith, r.1)
 
-chosen_rises : (place : ℕ) (cs : List ℕ) (marks : List Bool) → Rises place (chosen place cs marks)
-unfolding Rises
+pub chosen_rises : (place : ℕ) (cs : List ℕ) (marks : List Bool) → Rises place (chosen place cs marks)
 chosen_rises place [] marks = tt
 chosen_rises place (c ∷ cs) [] = tt
 chosen_rises place (c ∷ cs) (true ∷ marks) = (omega arith, chosen_rises (place + 1) cs marks)
 chosen_rises place (c ∷ cs) (false ∷ marks) = rises_later place (place + 1) (chosen (place + 1) cs marks) (omega arith) (chosen_rises (place + 1) cs marks)
 
 drop_rises : (place n : ℕ) (letters : List Letter) → Rises place letters → Rises place (drop n letters)
-unfolding Rises
 drop_rises place zero letters r = r
 drop_rises place (suc n) [] r = tt
 drop_rises place (suc n) (l ∷ letters) r = let low = r.0 in rises_later place (l.place + 1) (drop n letters) (omega arith) (drop_rises (l.place + 1) n letters r.1)
 
 take_rises : (place n : ℕ) (letters : List Letter) → Rises place letters → Rises place (take n letters)
-unfolding Rises
 take_rises place zero letters r = tt
 take_rises place (suc n) [] r = tt
 take_rises place (suc n) (l ∷ letters) r = (r.0, take_rises (l.place + 1) n letters r.1)
 
-slice_rises : (place first end_ : ℕ) (letters : List Letter) → Rises place letters → Rises place (slice_range letters first end_)
+pub slice_rises : (place first end_ : ℕ) (letters : List Letter) → Rises place letters → Rises place (slice_range letters first end_)
 slice_rises place first end_ letters r = take_rises place (end_ - first) (drop first letters) (drop_rises place first letters r)
 
 -- as many places as characters at least
 behind_last : (place : ℕ) (l : Letter) (letters : List Letter) → Rises place (l ∷ letters) → l.place + length (l ∷ letters) ≤ place_behind (l ∷ letters)
-unfolding Rises
 behind_last place l [] r = omega arith
 behind_last place l (m ∷ letters) r =
     let rest : m.place + length (m ∷ letters) ≤ place_behind (m ∷ letters) = behind_last (l.place + 1) m letters r.1 in
     let low : l.place + 1 ≤ m.place = r.1.0 in
     omega arith
 
-places_cover : (place : ℕ) (letters : List Letter) → Rises place letters → length letters ≤ place_behind letters - first_place letters
-unfolding Rises
+pub places_cover : (place : ℕ) (letters : List Letter) → Rises place letters → length letters ≤ place_behind letters - first_place letters
 places_cover place [] r = omega arith
 places_cover place (l ∷ letters) r = let most = behind_last place l letters r in omega arith
 
@@ -195,7 +185,7 @@ rest_of : {X : Type 0} (P : X → Type 0) (x : X) (xs : List X) → All P (x ∷
 rest_of P x xs h = λ k d lt. h (suc k) d (omega arith)
 
 -- a bound by fewer characters is one by more
-wider : (a : ℤ) (n m : ℕ) → a ≤ℤ pos (655360 * n) → n ≤ m → a ≤ℤ pos (655360 * m)
+pub wider : (a : ℤ) (n m : ℕ) → a ≤ℤ pos (655360 * n) → n ≤ m → a ≤ℤ pos (655360 * m)
 wider a n m h le = omega (arith, ints)
 
 pub sized : (letters : List Letter) (parts : List code.Part) (standings : List Standing) → All (IsPart (length letters)) parts → All HasSize parts → All IsCovered (raws (parts_of letters parts))

@@ -3,6 +3,7 @@ pub mod BidiText
 pub mod Boxes
 pub mod Breaks
 pub mod Content
+pub mod Flat
 pub mod Glyph
 pub mod Inside
 pub mod Items

@@ -1,5 +1,5 @@
 -- The parts of a paragraph as the code holds them: places in the list of all kept characters stand for these characters.
-use Rattle.std.specs.Prelude.{ℕ, ◌≡◌, length, ◌+◌, ◌-◌, ◌*◌, ◌<◌, ◌≤◌, ◌^◌, ⊤, Bool, cond, List, [], ◌∷◌, ◌++◌, map, drop, Option, pos, ◌≤ℤ◌}
+use Rattle.std.specs.Prelude.{ℕ, ◌≡◌, length, ◌+◌, ◌-◌, ◌*◌, ◌<◌, ◌≤◌, ◌^◌, ⊤, Bool, true, cond, List, [], ◌∷◌, ◌++◌, map, drop, Option, pos, ◌≤ℤ◌}
 use Rattle.std.specs.List.{slice_range}
 use Rattle.face_api.specs.Table.{Table}
 use Rattle.style_types.specs.declared.style.Style.{Style}
@@ -61,6 +61,10 @@ pub record IsRunSize (unit : Unit) (span : Span) : Type 0 where
   pub size : IsSize unit
   pub one : unit.advance ≤ℤ pos 65536
   pub many : unit.end - unit.first ≡ span.to - span.from
+
+-- so by the style of its text
+abbrev pub HasOneSize : Style → Unit → Type 0
+HasOneSize style unit = is_combined unit.kind ≡ true → unit.advance ≡ style.font_size
 
 abbrev pub HasSize : code.Part → Type 0
 HasSize (codes.Unit source node upright unit span) = IsSize unit

@@ -17,7 +17,7 @@ use wm_chars::BreakClass;
 pub type BreakList = Vec<Breaking>;
 
 // The break classes of items; a line break has none.
-type BreakClasses<'a> = Vec<Option<BreakClass>, &'a Bump>;
+pub(crate) type BreakClasses<'a> = Vec<Option<BreakClass>, &'a Bump>;
 
 /// The breaks of the items of these parts.
 pub(crate) fn breaks(alloc: Global, arena: &Bump, parts: &[Part]) -> Result<BreakList, AllocError>
@@ -55,7 +55,10 @@ fn add_class(classes: &mut BreakClasses<'_>, part: &Part) -> Result<(), AllocErr
 }
 
 // The breaks of items with these classes.
-fn breaks_of(alloc: Global, classes: &[Option<BreakClass>]) -> Result<BreakList, AllocError>
+pub(crate) fn breaks_of(
+    alloc: Global,
+    classes: &[Option<BreakClass>],
+) -> Result<BreakList, AllocError>
     ensures { IfOk result (λ out. out.items ≡ breaks.breaks_of classes.now) }
 {
     let mut out = Vec::with_capacity(alloc, classes.len())?;

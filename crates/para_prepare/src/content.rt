@@ -5,12 +5,12 @@ ghost use Rattle.std.specs.Prelude.{◌≡◌, ◌≤◌, ◌+◌, ◌-◌, ◌+
 ghost use Rattle.face_api.specs.Faces.{faces_of};
 ghost use Rattle.style_types.specs.Item.{entry_of, entries_of};
 ghost use Rattle.para_prepare.specs.Content as spec;
-ghost use Rattle.para_prepare.specs.Kept.{kept, joined, ends_from, chars_of};
+ghost use Rattle.para_prepare.specs.Kept.{kept as kept_of, joined, ends_from, chars_of};
 ghost use Rattle.para_prepare.specs.Limits.{HasFontSize, text_bytes};
 ghost use Rattle.para_prepare.specs.Views.{HasSize, IsPart, IsPlaced, IsSound, item_parts, letters_at, parts_of};
 
 use crate::bidi_text::Around;
-use crate::kept::{Letters, kept_letters};
+use crate::kept::{Kept, Letters};
 use crate::letter::Letter;
 use crate::parts::{Part, Parts, Span};
 use crate::text::{Text, add_text};
@@ -28,20 +28,23 @@ pub(crate) struct Content<'a> {
 
 // The place of an item in its paragraph, and where its kept characters stand.
 #[derive(Clone, Copy)]
-struct Place {
-    source: usize,
-    span: Span,
+pub(crate) struct Place {
+    pub(crate) source: usize,
+    pub(crate) span: Span,
 }
 
-/// The content of a paragraph that has these items. All texts together have at most 1,048,576 bytes, and their font sizes
+/// The content of a paragraph that has these items and kept characters. All texts together have at most 1,048,576 bytes, and their font sizes
 /// are from 0 to 65,536. No unit advances by more than 655,360, and none is wider by itself than 655,360 for each of its
 /// characters.
 pub(crate) fn content_of<'a>(
     alloc: Global,
     arena: &'a Bump,
     items: &[Item],
+    kept: Kept<'a>,
     faces: &Faces,
 ) -> Result<Content<'a>, AllocError>
+    requires letters { kept.letters.items ≡ joined (kept_of (entries_of items.now)) }
+    requires ends { kept.ends.items ≡ ends_from 0 (kept_of (entries_of items.now)) }
     requires bytes { text_bytes (entries_of items.now) ≤ 1048576 }
     requires sizes { All HasFontSize (entries_of items.now) }
     ensures parts { IfOk result (λ c. parts_of c.letters.items c.parts.items ≡ spec.parts (faces_of ⟦<dyn Face as Face>⟧ faces.now) (entries_of items.now)) }
@@ -51,7 +54,6 @@ pub(crate) fn content_of<'a>(
     ensures letters { IfOk result (λ c. length c.letters.items ≤ text_bytes (entries_of items.now)) }
     ensures count { IfOk result (λ c. length c.parts.items ≤ text_bytes (entries_of items.now) + length items.now) }
 {
-    let kept = kept_letters(arena, items)?;
     let parts = all_parts(alloc, arena, items, &kept.letters, &kept.ends, faces)?;
     Ok(Content {
         letters: kept.letters,
@@ -70,8 +72,8 @@ fn all_parts<'a>(
 ) -> Result<Parts<'a>, AllocError>
     requires bytes { text_bytes (entries_of items.now) ≤ 1048576 }
     requires sizes { All HasFontSize (entries_of items.now) }
-    requires letters { letters.now ≡ joined (kept (entries_of items.now)) }
-    requires ends { ends.now ≡ ends_from 0 (kept (entries_of items.now)) }
+    requires letters { letters.now ≡ joined (kept_of (entries_of items.now)) }
+    requires ends { ends.now ≡ ends_from 0 (kept_of (entries_of items.now)) }
     ensures parts { IfOk result (λ parts. parts_of letters.now parts.items ≡ spec.parts (faces_of ⟦<dyn Face as Face>⟧ faces.now) (entries_of items.now)) }
     ensures sound { IfOk result (λ parts. All (IsSound (length letters.now)) parts.items) }
     ensures count { IfOk result (λ parts. length parts.items ≤ length letters.now + length items.now) }

@@ -142,7 +142,12 @@ fn unit_content(
 }
 
 // A combined run of these characters.
-fn combined_content(node: u32, unit: Unit, letters: &[Letter], inside: Glyphs) -> PreparedContent
+pub(crate) fn combined_content(
+    node: u32,
+    unit: Unit,
+    letters: &[Letter],
+    inside: Glyphs,
+) -> PreparedContent
     requires { All IsPlaced letters.now }
     ensures { result ≡ items.combined_content node unit letters.now inside }
 {
@@ -157,7 +162,7 @@ fn combined_content(node: u32, unit: Unit, letters: &[Letter], inside: Glyphs) -
 }
 
 // The place of the first character in its node's text.
-fn first_place(letters: &[Letter]) -> usize
+pub(crate) fn first_place(letters: &[Letter]) -> usize
     ensures { result ≡ items.first_place letters.now }
 {
     match letters.first() {
@@ -167,7 +172,7 @@ fn first_place(letters: &[Letter]) -> usize
 }
 
 // The place behind the last one.
-fn place_behind(letters: &[Letter]) -> usize
+pub(crate) fn place_behind(letters: &[Letter]) -> usize
     requires { All IsPlaced letters.now }
     ensures { result ≡ items.place_behind letters.now }
 {
@@ -198,14 +203,14 @@ fn behind(letter: Letter) -> usize
 }
 
 // Whether this is the single character U+0020.
-fn is_space(letters: &[Letter]) -> bool
+pub(crate) fn is_space(letters: &[Letter]) -> bool
     ensures { result ≡ items.is_space letters.now }
 {
     letters.len() == 1 && letters[0].char == ' '
 }
 
 // What is seen of one unit at this level.
-fn glyphs_of(alloc: Global, level: u8, letters: &[Letter]) -> Result<Glyphs, AllocError>
+pub(crate) fn glyphs_of(alloc: Global, level: u8, letters: &[Letter]) -> Result<Glyphs, AllocError>
     ensures { IfOk result (λ seen. seen ≡ glyphs.glyph level letters.now ∷ []) }
 {
     if letters.len() == 1 {

@@ -8,6 +8,7 @@ mod boxes;
 mod breaks;
 mod classes;
 mod content;
+mod flat;
 mod inside;
 mod item;
 mod items;

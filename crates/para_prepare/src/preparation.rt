@@ -1,9 +1,11 @@
 //! A paragraph that is prepared for its lines: all of it that hangs on no width.
 
-ghost use Rattle.std.specs.Prelude.{◌≡◌, ◌+◌, ◌≤◌, length, All, IfOk, IfSome};
+ghost use Rattle.std.specs.Prelude.{◌≡◌, ◌+◌, ◌≤◌, ◌&&◌, length, replicate, All, IfOk, IfSome};
 ghost use Rattle.face_api.specs.Faces.{faces_of};
 ghost use Rattle.style_types.specs.Item.{entries_of};
 ghost use Rattle.para_prepare.specs.Boxes.{taking_part};
+ghost use Rattle.para_prepare.specs.Flat.{is_zero, puts_nothing};
+ghost use Rattle.para_prepare.specs.Kept.{kept as kept_of, joined, ends_from};
 ghost use Rattle.para_prepare.specs.Limits.{HasFontSize, text_bytes};
 ghost use Rattle.para_prepare.specs.Parts.{raws};
 ghost use Rattle.para_prepare.specs.Preparation as spec;
@@ -14,21 +16,24 @@ ghost use Rattle.para_prepare.specs.Views.{HasSize, IsCovered, IsPart, IsPlaced,
 use crate::bidi_paragraphs::{Reading, standings};
 use crate::bidi_text::Around;
 use crate::boxes::taking;
-use crate::breaks::{BreakList, breaks};
+use crate::breaks::{BreakList, breaks, breaks_of};
 use crate::classes::classes;
 use crate::content::{Content, content_of};
+use crate::flat::{are_left_to_right, flat_lists};
 use crate::item::{PreparedItem, PreparedItems};
 use crate::items::prepared_items;
+use crate::kept::{Kept, kept_letters};
 use crate::letter::Letter;
 use crate::parts::Part;
 use crate::standing::{Standing, Standings, bases_of, levels_of};
 use bidi_explicit::{ClassList, LevelList};
+use bidi_resolve::laws::left_to_right_has_level_zero;
 use bumpalo::Bump;
 use face_api::{Face, Faces};
 use std::alloc::{AllocError, Global};
 use std::marker::Model;
 use std::sync::ledger::Ledger;
-use style_types::{Breaking, Items, Style};
+use style_types::{Breaking, Items, Style, UnicodeBidi};
 use wm_chars::BidiClass;
 use wm_units::Steps;
 
@@ -145,7 +150,95 @@ fn scratch(
     ensures sources { IfOk result (λ p. AreFrom 0 (length paragraph.now.items.items) p.items) }
     ensures lengths { IfOk result (λ p. All (λ item. HasBounds item.what) p.items) }
 {
-    let content = content_of(alloc, arena, &paragraph.items, faces)?;
+    let kept = kept_letters(arena, &paragraph.items)?;
+    match at_level_zero(alloc, arena, paragraph, &kept, faces)? {
+        Some(prepared) => Ok(prepared),
+        None => by_all_rules(alloc, arena, paragraph, kept, faces),
+    }
+}
+
+// The same with these kept characters, where nothing in the paragraph asks for a level but 0.
+fn at_level_zero(
+    alloc: Global,
+    arena: &Bump,
+    paragraph: &Paragraph,
+    kept: &Kept,
+    faces: &Faces,
+) -> Result<Option<Prepared>, AllocError>
+    requires bytes { text_bytes (entries_of paragraph.now.items.items) ≤ 1048576 }
+    requires sizes { All HasFontSize (entries_of paragraph.now.items.items) }
+    requires letters { kept.now.letters.items ≡ joined (kept_of (entries_of paragraph.now.items.items)) }
+    requires ends { kept.now.ends.items ≡ ends_from 0 (kept_of (entries_of paragraph.now.items.items)) }
+    ensures prepared { IfOk result (λ made. IfSome made (λ p. p ≡ preparation (faces_of ⟦<dyn Face as Face>⟧ faces.now) paragraph.now.base paragraph.now.style (entries_of paragraph.now.items.items))) }
+    ensures count { IfOk result (λ made. IfSome made (λ p. length p.items ≤ text_bytes (entries_of paragraph.now.items.items) + length paragraph.now.items.items)) }
+    ensures sources { IfOk result (λ made. IfSome made (λ p. AreFrom 0 (length paragraph.now.items.items) p.items)) }
+    ensures lengths { IfOk result (λ made. IfSome made (λ p. All (λ item. HasBounds item.what) p.items)) }
+{
+    if !starts_at_zero(paragraph.base, paragraph.style.bidi) || !are_left_to_right(&kept.letters) {
+        return Ok(None);
+    }
+    let made = flat_lists(
+        alloc,
+        arena,
+        &paragraph.items,
+        &kept.letters,
+        &kept.ends,
+        faces,
+    )?;
+    if !made.flat {
+        return Ok(None);
+    }
+    left_to_right_has_level_zero();
+    let levels = zeros(alloc, made.items.len())?;
+    let bases = zeros(alloc, made.items.len())?;
+    let breaks = breaks_of(alloc, &made.breaks)?;
+    Ok(Some(Prepared {
+        items: made.items,
+        levels,
+        classes: made.classes,
+        bases,
+        breaks,
+    }))
+}
+
+// So many levels of 0.
+fn zeros(alloc: Global, count: usize) -> Result<LevelList, AllocError>
+    ensures { IfOk result (λ levels. levels.items ≡ replicate count 0) }
+{
+    let levels = Vec::from_elem(alloc, 0, count)?;
+    Ok(levels)
+}
+
+// Whether bidi paragraphs begin at level 0 and a block container with this `unicode-bidi` puts nothing round them.
+fn starts_at_zero(base: Option<u8>, bidi: UnicodeBidi) -> bool
+    ensures { result ≡ (is_zero base && puts_nothing bidi) }
+{
+    base == Some(0)
+        && !matches!(
+            bidi,
+            UnicodeBidi::BidiOverride | UnicodeBidi::IsolateOverride
+        )
+}
+
+// The same, by all rules of bidi.
+fn by_all_rules<'a>(
+    alloc: Global,
+    arena: &'a Bump,
+    paragraph: &Paragraph,
+    kept: Kept<'a>,
+    faces: &Faces,
+) -> Result<Prepared, AllocError>
+    requires base { IfSome paragraph.now.base (λ base. base ≤ 1) }
+    requires bytes { text_bytes (entries_of paragraph.now.items.items) ≤ 1048576 }
+    requires sizes { All HasFontSize (entries_of paragraph.now.items.items) }
+    requires letters { kept.letters.items ≡ joined (kept_of (entries_of paragraph.now.items.items)) }
+    requires ends { kept.ends.items ≡ ends_from 0 (kept_of (entries_of paragraph.now.items.items)) }
+    ensures prepared { IfOk result (λ p. p ≡ preparation (faces_of ⟦<dyn Face as Face>⟧ faces.now) paragraph.now.base paragraph.now.style (entries_of paragraph.now.items.items)) }
+    ensures count { IfOk result (λ p. length p.items ≤ text_bytes (entries_of paragraph.now.items.items) + length paragraph.now.items.items) }
+    ensures sources { IfOk result (λ p. AreFrom 0 (length paragraph.now.items.items) p.items) }
+    ensures lengths { IfOk result (λ p. All (λ item. HasBounds item.what) p.items) }
+{
+    let content = content_of(alloc, arena, &paragraph.items, kept, faces)?;
     let standings = standings_of(alloc, arena, paragraph, &content.letters, &content.parts)?;
     let prepared = prepared_by(alloc, arena, &content.letters, &content.parts, &standings)?;
     Ok(prepared)

@@ -6,7 +6,7 @@ use Rattle.para_prepare.specs.Limits.{text_bytes}
 use Rattle.para_prepare.specs.Preparation.{AreFrom}
 use Rattle.para_prepare.proofs.PreparationLaws.{prepared_from}
 use Rattle.para_prepare.proofs.SourceLaws.{are_from, covered}
-use Rattle.para_prepare.proofs.preparation.scratch.Goals as goal
+use Rattle.para_prepare.proofs.preparation.by_all_rules.Goals as goal
 
 pub returns-clause-prepared : goal.returns-clause-prepared
 returns-clause-prepared g c =
