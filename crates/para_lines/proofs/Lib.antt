@@ -6,5 +6,8 @@ pub mod LineReach
 pub mod Nesting
 pub mod OnLine
 pub mod PreparedLaws
+pub mod RoomLaws
+pub mod SettingLaws
 pub mod Spreading
+pub mod StackLaws
 pub mod StandLaws

@@ -243,7 +243,7 @@ pub all_there : (n : ℕ) (items : List PreparedItem) → AreSources n items →
 all_there n [] h = tt
 all_there n (item ∷ items) h = (h 0 item (omega arith), all_there n items (λ k d lt. h (suc k) d (omega arith)))
 
-abbrev AdvanceAll : List PreparedItem → Type 0
+abbrev pub AdvanceAll : List PreparedItem → Type 0
 AdvanceAll [] = ⊤
 AdvanceAll (item ∷ items) = HasAdvance item.what × AdvanceAll items
 

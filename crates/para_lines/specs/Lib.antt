@@ -7,3 +7,4 @@ pub mod Lines
 pub mod Paragraph
 pub mod Prepared
 pub mod Reach
+pub mod Setting

@@ -6,10 +6,13 @@ mod edges;
 mod filling;
 mod input;
 mod line;
+mod lines;
 mod paragraph;
 mod prepared;
+mod setting;
 mod sizes;
 mod standing;
 
+pub use lines::paragraph_lines;
 pub use paragraph::{Atom, Container};
 pub use sizes::paragraph_sizes;

@@ -1,14 +1,16 @@
 //! The items of a paragraph on their way to its lines (CSS 2, 9.4.2 and 10.8.1).
 
-ghost use Rattle.std.specs.Prelude.{◌≡◌, ◌+◌, ◌<◌, ◌≤◌, ◌^◌, true, [], All, IfOk, IfSome, List, length, map, unsigned_abs};
+ghost use Rattle.std.specs.Prelude.{◌≡◌, ◌+◌, ◌<◌, ◌≤◌, ◌^◌, true, [], ℕ, All, IfOk, IfSome, List, length, map, slice_index_or, unsigned_abs};
 ghost use Rattle.style_types.specs.Item.{Entry, entries_of};
+ghost use Rattle.line_fill.specs.declared.item.FillItem.{FillItem};
 ghost use Rattle.para_lines.specs.Filling.{item_chains};
 ghost use Rattle.para_lines.specs.Boxes.{AreBoxes, chain_at, innermost};
 ghost use Rattle.line_place.specs.Line.{content_of, item_of};
 ghost use Rattle.para_lines.specs.Line.{AreSeats, HasAtom, IsAble, IsNearAtom, atom_in, content_in, first_atom, on_line, standing_of};
 ghost use Rattle.para_lines.specs.Paragraph.{atom_of};
 ghost use Rattle.para_lines.specs.Lines as rule;
-ghost use Rattle.para_lines.specs.Prepared.{IsWhole};
+ghost use Rattle.para_lines.specs.Prepared.{AreSources, IsWhole};
+ghost use Rattle.para_lines.specs.Reach.{atoms_in};
 ghost use Rattle.para_lines.specs.Around.{has};
 
 use crate::boxes::Boxes;
@@ -46,23 +48,44 @@ pub(crate) fn standings<'a>(
 ) -> Result<Standings<'a>, AllocError>
     requires whole { IsWhole lists.now }
     requires fills { length fills.now ≡ length lists.now.items.now }
-    ensures { IfOk result (λ made. (entries : List Entry) → map (standing_of entries) made.items ≡ rule.standings_by lists.now.items.now lists.now.levels.now lists.now.classes.now lists.now.bases.now (map (λ item. item.advance) fills.now) (item_chains entries lists.now.items.now) (map atom_of atoms.now)) }
+    ensures are { IfOk result (λ made. (entries : List Entry) → map (standing_of entries) made.items ≡ rule.standings_by lists.now.items.now lists.now.levels.now lists.now.classes.now lists.now.bases.now (map (λ item. item.advance) fills.now) (item_chains entries lists.now.items.now) (map atom_of atoms.now)) }
+    ensures able { IfOk result (λ made. (count : ℕ) → AreSources count lists.now.items.now → atoms_in lists.now.items.now ≤ length atoms.now → All IsNearAtom atoms.now → All (IsAble count) made.items) }
 {
     let mut made = Vec::with_capacity(alloc, lists.items.len())?;
     let mut atoms = atoms;
-    for k in 0..lists.items.len() {
-        let item = &lists.items[k];
-        made.push(Standing {
-            item,
-            level: lists.levels[k],
-            class: lists.classes[k],
-            base: lists.bases[k],
-            extent: fills[k].advance,
-            atoms,
-        })?;
-        atoms = past(&item.what, atoms);
+    for place in 0..lists.items.len() {
+        let standing = standing_at(lists, fills, place, atoms);
+        made.push(standing)?;
+        atoms = past(&standing.item.what, atoms);
     }
     Ok(made)
+}
+
+// The item at a place, with the atoms from it on.
+fn standing_at<'a>(
+    lists: &PreparedLists<'a>,
+    fills: &[FillItem],
+    place: usize,
+    atoms: &'a [Atom],
+) -> Standing<'a>
+    requires whole { IsWhole lists.now }
+    requires fills { length fills.now ≡ length lists.now.items.now }
+    requires place { place < length lists.now.items.now }
+    ensures item { result.item.now ≡ slice_index_or lists.now.items.now place result.item.now }
+    ensures level { result.level ≡ slice_index_or lists.now.levels.now place result.level }
+    ensures bidi_class { result.class ≡ slice_index_or lists.now.classes.now place result.class }
+    ensures base { result.base ≡ slice_index_or lists.now.bases.now place result.base }
+    ensures extent { (fill : FillItem) → fill ≡ slice_index_or fills.now place fill → result.extent ≡ fill.advance }
+    ensures atoms { result.atoms.now ≡ atoms.now }
+{
+    Standing {
+        item: &lists.items[place],
+        level: lists.levels[place],
+        class: lists.classes[place],
+        base: lists.bases[place],
+        extent: fills[place].advance,
+        atoms,
+    }
 }
 
 /// The items of a line with these boxes.

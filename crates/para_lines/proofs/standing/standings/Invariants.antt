@@ -3,6 +3,6 @@ use Rattle.style_types.specs.Item.{Entry}
 use Rattle.para_lines.proofs.StandLaws.{Standings}
 use Rattle.para_lines.proofs.standing.standings.Given as goal
 
-abbrev pub invariant-loop-k : goal.invariant-loop-k
-invariant-loop-k l =
-    (entries : List Entry) → Standings entries l.lists.items.now l.lists.levels.now l.lists.classes.now l.lists.bases.now l.fills l.fn.atoms l.atoms l.made.items l.k
+abbrev pub invariant-loop-place : goal.invariant-loop-place
+invariant-loop-place l =
+    (entries : List Entry) → Standings entries l.lists.items.now l.lists.levels.now l.lists.classes.now l.lists.bases.now l.fills l.fn.atoms l.atoms l.made.items l.place

@@ -1,0 +1,203 @@
+-- The items of a paragraph on their way to its lines: how many there are, and how far they reach.
+use Rattle.std.proofs.Common.{◌≡◌, ◌∙◌, refl, sym, ap, arith, subst, ℕ, suc, ◌+◌, ◌*◌, ◌≤◌, ◌^◌, List, [], ◌∷◌, length, map, get_or, take, Option, Some, ℤ, pos, unsigned_abs}
+use Rattle.std.specs.Prelude.{All, ⊤, ◌≤ℤ◌}
+use Rattle.std.proofs.lemmas.Int.{ints}
+use Rattle.std.proofs.lemmas.List.{length-map, take_all}
+use Rattle.std.proofs.lemmas.List.Sums.{sum_by-cons}
+use Rattle.std.proofs.lemmas.List.Elements.{All-cons}
+use Rattle.face_api.specs.Table.{Table}
+use Rattle.wm_chars.specs.declared.classes.BidiClass.{BidiClass}
+use Rattle.style_types.specs.declared.breaking.Breaking.{Breaking}
+use Rattle.style_types.specs.Fragment.{Pieces}
+use Rattle.style_types.specs.Item.{Entry}
+use Rattle.style_types.specs.Style.{IsBounded}
+use Rattle.line_fill.specs.declared.item.FillItem.{FillItem}
+use Rattle.line_fill.specs.Filling.{lines}
+use Rattle.line_place.specs.Reach.{total}
+use Rattle.para_prepare.specs.declared.item.PreparedItem.{PreparedItem}
+use Rattle.para_prepare.specs.declared.item.PreparedContent.{PreparedContent}
+use Rattle.para_prepare.specs.declared.item.PreparedContent.TheVariants.{Unit, Combined, Atom, Break}
+use Rattle.para_prepare.specs.Preparation.{Preparation}
+use Rattle.para_lines.specs.declared.standing.Standing as code
+use Rattle.para_lines.specs.declared.paragraph.Atom as code_atom
+use Rattle.para_lines.specs.declared.paragraph.Container.{Container}
+use Rattle.para_lines.specs.declared.setting.Setting as code_setting
+use Rattle.para_lines.specs.Boxes.{AreBoxes, chain_at}
+use Rattle.para_lines.specs.Filling.{advance_of, fill_items, fill_items_from, item_chains, past}
+use Rattle.para_lines.specs.Line.{IsAble, IsNearAtom, RiseIn, standing_of}
+use Rattle.para_lines.specs.Lines as rule
+use Rattle.para_lines.specs.Lines.{Standing, atom_extents, lines_from, no_atom, paragraph_lines, standings_by}
+use Rattle.para_lines.specs.Paragraph.{atom_of}
+use Rattle.para_lines.specs.Reach.{AreNear, HasAdvance, Rise, atom_part, atom_reach, lengths_of, standing_reach}
+use Rattle.para_lines.specs.Setting.{IsSetting, entries_in}
+use Rattle.para_lines.proofs.Spreading.{AdvanceAll, all_advance}
+
+-- ---- as many as there are items
+
+fill_count : (inline : Option ℤ) (entries : List Entry) (before : List ℕ) (items : List PreparedItem) (breaks : List Breaking) (advances : List ℤ) → length breaks ≡ length items
+    → length (fill_items_from inline entries before items breaks (item_chains entries items) advances) ≡ length items
+fill_count inline entries before [] breaks advances same = refl
+fill_count inline entries before (item ∷ items) [] advances same = absurd (omega arith)
+fill_count inline entries before (item ∷ items) (end_ ∷ breaks) advances same = ap suc (fill_count inline entries (chain_at entries item.source) items breaks (past item.what advances) (omega arith))
+
+pub fills_count : (inline : Option ℤ) (entries : List Entry) (prepared : Preparation) (advances : List ℤ) → length prepared.breaks ≡ length prepared.items → length (fill_items inline entries prepared advances) ≡ length prepared.items
+unfolding fill_items
+fills_count inline entries prepared advances same = fill_count inline entries [] prepared.items prepared.breaks advances same
+
+pub standings_count : (entries : List Entry) (items : List PreparedItem) (levels : List ℕ) (classes : List BidiClass) (bases : List ℕ) (extents : List ℤ) (atoms : List rule.Atom)
+    → length levels ≡ length items → length classes ≡ length items → length bases ≡ length items → length extents ≡ length items
+    → length (standings_by items levels classes bases extents (item_chains entries items) atoms) ≡ length items
+standings_count entries [] levels classes bases extents atoms a b c d = refl
+standings_count entries (item ∷ items) [] classes bases extents atoms a b c d = absurd (omega arith)
+standings_count entries (item ∷ items) (level ∷ levels) [] bases extents atoms a b c d = absurd (omega arith)
+standings_count entries (item ∷ items) (level ∷ levels) (class ∷ classes) [] extents atoms a b c d = absurd (omega arith)
+standings_count entries (item ∷ items) (level ∷ levels) (class ∷ classes) (base ∷ bases) [] atoms a b c d = absurd (omega arith)
+standings_count entries (item ∷ items) (level ∷ levels) (class ∷ classes) (base ∷ bases) (extent ∷ extents) atoms a b c d =
+    ap suc (standings_count entries items levels classes bases extents (past item.what atoms) (omega arith) (omega arith) (omega arith) (omega arith))
+
+-- ---- in order
+
+abbrev Rises : (from : ℕ) → List Standing → Type 0
+Rises from [] = ⊤
+Rises from (s ∷ standings) = (from ≤ s.item.source) × Rises s.item.source standings
+
+rises_by : (entries : List Entry) (from : ℕ) (items : List PreparedItem) (levels : List ℕ) (classes : List BidiClass) (bases : List ℕ) (extents : List ℤ) (atoms : List rule.Atom)
+    → Rise from items → Rises from (standings_by items levels classes bases extents (item_chains entries items) atoms)
+rises_by entries from [] levels classes bases extents atoms h = tt
+rises_by entries from (item ∷ items) [] classes bases extents atoms h = tt
+rises_by entries from (item ∷ items) (level ∷ levels) [] bases extents atoms h = tt
+rises_by entries from (item ∷ items) (level ∷ levels) (class ∷ classes) [] extents atoms h = tt
+rises_by entries from (item ∷ items) (level ∷ levels) (class ∷ classes) (base ∷ bases) [] atoms h = tt
+rises_by entries from (item ∷ items) (level ∷ levels) (class ∷ classes) (base ∷ bases) (extent ∷ extents) atoms h =
+    (h.0, rises_by entries item.source items levels classes bases extents (past item.what atoms) h.1)
+
+rises_in : (entries : List Entry) (from : ℕ) (standings : List code.Standing) → Rises from (map (standing_of entries) standings) → RiseIn from standings
+rises_in entries from [] h = tt
+rises_in entries from (s ∷ standings) h = (h.0, rises_in entries s.item.now.source standings h.1)
+
+pub standings_rise : (entries : List Entry) (standings : List code.Standing) (items : List PreparedItem) (levels : List ℕ) (classes : List BidiClass) (bases : List ℕ) (extents : List ℤ) (atoms : List rule.Atom)
+    → map (standing_of entries) standings ≡ standings_by items levels classes bases extents (item_chains entries items) atoms → Rise 0 items → RiseIn 0 standings
+standings_rise entries standings items levels classes bases extents atoms is h =
+    let P : List Standing → Type 0 = λ ss. Rises 0 ss in
+    rises_in entries 0 standings (subst P (sym is) (rises_by entries 0 items levels classes bases extents atoms h))
+
+-- ---- how far they reach
+
+one_reach : (what : PreparedContent) (atoms : List rule.Atom) → HasAdvance what
+    → unsigned_abs (advance_of what (atom_extents atoms)) + atom_part what (get_or atoms 0 no_atom) + total atom_reach (past what atoms) ≤ 655360 + 2 ^ 33 + total atom_reach atoms
+one_reach (Unit node first end_ form advance space glyphs) atoms h = omega arith
+one_reach (Combined node first end_ advance natural glyphs) atoms h = omega arith
+one_reach (Break node) atoms h = omega (arith, ints)
+one_reach (Atom name) [] h = omega (arith, ints)
+one_reach (Atom name) (atom ∷ atoms) h = omega arith
+
+past_extents : (what : PreparedContent) (atoms : List rule.Atom) → past what (atom_extents atoms) ≡ atom_extents (past what atoms)
+past_extents (Unit node first end_ form advance space glyphs) atoms = refl
+past_extents (Combined node first end_ advance natural glyphs) atoms = refl
+past_extents (Break node) atoms = refl
+past_extents (Atom name) [] = refl
+past_extents (Atom name) (atom ∷ atoms) = refl
+
+reach_by : (inline : Option ℤ) (entries : List Entry) (before : List ℕ) (items : List PreparedItem) (levels : List ℕ) (classes : List BidiClass) (bases : List ℕ) (breaks : List Breaking) (atoms : List rule.Atom) → AdvanceAll items
+    → total standing_reach (standings_by items levels classes bases (map (λ item. item.advance) (fill_items_from inline entries before items breaks (item_chains entries items) (atom_extents atoms))) (item_chains entries items) atoms)
+    ≤ length items * (655360 + 2 ^ 33) + total atom_reach atoms
+reach_by inline entries before [] levels classes bases breaks atoms h = omega arith
+reach_by inline entries before (item ∷ items) [] classes bases breaks atoms h = omega arith
+reach_by inline entries before (item ∷ items) (level ∷ levels) [] bases breaks atoms h = omega arith
+reach_by inline entries before (item ∷ items) (level ∷ levels) (class ∷ classes) [] breaks atoms h = omega arith
+reach_by inline entries before (item ∷ items) (level ∷ levels) (class ∷ classes) (base ∷ bases) [] atoms h = omega arith
+reach_by inline entries before (item ∷ items) (level ∷ levels) (class ∷ classes) (base ∷ bases) (end_ ∷ breaks) atoms h =
+    let one = one_reach item.what atoms h.0 in
+    let chain : List ℕ = chain_at entries item.source in
+    let P : List ℤ → Type 0 = λ es.
+    total standing_reach (standings_by items levels classes bases (map (λ item. item.advance) (fill_items_from inline entries chain items breaks (item_chains entries items) es)) (item_chains entries items) (past item.what atoms))
+    ≤ length items * (655360 + 2 ^ 33) + total atom_reach (past item.what atoms) in
+    let others = subst P (sym (past_extents item.what atoms)) (reach_by inline entries chain items levels classes bases breaks (past item.what atoms) h.1) in
+    omega arith
+
+pub standings_reach : (inline : Option ℤ) (entries : List Entry) (prepared : Preparation) (atoms : List rule.Atom) → All (λ item. HasAdvance item.what) prepared.items → length prepared.items ≤ 2 ^ 21 → total atom_reach atoms ≤ 2 ^ 57
+    → total standing_reach (rule.standings entries prepared atoms (map (λ item. item.advance) (fill_items inline entries prepared (atom_extents atoms)))) ≤ 2 ^ 58
+unfolding fill_items
+standings_reach inline entries prepared atoms h few most =
+    let r = reach_by inline entries [] prepared.items prepared.levels prepared.classes prepared.bases prepared.breaks atoms (all_advance prepared.items h) in
+    omega arith
+
+pub extents_reach : (atoms : List rule.Atom) → lengths_of (atom_extents atoms) ≤ total atom_reach atoms
+extents_reach [] = omega arith
+extents_reach (atom ∷ atoms) =
+    let s = sum_by-cons unsigned_abs atom.extent (atom_extents atoms) in
+    let h = extents_reach atoms in
+    omega arith
+
+pub atoms_near : (most : ℕ) (atoms : List code_atom.Atom) → total atom_reach (map atom_of atoms) ≤ most → most ≤ 2 ^ 59 → All IsNearAtom atoms
+atoms_near most [] h le = λ k d lt. absurd (omega arith)
+atoms_near most (atom ∷ atoms) h le = All-cons IsNearAtom atom atoms (record { over = omega arith; under = omega arith; shift = omega arith }) (atoms_near most atoms (omega arith) le)
+
+-- ---- all lines
+
+extents_are : (atoms : List code_atom.Atom) → map (λ (atom : code_atom.Atom). atom.extent) atoms ≡ atom_extents (map atom_of atoms)
+extents_are [] = refl
+extents_are (atom ∷ atoms) = ap (λ (es : List ℤ). atom.extent ∷ es) (extents_are atoms)
+
+pub fills_are : (size s : ℤ) (entries : List Entry) (prepared : Preparation) (atoms : List code_atom.Atom) (given extents : List ℤ) (k : ℕ) (made : List FillItem) → made ≡ fill_items (Some s) entries prepared given → s ≡ size
+    → given ≡ extents → extents ≡ map (λ (atom : code_atom.Atom). atom.extent) (take k atoms) → length atoms ≤ k → made ≡ fill_items (Some size) entries prepared (atom_extents (map atom_of atoms))
+fills_are size s entries prepared atoms given extents k made is same g e past_ =
+    is
+    ∙ ap (λ (z : ℤ). fill_items (Some z) entries prepared given) same
+    ∙ ap (fill_items (Some size) entries prepared) (g ∙ e ∙ ap (map (λ (atom : code_atom.Atom). atom.extent)) (take_all k atoms past_) ∙ extents_are atoms)
+
+-- lists with one entry for each item
+pub record AreWhole (prepared : Preparation) : Type 0 where
+  pub levels : length prepared.levels ≡ length prepared.items
+  pub classes : length prepared.classes ≡ length prepared.items
+  pub bases : length prepared.bases ≡ length prepared.items
+  pub breaks : length prepared.breaks ≡ length prepared.items
+
+pub count_of : (entries : List Entry) (prepared : Preparation) (atoms : List rule.Atom) (inline : Option ℤ) (advances : List ℤ) (fills : List FillItem) (made : List code.Standing) → AreWhole prepared
+    → fills ≡ fill_items inline entries prepared advances → map (standing_of entries) made ≡ rule.standings entries prepared atoms (map (λ (item : FillItem). item.advance) fills) → length made ≡ length prepared.items
+count_of entries prepared atoms inline advances fills made whole is are =
+    let a = length-map made (standing_of entries) in
+    let b = length-map fills (λ (item : FillItem). item.advance) in
+    let n : length fills ≡ length prepared.items = ap length is ∙ fills_count inline entries prepared advances whole.breaks in
+    let e = ap length are in
+    let s = standings_count entries prepared.items prepared.levels prepared.classes prepared.bases (map (λ (item : FillItem). item.advance) fills) atoms whole.levels whole.classes whole.bases (omega arith) in
+    omega arith
+
+pub setting_ready : (setting : code_setting.Setting) (prepared : Preparation) (atoms : List code_atom.Atom) (inline : Option ℤ) (fills : List FillItem) (made : List code.Standing)
+    → AreBoxes setting.boxes.now → IsBounded setting.container.now.style → pos 0 ≤ℤ setting.container.now.size → setting.container.now.size ≤ℤ pos (2 ^ 32) → setting.standings.now ≡ made
+    → map (standing_of (entries_in setting)) made ≡ rule.standings (entries_in setting) prepared (map atom_of atoms) (map (λ (item : FillItem). item.advance) fills)
+    → fills ≡ fill_items inline (entries_in setting) prepared (atom_extents (map atom_of atoms)) → All (IsAble (length setting.boxes.now.items.now)) made
+    → AreWhole prepared → AreNear prepared.items → length prepared.items ≤ 2 ^ 21 → total atom_reach (map atom_of atoms) ≤ 2 ^ 57 → IsSetting setting
+setting_ready setting prepared atoms inline fills made boxes style low high same are is able whole near few most =
+    let entries : List Entry = entries_in setting in
+    let P : List code.Standing → Type 0 = λ ss. All (IsAble (length setting.boxes.now.items.now)) ss in
+    let Q : List code.Standing → Type 0 = λ ss. RiseIn 0 ss in
+    let R : List code.Standing → Type 0 = λ ss. length ss ≤ 2 ^ 21 in
+    let S : List code.Standing → Type 0 = λ ss. total standing_reach (map (standing_of entries) ss) ≤ 2 ^ 58 in
+    let T : List Standing → Type 0 = λ ss. total standing_reach ss ≤ 2 ^ 58 in
+    let count = count_of entries prepared (map atom_of atoms) inline (atom_extents (map atom_of atoms)) fills made whole is are in
+    let whole_are : map (standing_of entries) made
+    ≡ rule.standings entries prepared (map atom_of atoms) (map (λ (item : FillItem). item.advance) (fill_items inline entries prepared (atom_extents (map atom_of atoms)))) =
+    are ∙ ap (λ (fs : List FillItem). rule.standings entries prepared (map atom_of atoms) (map (λ (item : FillItem). item.advance) fs)) is in
+    record {
+      boxes = boxes;
+      style = style;
+      low = low;
+      high = high;
+      able = subst P (sym same) able;
+      rise = subst Q (sym same) (standings_rise entries made prepared.items prepared.levels prepared.classes prepared.bases (map (λ (item : FillItem). item.advance) fills) (map atom_of atoms) are near.rise);
+      few = subst R (sym same) (omega arith);
+      reach = subst S (sym same) (subst T (sym whole_are) (standings_reach inline entries prepared (map atom_of atoms) near.advances few most));
+    }
+
+pub lines_all : (tables : List (Option Table)) (container : Container) (entries : List Entry) (prepared : Preparation) (atoms : List rule.Atom) (s t : ℤ) (fills : List FillItem) (standings : List Standing) (ends : List ℕ)
+    (made : Pieces) → made ≡ lines_from tables container entries 0 0 (pos 0) [] standings ends → standings ≡ rule.standings entries prepared atoms (map (λ (item : FillItem). item.advance) fills)
+    → ends ≡ lines s fills → s ≡ container.size → fills ≡ fill_items (Some t) entries prepared (atom_extents atoms) → t ≡ container.size → made ≡ paragraph_lines tables container entries prepared atoms
+unfolding paragraph_lines
+lines_all tables container entries prepared atoms s t fills standings ends made is are at same filled too =
+    let advances : List FillItem → List ℤ = λ fs. map (λ (item : FillItem). item.advance) fs in
+    let put : List FillItem → Pieces = λ fs. lines_from tables container entries 0 0 (pos 0) [] (rule.standings entries prepared atoms (advances fs)) (lines container.size fs) in
+    is
+    ∙ ap (λ (ss : List Standing). lines_from tables container entries 0 0 (pos 0) [] ss ends) are
+    ∙ ap (lines_from tables container entries 0 0 (pos 0) [] (rule.standings entries prepared atoms (advances fills))) (at ∙ ap (λ z. lines z fills) same)
+    ∙ ap put (filled ∙ ap (λ z. fill_items (Some z) entries prepared (atom_extents atoms)) too)

@@ -1,0 +1,31 @@
+use Rattle.std.proofs.Common.{rules, ◌≡◌, ◌∙◌, ◌+◌, ◌^◌, ap, sym, subst, List, to_z, of_z, w64, length}
+use Rattle.std.specs.Prelude.{All}
+use Rattle.std.proofs.lemmas.Int.{to_z-of_z}
+use Rattle.std.proofs.lemmas.List.Elements.{All-push}
+use Rattle.style_types.specs.declared.fragment.Fragment.{Fragment}
+use Rattle.line_place.specs.Walk.{followed}
+use Rattle.line_place.proofs.Fragments.{followed_push}
+use Rattle.para_lines.specs.Reach.{IsNearLine}
+use Rattle.para_lines.specs.Setting.{room_between, standings_in}
+use Rattle.para_lines.proofs.StackLaws.{line_near, piece_is}
+use Rattle.para_lines.proofs.lines.LineStack.add.Goals as goal
+
+pub returns-clause-made : goal.returns-clause-made
+returns-clause-made g c next =
+    let b : to_z w64 (of_z w64 c.args.self.now.block) ≡ c.args.self.now.block = to_z-of_z w64 c.args.self.now.block (search rules) in
+    let i : c.len-index.result ≡ length c.args.self.now.made.items = search rules in
+    ap (λ (parts : List Fragment). followed parts next) c.in_ok-push.ensures.items
+    ∙ followed_push c.args.self.now.made.items c.in_ok-line_fragment.field-0 next
+    ∙ ap (followed c.args.self.now.made.items)
+    (c.in_ok-line_fragment.ensures.piece next
+    ∙ piece_is c.args.setting.now.container.now (length c.args.self.now.made.items) _ c.args.self.now.block _ _ _ _ next _ i b c.in_ok-line.ensures.over c.in_ok-line.ensures.under c.in_ok-line.ensures.parts)
+
+pub returns-clause-near : goal.returns-clause-near
+returns-clause-near g c = λ all.
+    let P : List Fragment → Type 0 = λ fs. All IsNearLine fs in
+    let b : to_z w64 (of_z w64 c.args.self.now.block) ≡ c.args.self.now.block = to_z-of_z w64 c.args.self.now.block (search rules) in
+    let f : Fragment = c.in_ok-line_fragment.field-0 in
+    let near : IsNearLine f =
+    line_near f c.args.self.now.block c.in_ok-line.line.over c.in_ok-line.line.under (2 ^ 34 + room_between (standings_in c.args.setting.now) c.args.self.now.from c.args.end)
+    (c.in_ok-line_fragment.ensures.begins ∙ b) c.in_ok-line_fragment.ensures.reaches c.in_ok-line.ensures.within.0 c.in_ok-line.ensures.within.1 c.requires.block in
+    subst P (sym c.in_ok-push.ensures.items) (All-push IsNearLine c.args.self.now.made.items f all near)

@@ -1,0 +1,47 @@
+use Rattle.std.proofs.Common.{◌∙◌, ◌<◌, ◌≤◌, arith, length, get_or, List, ℕ}
+use Rattle.std.proofs.lemmas.List.{get_or_default, length-map}
+use Rattle.para_lines.specs.Line.{standing_of}
+use Rattle.para_lines.specs.Setting.{entries_in, standings_in}
+use Rattle.para_lines.proofs.StackLaws.{can_add, stacking_all, stacking_on}
+use Rattle.para_lines.proofs.lines.stacked.Goals as goal
+
+pub add-requires-clause-end : goal.add-requires-clause-end
+add-requires-clause-end g c =
+    let ends : List ℕ = c.args.ends.now in
+    let k : ℕ = c.loop-end.end-index in
+    let lt : k < length ends = c.loop-end-test.true in
+    let many = length-map c.args.setting.now.standings.now (standing_of (entries_in c.args.setting.now)) in
+    let few = c.requires.set.few in
+    let can = can_add _ c.args.setting.now.container.now (entries_in c.args.setting.now) (standings_in c.args.setting.now) ends c.loop-end.stack k (get_or ends k 0) lt
+    (get_or_default ends k 0 (get_or ends k 0) lt) (omega arith) c.requires.set.reach c.loop-end.invariant.stacking in
+    let within = can.within in
+    omega arith
+
+pub add-requires-clause-block : goal.add-requires-clause-block
+add-requires-clause-block g c =
+    let ends : List ℕ = c.args.ends.now in
+    let k : ℕ = c.loop-end.end-index in
+    let lt : k < length ends = c.loop-end-test.true in
+    let many = length-map c.args.setting.now.standings.now (standing_of (entries_in c.args.setting.now)) in
+    let few = c.requires.set.few in
+    let can = can_add _ c.args.setting.now.container.now (entries_in c.args.setting.now) (standings_in c.args.setting.now) ends c.loop-end.stack k (get_or ends k 0) lt
+    (get_or_default ends k 0 (get_or ends k 0) lt) (omega arith) c.requires.set.reach c.loop-end.invariant.stacking in
+    can.near
+
+pub loop-end-preserved : goal.loop-end-preserved
+loop-end-preserved g c =
+    let ends : List ℕ = c.args.ends.now in
+    let k : ℕ = c.loop-end.end-index in
+    let lt : k < length ends = c.loop-end-test.true in
+    let h = c.loop-end.invariant.stacking in
+    record {
+      stacking = stacking_on _ c.args.setting.now.container.now (entries_in c.args.setting.now) (standings_in c.args.setting.now) ends c.loop-end.stack c.add.new.self k (get_or ends k 0) lt
+          (get_or_default ends k 0 (get_or ends k 0) lt) c.in_ok-add.ensures.from c.in_ok-add.ensures.block c.in_ok-add.ensures.within c.in_ok-add.ensures.count c.in_ok-add.ensures.made
+          (c.in_ok-add.ensures.near h.lines) h;
+      seats = c.in_ok-add.ensures.seats ∙ c.loop-end.invariant.seats;
+    }
+
+pub returns-clause-lines : goal.returns-clause-lines
+returns-clause-lines g c =
+    let past : length c.args.ends.now ≤ c.loop-end.end-index = omega arith in
+    stacking_all _ c.args.setting.now.container.now (entries_in c.args.setting.now) (standings_in c.args.setting.now) c.args.ends.now c.loop-end.stack c.loop-end.end-index past c.loop-end.invariant.stacking

@@ -1,0 +1,134 @@
+//! What the lines of a paragraph are made from (CSS 2, 9.4.2).
+
+ghost use Rattle.std.specs.Prelude.{◌≡◌, ℕ, ◌+◌, ◌<◌, ◌≤◌, ◌^◌, [], All, IfOk, IfSome, List, drop, length, map, take, unsigned_abs};
+ghost use Rattle.face_api.specs.Faces.{faces_of};
+ghost use Rattle.style_types.specs.Fragment.{pieces_of};
+ghost use Rattle.style_types.specs.Item.{Entry};
+ghost use Rattle.line_place.specs.Line.{line_of};
+ghost use Rattle.line_place.specs.Placing.{line_over, line_under, parts};
+ghost use Rattle.line_place.specs.Reach.{AreNested, HasLimit, IsBefore, line_reach};
+ghost use Rattle.para_lines.specs.Boxes.{chain_behind};
+ghost use Rattle.para_lines.specs.Line.{IsAble, standing_of};
+ghost use Rattle.para_lines.specs.Lines.{chain_of_first, chain_of_last};
+ghost use Rattle.para_lines.specs.Setting.{IsSetting, entries_in, line_between, room_between, standings_in};
+
+use crate::boxes::{Boxes, Places};
+use crate::input::line_input;
+use crate::line::Sides;
+use crate::paragraph::Container;
+use crate::standing::Standing;
+use face_api::{Face, Faces};
+use line_place::{LineInput, place_line};
+use std::alloc::{AllocError, Global};
+use style_types::LineFragment;
+
+/// What all lines of a paragraph are made from: its boxes, its container, and all its items.
+#[derive(Clone, Copy, Debug)]
+pub(crate) struct Setting<'a> {
+    pub(crate) boxes: &'a Boxes<'a>,
+    pub(crate) container: &'a Container,
+    pub(crate) standings: &'a [Standing<'a>],
+}
+
+impl Setting<'_> {
+    /// Places the line of the items from one place up to another. `seats` is a table by box for its use.
+    pub(crate) fn line(
+        &self,
+        alloc: Global,
+        faces: &Faces,
+        seats: &mut Places,
+        from: usize,
+        end: usize,
+    ) -> Result<LineFragment, AllocError>
+        requires set { IsSetting self.now }
+        requires seats { length seats.old.items ≡ length self.now.boxes.now.items.now }
+        requires from { from ≤ end }
+        requires end { end ≤ length self.now.standings.now }
+        ensures same { length seats.new.items ≡ length seats.old.items }
+        ensures over { IfOk result (λ made. made.over ≡ line_over (line_between (faces_of ⟦<dyn Face as Face>⟧ faces.now) self.now.container.now (entries_in self.now) (standings_in self.now) from end)) }
+        ensures under { IfOk result (λ made. made.under ≡ line_under (line_between (faces_of ⟦<dyn Face as Face>⟧ faces.now) self.now.container.now (entries_in self.now) (standings_in self.now) from end)) }
+        ensures parts { IfOk result (λ made. pieces_of made.parts.items ≡ parts (line_between (faces_of ⟦<dyn Face as Face>⟧ faces.now) self.now.container.now (entries_in self.now) (standings_in self.now) from end)) }
+        ensures within { IfOk result (λ made. (unsigned_abs made.over ≤ 2 ^ 34 + room_between (standings_in self.now) from end) × (unsigned_abs made.under ≤ 2 ^ 34 + room_between (standings_in self.now) from end)) }
+    {
+        let input = self.input(alloc, faces, seats, from, end)?;
+        let made = place_line(alloc, &input)?;
+        Ok(made)
+    }
+
+    // That line, before it is placed.
+    fn input(
+        &self,
+        alloc: Global,
+        faces: &Faces,
+        seats: &mut Places,
+        from: usize,
+        end: usize,
+    ) -> Result<LineInput, AllocError>
+        requires set { IsSetting self.now }
+        requires seats { length seats.old.items ≡ length self.now.boxes.now.items.now }
+        requires from { from ≤ end }
+        requires end { end ≤ length self.now.standings.now }
+        ensures same { length seats.new.items ≡ length seats.old.items }
+        ensures line { IfOk result (λ made. line_of made ≡ line_between (faces_of ⟦<dyn Face as Face>⟧ faces.now) self.now.container.now (entries_in self.now) (standings_in self.now) from end) }
+        ensures nested { IfOk result (λ made. AreNested made.boxes.items) }
+        ensures inside { IfOk result (λ made. All (λ item. IsBefore (length made.boxes.items) item.inside) (line_of made).items) }
+        ensures reach { IfOk result (λ made. line_reach (line_of made) ≤ 2 ^ 60) }
+        ensures limit { IfOk result (λ made. HasLimit (2 ^ 34 + room_between (standings_in self.now) from end) (line_of made)) }
+    {
+        let sides = sides_of(self.standings, from, end);
+        let items = &self.standings[from..end];
+        let made = line_input(
+            alloc,
+            self.boxes,
+            self.container,
+            faces,
+            seats,
+            items,
+            sides,
+        )?;
+        Ok(made)
+    }
+}
+
+// What the items come from that stand before a line and behind it.
+fn sides_of(standings: &[Standing], from: usize, end: usize) -> Sides
+    requires from { from ≤ end }
+    requires end { end ≤ length standings.now }
+    ensures before { (entries : List Entry) → chain_behind entries result.before ≡ chain_of_last [] (take from (map (standing_of entries) standings.now)) }
+    ensures after { (entries : List Entry) → chain_behind entries result.after ≡ chain_of_first (drop end (map (standing_of entries) standings.now)) }
+    ensures before_there { (count : ℕ) → All (IsAble count) standings.now → IfSome result.before (λ source. source < count) }
+    ensures after_there { (count : ℕ) → All (IsAble count) standings.now → IfSome result.after (λ source. source < count) }
+{
+    Sides {
+        before: source_before(standings, from),
+        after: source_at(standings, end),
+    }
+}
+
+// What the item before a place comes from.
+#[tactic(auto, using(crate::proofs::SettingLaws::last_chain))]
+fn source_before(standings: &[Standing], place: usize) -> Option<usize>
+    requires { place ≤ length standings.now }
+    ensures chain { (entries : List Entry) → chain_behind entries result ≡ chain_of_last [] (take place (map (standing_of entries) standings.now)) }
+    ensures there { (count : ℕ) → All (IsAble count) standings.now → IfSome result (λ source. source < count) }
+{
+    if place == 0 {
+        None
+    } else {
+        Some(standings[place - 1].item.source)
+    }
+}
+
+// What the item at a place comes from.
+#[tactic(auto, using(crate::proofs::SettingLaws::first_chain, crate::proofs::SettingLaws::none_behind))]
+fn source_at(standings: &[Standing], place: usize) -> Option<usize>
+    requires { place ≤ length standings.now }
+    ensures chain { (entries : List Entry) → chain_behind entries result ≡ chain_of_first (drop place (map (standing_of entries) standings.now)) }
+    ensures there { (count : ℕ) → All (IsAble count) standings.now → IfSome result (λ source. source < count) }
+{
+    if place < standings.len() {
+        Some(standings[place].item.source)
+    } else {
+        None
+    }
+}
