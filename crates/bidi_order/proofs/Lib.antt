@@ -2,6 +2,7 @@ pub mod AllLevels
 pub mod Examples
 pub mod FilterMap
 pub mod LeavingOut
+pub mod LevelZero
 pub mod LineLaws
 pub mod Resets
 pub mod Runs

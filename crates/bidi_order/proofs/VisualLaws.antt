@@ -115,7 +115,7 @@ seat_sum f item (level ∷ levels) (Some apart ∷ aparts) same =
     let d = sum_by-cons f item (range_with_len (item + 1) (length levels)) in
     omega (arith, h, b, c, d)
 
-within_length : (aparts : List (Option ℕ)) → length (within_line aparts) ≡ length aparts
+pub within_length : (aparts : List (Option ℕ)) → length (within_line aparts) ≡ length aparts
 within_length [] = refl
 within_length (apart ∷ aparts) = refl
 

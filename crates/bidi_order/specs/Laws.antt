@@ -1,6 +1,9 @@
--- What holds of the order of a line (UAX 9, L2) where some of its places are left out of it.
-use Rattle.std.specs.Prelude.{◌≡◌, ℕ, ◌+◌, ◌≤◌, min, cond, eqb, ltb, List, [], ◌∷◌, ◌++◌, length, map}
+-- What holds of the order of a line (UAX 9, L2): where some of its places are left out of it, and where nothing is turned
+-- round.
+use Rattle.std.specs.Prelude.{◌≡◌, ℕ, ◌+◌, ◌≤◌, min, cond, eqb, ltb, List, [], ◌∷◌, ◌++◌, length, map, Option}
+use Rattle.std.specs.List.{All, range_with_len}
 use Rattle.bidi_order.specs.Reversals.{order}
+use Rattle.bidi_order.specs.Visual.{visual_order}
 
 -- the places without that one
 abbrev pub without : (left_out : ℕ) → (places : List ℕ) → List ℕ
@@ -23,3 +26,8 @@ abbrev pub LesserStandsForTwo : Type 0
 LesserStandsForTwo = (before after : List ℕ) (first second : ℕ)
     → without (length before) (without (length before + 1) (order (before ++ first ∷ second ∷ after)))
     ≡ map (past (length before + 1)) (without (length before) (order (before ++ min first second ∷ after)))
+
+-- items of level 0 stand in their own order, whatever parts them
+abbrev pub LevelZeroStays : Type 0
+LevelZeroStays = (levels : List ℕ) (aparts : List (Option ℕ)) → length levels ≡ length aparts → All (λ level. level ≡ 0) levels
+    → visual_order levels aparts ≡ range_with_len 0 (length levels)

@@ -21,8 +21,9 @@ pub fn order(alloc: Global, levels: &[u8]) -> Result<Order, AllocError>
     Ok(places)
 }
 
+/// So many places in their own order.
 #[tactic(auto, using(crate::proofs::Runs::range_more))]
-fn all_places(alloc: Global, n: usize) -> Result<Order, AllocError>
+pub(crate) fn all_places(alloc: Global, n: usize) -> Result<Order, AllocError>
     ensures { IfOk result (λ places. places.items ≡ range_with_len 0 n) }
 {
     let mut places = Vec::with_capacity(alloc, n)?;
@@ -32,7 +33,8 @@ fn all_places(alloc: Global, n: usize) -> Result<Order, AllocError>
     Ok(places)
 }
 
-fn greatest(levels: &[u8]) -> u8
+/// The greatest of these levels, or 0.
+pub(crate) fn greatest(levels: &[u8]) -> u8
     ensures { result ≡ greatest levels.now }
 {
     let mut best = 0;

@@ -6,7 +6,7 @@ ghost use Rattle.std.specs.List.{filter_map, range_with_len};
 ghost use Rattle.bidi_order.specs.Visual.{parting, seat, seats, visual_order, within_line};
 
 use crate::places::Order;
-use crate::reversals::order;
+use crate::reversals::{all_places, greatest, order};
 use std::alloc::{AllocError, Global};
 
 // A place of the list that L2 orders, with its level: an item, or what parts two items.
@@ -21,12 +21,28 @@ type Seats = Vec<Seat>;
 /// The places of a line's items from left to right, by their levels after L1. `aparts` has for each item the least level of
 /// the bidi controls between it and the item before it that X9 leaves in the line, or none; that of the first item of a
 /// line counts nothing. L2 orders the list in which these levels stand between the items; they are then left out.
-#[tactic(auto, unfolding(crate::specs::Visual::visual_order))]
 pub fn visual_order(
     alloc: Global,
     levels: &[u8],
     aparts: &[Option<u8>],
 ) -> Result<Order, AllocError>
+    requires { length levels.now ≡ length aparts.now }
+    ensures order { IfOk result (λ places. places.items ≡ visual_order levels.now aparts.now) }
+    ensures rearranged { IfOk result (λ places. IsPermutation (range_with_len 0 (length levels.now)) places.items) }
+    ensures below { IfOk result (λ places. All (λ p. p < length levels.now) places.items) }
+{
+    if greatest(levels) == 0 {
+        let places = all_places(alloc, levels.len())?;
+        Ok(places)
+    } else {
+        let places = seated_order(alloc, levels, aparts)?;
+        Ok(places)
+    }
+}
+
+// The same by the list that L2 orders, whatever the levels.
+#[tactic(auto, unfolding(crate::specs::Visual::visual_order))]
+fn seated_order(alloc: Global, levels: &[u8], aparts: &[Option<u8>]) -> Result<Order, AllocError>
     requires { length levels.now ≡ length aparts.now }
     ensures order { IfOk result (λ places. places.items ≡ visual_order levels.now aparts.now) }
     ensures rearranged { IfOk result (λ places. IsPermutation (range_with_len 0 (length levels.now)) places.items) }
