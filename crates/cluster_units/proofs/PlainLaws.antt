@@ -1,7 +1,7 @@
--- In Latin text each character is a cluster.
-use Rattle.std.proofs.Common.{◌≡◌, ℕ, ◌<◌, Bool, true, false, not, ◌||◌, List, [], ◌∷◌, ◌++◌, map, unwrap_or, ap, ap₂, sym, ◌∙◌, refl, arith}
+-- In plain text each character is a cluster.
+use Rattle.std.proofs.Common.{◌≡◌, ℕ, Bool, true, false, not, ◌||◌, List, [], ◌∷◌, ◌++◌, map, unwrap_or, inl, inr, ap, ap₂, sym, ◌∙◌, refl, arith}
 use Rattle.std.specs.List.{list_all}
-use Rattle.std.proofs.lemmas.Bool.{and_parts, and_right, not-true}
+use Rattle.std.proofs.lemmas.Bool.{and_parts, and_right, cases_Bool, not-true}
 use Rattle.ucd_breaks.specs.GraphemeClusterBreak.{grapheme_cluster_break}
 use Rattle.ucd_breaks.proofs.GraphemeClusterBreakLemmas.{grapheme_cluster_break_stepped}
 use Rattle.ucd_breaks.specs.declared.GraphemeClusterBreak.{GraphemeClusterBreak}
@@ -10,15 +10,12 @@ use Rattle.ucd_breaks.proofs.Computing.{ucd_breaks}
 use Rattle.ucd_derived.specs.IndicConjunctBreak.{indic_conjunct_break}
 use Rattle.ucd_derived.proofs.IndicConjunctBreakLemmas.{indic_conjunct_break_stepped}
 use Rattle.ucd_table.proofs.Computing.{tables}
-use Rattle.ucd_table.proofs.Facts.{Stepped-below}
+use Rattle.ucd_table.proofs.RangedFacts.{Stepped-at_points, points_ok}
 use Rattle.unicode_segmentation.specs.Grapheme.{break_by_pair, ends_in_linker, is_consonant, is_zwj, is_regional, ends_in_half_flag, is_grapheme_break}
 use Rattle.unicode_segmentation.specs.Segments.{cut}
 use Rattle.unicode_segmentation.proofs.GraphemeLemmas.{is_grapheme_break-inside, joins_emoji-not_zwj}
 use Rattle.cluster_units.specs.Cluster.{clusters}
 use Rattle.cluster_units.specs.Plain.{is_plain}
-
-below : (c : ℕ) → is_plain c ≡ true → c < 0x2028
-below c plain = grind arith
 
 -- the values of these characters: they join neither what stands before nor what stands behind
 abbrev is_loose : GraphemeClusterBreak → Bool
@@ -27,11 +24,16 @@ is_loose Control = true
 is_loose Lf = true
 is_loose _ = false
 
+no_plain : (b : Bool) → b ≡ true → not b ≡ true → ⊥
+no_plain true h n = cc
+no_plain false h n = cc
+
 loose : (c : ℕ) → is_plain c ≡ true → is_loose (grapheme_cluster_break c) ≡ true
-unfolding ucd_breaks
-loose c plain =
-    let test = Stepped-below grapheme_cluster_break grapheme_cluster_break_stepped (λ x v. not (is_plain x) || is_loose v) 0x2028 refl c (below c plain) in
-    rw plain at test
+unfolding tables points_ok ucd_breaks
+loose c plain = elim (cases_Bool (is_loose (grapheme_cluster_break c))) [
+  | inl is ↦ is
+  | inr other ↦ absurd (no_plain (is_plain c) plain (Stepped-at_points grapheme_cluster_break grapheme_cluster_break_stepped is_loose (λ x v. not (is_plain x)) refl c other))
+]
 
 loose_cases : (v : GraphemeClusterBreak) → is_loose v ≡ true → (P : GraphemeClusterBreak → Type 0) → P Other → P Control → P Lf → P v
 loose_cases Other is P other control lf = other
@@ -50,10 +52,11 @@ loose_cases V is P other control lf = absurd (cc)
 loose_cases Zwj is P other control lf = absurd (cc)
 
 no_consonant : (c : ℕ) → is_plain c ≡ true → not (is_consonant (indic_conjunct_break c)) ≡ true
-unfolding tables indic_conjunct_break_stepped
-no_consonant c plain =
-    let test = Stepped-below indic_conjunct_break indic_conjunct_break_stepped (λ x v. not (is_plain x) || not (is_consonant v)) 0x2028 refl c (below c plain) in
-    rw plain at test
+unfolding tables points_ok indic_conjunct_break_stepped
+no_consonant c plain = elim (cases_Bool (not (is_consonant (indic_conjunct_break c)))) [
+  | inl is ↦ is
+  | inr other ↦ absurd (no_plain (is_plain c) plain (Stepped-at_points indic_conjunct_break indic_conjunct_break_stepped (λ v. not (is_consonant v)) (λ x v. not (is_plain x)) refl c other))
+]
 
 apart : (l r : GraphemeClusterBreak) → is_loose l ≡ true → is_loose r ≡ true → (rest : Bool) → rest ≡ true → unwrap_or (break_by_pair true l r) rest ≡ true
 apart l r left right rest is =

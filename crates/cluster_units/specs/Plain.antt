@@ -1,5 +1,23 @@
--- Characters of Latin text, with ASCII but for the carriage return: none is a mark, and none joins its like.
+-- Characters that are clusters by themselves among their like: those of Latin text, letters of Greek, Cyrillic, Hebrew and Arabic,
+-- kana and Han, punctuation and bidi controls. None is a mark, and none joins its like.
 use Rattle.std.specs.Prelude.{ℕ, Bool, ◌&&◌, ◌||◌, ◌==◌, not, nat_le, nat_lt}
 
+abbrev pub is_latin : ℕ → Bool
+is_latin c = nat_lt c 0x300 && not (c == 0x0D)
+
+-- letters of Greek and Cyrillic, Hebrew, Arabic
+abbrev pub is_letter : ℕ → Bool
+is_letter c = (nat_le 0x370 c && nat_le c 0x482) || ((nat_le 0x5D0 c && nat_le c 0x5EA) || (nat_le 0x61B c && nat_le c 0x64A))
+
+-- Arabic digits, general punctuation with the bidi controls
+abbrev pub is_sign : ℕ → Bool
+is_sign c = (nat_le 0x660 c && nat_le c 0x66F) || (nat_le 0x200E c && nat_le c 0x206F)
+
+-- ideographic punctuation and kana without their marks, Han, fullwidth forms
+abbrev pub is_wide : ℕ → Bool
+is_wide c =
+    ((nat_le 0x3000 c && nat_le c 0x3029) || (nat_le 0x3030 c && nat_le c 0x3098))
+    || ((nat_le 0x309B c && nat_le c 0x30FF) || ((nat_le 0x4E00 c && nat_le c 0x9FFF) || (nat_le 0xFF01 c && nat_le c 0xFF9D)))
+
 abbrev pub is_plain : ℕ → Bool
-is_plain c = (nat_lt c 0x300 && not (c == 0x0D)) || (nat_le 0x2010 c && nat_lt c 0x2028)
+is_plain c = (is_latin c || is_letter c) || (is_sign c || is_wide c)

@@ -1,8 +1,9 @@
-//! Latin text, in which each character is a cluster (UAX 29, 3.1.1).
+//! Text in which each character is a cluster (UAX 29, 3.1.1), as in most scripts without marks.
 
 ghost use Rattle.std.specs.Prelude.{◌≡◌, ◌≤◌, pos, ◌≤ℤ◌, length, true, IfOk};
 ghost use Rattle.std.specs.List.{list_all};
 ghost use Rattle.std.specs.Str.{chars};
+ghost use Rattle.cluster_units.specs.Plain as plain;
 ghost use Rattle.cluster_units.specs.Plain.{is_plain};
 ghost use Rattle.cluster_units.specs.Unit.{units_of};
 
@@ -13,8 +14,7 @@ use face_api::Face;
 use std::alloc::{AllocError, Global};
 use style_types::Style;
 
-// Whether the text has characters of Latin text alone, and neither marks nor carriage returns. Each of these is a
-// cluster.
+// Whether the text has characters alone that are clusters by themselves: neither marks nor carriage returns.
 pub(crate) fn is_plain(text: &str) -> bool
     ensures { result ≡ list_all is_plain (chars text.now) }
 {
@@ -25,11 +25,38 @@ pub(crate) fn is_plain(text: &str) -> bool
     )
 }
 
-// A character before the first mark, but for the carriage return; a dash or a quotation mark.
+// A character of Latin text, but for the carriage return; or one further on.
 fn is_plain_character(c: char) -> bool
     ensures { result ≡ is_plain c }
 {
-    matches!(c, '\0'..='\u{C}' | '\u{E}'..='\u{2FF}' | '\u{2010}'..='\u{2027}')
+    c < '\u{300}' && c != '\r' || is_letter(c) || is_sign(c) || is_wide(c)
+}
+
+// A letter of Greek, Cyrillic, Hebrew or Arabic.
+fn is_letter(c: char) -> bool
+    ensures { result ≡ plain.is_letter c }
+{
+    matches!(
+        c,
+        '\u{370}'..='\u{482}' | '\u{5D0}'..='\u{5EA}' | '\u{61B}'..='\u{64A}'
+    )
+}
+
+// An Arabic digit, general punctuation or a bidi control.
+fn is_sign(c: char) -> bool
+    ensures { result ≡ plain.is_sign c }
+{
+    matches!(c, '\u{660}'..='\u{66F}' | '\u{200E}'..='\u{206F}')
+}
+
+// Ideographic punctuation, kana, Han or a fullwidth form.
+fn is_wide(c: char) -> bool
+    ensures { result ≡ plain.is_wide c }
+{
+    matches!(
+        c,
+        '\u{3000}'..='\u{3029}' | '\u{3030}'..='\u{3098}' | '\u{309B}'..='\u{30FF}' | '\u{4E00}'..='\u{9FFF}' | '\u{FF01}'..='\u{FF9D}'
+    )
 }
 
 // The units of a plain text by this face.
@@ -45,7 +72,7 @@ pub(crate) fn plain_units(
     requires high { style.now.font_size ≤ℤ pos 65536 }
     ensures { IfOk result (λ units. units.items ≡ units_of style.now (table face.now) (chars text.now)) }
 {
-    let mut units = Vec::new(alloc);
+    let mut units = Vec::with_capacity(alloc, text.len())?;
     let mut place = 0;
     for c in text.chars() {
         let cluster = Cluster {

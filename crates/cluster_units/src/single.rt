@@ -12,6 +12,7 @@ use wm_chars::{BreakClass, Orient, break_class, orientation};
 use wm_modes::WritingMode;
 
 // The unit of a cluster by itself, a combined run of one where it combines; None of a bidi control.
+#[inline(always)]
 pub(crate) fn unit_of(cluster: Cluster, style: &Style, face: &dyn Face) -> Option<Unit>
     requires low { pos 0 ≤ℤ style.now.font_size }
     requires high { style.now.font_size ≤ℤ pos 65536 }
@@ -60,6 +61,7 @@ fn combined(cluster: Cluster, style: &Style, face: &dyn Face) -> Unit
 }
 
 // A cluster that stands by itself. The class is that of its first character.
+#[inline(always)]
 fn single(cluster: Cluster, class: Option<BreakClass>, style: &Style, face: &dyn Face) -> Unit
     requires low { pos 0 ≤ℤ style.now.font_size }
     requires high { style.now.font_size ≤ℤ pos 65536 }
@@ -93,6 +95,7 @@ fn class_of(cluster: Cluster, class: Option<BreakClass>) -> BreakClass
 }
 
 // How a unit with this first character stands on its line.
+#[inline(always)]
 fn kind_of(style: &Style, c: char) -> UnitKind
     ensures { result ≡ spec.kind_of style.now c }
 {

@@ -64,6 +64,7 @@ fn all_units(alloc: Global, text: &str, style: &Style, face: &dyn Face) -> Resul
 }
 
 // Adds the unit of the next cluster, if it is one.
+#[inline(always)]
 pub(crate) fn add_cluster(
     units: &mut Units,
     cluster: Cluster,
@@ -83,6 +84,7 @@ pub(crate) fn add_cluster(
 }
 
 // Adds a unit: where it and the last one both combine they become one.
+#[inline(always)]
 #[tactic(auto, using(crate::proofs::JoinLaws::joined_alone))]
 fn add(units: &mut Units, unit: Unit) -> Result<(), AllocError>
     requires units { AreWithin (2 ^ 50) units.old.items }

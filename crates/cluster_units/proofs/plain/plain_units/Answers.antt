@@ -17,9 +17,9 @@ loop-c-init g c =
     let bytes = c.requires.bytes in
     let few = fewer_chars text c.utf8.text in
     let long : length (pieces (chars text)) ≤ 1048576 = omega (arith, length-map (chars text) (λ c. c ∷ [])) in
-    let made = subst (λ made. IsUnderway c.args.style.now table (chars text) made 0 (pieces (chars text))) (sym c.new-units.ensures.items)
+    let made = subst (λ made. IsUnderway c.args.style.now table (chars text) made 0 (pieces (chars text))) (sym c.in_ok-units.ensures.items)
     (begins c.args.style.now table (chars text) (pieces (chars text)) (plain_pieces (chars text) c.requires.plain) long) in
-    (subst IsUtf8 (sym rest) c.utf8.text, subst (λ left. IsUnderway c.args.style.now table (chars text) c.new-units.result.items 0 (pieces (chars left))) (sym rest) made)
+    (subst IsUtf8 (sym rest) c.utf8.text, subst (λ left. IsUnderway c.args.style.now table (chars text) c.in_ok-units.units.items 0 (pieces (chars left))) (sym rest) made)
 
 pub overflow_add-cluster : goal.overflow_add-cluster
 overflow_add-cluster g c =
