@@ -5,6 +5,7 @@ use Rattle.wm_chars.specs.declared.classes.BidiClass.{BidiClass}
 use Rattle.wm_chars.specs.declared.classes.BreakClass.{BreakClass}
 use Rattle.style_types.specs.declared.style.UnicodeBidi.{UnicodeBidi}
 use Rattle.style_types.specs.declared.style.UnicodeBidi.TheVariants.{Normal, BidiOverride, IsolateOverride}
+use Rattle.style_types.specs.Item.{Entry, begins}
 use Rattle.bidi_resolve.specs.Paragraph.{is_left_to_right}
 use Rattle.para_prepare.specs.declared.flat.FlatLists.{FlatLists}
 use Rattle.para_prepare.specs.declared.item.PreparedItem.{PreparedItem}
@@ -98,3 +99,8 @@ pub record HasRunBounds (unit : Unit) (letters : List Letter) : Type 0 where
 abbrev pub reads_left_to_right : ℕ → Bool
 reads_left_to_right c =
     nat_lt c 0x590 || ((nat_le 0x2010 c && nat_le c 0x2027) || ((nat_le 0x2E80 c && nat_le c 0xD7FF) || (nat_le 0xFF00 c && nat_le c 0xFFEF)))
+
+-- an inline box that puts no control round its content, or what is no beginning of one
+abbrev pub puts_none : Entry → Bool
+puts_none (begins node style edges) = is_normal style.bidi
+puts_none _ = true

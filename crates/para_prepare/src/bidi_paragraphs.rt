@@ -57,9 +57,9 @@ pub(crate) fn standings<'a>(
     ensures bounds { IfOk result (λ out. All IsStanding out.items) }
 {
     let mut walk = Walk {
-        text: Vec::new(arena),
+        text: Vec::with_capacity(arena, parts.len())?,
         opened: Vec::new(arena),
-        standings: Vec::new(arena),
+        standings: Vec::with_capacity(arena, parts.len())?,
     };
     reading.container.put_container_before(&mut walk.text)?;
     for k in 0..parts.len() {

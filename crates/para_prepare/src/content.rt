@@ -78,7 +78,7 @@ fn all_parts<'a>(
     ensures sound { IfOk result (λ parts. All (IsSound (length letters.now)) parts.items) }
     ensures count { IfOk result (λ parts. length parts.items ≤ length letters.now + length items.now) }
 {
-    let mut parts = Vec::new(arena);
+    let mut parts = Vec::with_capacity(arena, letters.len() + items.len())?;
     let mut from = 0;
     for i in 0..items.len() {
         let to = ends[i];

@@ -26,10 +26,11 @@ use crate::classes::last_class;
 use crate::content::Place;
 use crate::inside::inside;
 use crate::item::{PreparedContent, PreparedItem, PreparedItems};
-use crate::items::{combined_content, first_place, glyphs_of, is_space, place_behind};
+use crate::items::{combined_content, push_unit};
 use crate::kept::text_of;
 use crate::letter::Letter;
 use crate::parts::{Span, class_in};
+use crate::standing::Standing;
 use crate::text::{Text, sets_upright};
 use bidi_explicit::ClassList;
 use bumpalo::Bump;
@@ -88,8 +89,34 @@ pub(crate) fn flat_lists<'a>(
     Ok(made)
 }
 
-/// Whether these characters read as if none asked for a level but 0: what nothing rests on, but that the way is tried.
-pub(crate) fn are_left_to_right(letters: &[Letter]) -> bool
+/// Whether these items and their characters look as if none asked for a level but 0: so it is tried. Nothing else rests on it.
+pub(crate) fn looks_flat(items: &[Item], letters: &[Letter]) -> bool
+    ensures { result ≡ (list_all (λ own. spec.puts_none (entry_of own)) items.now && list_all (λ l. spec.reads_left_to_right l.char) letters.now) }
+{
+    put_none(items) && read_left_to_right(letters)
+}
+
+// Whether no inline box puts a control round its content.
+fn put_none(items: &[Item]) -> bool
+    ensures { result ≡ list_all (λ own. spec.puts_none (entry_of own)) items.now }
+{
+    items.iter().all(
+        |item| -> bool
+            ensures { result ≡ spec.puts_none (entry_of item.now) }
+        { puts_none(item) },
+    )
+}
+
+fn puts_none(item: &Item) -> bool
+    ensures { result ≡ spec.puts_none (entry_of item.now) }
+{
+    match item {
+        Item::Open { style, .. } => style.bidi == UnicodeBidi::Normal,
+        Item::Text { .. } | Item::Close { .. } | Item::Atom { .. } | Item::Break { .. } => true,
+    }
+}
+
+fn read_left_to_right(letters: &[Letter]) -> bool
     ensures { result ≡ list_all (λ l. spec.reads_left_to_right l.char) letters.now }
 {
     letters.iter().all(
@@ -288,16 +315,22 @@ impl FlatLists<'_> {
         let upright = sets_upright(text.style);
         let class = last_class(upright, letters);
         self.flat &= are_flat(upright, letters, class);
-        let what = PreparedContent::Unit {
-            node: text.node,
-            first: first_place(letters),
-            end: place_behind(letters),
-            form: unit.kind,
-            advance: unit.advance,
-            space: is_space(letters),
-            glyphs: glyphs_of(alloc, 0, letters)?,
+        let standing = Standing {
+            level: 0,
+            base: 0,
+            apart: None,
         };
-        self.add(text.source, class, Some(unit.break_class), what)
+        push_unit(
+            alloc,
+            &mut self.items,
+            text.source,
+            text.node,
+            unit,
+            letters,
+            standing,
+        )?;
+        self.mark(class, Some(unit.break_class))?;
+        Ok(())
     }
 
     // Adds an item.
@@ -321,6 +354,18 @@ impl FlatLists<'_> {
             apart: None,
             what,
         })?;
+        self.mark(class, break_class)?;
+        Ok(())
+    }
+
+    // Marks the last item by its classes.
+    #[inline(always)]
+    fn mark(&mut self, class: BidiClass, break_class: Option<BreakClass>) -> Result<(), AllocError>
+        ensures items { OnOk result (self.new.items.items ≡ self.old.items.items) }
+        ensures classes { OnOk result (self.new.classes.items ≡ self.old.classes.items ++ class ∷ []) }
+        ensures breaks { OnOk result (self.new.breaks.items ≡ self.old.breaks.items ++ break_class ∷ []) }
+        ensures flat { OnOk result (self.new.flat ≡ self.old.flat) }
+    {
         self.classes.push(class)?;
         self.breaks.push(break_class)?;
         Ok(())

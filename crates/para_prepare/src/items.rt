@@ -3,7 +3,7 @@
 ghost use Rattle.std.specs.Prelude.{◌≡◌, ◌<◌, ◌≤◌, ◌+◌, ◌++◌, [], ◌∷◌, ℕ, drop, length, map, All, IfOk, IfSome, OnOk};
 ghost use Rattle.para_prepare.specs.Glyph as glyphs;
 ghost use Rattle.para_prepare.specs.Items as items;
-ghost use Rattle.para_prepare.specs.Items.{items_by};
+ghost use Rattle.para_prepare.specs.Items.{items_by, unit_content};
 ghost use Rattle.para_prepare.specs.Parts.{raws};
 ghost use Rattle.para_prepare.specs.Views.{IsPart, IsPlaced, letters_at, part_of, parts_of};
 
@@ -58,15 +58,8 @@ fn add_item(
             letters: span,
             ..
         } => {
-            let standing = standings[place];
-            let what = unit_content(
-                alloc,
-                standing.level,
-                *node,
-                *unit,
-                &letters[span.from..span.to],
-            )?;
-            push(items, *source, standing, what)?;
+            let own = &letters[span.from..span.to];
+            push_unit(alloc, items, *source, *node, *unit, own, standings[place])?;
         }
         Part::Combined {
             source,
@@ -75,29 +68,17 @@ fn add_item(
             letters: span,
             inside,
         } => {
-            let what = combined_content(
-                *node,
-                *unit,
-                &letters[span.from..span.to],
-                inside.copy(alloc)?,
-            );
+            let own = &letters[span.from..span.to];
+            let what = combined_content(*node, *unit, own, inside.copy(alloc)?);
             push(items, *source, standings[place], what)?;
         }
         Part::Atom { source, name } => {
-            push(
-                items,
-                *source,
-                standings[place],
-                PreparedContent::Atom { name: *name },
-            )?;
+            let what = PreparedContent::Atom { name: *name };
+            push(items, *source, standings[place], what)?;
         }
         Part::Break { source, node } => {
-            push(
-                items,
-                *source,
-                standings[place],
-                PreparedContent::Break { node: *node },
-            )?;
+            let what = PreparedContent::Break { node: *node };
+            push(items, *source, standings[place], what)?;
         }
     }
     Ok(())
@@ -119,26 +100,35 @@ fn push(
     Ok(())
 }
 
-// A unit with these characters at its level.
-fn unit_content(
+/// Adds a unit with these characters, which stands so.
+#[inline(always)]
+pub(crate) fn push_unit(
     alloc: Global,
-    level: u8,
+    items: &mut PreparedItems,
+    source: usize,
     node: u32,
     unit: Unit,
     letters: &[Letter],
-) -> Result<PreparedContent, AllocError>
+    standing: Standing,
+) -> Result<(), AllocError>
     requires { All IsPlaced letters.now }
-    ensures { IfOk result (λ content. content ≡ items.unit_content level node unit letters.now) }
+    ensures { OnOk result (items.new.items ≡ items.old.items ++ (record { source = source; apart = standing.apart; what = unit_content standing.level node unit letters.now }) ∷ []) }
 {
-    Ok(PreparedContent::Unit {
-        node,
-        first: first_place(letters),
-        end: place_behind(letters),
-        form: unit.kind,
-        advance: unit.advance,
-        space: is_space(letters),
-        glyphs: glyphs_of(alloc, level, letters)?,
-    })
+    let glyphs = glyphs_of(alloc, standing.level, letters)?;
+    items.push(PreparedItem {
+        source,
+        apart: standing.apart,
+        what: PreparedContent::Unit {
+            node,
+            first: first_place(letters),
+            end: place_behind(letters),
+            form: unit.kind,
+            advance: unit.advance,
+            space: is_space(letters),
+            glyphs,
+        },
+    })?;
+    Ok(())
 }
 
 // A combined run of these characters.
@@ -162,7 +152,7 @@ pub(crate) fn combined_content(
 }
 
 // The place of the first character in its node's text.
-pub(crate) fn first_place(letters: &[Letter]) -> usize
+fn first_place(letters: &[Letter]) -> usize
     ensures { result ≡ items.first_place letters.now }
 {
     match letters.first() {
@@ -172,7 +162,7 @@ pub(crate) fn first_place(letters: &[Letter]) -> usize
 }
 
 // The place behind the last one.
-pub(crate) fn place_behind(letters: &[Letter]) -> usize
+fn place_behind(letters: &[Letter]) -> usize
     requires { All IsPlaced letters.now }
     ensures { result ≡ items.place_behind letters.now }
 {
@@ -203,14 +193,14 @@ fn behind(letter: Letter) -> usize
 }
 
 // Whether this is the single character U+0020.
-pub(crate) fn is_space(letters: &[Letter]) -> bool
+fn is_space(letters: &[Letter]) -> bool
     ensures { result ≡ items.is_space letters.now }
 {
     letters.len() == 1 && letters[0].char == ' '
 }
 
 // What is seen of one unit at this level.
-pub(crate) fn glyphs_of(alloc: Global, level: u8, letters: &[Letter]) -> Result<Glyphs, AllocError>
+fn glyphs_of(alloc: Global, level: u8, letters: &[Letter]) -> Result<Glyphs, AllocError>
     ensures { IfOk result (λ seen. seen ≡ glyphs.glyph level letters.now ∷ []) }
 {
     if letters.len() == 1 {

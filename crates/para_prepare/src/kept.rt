@@ -31,8 +31,8 @@ pub(crate) fn kept_letters<'a>(arena: &'a Bump, items: &[Item]) -> Result<Kept<'
     ensures ends { IfOk result (λ k. k.ends.items ≡ ends_from 0 (kept (entries_of items.now))) }
 {
     let marks = marks(arena, items)?;
-    let mut letters = Vec::new(arena);
-    let mut ends = Vec::new(arena);
+    let mut letters = Vec::with_capacity(arena, marks.len())?;
+    let mut ends = Vec::with_capacity(arena, items.len())?;
     let mut place = 0;
     for item in items {
         place = add_item(&mut letters, item, &marks, place)?;

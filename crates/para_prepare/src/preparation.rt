@@ -19,7 +19,7 @@ use crate::boxes::taking;
 use crate::breaks::{BreakList, breaks, breaks_of};
 use crate::classes::classes;
 use crate::content::{Content, content_of};
-use crate::flat::{are_left_to_right, flat_lists};
+use crate::flat::{flat_lists, looks_flat};
 use crate::item::{PreparedItem, PreparedItems};
 use crate::items::prepared_items;
 use crate::kept::{Kept, kept_letters};
@@ -174,7 +174,9 @@ fn at_level_zero(
     ensures sources { IfOk result (λ made. IfSome made (λ p. AreFrom 0 (length paragraph.now.items.items) p.items)) }
     ensures lengths { IfOk result (λ made. IfSome made (λ p. All (λ item. HasBounds item.what) p.items)) }
 {
-    if !starts_at_zero(paragraph.base, paragraph.style.bidi) || !are_left_to_right(&kept.letters) {
+    if !starts_at_zero(paragraph.base, paragraph.style.bidi)
+        || !looks_flat(&paragraph.items, &kept.letters)
+    {
         return Ok(None);
     }
     let made = flat_lists(

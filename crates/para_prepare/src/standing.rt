@@ -186,20 +186,12 @@ pub(crate) fn aparts_of(alloc: Global, standings: &[Standing]) -> Result<Aparts,
 pub(crate) fn classes_of(alloc: Global, text: &[Character]) -> Result<ClassList, AllocError>
     ensures { IfOk result (λ classes. classes.items ≡ classes_of text.now) }
 {
-    let mut classes = Vec::with_capacity(alloc, text.len())?;
-    for character in text {
-        classes.push(character.class)?;
-    }
-    Ok(classes)
+    text.iter().map(|character| character.class).collect(alloc)
 }
 
 /// The characters of a text.
 pub(crate) fn chars_of(alloc: Global, text: &[Character]) -> Result<Vec<char>, AllocError>
     ensures { IfOk result (λ chars. chars.items ≡ chars_of text.now) }
 {
-    let mut chars = Vec::with_capacity(alloc, text.len())?;
-    for character in text {
-        chars.push(character.char)?;
-    }
-    Ok(chars)
+    text.iter().map(|character| character.char).collect(alloc)
 }

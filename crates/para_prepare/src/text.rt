@@ -1,7 +1,7 @@
 //! The parts of one text of a paragraph: its units, its combined runs, and the bidi controls between them (CSS Writing
 //! Modes 4, 5.1 and 9.1).
 
-ghost use Rattle.std.specs.Prelude.{◌≡◌, ◌≤◌, ◌+◌, ◌-◌, ◌^◌, ◌++◌, length, map, All, encode_utf8_all, IfOk, OnOk};
+ghost use Rattle.std.specs.Prelude.{◌≡◌, ◌≤◌, ◌+◌, ◌-◌, ◌^◌, ◌++◌, [], ◌∷◌, length, map, All, encode_utf8_all, IfOk, OnOk};
 ghost use Rattle.face_api.specs.Faces.{faces_of};
 ghost use Rattle.cluster_units.specs.Laws.{AreInOrder};
 ghost use Rattle.cluster_units.specs.Unit.{is_vertical};
@@ -80,52 +80,49 @@ fn add_runs(
     for i in 0..units.len() {
         let unit = units[i];
         add_controls(parts, &own[at..unit.first], upright)?;
-        parts.push(run_of(alloc, arena, text, letters, unit, faces)?)?;
+        add_run(alloc, arena, parts, text, letters, unit, faces)?;
         at = unit.end;
     }
     add_controls(parts, &own[at..], upright)?;
     Ok(())
 }
 
-// The part of a unit or of a combined run.
-fn run_of(
+// Adds the part of a unit or of a combined run.
+fn add_run(
     alloc: Global,
     arena: &Bump,
+    parts: &mut Parts,
     text: Text,
     letters: &[Letter],
     unit: Unit,
     faces: &Faces,
-) -> Result<Part, AllocError>
+) -> Result<(), AllocError>
     requires order { unit.first ≤ unit.end }
     requires within { text.span.from + unit.end ≤ length letters.now }
     requires bytes { length (encode_utf8_all (chars_of (letters_at letters.now (span_of text.span.from unit)))) ≤ 1048576 }
     requires size { IsFontSize text.style.now }
-    ensures { IfOk result (λ part. part ≡ stored_run (faces_of ⟦<dyn Face as Face>⟧ faces.now) letters.now text.entry.source text.entry.node text.entry.style.now text.entry.span.from unit) }
+    ensures { OnOk result (parts.new.items ≡ parts.old.items ++ stored_run (faces_of ⟦<dyn Face as Face>⟧ faces.now) letters.now text.entry.source text.entry.node text.entry.style.now text.entry.span.from unit ∷ []) }
 {
+    let span = span_of(text.span.from, unit);
     if unit.kind == UnitKind::Combined {
-        let span = span_of(text.span.from, unit);
-        let glyphs = inside(
-            alloc,
-            arena,
-            &letters[span.from..span.to],
-            text.style,
-            faces,
-        )?;
-        return Ok(Part::Combined {
+        let own = &letters[span.from..span.to];
+        parts.push(Part::Combined {
             source: text.source,
             node: text.node,
             unit,
             letters: span,
-            inside: glyphs,
-        });
+            inside: inside(alloc, arena, own, text.style, faces)?,
+        })?;
+    } else {
+        parts.push(Part::Unit {
+            source: text.source,
+            node: text.node,
+            upright: sets_upright(text.style),
+            unit,
+            letters: span,
+        })?;
     }
-    Ok(Part::Unit {
-        source: text.source,
-        node: text.node,
-        upright: sets_upright(text.style),
-        unit,
-        letters: span_of(text.span.from, unit),
-    })
+    Ok(())
 }
 
 // Where the characters of a unit stand, in a text whose own begin at this place.

@@ -6,8 +6,8 @@ use Rattle.para_prepare.proofs.content.all_parts.Goals as goal
 
 pub loop-i-init : goal.loop-i-init
 loop-i-init g c =
-    let none = c.new-parts.ensures.items in
-    let few : length c.new-parts.result.items ≡ 0 = ap length none in (
+    let none = c.in_ok-parts.ensures.items in
+    let few : length c.in_ok-parts.parts.items ≡ 0 = ap length none in (
       begun _ _ c.args.letters.now c.args.ends.now _ c.requires.letters c.requires.ends (ap (parts_of c.args.letters.now) none),
       subst (All (IsSound (length c.args.letters.now))) (sym none) (λ k d lt. absurd (omega arith)),
       omega arith,

@@ -12,9 +12,9 @@ loop-item-init c =
     let marks = c.in_ok-marks.marks.items in
     let count : length marks ≡ length (signs entries) = ap length c.in_ok-marks.ensures ∙ one_mark_each entries in (
       omega arith,
-      ap (λ letters. letters ++ joined (kept_from entries marks)) c.new-letters.ensures.items,
-      ap (λ ends. ends ++ ends_from (length c.new-letters.result.items) (kept_from entries marks)) c.new-ends.ensures.items
-          ∙ ap (λ letters. ends_from (length letters) (kept_from entries marks)) c.new-letters.ensures.items,
+      ap (λ letters. letters ++ joined (kept_from entries marks)) c.in_ok-letters.ensures.items,
+      ap (λ ends. ends ++ ends_from (length c.in_ok-letters.letters.items) (kept_from entries marks)) c.in_ok-ends.ensures.items
+          ∙ ap (λ letters. ends_from (length letters) (kept_from entries marks)) c.in_ok-letters.ensures.items,
     )
 
 pub returns-clause-letters : goal.returns-clause-letters
