@@ -6,6 +6,7 @@ pub mod Fragments
 pub mod Hanging
 pub mod Leaf
 pub mod Lengths
+pub mod LevelZero
 pub mod Lists
 pub mod MarkLaws
 pub mod PairLaws

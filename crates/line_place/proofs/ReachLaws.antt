@@ -68,7 +68,7 @@ hanging_reach : (place level : ℕ) (item : Item) (hangs : Bool) → leaf_reach 
 hanging_reach place level item true = omega arith
 hanging_reach place level item false = omega arith
 
-from_reach : (place : ℕ) (levels : List ℕ) (items : List Item) → total leaf_reach (leaves_from place levels items) ≤ total item_reach items
+pub from_reach : (place : ℕ) (levels : List ℕ) (items : List Item) → total leaf_reach (leaves_from place levels items) ≤ total item_reach items
 from_reach place [] items = omega arith
 from_reach place (level ∷ levels) [] = omega arith
 from_reach place (level ∷ levels) (item ∷ items) =
@@ -76,7 +76,7 @@ from_reach place (level ∷ levels) (item ∷ items) =
     let h = from_reach (place + 1) levels items in
     omega (arith, one, h)
 
-from_length : (place : ℕ) (levels : List ℕ) (items : List Item) → length levels ≡ length items → length (leaves_from place levels items) ≡ length items
+pub from_length : (place : ℕ) (levels : List ℕ) (items : List Item) → length levels ≡ length items → length (leaves_from place levels items) ≡ length items
 from_length place [] [] same = refl
 from_length place [] (item ∷ items) same = absurd (omega (arith, same))
 from_length place (level ∷ levels) [] same = absurd (omega (arith, same))

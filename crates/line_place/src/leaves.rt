@@ -1,12 +1,14 @@
 //! The items of a line from line-left (CSS Text 3, 4.1.2; UAX 9, 3.4).
 
-ghost use Rattle.std.specs.Prelude.{◌≡◌, ℕ, ◌<◌, ◌≤◌, leb, length, map, drop, slice_get, Some, IfOk};
+ghost use Rattle.std.specs.Prelude.{◌≡◌, ◌==◌, ◌&&◌, ℕ, ◌<◌, ◌≤◌, leb, length, map, drop, slice_get, Some, IfOk};
+ghost use Rattle.std.specs.List.{list_all};
 ghost use Rattle.line_place.specs.Leaves.{are_spaces, leaf_of, seen, leaves, leaves_from, levels_of};
 ghost use Rattle.line_place.specs.Line.{item_of, line_of};
 ghost use Rattle.line_place.specs.Reach.{item_reach, leaf_reach, total};
 
 use crate::line::{LineContent, LineInput, LineItem};
 use bidi_explicit::{ClassList, LevelList};
+use bidi_order::laws::level_zero_stays;
 use bidi_order::{reset, visual_order};
 use std::alloc::{AllocError, Global};
 
@@ -45,8 +47,58 @@ impl Leaf<'_> {
 }
 
 /// The items of a line from line-left.
-#[tactic(auto, unfolding(crate::specs::Leaves::leaves))]
 pub(crate) fn leaves<'a>(alloc: Global, line: &'a LineInput) -> Result<Leaves<'a>, AllocError>
+    ensures are { IfOk result (λ made. map leaf_of made.items ≡ leaves (line_of line.now)) }
+    ensures reach { IfOk result (λ made. total leaf_reach (map leaf_of made.items) ≤ total item_reach (line_of line.now).items) }
+{
+    if is_level_zero(line) {
+        level_zero_stays();
+        let leaves = leaves_in_order(alloc, &line.items)?;
+        Ok(leaves)
+    } else {
+        let leaves = ordered_leaves(alloc, line)?;
+        Ok(leaves)
+    }
+}
+
+// Whether each item has level 0, which is the base level too: then L1 changes no level, and L2 turns nothing round.
+fn is_level_zero(line: &LineInput) -> bool
+    ensures { result ≡ (line.now.base == 0 && list_all (λ item. item.level == 0) line.now.items.items) }
+{
+    line.base == 0 && are_level_zero(&line.items)
+}
+
+fn are_level_zero(items: &[LineItem]) -> bool
+    ensures { result ≡ list_all (λ item. item.level == 0) items.now }
+{
+    items.iter().all(
+        |item| -> bool
+            ensures { result ≡ (item.now.level == 0) }
+        { item.level == 0 },
+    )
+}
+
+// The items in their own order, with their own levels.
+fn leaves_in_order<'a>(alloc: Global, items: &'a [LineItem]) -> Result<Leaves<'a>, AllocError>
+    ensures { IfOk result (λ made. map leaf_of made.items ≡ leaves_from 0 (map (λ item. item.level) (map item_of items.now)) (map item_of items.now)) }
+{
+    let hanging = hanging_from(items);
+    let mut leaves = Vec::with_capacity(alloc, items.len())?;
+    for place in 0..items.len() {
+        let item = &items[place];
+        leaves.push(Leaf {
+            item,
+            place,
+            level: item.level,
+            hangs: place >= hanging,
+        })?;
+    }
+    Ok(leaves)
+}
+
+// The items by L1 and L2, whatever their levels.
+#[tactic(auto, unfolding(crate::specs::Leaves::leaves))]
+fn ordered_leaves<'a>(alloc: Global, line: &'a LineInput) -> Result<Leaves<'a>, AllocError>
     ensures are { IfOk result (λ made. map leaf_of made.items ≡ leaves (line_of line.now)) }
     ensures reach { IfOk result (λ made. total leaf_reach (map leaf_of made.items) ≤ total item_reach (line_of line.now).items) }
 {

@@ -3,7 +3,7 @@ use Rattle.std.specs.Prelude.{slice_get}
 use Rattle.std.specs.List.{filter_map}
 use Rattle.line_place.specs.Line.{item_of}
 use Rattle.line_place.specs.Leaves.{leaf_of, leaves_from}
-use Rattle.line_place.proofs.leaves.leaves.Given as goal
+use Rattle.line_place.proofs.leaves.ordered_leaves.Given as goal
 
 abbrev pub invariant-loop-place : goal.invariant-loop-place
 invariant-loop-place l =
