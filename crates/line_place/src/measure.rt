@@ -1,7 +1,7 @@
 //! How wide a line is, where its content starts, and how far it reaches over and under its baseline (CSS 2, 8.3, 10.8 and
 //! 16.2).
 
-ghost use Rattle.std.specs.Prelude.{◌≡◌, ◌+◌, ◌<◌, ◌≤◌, ◌^◌, ◌-ℤ◌, length, map, unsigned_abs};
+ghost use Rattle.std.specs.Prelude.{◌≡◌, ◌+◌, ◌<◌, ◌≤◌, ◌^◌, ◌-ℤ◌, true, ℤ, pos, length, map, unsigned_abs};
 ghost use Rattle.std.specs.Int.{int_max};
 ghost use Rattle.std.specs.List.{flat_map, fold};
 ghost use Rattle.line_place.specs.Leaves.{leaf_of, seen};
@@ -127,6 +127,16 @@ pub(crate) fn width(boxes: &[LineBox], marks: &[Mark]) -> i64
         width += advance(boxes, &marks[from]);
     }
     width
+}
+
+/// Whether the content of a line starts at line-left, however much is left of the available size.
+pub(crate) fn starts_at_left(align: Align, base: u8) -> bool
+    ensures { result ≡ true → (rest : ℤ) → rule.offset align base rest ≡ pos 0 }
+{
+    match align {
+        Align::Start | Align::Left => base == 0,
+        Align::End | Align::Right | Align::Center => false,
+    }
 }
 
 /// Where the content of a line starts from line-left, where that much is left of the available size (CSS 2, 16.2).

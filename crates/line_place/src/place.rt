@@ -12,7 +12,7 @@ ghost use Rattle.line_place.specs.Reach.{AreInBoxes, AreInLimit, AreNested, AreO
 use crate::leaves::leaves;
 use crate::line::LineInput;
 use crate::marks::{Mark, marks};
-use crate::measure::{line_over, line_under, offset, width};
+use crate::measure::{line_over, line_under, offset, starts_at_left, width};
 use crate::walk::walked;
 use std::alloc::{AllocError, Global};
 use style_types::LineFragment;
@@ -53,8 +53,22 @@ fn of_marks(alloc: Global, line: &LineInput, marks: &[Mark]) -> Result<LineFragm
 {
     let over = line_over(&line.boxes, line.strut.over, marks);
     let under = line_under(&line.boxes, line.strut.under, marks);
-    let rest = line.available - width(&line.boxes, marks);
-    let at = offset(line.align, line.base, rest);
+    let at = content_start(line, marks);
     let parts = walked(alloc, line, over, at, marks)?;
     Ok(LineFragment { over, under, parts })
+}
+
+// Where the content of a line with these marks starts from line-left. Most lines start there whatever their width is.
+fn content_start(line: &LineInput, marks: &[Mark]) -> i64
+    requires of_boxes { AreOfBoxes (length line.now.boxes.items) (map mark_of marks.now) }
+    requires reach { unsigned_abs line.now.available + total (mark_reach line.now.boxes.items) (map mark_of marks.now) ≤ 2 ^ 60 }
+    ensures is { result ≡ rule.offset line.now.align line.now.base (line.now.available -ℤ rule.width line.now.boxes.items (map mark_of marks.now)) }
+    ensures near { unsigned_abs result ≤ 2 ^ 60 }
+{
+    if starts_at_left(line.align, line.base) {
+        0
+    } else {
+        let rest = line.available - width(&line.boxes, marks);
+        offset(line.align, line.base, rest)
+    }
 }

@@ -1,4 +1,4 @@
-use Rattle.std.proofs.Common.{◌≡◌, ◌∙◌, ap, arith, ◌≤◌, ◌^◌, List, map, ℤ, ◌-ℤ◌, unsigned_abs, to_z, of_z, w64}
+use Rattle.std.proofs.Common.{◌≡◌, ◌∙◌, ap, arith, List, map, ℤ, to_z, of_z, w64}
 use Rattle.std.specs.Int.{int_max}
 use Rattle.std.specs.List.{flat_map, fold}
 use Rattle.std.proofs.lemmas.Int.{ints}
@@ -6,15 +6,9 @@ use Rattle.line_place.specs.declared.line.LineBox.{LineBox}
 use Rattle.line_place.specs.Line.{line_of}
 use Rattle.line_place.specs.Marks.{mark_of}
 use Rattle.line_place.specs.Placing as rule
-use Rattle.line_place.specs.Reach.{mark_reach, total}
-use Rattle.line_place.proofs.Lengths.{difference_held, held}
+use Rattle.line_place.proofs.Lengths.{held}
 use Rattle.line_place.proofs.PlaceLaws.{over_close, under_close}
 use Rattle.line_place.proofs.place.of_marks.Goals as goal
-
-pub overflow_sub-rest : goal.overflow_sub-rest
-overflow_sub-rest c =
-    let t = ap (λ (bs : List LineBox). total (mark_reach bs) (map mark_of c.args.marks.now)) c.deref-3.ensures.value in
-    omega (arith, ints, t, c.width.ensures.near, c.requires.reach)
 
 pub walked-requires-clause-over : goal.walked-requires-clause-over
 walked-requires-clause-over c =
@@ -24,11 +18,6 @@ walked-requires-clause-over c =
     ∙ ap (λ (bs : List LineBox). fold int_max c.args.line.now.strut.over (flat_map (rule.over_of bs) (map mark_of c.args.marks.now))) c.deref.ensures.value in
     let k = over_close c.args.line.now.boxes.items (map mark_of c.args.marks.now) c.args.line.now.strut.over c.requires.of_boxes c.requires.boxes (omega (arith, c.requires.reach)) (omega (arith, c.requires.strut)) in
     omega (arith, ints, o, k)
-
-pub walked-requires-clause-at : goal.walked-requires-clause-at
-walked-requires-clause-at c =
-    let t = ap (λ (bs : List LineBox). total (mark_reach bs) (map mark_of c.args.marks.now)) c.deref-3.ensures.value in
-    omega (arith, ints, t, c.width.ensures.near, c.offset-at.ensures.near, c.requires.reach)
 
 pub returns-clause-over : goal.returns-clause-over
 returns-clause-over c =
@@ -64,11 +53,6 @@ returns-clause-near c =
 
 pub returns-clause-parts : goal.returns-clause-parts
 returns-clause-parts c =
-    let t = ap (λ (bs : List LineBox). total (mark_reach bs) (map mark_of c.args.marks.now)) c.deref-3.ensures.value in
-    let w : c.width.result ≡ rule.width c.args.line.now.boxes.items (map mark_of c.args.marks.now) = c.width.ensures.is ∙ ap (λ (bs : List LineBox). rule.width bs (map mark_of c.args.marks.now)) c.deref-3.ensures.value in
-    let a : unsigned_abs c.args.line.now.available ≤ 2 ^ 61 = omega (arith, c.requires.reach) in
-    let b : unsigned_abs c.width.result ≤ 2 ^ 61 = omega (arith, t, c.width.ensures.near, c.requires.reach) in
-    let r = difference_held c.args.line.now.available c.width.result a b ∙ ap (λ (z : ℤ). c.args.line.now.available -ℤ z) w in
     c.in_ok-parts.ensures
     ∙ ap (λ (x : ℤ). rule.outermost (rule.rows (line_of c.args.line.now) (to_z w64 (of_z w64 c.line_over-over.result)) x (map mark_of c.args.marks.now)))
-    (held c.offset-at.result (omega (arith, ints, t, c.width.ensures.near, c.offset-at.ensures.near, c.requires.reach)) ∙ c.offset-at.ensures.is ∙ ap (rule.offset c.args.line.now.align c.args.line.now.base) r)
+    (held c.content_start-at.result (omega (arith, c.content_start-at.ensures.near)) ∙ c.content_start-at.ensures.is)
