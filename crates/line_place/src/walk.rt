@@ -160,18 +160,19 @@ fn span(alloc: Global, node: u32, rect: FlowRect, parts: Fragments) -> Result<Fr
     })
 }
 
-// Units of text side by side, from `left` on.
+// Units of text side by side, from `left` on, which have this extent.
 fn text(
     alloc: Global,
     line: &LineInput,
     over: i64,
     left: i64,
     run: &[Leaf],
+    extent: i64,
     named: &TextName,
 ) -> Result<Fragment, AllocError>
     requires some { 0 < length run.now }
     requires inside { IsBefore (length line.now.boxes.items) (inside_of (map leaf_of run.now)) }
-    requires run { total leaf_reach (map leaf_of run.now) ≤ 2 ^ 60 }
+    requires extent { extent ≡ rule.extent_of (map leaf_of run.now) }
     requires extents { extents_reach (rule.extents_in (line_of line.now) (inside_of (map leaf_of run.now))) ≤ 2 ^ 60 }
     requires over { unsigned_abs over ≤ 2 ^ 61 }
     ensures { IfOk result (λ made. (next : Pieces) → before made next ≡ rule.text_piece (line_of line.now) over left named.now.node named.now.form named.now.natural (map leaf_of run.now) next) }
@@ -180,7 +181,7 @@ fn text(
     let units = units_of(alloc, run)?;
     let kind = run_kind(alloc, named, level, units)?;
     let extents = extents_in(line, inside);
-    let rect = text_rect(extents, over, left, extent_of(run));
+    let rect = text_rect(extents, over, left, extent);
     let made = without_inner(alloc, unnumbered(named.node), rect, kind)?;
     Ok(made)
 }
@@ -241,17 +242,19 @@ fn atom(
     Ok(made)
 }
 
-// What a run of leaves shows, from `left` on.
+// What a run of leaves with this extent shows, from `left` on.
 fn shown(
     alloc: Global,
     line: &LineInput,
     over: i64,
     left: i64,
     run: &[Leaf],
+    extent: i64,
 ) -> Result<Option<Fragment>, AllocError>
     requires some { 0 < length run.now }
     requires inside { IsBefore (length line.now.boxes.items) (inside_of (map leaf_of run.now)) }
     requires run { total leaf_reach (map leaf_of run.now) ≤ 2 ^ 60 }
+    requires extent { extent ≡ rule.extent_of (map leaf_of run.now) }
     requires extents { extents_reach (rule.extents_in (line_of line.now) (inside_of (map leaf_of run.now))) ≤ 2 ^ 60 }
     requires over { unsigned_abs over ≤ 2 ^ 61 }
     requires left { unsigned_abs left ≤ 2 ^ 61 }
@@ -264,7 +267,7 @@ fn shown(
                 form: *form,
                 natural: None,
             };
-            let made = text(alloc, line, over, left, run, &named)?;
+            let made = text(alloc, line, over, left, run, extent, &named)?;
             Ok(Some(made))
         }
         Some(LineContent::Combined { node, natural, .. }) => {
@@ -273,7 +276,7 @@ fn shown(
                 form: UnitKind::Combined,
                 natural: Some(*natural),
             };
-            let made = text(alloc, line, over, left, run, &named)?;
+            let made = text(alloc, line, over, left, run, extent, &named)?;
             Ok(Some(made))
         }
         Some(
@@ -462,9 +465,10 @@ impl Walk {
         ensures opened { OnOk result (self.new.opened ≡ self.old.opened) }
         ensures parts { OnOk result ((next : Pieces) → followed self.new.parts.items next ≡ followed self.old.parts.items (rule.run_piece (line_of line.now) over self.old.at (map leaf_of run.now) next)) }
     {
-        let made = shown(alloc, line, over, self.at, run)?;
+        let extent = extent_of(run);
+        let made = shown(alloc, line, over, self.at, run, extent)?;
         add_shown(&mut self.parts, made)?;
-        self.at += extent_of(run);
+        self.at += extent;
         Ok(())
     }
 }

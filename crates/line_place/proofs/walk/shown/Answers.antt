@@ -7,6 +7,13 @@ use Rattle.std.proofs.lemmas.List.{length-map}
 use Rattle.line_place.proofs.Fragments.{first_what, run_by}
 use Rattle.line_place.proofs.walk.shown.Goals as goal
 
+pub returns-in_ok-made-in-Some-Unit : goal.returns-in_ok-made-in-Some-Unit
+returns-in_ok-made-in-Some-Unit c next =
+    let o : to_z w64 (of_z w64 c.args.over) ≡ c.args.over = omega (arith, ints) in
+    let l : to_z w64 (of_z w64 c.args.left) ≡ c.args.left = omega (arith, ints) in
+    let h = first_what c.args.run.now c.index-run-0.result c.requires.some ∙ ap (λ (leaf : code.Leaf). (leaf_of leaf).what) (sym c.index-run-0.is) ∙ sym c.in-Some-Unit.ensures ∙ ap content_of c.in-Some-Unit.field-0-is in
+    c.in_ok-made-in-Some-Unit.ensures next ∙ rw (o, l) (run_by (line_of c.args.line.now) c.args.over c.args.left (map leaf_of c.args.run.now) next _ h (omega (arith, length-map c.args.run.now leaf_of, c.requires.some)))
+
 pub returns-in_ok-made-in-Some-Combined : goal.returns-in_ok-made-in-Some-Combined
 returns-in_ok-made-in-Some-Combined c next =
     let o : to_z w64 (of_z w64 c.args.over) ≡ c.args.over = omega (arith, ints) in
