@@ -1,4 +1,5 @@
 mod Examples
+pub mod AtomLaws
 pub mod Chains
 pub mod EdgeLaws
 pub mod FragmentLaws

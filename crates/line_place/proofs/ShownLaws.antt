@@ -89,7 +89,7 @@ between_each R boxes one other =
     each_append (IsShown R) (map (λ p. ends p false) (left_behind boxes one other)) (map (λ p. begins p false) (reverse (left_behind boxes other one)))
     (ends_each R (left_behind boxes one other)) (begins_each R (reverse (left_behind boxes other one)))
 
-after_each : (R : List Leaf → Type 0) (boxes : List LineBox) (inside : Option ℕ) (rs : List (List Leaf)) → Each R rs → Each (IsShown R) (marks_after boxes inside rs)
+pub after_each : (R : List Leaf → Type 0) (boxes : List LineBox) (inside : Option ℕ) (rs : List (List Leaf)) → Each R rs → Each (IsShown R) (marks_after boxes inside rs)
 after_each R boxes inside [] h = between_each R boxes inside None
 after_each R boxes inside (run ∷ rs) h =
     each_append (IsShown R) (between boxes inside (inside_of run)) (shows run ∷ marks_after boxes (inside_of run) rs) (between_each R boxes inside (inside_of run))
@@ -105,11 +105,11 @@ right_one R after (begins p edge) h = tt
 right_one R after (ends p edge) h = tt
 right_one R after (shows run) h = h
 
-left_each : (R : List Leaf → Type 0) (before marks : List Mark) → Each (IsShown R) marks → Each (IsShown R) (leftmost before marks)
+pub left_each : (R : List Leaf → Type 0) (before marks : List Mark) → Each (IsShown R) marks → Each (IsShown R) (leftmost before marks)
 left_each R before [] h = tt
 left_each R before (m ∷ marks) h = (left_one R before m h.0, left_each R (before ++ m ∷ []) marks h.1)
 
-right_each : (R : List Leaf → Type 0) (marks : List Mark) → Each (IsShown R) marks → Each (IsShown R) (rightmost marks)
+pub right_each : (R : List Leaf → Type 0) (marks : List Mark) → Each (IsShown R) marks → Each (IsShown R) (rightmost marks)
 right_each R [] h = tt
 right_each R (m ∷ marks) h = (right_one R marks m h.0, right_each R marks h.1)
 

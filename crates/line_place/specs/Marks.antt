@@ -1,12 +1,12 @@
 -- A line from line-left as a row of marks: where an inline box begins, where one ends, and what stands there. CSS 2, 9.4.2.
-use Rattle.std.specs.Prelude.{ℕ, zero, suc, Bool, false, not, ◌==◌, cond, List, [], ◌∷◌, ◌++◌, map, reverse, Option, Some, None, length, slice_index_or}
+use Rattle.std.specs.Prelude.{ℕ, zero, suc, ⊤, Bool, false, not, ◌==◌, cond, List, [], ◌∷◌, ◌++◌, map, reverse, Option, Some, None, length, slice_index_or}
 use Rattle.std.specs.List.{filter, list_any}
 use Rattle.line_place.specs.declared.marks.Mark as code
 use Rattle.line_place.specs.declared.marks.Mark.TheVariants as codes
 use Rattle.line_place.specs.declared.line.LineBox.{LineBox}
 use Rattle.line_place.specs.Line.{no_box, Line}
 use Rattle.line_place.specs.Leaves.{Leaf, leaf_of, leaves}
-use Rattle.line_place.specs.Runs.{runs, is_place}
+use Rattle.line_place.specs.Runs.{HasAtomFirst, runs, is_place}
 
 -- a fragment of a box, by the box's place, begins or ends: `edge` says that it is the leftmost one where it begins, and the
 -- rightmost one where it ends
@@ -89,3 +89,13 @@ abbrev pub mark_of : code.Mark → Mark
 mark_of (codes.Begins p edge) = begins p edge
 mark_of (codes.Ends p edge) = ends p edge
 mark_of (codes.Shows run) = shows (map leaf_of run.now)
+
+-- in each run that is shown only the first leaf can be an atom
+abbrev pub ShowsAtomFirst : Mark → Type 0
+ShowsAtomFirst (begins p edge) = ⊤
+ShowsAtomFirst (ends p edge) = ⊤
+ShowsAtomFirst (shows run) = HasAtomFirst run
+
+abbrev pub ShowAtomsFirst : List Mark → Type 0
+ShowAtomsFirst [] = ⊤
+ShowAtomsFirst (mark ∷ marks) = ShowsAtomFirst mark × ShowAtomsFirst marks

@@ -1,8 +1,8 @@
 -- Runs of text: units that stand side by side on a line and follow each other in the text.
-use Rattle.std.specs.Prelude.{ℕ, ◌+◌, ◌%◌, Bool, true, false, ◌&&◌, ◌==◌, cond, List, [], ◌∷◌, Option, Some, None}
+use Rattle.std.specs.Prelude.{ℕ, ◌+◌, ◌%◌, ⊤, Bool, true, false, ◌&&◌, ◌==◌, cond, List, [], ◌∷◌, Option, Some, None}
 use Rattle.style_types.specs.declared.unit_kind.UnitKind.{UnitKind}
 use Rattle.style_types.specs.declared.unit_kind.UnitKind.TheVariants.{Along, Turned, Upright, Combined}
-use Rattle.line_place.specs.Line.{Content, unit}
+use Rattle.line_place.specs.Line.{Content, unit, combined, atom, nothing}
 use Rattle.line_place.specs.Leaves.{Leaf}
 
 abbrev pub is_form : UnitKind → UnitKind → Bool
@@ -39,3 +39,19 @@ joined leaf ((next ∷ run) ∷ runs) = cond (goes_on leaf next) ((leaf ∷ next
 abbrev pub runs : List Leaf → List (List Leaf)
 runs [] = []
 runs (leaf ∷ leaves) = joined leaf (runs leaves)
+
+-- what is no atom
+abbrev pub IsNoAtom : Content → Type 0
+IsNoAtom (unit node first end_ form glyphs) = ⊤
+IsNoAtom (combined node first end_ natural glyphs) = ⊤
+IsNoAtom (atom fragment left_margin over_margin over under) = ⊥
+IsNoAtom nothing = ⊤
+
+abbrev pub HaveNoAtom : List Leaf → Type 0
+HaveNoAtom [] = ⊤
+HaveNoAtom (leaf ∷ leaves) = IsNoAtom leaf.what × HaveNoAtom leaves
+
+-- no atom stands behind the first leaf of a run
+abbrev pub HasAtomFirst : List Leaf → Type 0
+HasAtomFirst [] = ⊤
+HasAtomFirst (leaf ∷ leaves) = HaveNoAtom leaves

@@ -5,8 +5,9 @@ ghost use Rattle.std.specs.Prelude.{◌≡◌, ◌+◌, ◌<◌, ◌≤◌, ◌^
 ghost use Rattle.std.specs.Int.{int_max};
 ghost use Rattle.std.specs.List.{flat_map, fold};
 ghost use Rattle.line_place.specs.Leaves.{leaf_of, seen};
-ghost use Rattle.line_place.specs.Marks.{box_at, mark_of};
+ghost use Rattle.line_place.specs.Marks.{ShowAtomsFirst, ShowsAtomFirst, box_at, mark_of};
 ghost use Rattle.line_place.specs.Placing as rule;
+ghost use Rattle.line_place.specs.Runs.{HasAtomFirst};
 ghost use Rattle.line_place.specs.Reach.{AreOfBoxes, IsOfBox, box_reach, leaf_reach, left_reach, mark_reach, right_reach, total};
 
 use crate::leaves::Leaf;
@@ -181,7 +182,8 @@ fn at_end(base: u8, rest: i64) -> i64
 
 /// How far a line reaches over its baseline: as far as the strut, its inline boxes and its atoms do (CSS 2, 10.8.1).
 pub(crate) fn line_over(boxes: &[LineBox], strut: i64, marks: &[Mark]) -> i64
-    requires { AreOfBoxes (length boxes.now) (map mark_of marks.now) }
+    requires atoms { ShowAtomsFirst (map mark_of marks.now) }
+    requires of_boxes { AreOfBoxes (length boxes.now) (map mark_of marks.now) }
     ensures { result ≡ fold int_max strut (flat_map (rule.over_of boxes.now) (map mark_of marks.now)) }
 {
     let mut over = strut;
@@ -193,7 +195,8 @@ pub(crate) fn line_over(boxes: &[LineBox], strut: i64, marks: &[Mark]) -> i64
 
 /// How far a line reaches under its baseline (CSS 2, 10.8.1).
 pub(crate) fn line_under(boxes: &[LineBox], strut: i64, marks: &[Mark]) -> i64
-    requires { AreOfBoxes (length boxes.now) (map mark_of marks.now) }
+    requires atoms { ShowAtomsFirst (map mark_of marks.now) }
+    requires of_boxes { AreOfBoxes (length boxes.now) (map mark_of marks.now) }
     ensures { result ≡ fold int_max strut (flat_map (rule.under_of boxes.now) (map mark_of marks.now)) }
 {
     let mut under = strut;
@@ -204,7 +207,8 @@ pub(crate) fn line_under(boxes: &[LineBox], strut: i64, marks: &[Mark]) -> i64
 }
 
 fn with_over(boxes: &[LineBox], over: i64, mark: &Mark) -> i64
-    requires { IsOfBox (length boxes.now) (mark_of mark.now) }
+    requires atoms { ShowsAtomFirst (mark_of mark.now) }
+    requires of_box { IsOfBox (length boxes.now) (mark_of mark.now) }
     ensures { result ≡ fold int_max over (rule.over_of boxes.now (mark_of mark.now)) }
 {
     match mark {
@@ -215,7 +219,8 @@ fn with_over(boxes: &[LineBox], over: i64, mark: &Mark) -> i64
 }
 
 fn with_under(boxes: &[LineBox], under: i64, mark: &Mark) -> i64
-    requires { IsOfBox (length boxes.now) (mark_of mark.now) }
+    requires atoms { ShowsAtomFirst (mark_of mark.now) }
+    requires of_box { IsOfBox (length boxes.now) (mark_of mark.now) }
     ensures { result ≡ fold int_max under (rule.under_of boxes.now (mark_of mark.now)) }
 {
     match mark {
@@ -225,22 +230,27 @@ fn with_under(boxes: &[LineBox], under: i64, mark: &Mark) -> i64
     }
 }
 
-fn with_atoms_over(mut over: i64, run: &[Leaf]) -> i64
+// An atom stands in a run of its own.
+fn with_atoms_over(over: i64, run: &[Leaf]) -> i64
+    requires { HasAtomFirst (map leaf_of run.now) }
     ensures { result ≡ fold int_max over (flat_map (λ leaf. rule.atom_over leaf.what) (map leaf_of run.now)) }
 {
-    for leaf in run {
-        over = with_atom_over(over, leaf.what());
+    if run.is_empty() {
+        over
+    } else {
+        with_atom_over(over, run[0].what())
     }
-    over
 }
 
-fn with_atoms_under(mut under: i64, run: &[Leaf]) -> i64
+fn with_atoms_under(under: i64, run: &[Leaf]) -> i64
+    requires { HasAtomFirst (map leaf_of run.now) }
     ensures { result ≡ fold int_max under (flat_map (λ leaf. rule.atom_under leaf.what) (map leaf_of run.now)) }
 {
-    for leaf in run {
-        under = with_atom_under(under, leaf.what());
+    if run.is_empty() {
+        under
+    } else {
+        with_atom_under(under, run[0].what())
     }
-    under
 }
 
 fn with_atom_over(over: i64, what: Option<&LineContent>) -> i64

@@ -5,7 +5,7 @@ ghost use Rattle.std.specs.Int.{int_max};
 ghost use Rattle.std.specs.List.{All, flat_map, fold};
 ghost use Rattle.style_types.specs.Fragment.{pieces_of};
 ghost use Rattle.line_place.specs.Line.{line_of};
-ghost use Rattle.line_place.specs.Marks.{mark_of};
+ghost use Rattle.line_place.specs.Marks.{ShowAtomsFirst, mark_of};
 ghost use Rattle.line_place.specs.Placing as rule;
 ghost use Rattle.line_place.specs.Reach.{AreInBoxes, AreInLimit, AreNested, AreOfBoxes, ArePaired, AreReached, HasLimit, IsAtomic, IsBefore, extents_reach, line_reach, mark_reach, total};
 
@@ -41,6 +41,7 @@ pub fn place_line(alloc: Global, line: &LineInput) -> Result<LineFragment, Alloc
 fn of_marks(alloc: Global, line: &LineInput, marks: &[Mark]) -> Result<LineFragment, AllocError>
     requires of_boxes { AreOfBoxes (length line.now.boxes.items) (map mark_of marks.now) }
     requires in_boxes { AreInBoxes (length line.now.boxes.items) (map mark_of marks.now) }
+    requires atoms { ShowAtomsFirst (map mark_of marks.now) }
     requires paired { ArePaired 0 (map mark_of marks.now) }
     requires boxes { AreReached line.now.boxes.items }
     requires strut { extents_reach line.now.strut ≤ 2 ^ 60 }

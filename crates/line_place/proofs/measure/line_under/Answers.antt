@@ -2,12 +2,16 @@ use Rattle.std.proofs.Common.{◌≡◌, ◌∙◌, refl, to_z, of_z, w64, rules
 use Rattle.std.proofs.lemmas.Int.{to_z-of_z}
 use Rattle.line_place.specs.Marks.{mark_of}
 use Rattle.line_place.specs.Placing.{under_of}
+use Rattle.line_place.proofs.AtomLaws.{shows_first}
 use Rattle.line_place.proofs.MarkLaws.{of_box}
 use Rattle.line_place.proofs.SumLaws.{more_max}
 use Rattle.line_place.proofs.measure.line_under.Goals as goal
 
-pub with_under-under-requires : goal.with_under-under-requires
-with_under-under-requires c = of_box _ c.loop-mark.mark-index c.args.marks.now _ c.requires c.loop-mark-test.true c.mark-item.is
+pub with_under-under-requires-clause-atoms : goal.with_under-under-requires-clause-atoms
+with_under-under-requires-clause-atoms c = shows_first c.loop-mark.mark-index c.args.marks.now _ c.requires.atoms c.loop-mark-test.true c.mark-item.is
+
+pub with_under-under-requires-clause-of_box : goal.with_under-under-requires-clause-of_box
+with_under-under-requires-clause-of_box c = of_box _ c.loop-mark.mark-index c.args.marks.now _ c.requires.of_boxes c.loop-mark-test.true c.mark-item.is
 
 pub loop-mark-preserved : goal.loop-mark-preserved
 loop-mark-preserved c =

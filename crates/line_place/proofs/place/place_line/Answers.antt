@@ -8,9 +8,10 @@ use Rattle.line_place.specs.declared.leaves.Leaf as code_leaf
 use Rattle.line_place.specs.declared.marks.Mark as code_mark
 use Rattle.line_place.specs.Leaves.{Leaf, leaf_of, leaves}
 use Rattle.line_place.specs.Line.{line_of}
-use Rattle.line_place.specs.Marks.{Mark, mark_of, marks_of}
+use Rattle.line_place.specs.Marks.{Mark, ShowAtomsFirst, mark_of, marks_of}
 use Rattle.line_place.specs.Placing as rule
 use Rattle.line_place.specs.Reach.{AreInBoxes, AreInLimit, AreOfBoxes, ArePaired, AreWithin, leaf_reach, line_reach, mark_reach, total}
+use Rattle.line_place.proofs.AtomLaws.{marks_first}
 use Rattle.line_place.proofs.EdgeLaws.{marks_reach}
 use Rattle.line_place.proofs.FragmentLaws.{parts_in}
 use Rattle.line_place.proofs.PlaceLaws.{in_limit, leaves_within, marks_are, marks_in, marks_of_boxes, marks_paired, reached}
@@ -41,6 +42,11 @@ of_marks-requires-clause-in_boxes c =
     let P : List Mark → Type 0 = λ ms. AreInBoxes (length c.args.line.now.boxes.items) ms in
     subst P (sym (made c.args.line.now _ _ _ _ _ c.in_ok-marks.ensures c.deref-3.ensures.value c.deref.ensures.value c.deref-2.ensures.value c.in_ok-leaves.ensures.are))
     (marks_in c.args.line.now.boxes.items (leaves (line_of c.args.line.now)) (leaves_within (length c.args.line.now.boxes.items) (line_of c.args.line.now) c.requires.inside))
+
+pub of_marks-requires-clause-atoms : goal.of_marks-requires-clause-atoms
+of_marks-requires-clause-atoms c =
+    subst ShowAtomsFirst (sym (made c.args.line.now _ _ _ _ _ c.in_ok-marks.ensures c.deref-3.ensures.value c.deref.ensures.value c.deref-2.ensures.value c.in_ok-leaves.ensures.are))
+    (marks_first c.args.line.now.boxes.items (leaves (line_of c.args.line.now)))
 
 pub of_marks-requires-clause-paired : goal.of_marks-requires-clause-paired
 of_marks-requires-clause-paired c =
