@@ -1,9 +1,10 @@
 -- The first run of leaves.
-use Rattle.std.proofs.Common.{◌≡◌, ◌∙◌, ap, sym, refl, arith, Bool, true, false, cond, ℕ, zero, suc, ◌+◌, ◌-◌, ◌<◌, List, [], ◌∷◌, length, map, get_or, take, drop, subst}
+use Rattle.std.proofs.Common.{◌≡◌, ◌∙◌, ap, sym, refl, arith, Bool, true, false, not, ◌&&◌, cond, ℕ, zero, suc, ◌+◌, ◌-◌, ◌<◌, List, [], ◌∷◌, length, map, get_or, take, drop, subst}
 use Rattle.std.proofs.lemmas.List.{drop_more, get_or-map, length-map, take-map, drop-map}
 use Rattle.line_place.specs.declared.leaves.Leaf as code
 use Rattle.line_place.specs.Leaves.{Leaf, leaf_of}
-use Rattle.line_place.specs.Runs.{goes_on, joined, runs}
+use Rattle.line_place.specs.Line.{Content, unit, combined, atom, nothing}
+use Rattle.line_place.specs.Runs.{are_alike, goes_on, joined, runs}
 
 -- how many of these leaves go on the run that this one begins
 abbrev pub followers : Leaf → List Leaf → ℕ
@@ -81,3 +82,16 @@ alone (leaf ∷ leaves) (suc n) is = alone leaves n (omega arith)
 
 pub is_last : (leaves : List code.Leaf) (n : ℕ) → 0 < n → n ≡ length leaves → run_size (drop (n - 1) (map leaf_of leaves)) ≡ 1
 is_last leaves n some is = let l = length-map leaves leaf_of in alone (map leaf_of leaves) (n - 1) (omega arith)
+
+-- ---- what hangs isn't seen
+
+none_alike : (w : Content) → are_alike w nothing ≡ false
+none_alike (unit node first end_ form glyphs) = refl
+none_alike (combined node first end_ natural glyphs) = refl
+none_alike (atom fragment left_margin over_margin over under) = refl
+none_alike nothing = refl
+
+pub seen_alike : (a b : Bool) (w v : Content) → are_alike (cond a nothing w) (cond b nothing v) ≡ (not a && not b && are_alike w v)
+seen_alike true b w v = refl
+seen_alike false true w v = none_alike w
+seen_alike false false w v = refl

@@ -1,7 +1,8 @@
 //! Runs of text: units that stand side by side on a line and follow each other in the text.
 
 ghost use Rattle.std.specs.Prelude.{◌≡◌, ◌+◌, ◌<◌, ◌≤◌, [], ◌∷◌, ◌++◌, length, map, take, drop};
-ghost use Rattle.line_place.specs.Leaves.{leaf_of, seen};
+ghost use Rattle.line_place.specs.Leaves.{leaf_of};
+ghost use Rattle.line_place.specs.Line.{content_of};
 ghost use Rattle.line_place.specs.Runs.{are_alike, follows, goes_on, is_form, is_place, runs};
 
 use crate::leaves::Leaf;
@@ -38,26 +39,32 @@ fn run_length(leaves: &[Leaf]) -> usize
 fn goes_on(leaf: &Leaf, next: &Leaf) -> bool
     ensures { result ≡ goes_on (leaf_of leaf.now) (leaf_of next.now) }
 {
-    are_alike(leaf.what(), next.what())
+    are_seen_alike(leaf, next)
         && is_place(leaf.item.inside, next.item.inside)
         && leaf.level == next.level
         && follows(leaf.level, leaf.place, next.place)
 }
 
+// Units of one text node and one form that are seen.
+#[tactic(auto, using(crate::proofs::RunLaws::seen_alike))]
+fn are_seen_alike(leaf: &Leaf, next: &Leaf) -> bool
+    ensures { result ≡ are_alike (leaf_of leaf.now).what (leaf_of next.now).what }
+{
+    !leaf.hangs && !next.hangs && are_alike(&leaf.item.what, &next.item.what)
+}
+
 // Units of one text node and one form.
-fn are_alike(one: Option<&LineContent>, other: Option<&LineContent>) -> bool
-    ensures { result ≡ are_alike (seen one.entry) (seen other.entry) }
+fn are_alike(one: &LineContent, other: &LineContent) -> bool
+    ensures { result ≡ are_alike (content_of one.now) (content_of other.now) }
 {
     match (one, other) {
         (
-            Some(LineContent::Unit { node, form, .. }),
-            Some(
-                LineContent::Unit {
-                    node: other_node,
-                    form: other_form,
-                    ..
-                },
-            ),
+            LineContent::Unit { node, form, .. },
+            LineContent::Unit {
+                node: other_node,
+                form: other_form,
+                ..
+            },
         ) => *node == *other_node && is_form(*form, *other_form),
         _ => false,
     }
