@@ -69,11 +69,12 @@ pub(crate) fn flat_lists<'a>(
     ensures bounds { IfOk result (λ made. All HasBoundsIn made.items.items) }
     ensures count { IfOk result (λ made. length made.items.items ≤ length letters.now + length items.now) }
 {
-    let most = letters.len() + items.len();
+    // Most items are characters of texts, and the ends of boxes are none.
+    let room = letters.len();
     let mut made = FlatLists {
-        items: Vec::with_capacity(alloc, most)?,
-        classes: Vec::with_capacity(alloc, most)?,
-        breaks: Vec::with_capacity(arena, most)?,
+        items: Vec::with_capacity(alloc, room)?,
+        classes: Vec::with_capacity(alloc, room)?,
+        breaks: Vec::with_capacity(arena, room)?,
         flat: true,
     };
     let mut from = 0;
