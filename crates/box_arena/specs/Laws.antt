@@ -1,0 +1,21 @@
+-- What holds of arenas.
+use Rattle.std.specs.Prelude.{◌≡◌, ℕ}
+use Rattle.slab.specs.Slab.{Slab}
+use Rattle.style_types.specs.declared.constraint.Constraint.{Constraint}
+use Rattle.box_gen.specs.Tree.{Boxes}
+use Rattle.box_arena.specs.declared.entry.Entry.{Entry}
+use Rattle.box_arena.specs.At.{Slots, Node, IsAbove, kept_at, links_at}
+use Rattle.box_arena.specs.Boxes.{Stands}
+use Rattle.box_arena.specs.Calls.{Restyles}
+use Rattle.box_arena.specs.Linked.{IsLinked}
+
+-- the same trees stand under a key, and the same is kept for its box: what was right for what stands there still is
+pub record Survives {T : Type 0} (old new : Slots T) (k : ℕ) : Type 0 where
+  pub back : (tree : Boxes) → Stands new k tree → Stands old k tree
+  pub on : (tree : Boxes) → Stands old k tree → Stands new k tree
+  pub kept : (c : Constraint) → kept_at new k c ≡ kept_at old k c
+
+-- a box that is put anew changes nothing but at it and above it
+abbrev pub SurviveRestyle : (T : Type 0) → Type 0
+SurviveRestyle T = (old new : Slab (Entry T)) (key : ℕ) (node : Node) → IsLinked (links_at old.slots) → Restyles old new key node
+    → (k : ℕ) → (IsAbove old.slots k key → ⊥) → Survives old.slots new.slots k

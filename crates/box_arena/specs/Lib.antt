@@ -1,0 +1,9 @@
+pub mod At
+pub mod Boxes
+pub mod Calls
+pub mod Climbing
+pub mod Laws
+pub mod Linked
+pub mod Marks
+pub mod Results
+pub mod Writing

@@ -1,0 +1,8 @@
+//! Laws of arenas. These functions do nothing: their contracts are the laws.
+
+ghost use Rattle.box_arena.specs.Laws.{SurviveRestyle};
+
+/// Where a box isn't the one that is put anew and not above it, the same tree stands after as before, and the same is kept.
+pub fn what_is_kept_survives_a_restyle<T>()
+    ensures { SurviveRestyle T }
+{}

@@ -1,0 +1,15 @@
+//! The arena of boxes: a box tree that is edited in place, with what was laid out for each box and what was prepared of
+//! its text (docs/PROFILE/boxes.md).
+#![tactic(auto)]
+
+mod arena;
+mod climb;
+mod entry;
+mod key;
+pub mod laws;
+mod results;
+mod write;
+
+pub use arena::BoxArena;
+pub use key::BoxKey;
+pub use style_types::Constraint;
