@@ -1,6 +1,6 @@
 -- Where boxes have the same links, what holds of links goes on holding.
-use Rattle.std.proofs.Common.{◌≡◌, ◌∙◌, ℕ, List, [], ◌∷◌, Option, Some, None, IsSome, sym, ap, subst}
-use Rattle.box_arena.specs.Linked.{Linking, Chain, IsIn, IsLinked, behind, ahead, parent_of, first_of, last_of, previous_of, next_of}
+use Rattle.std.proofs.Common.{◌≡◌, ◌∙◌, ℕ, zero, suc, List, [], ◌∷◌, Option, Some, None, IsSome, sym, ap, subst}
+use Rattle.box_arena.specs.Linked.{Linking, Chain, Climbs, IsIn, IsLinked, behind, ahead, parent_of, first_of, last_of, previous_of, next_of}
 
 -- the same links at each key, also where one has no box and the other one with no links
 pub record Alike (s t : Linking) : Type 0 where
@@ -33,9 +33,16 @@ module _ (s t : Linking) (alike : Alike s t) where
   same_ahead p None = alike.lasts p
   same_ahead p (Some k) = alike.previous k
 
+  climbs_alike : (n : ℕ) (from : Option ℕ) (k : ℕ) → Climbs n t from k → Climbs n s from k
+  climbs_alike zero from k is = is
+  climbs_alike (suc n) from k (p, is, rest) =
+      let P : Option ℕ → Type 0 = λ o. Climbs n t o k in
+      (p, is, climbs_alike n (parent_of (s p)) k (subst P (alike.parents p) rest))
+
   pub linked_alike : ((p : ℕ) (k : ℕ) → parent_of (s k) ≡ Some p → IsSome (t p)) → IsLinked s → IsLinked t
   linked_alike live linked = record {
     live = λ k p is. live p k (sym (alike.parents k) ∙ is);
+    acyclic = λ k n climbs. linked.acyclic k n (climbs_alike (suc n) (Some k) k climbs);
     on = λ p o inside.
         let P : Option ℕ → Type 0 = λ n. IsIn t p n in
         subst P (sym (same_behind p o)) (in_after p (behind s p o) (linked.on p o (in_before p o inside)));

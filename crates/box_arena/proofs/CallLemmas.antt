@@ -1,5 +1,5 @@
 -- From the writes of a call to what the call does.
-use Rattle.std.proofs.Common.{◌≡◌, ◌∙◌, ◌≢◌, ℕ, ◌+◌, ◌≤◌, Bool, true, false, [], length, get_or, Option, Some, None, option_map, option_and_then, IsSome, refl, sym, ap, ap₂, subst, arith, inl, inr}
+use Rattle.std.proofs.Common.{◌≡◌, ◌∙◌, ◌≢◌, ℕ, zero, suc, ◌+◌, ◌≤◌, Bool, true, false, [], length, get_or, Option, Some, None, option_map, option_and_then, IsSome, refl, sym, ap, ap₂, subst, arith, inl, inr}
 use Rattle.std.specs.Prelude.{if◌then◌else◌}
 use Rattle.std.proofs.lemmas.Bool.{cases_eq, cases_lt}
 use Rattle.std.proofs.lemmas.List.{get_or_past}
@@ -14,7 +14,7 @@ use Rattle.box_arena.specs.declared.entry.Held.{Held}
 use Rattle.box_arena.specs.declared.entry.Links.{Links}
 use Rattle.box_arena.specs.At.{Slots, Node, IsAbove, IsSound, links_at, mark_at, held_at, node_of, kept_at, marked_at}
 use Rattle.box_arena.specs.Calls.{DropsText, Forgets, IsMarkedUp, IsNew, Keeps, KeepsApart, KeepsText, Marks, Restyles, SameLinks, SameMarks}
-use Rattle.box_arena.specs.Linked.{parent_of, first_of, last_of, previous_of, next_of}
+use Rattle.box_arena.specs.Linked.{Climbs, IsIn, IsLinked, ahead, behind, parent_of, first_of, last_of, previous_of, next_of}
 use Rattle.box_arena.specs.Marks.{IsStill, is_marked, is_seen}
 use Rattle.box_arena.specs.Results.{result_for}
 use Rattle.box_arena.specs.Writing.{ForgetsBelow, OnlyMarks, Puts, WritesHeld, WritesKept, forgotten}
@@ -33,11 +33,47 @@ puts_same f old new key x y was puts same k = elim (cases_eq k key) [
 abbrev no_links : Links
 no_links = record { parent = None; first = None; last = None; previous = None; next = None }
 
+-- no box has a parent
+no_parent : {P : Type 0} (p : ℕ) → None ≡ Some p → P
+no_parent p is = absurd (cc)
+
+no_boxes : IsLinked (λ k. None)
+no_boxes = record {
+  live = λ k p is. no_parent p is;
+  acyclic = λ k n climbs. in_a_climb n climbs;
+  on = λ p o inside. at_end p o inside;
+  off = λ p o inside. at_front p o inside;
+  back = λ p o inside. round p o inside;
+  forth = λ p o inside. round_again p o inside;
+  alone = λ k is. (refl, refl);
+  children = λ p. record { list = []; chain = refl; whole = λ c is. no_parent p is };
+}
+  where
+    in_a_climb : {k : ℕ} (n : ℕ) → Climbs (suc n) (λ j. None) (Some k) k → ⊥
+    in_a_climb zero (p, is, at) = no_parent _ at
+    in_a_climb (suc n) (p, is, (q, at, rest)) = no_parent q at
+
+    at_end : (p : ℕ) (o : Option ℕ) → IsIn (λ j. None) p o → IsIn (λ j. None) p (behind (λ j. None) p o)
+    at_end p None inside = inside
+    at_end p (Some k) inside = tt
+
+    at_front : (p : ℕ) (o : Option ℕ) → IsIn (λ j. None) p o → IsIn (λ j. None) p (ahead (λ j. None) p o)
+    at_front p None inside = inside
+    at_front p (Some k) inside = tt
+
+    round : (p : ℕ) (o : Option ℕ) → IsIn (λ j. None) p o → ahead (λ j. None) p (behind (λ j. None) p o) ≡ o
+    round p None inside = refl
+    round p (Some k) inside = no_parent p inside
+
+    round_again : (p : ℕ) (o : Option ℕ) → IsIn (λ j. None) p o → behind (λ j. None) p (ahead (λ j. None) p o) ≡ o
+    round_again p None inside = refl
+    round_again p (Some k) inside = no_parent p inside
+
 module _ {T : Type 0} where
-  abbrev text_in : Option (Held T) → Option T
+  abbrev pub text_in : Option (Held T) → Option T
   text_in o = option_and_then (λ held. held.text) o
 
-  abbrev node_in : Option (Held T) → Option Node
+  abbrev pub node_in : Option (Held T) → Option Node
   node_in o = option_map (λ held. node_of held.node) o
 
   abbrev kept_in : Constraint → Bool → Option (Held T) → Option Pieces
@@ -69,6 +105,10 @@ module _ {T : Type 0} where
   pub sound_written : (old mid new : Slab (Entry T)) → OnlyMarks old mid → IsStill (mark_at mid.slots) → SameLinks mid.slots new.slots → SameMarks mid.slots new.slots → IsSound old.slots → IsSound new.slots
   sound_written old mid new only still links marks sound =
       sound_moved mid.slots new.slots links (λ k. ap is_seen (marks k)) (sound_marked old mid only still sound)
+
+  -- where there are no boxes
+  pub sound_empty : IsSound {T = T} []
+  sound_empty = record { linked = no_boxes; still = λ k. refl }
 
   -- ---- mark
 

@@ -16,7 +16,7 @@ use Rattle.box_arena.specs.Writing.{OnlyMarks, Puts, WritesMark}
 
 -- ---- reaching
 
-climbs_on : (s : Linking) (n : ℕ) (from : Option ℕ) (k p : ℕ) → Climbs n s from k → parent_of (s k) ≡ Some p → Climbs (suc n) s from p
+pub climbs_on : (s : Linking) (n : ℕ) (from : Option ℕ) (k p : ℕ) → Climbs n s from k → parent_of (s k) ≡ Some p → Climbs (suc n) s from p
 climbs_on s zero from k p at parent = (k, at, parent)
 climbs_on s (suc n) from k p (q, at, rest) parent = (q, at, climbs_on s n (parent_of (s q)) k p rest parent)
 

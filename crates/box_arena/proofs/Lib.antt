@@ -1,7 +1,11 @@
 pub mod Alike
 pub mod CallLemmas
+pub mod Chains
 pub mod Climbs
+pub mod Joined
+pub mod LinkSteps
 pub mod Sizes
 pub mod Survival
+pub mod TreeCalls
 pub mod Writes
 mod Examples

@@ -3,7 +3,7 @@ use Rattle.std.proofs.Common.{◌≡◌, ◌∙◌, ◌≢◌, ℕ, Option, Some
 use Rattle.box_gen.specs.Tree.{Boxes, none, box}
 use Rattle.box_arena.specs.At.{Slots, IsAbove, links_at, parent_at, first_at, next_at, node_at}
 use Rattle.box_arena.specs.Boxes.{Stands, StandFrom}
-use Rattle.box_arena.specs.Laws.{SurviveRestyle}
+use Rattle.box_arena.specs.Laws.{SurviveAttach, SurviveDetach, SurviveRestyle}
 use Rattle.box_arena.specs.Linked.{IsIn, IsLinked, first_of, next_of}
 use Rattle.box_arena.proofs.Climbs.{reaches_itself, reaches_on}
 
@@ -73,4 +73,28 @@ survive_restyle {T} old new key node linked restyles k free =
       back = λ tree. stands_back old.slots new.slots key linked nodes firsts nexts k tree free;
       on = λ tree. stands_on old.slots new.slots key linked nodes firsts nexts k tree free;
       kept = restyles.kept k free;
+    }
+
+pub survive_attach : {T : Type 0} → SurviveAttach T
+survive_attach {T} old new parent before child linked attaches k free =
+    let nodes : (j : ℕ) → (IsAbove old.slots j parent → ⊥) → node_at new.slots j ≡ node_at old.slots j = λ j low. attaches.nodes j in
+    let firsts : (j : ℕ) → (IsAbove old.slots j parent → ⊥) → first_at new.slots j ≡ first_at old.slots j = λ j low. attaches.firsts j (apart_from old.slots j parent low) in
+    let nexts : (c j : ℕ) → parent_at old.slots c ≡ Some j → (IsAbove old.slots j parent → ⊥) → next_at new.slots c ≡ next_at old.slots c
+    = λ c j at low. attaches.nexts c j at (apart_from old.slots j parent low) in
+    record {
+      back = λ tree. stands_back old.slots new.slots parent linked nodes firsts nexts k tree free;
+      on = λ tree. stands_on old.slots new.slots parent linked nodes firsts nexts k tree free;
+      kept = attaches.kept k free;
+    }
+
+pub survive_detach : {T : Type 0} → SurviveDetach T
+survive_detach {T} old new parent key linked detaches k free =
+    let nodes : (j : ℕ) → (IsAbove old.slots j parent → ⊥) → node_at new.slots j ≡ node_at old.slots j = λ j low. detaches.nodes j in
+    let firsts : (j : ℕ) → (IsAbove old.slots j parent → ⊥) → first_at new.slots j ≡ first_at old.slots j = λ j low. detaches.firsts j (apart_from old.slots j parent low) in
+    let nexts : (c j : ℕ) → parent_at old.slots c ≡ Some j → (IsAbove old.slots j parent → ⊥) → next_at new.slots c ≡ next_at old.slots c
+    = λ c j at low. detaches.nexts c j at (apart_from old.slots j parent low) in
+    record {
+      back = λ tree. stands_back old.slots new.slots parent linked nodes firsts nexts k tree free;
+      on = λ tree. stands_on old.slots new.slots parent linked nodes firsts nexts k tree free;
+      kept = detaches.kept k free;
     }

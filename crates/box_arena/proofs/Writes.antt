@@ -11,6 +11,7 @@ use Rattle.box_arena.specs.declared.entry.Links.{Links}
 use Rattle.box_arena.specs.declared.entry.Mark.{Mark}
 use Rattle.box_arena.specs.At.{mark_at}
 use Rattle.box_arena.specs.Climbing.{entry_seen, entry_unseen}
+use Rattle.box_arena.specs.Freeing.{links_weight, weight}
 use Rattle.box_arena.specs.Marks.{is_seen}
 use Rattle.box_arena.specs.Writing.{Puts, WritesHeld, WritesLinks, WritesMark}
 
@@ -52,6 +53,13 @@ module _ {E : Type 0} where
       let P : Option E → Type 0 = λ o. sum_by (λ x. cond (test x) 1 0) (with_value s key f).slots + cond (test o) 1 0 ≡ sum_by (λ x. cond (test x) 1 0) s.slots + cond (test (Some f)) 1 0 in
       subst P is sums
 
+  -- and so does a sum
+  pub summed : (f : Option E → ℕ) (s : Slab E) (key : ℕ) (e x : E) → get s key ≡ Some e → sum_by f (with_value s key x).slots + f (Some e) ≡ sum_by f s.slots + f (Some x)
+  summed f s key e x is =
+      let sums = sum_by-set f s.slots key (Some x) None (ContainsKey-within s key (there (get s key) e is)) in
+      let P : Option E → Type 0 = λ o. sum_by f (with_value s key x).slots + f o ≡ sum_by f s.slots + f (Some x) in
+      subst P is sums
+
   pub same_room : (s : Slab E) (key : ℕ) (e f : E) → get s key ≡ Some e → (n : ℕ) → HasRoomFor s n → HasRoomFor (with_value s key f) n
   same_room s key e f is n room =
       let same = counted is_some s key e f is in
@@ -70,6 +78,9 @@ module _ {T : Type 0} where
     marks = field_stays (λ entry. entry.mark) s key e (record e { links = put }) is refl;
     held = field_stays (λ entry. entry.held) s key e (record e { links = put }) is refl;
     room = same_room s key e (record e { links = put }) is;
+    weights = λ root.
+        let P : Option Links → Type 0 = λ o. weight root (with_value s key (record e { links = put })).slots + links_weight root o ≡ weight root s.slots + links_weight root (Some put) in
+        subst P (sym (ap (option_map (λ (entry : Entry T). entry.links)) is)) (summed (λ o. links_weight root (option_map (λ entry. entry.links) o)) s key e (record e { links = put }) is);
   }
 
   pub writes_held : (s : Slab (Entry T)) (key : ℕ) (e : Entry T) (put : Held T) → get s key ≡ Some e → WritesHeld s (with_value s key (record e { held = put })) key put

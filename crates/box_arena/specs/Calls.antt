@@ -1,10 +1,11 @@
 -- What the calls of an arena do.
-use Rattle.std.specs.Prelude.{◌≡◌, ◌≢◌, ℕ, ◌+◌, false, Option, Some, None}
-use Rattle.slab.specs.Slab.{Slab, get, HasRoomFor}
+use Rattle.std.specs.Prelude.{◌≡◌, ◌≢◌, ℕ, ◌+◌, false, List, Option, Some, None}
+use Rattle.slab.specs.Slab.{Slab, get, ContainsKey, HasRoomFor}
 use Rattle.style_types.specs.declared.constraint.Constraint.{Constraint}
 use Rattle.style_types.specs.Fragment.{Pieces}
 use Rattle.box_arena.specs.declared.entry.Entry.{Entry}
-use Rattle.box_arena.specs.At.{Slots, Node, links_at, mark_at, held_at, parent_at, first_at, next_at, node_at, text_at, kept_at, marked_at, IsAbove}
+use Rattle.box_arena.specs.At.{Slots, Node, links_at, mark_at, held_at, parent_at, first_at, next_at, node_at, text_at, kept_at, marked_at, IsAbove, HasChildren}
+use Rattle.box_arena.specs.Linked.{put_before, without}
 use Rattle.box_arena.specs.Marks.{MarksUp}
 
 module _ {T : Type 0} where
@@ -115,4 +116,36 @@ module _ {T : Type 0} where
     pub marked : IsMarkedUp old.slots new.slots key
     pub kept : KeepsApart old.slots new.slots key
     pub links : SameLinks old.slots new.slots
+    pub room : SameRoom old new
+
+  -- a box stands among the children of another, before that one or last; the parent and all above it are marked
+  pub record Attaches (old new : Slab (Entry T)) (parent : ℕ) (before : Option ℕ) (child : ℕ) : Type 0 where
+    pub inside : parent_at new.slots child ≡ Some parent
+    pub parents : (k : ℕ) → k ≢ child → parent_at new.slots k ≡ parent_at old.slots k
+    pub children : (ks : List ℕ) → HasChildren old.slots parent ks → HasChildren new.slots parent (put_before before child ks)
+    pub others : (k : ℕ) → k ≢ parent → (ks : List ℕ) → HasChildren old.slots k ks → HasChildren new.slots k ks
+    pub firsts : (k : ℕ) → k ≢ parent → first_at new.slots k ≡ first_at old.slots k
+    pub nexts : (c k : ℕ) → parent_at old.slots c ≡ Some k → k ≢ parent → next_at new.slots c ≡ next_at old.slots c
+    pub marked : IsMarkedUp old.slots new.slots parent
+    pub kept : KeepsApart old.slots new.slots parent
+    pub nodes : SameNodes old.slots new.slots
+    pub texts : SameTexts old.slots new.slots
+    pub live : (k : ℕ) → ContainsKey old k → ContainsKey new k
+    pub room : SameRoom old new
+
+  -- a box is no child of its parent any more; the parent and all above it are marked, the box and all inside it keep their
+  -- results
+  pub record Detaches (old new : Slab (Entry T)) (parent key : ℕ) : Type 0 where
+    pub free : parent_at new.slots key ≡ None
+    pub parents : (k : ℕ) → k ≢ key → parent_at new.slots k ≡ parent_at old.slots k
+    pub children : (ks : List ℕ) → HasChildren old.slots parent ks → HasChildren new.slots parent (without key ks)
+    pub others : (k : ℕ) → k ≢ parent → (ks : List ℕ) → HasChildren old.slots k ks → HasChildren new.slots k ks
+    pub firsts : (k : ℕ) → k ≢ parent → first_at new.slots k ≡ first_at old.slots k
+    pub nexts : (c k : ℕ) → parent_at old.slots c ≡ Some k → k ≢ parent → next_at new.slots c ≡ next_at old.slots c
+    pub marked : IsMarkedUp old.slots new.slots parent
+    pub kept : KeepsApart old.slots new.slots parent
+    pub inside : (k : ℕ) → IsAbove old.slots key k → (c : Constraint) → kept_at new.slots k c ≡ kept_at old.slots k c
+    pub nodes : SameNodes old.slots new.slots
+    pub texts : SameTexts old.slots new.slots
+    pub live : (k : ℕ) → ContainsKey old k → ContainsKey new k
     pub room : SameRoom old new

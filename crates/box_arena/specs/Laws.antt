@@ -1,12 +1,12 @@
 -- What holds of arenas.
-use Rattle.std.specs.Prelude.{◌≡◌, ℕ}
+use Rattle.std.specs.Prelude.{◌≡◌, ℕ, Option}
 use Rattle.slab.specs.Slab.{Slab}
 use Rattle.style_types.specs.declared.constraint.Constraint.{Constraint}
 use Rattle.box_gen.specs.Tree.{Boxes}
 use Rattle.box_arena.specs.declared.entry.Entry.{Entry}
 use Rattle.box_arena.specs.At.{Slots, Node, IsAbove, kept_at, links_at}
 use Rattle.box_arena.specs.Boxes.{Stands}
-use Rattle.box_arena.specs.Calls.{Restyles}
+use Rattle.box_arena.specs.Calls.{Attaches, Detaches, Restyles}
 use Rattle.box_arena.specs.Linked.{IsLinked}
 
 -- the same trees stand under a key, and the same is kept for its box: what was right for what stands there still is
@@ -19,3 +19,13 @@ pub record Survives {T : Type 0} (old new : Slots T) (k : ℕ) : Type 0 where
 abbrev pub SurviveRestyle : (T : Type 0) → Type 0
 SurviveRestyle T = (old new : Slab (Entry T)) (key : ℕ) (node : Node) → IsLinked (links_at old.slots) → Restyles old new key node
     → (k : ℕ) → (IsAbove old.slots k key → ⊥) → Survives old.slots new.slots k
+
+-- a box that is put among others changes nothing but at their parent and above
+abbrev pub SurviveAttach : (T : Type 0) → Type 0
+SurviveAttach T = (old new : Slab (Entry T)) (parent : ℕ) (before : Option ℕ) (child : ℕ) → IsLinked (links_at old.slots) → Attaches old new parent before child
+    → (k : ℕ) → (IsAbove old.slots k parent → ⊥) → Survives old.slots new.slots k
+
+-- a box that is taken from among others changes nothing but at their parent and above
+abbrev pub SurviveDetach : (T : Type 0) → Type 0
+SurviveDetach T = (old new : Slab (Entry T)) (parent key : ℕ) → IsLinked (links_at old.slots) → Detaches old new parent key
+    → (k : ℕ) → (IsAbove old.slots k parent → ⊥) → Survives old.slots new.slots k

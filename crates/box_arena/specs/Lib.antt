@@ -2,6 +2,8 @@ pub mod At
 pub mod Boxes
 pub mod Calls
 pub mod Climbing
+pub mod Freeing
+pub mod Joining
 pub mod Laws
 pub mod Linked
 pub mod Marks

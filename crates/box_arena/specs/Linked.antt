@@ -1,5 +1,5 @@
 -- How boxes are linked with each other: parents, children and siblings.
-use Rattle.std.specs.Prelude.{◌≡◌, ℕ, zero, suc, List, [], ◌∷◌, ◌⊎◌, Option, Some, None, IsSome}
+use Rattle.std.specs.Prelude.{◌≡◌, ℕ, zero, suc, nat_eq, Bool, false, List, [], ◌∷◌, ◌⊎◌, Option, Some, None, IsSome, if◌then◌else◌}
 use Rattle.box_arena.specs.declared.entry.Links.{Links}
 
 -- the links of the box under each key
@@ -49,6 +49,20 @@ abbrev pub Has : List ℕ → ℕ → Type 0
 Has [] c = ⊥
 Has (k ∷ ks) c = (k ≡ c) ⊎ Has ks c
 
+abbrev pub is_it : Option ℕ → ℕ → Bool
+is_it None k = false
+is_it (Some b) k = nat_eq b k
+
+-- these with one more before that one, or behind all
+abbrev pub put_before : (before : Option ℕ) (c : ℕ) → List ℕ → List ℕ
+put_before before c [] = c ∷ []
+put_before before c (k ∷ ks) = if is_it before k then c ∷ k ∷ ks else k ∷ put_before before c ks
+
+-- these without that one
+abbrev pub without : (c : ℕ) → List ℕ → List ℕ
+without c [] = []
+without c (k ∷ ks) = if nat_eq k c then ks else k ∷ without c ks
+
 -- The children of a box, in order, and its end make a ring: behind the last child comes the end, behind the end the first
 -- child. `None` is the end.
 abbrev pub IsIn : Linking → (p : ℕ) → Option ℕ → Type 0
@@ -69,10 +83,11 @@ pub record Children (s : Linking) (p : ℕ) : Type 0 where
   pub chain : Chain s (first_of (s p)) list
   pub whole : (c : ℕ) → parent_of (s c) ≡ Some p → Has list c
 
--- Parents live. Each box's children make a ring, which goes the same way back, and are reached from the first one. A box
--- that isn't attached has no siblings.
+-- Parents live, and no box is above itself. Each box's children make a ring, which goes the same way back, and are reached
+-- from the first one. A box that isn't attached has no siblings.
 pub record IsLinked (s : Linking) : Type 0 where
   pub live : (k p : ℕ) → parent_of (s k) ≡ Some p → IsSome (s p)
+  pub acyclic : (k n : ℕ) → Climbs (suc n) s (Some k) k → ⊥
   pub on : (p : ℕ) (o : Option ℕ) → IsIn s p o → IsIn s p (behind s p o)
   pub off : (p : ℕ) (o : Option ℕ) → IsIn s p o → IsIn s p (ahead s p o)
   pub back : (p : ℕ) (o : Option ℕ) → IsIn s p o → ahead s p (behind s p o) ≡ o

@@ -1,5 +1,5 @@
 -- What a single write does to an arena's slots.
-use Rattle.std.specs.Prelude.{◌≡◌, ◌≢◌, ℕ, ◌<◌, ◌≤◌, true, false, [], Option, Some, None, option_map, slice_index_or, if◌then◌else◌}
+use Rattle.std.specs.Prelude.{◌≡◌, ◌≢◌, ℕ, ◌+◌, ◌<◌, ◌≤◌, true, false, [], Option, Some, None, option_map, slice_index_or, if◌then◌else◌}
 use Rattle.slab.specs.Slab.{Slab, with_value}
 use Rattle.style_types.specs.declared.constraint.Constraint.{Constraint}
 use Rattle.style_types.specs.declared.fragment.Fragment.{Fragment}
@@ -10,6 +10,7 @@ use Rattle.box_arena.specs.declared.entry.Mark.{Mark}
 use Rattle.box_arena.specs.At.{links_at, mark_at, held_at}
 use Rattle.box_arena.specs.Calls.{SameLinks, SameMarks, SameHeld, SameRoom}
 use Rattle.box_arena.specs.Climbing.{seen_count, unseen_count}
+use Rattle.box_arena.specs.Freeing.{links_weight, weight}
 use Rattle.box_arena.specs.Marks.{is_seen}
 use Rattle.box_arena.specs.Results.{result_for}
 
@@ -24,6 +25,7 @@ module _ {T : Type 0} where
     pub marks : SameMarks old.slots new.slots
     pub held : SameHeld old.slots new.slots
     pub room : SameRoom old new
+    pub weights : (root : ℕ) → weight root new.slots + links_weight root (links_at old.slots key) ≡ weight root old.slots + links_weight root (Some put)
 
   pub record WritesMark (old new : Slab (Entry T)) (key : ℕ) (put : Mark) : Type 0 where
     pub marks : Puts (mark_at old.slots) (mark_at new.slots) key put
@@ -53,6 +55,12 @@ module _ {T : Type 0} where
     pub put : Entry T
     pub keeps : EntryKeeps entry put c fragment
     pub is : new ≡ with_value old key put
+
+  -- nothing but links differs
+  pub record OnlyLinks (old new : Slab (Entry T)) : Type 0 where
+    pub marks : SameMarks old.slots new.slots
+    pub held : SameHeld old.slots new.slots
+    pub room : SameRoom old new
 
   -- nothing but marks differs
   pub record OnlyMarks (old new : Slab (Entry T)) : Type 0 where

@@ -2,7 +2,8 @@
 
 use crate::climb::mark_up;
 use crate::entry::Entry;
-use crate::key::{BoxKey, key_of};
+use crate::key::{BoxKey, index_of, key_of};
+use crate::links::{detach_at, link};
 use crate::write::{drop_text, forget_below, keep_at, put_node, put_text};
 use box_gen::BoxNode;
 use slab::Slab;
@@ -36,12 +37,12 @@ impl<T> Model for BoxArena<T> {
 }
 
 impl<T> BoxArena<T> {
-    ghost use Rattle.std.specs.Prelude.{◌≡◌, ◌≤◌, [], Some, IsOk, OnOk, OnErr, option_copied, option_map};
+    ghost use Rattle.std.specs.Prelude.{◌≡◌, ◌≤◌, ℕ, [], None, Some, IsSome, IsOk, OnOk, OnErr, option_copied, option_map};
     ghost use Rattle.slab.specs.Slab.{ContainsKey, HasRoomFor};
     ghost use Rattle.style_types.specs.Fragment.{piece_of};
-    ghost use Rattle.box_arena.specs.At.{links_at, parent_at, first_at, next_at, node_at, node_of, text_at, kept_at};
-    ghost use Rattle.box_arena.specs.Calls.{Inserts, Keeps, Marks};
-    ghost use Rattle.box_arena.specs.Linked.{IsLinked};
+    ghost use Rattle.box_arena.specs.At.{IsAbove, links_at, parent_at, first_at, next_at, node_at, node_of, text_at, kept_at};
+    ghost use Rattle.box_arena.specs.Calls.{Attaches, Detaches, Inserts, Keeps, Marks};
+    ghost use Rattle.box_arena.specs.Linked.{IsIn, IsLinked};
 
     /// No boxes. Takes no memory.
     pub fn new(alloc: Global) -> BoxArena<T>
@@ -133,6 +134,29 @@ impl<T> BoxArena<T> {
     {
         keep_at(&mut self.boxes, self.alloc, key.index, c, fragment)?;
         Ok(())
+    }
+
+    /// Puts a box that isn't attached among the children of a parent, before one of them or last. The parent must not be that
+    /// box nor stand inside it. The parent and every box above it are marked. Takes no memory.
+    pub fn attach(&mut self, parent: BoxKey, before: Option<BoxKey>, child: BoxKey)
+        requires parent { ContainsKey self.old parent }
+        requires child { ContainsKey self.old child }
+        requires free { parent_at self.old.slots child ≡ None }
+        requires apart { IsAbove self.old.slots child parent → ⊥ }
+        requires before { IsIn (links_at self.old.slots) parent before }
+        ensures { Attaches self.old self.new parent before child }
+    {
+        mark_up(&mut self.boxes, parent.index);
+        link(&mut self.boxes, parent.index, index_of(before), child.index);
+    }
+
+    /// Takes a box out of its parent. The old parent and every box above it are marked; the box and all inside it keep their
+    /// results. Takes no memory.
+    pub fn detach(&mut self, key: BoxKey)
+        requires { IsSome (parent_at self.old.slots key) }
+        ensures { (parent : ℕ) → parent_at self.old.slots key ≡ Some parent → Detaches self.old self.new parent key }
+    {
+        detach_at(&mut self.boxes, key.index);
     }
 
     /// Marks the box and every box above it: what is kept for them is out of date. Takes no memory.

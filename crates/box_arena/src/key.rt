@@ -27,3 +27,13 @@ pub(crate) fn key_of(index: Option<usize>) -> Option<BoxKey>
         None => None,
     }
 }
+
+/// The number of a box, if one is meant.
+pub(crate) fn index_of(key: Option<BoxKey>) -> Option<usize>
+    ensures { result ≡ key }
+{
+    match key {
+        Some(key) => Some(key.index),
+        None => None,
+    }
+}

@@ -1,8 +1,20 @@
 //! Laws of arenas. These functions do nothing: their contracts are the laws.
 
-ghost use Rattle.box_arena.specs.Laws.{SurviveRestyle};
+ghost use Rattle.box_arena.specs.Laws.{SurviveAttach, SurviveDetach, SurviveRestyle};
 
 /// Where a box isn't the one that is put anew and not above it, the same tree stands after as before, and the same is kept.
 pub fn what_is_kept_survives_a_restyle<T>()
     ensures { SurviveRestyle T }
+{}
+
+/// Where a box isn't the parent of one that is attached and not above it, the same tree stands after as before, and the same
+/// is kept.
+pub fn what_is_kept_survives_an_attach<T>()
+    ensures { SurviveAttach T }
+{}
+
+/// Where a box isn't the parent of one that is detached and not above it, the same tree stands after as before, and the same
+/// is kept.
+pub fn what_is_kept_survives_a_detach<T>()
+    ensures { SurviveDetach T }
 {}

@@ -7,6 +7,7 @@ mod climb;
 mod entry;
 mod key;
 pub mod laws;
+mod links;
 mod results;
 mod write;
 
