@@ -33,7 +33,7 @@ module _ (s t : Linking) (alike : Alike s t) where
   same_ahead p None = alike.lasts p
   same_ahead p (Some k) = alike.previous k
 
-  climbs_alike : (n : ℕ) (from : Option ℕ) (k : ℕ) → Climbs n t from k → Climbs n s from k
+  pub climbs_alike : (n : ℕ) (from : Option ℕ) (k : ℕ) → Climbs n t from k → Climbs n s from k
   climbs_alike zero from k is = is
   climbs_alike (suc n) from k (p, is, rest) =
       let P : Option ℕ → Type 0 = λ o. Climbs n t o k in

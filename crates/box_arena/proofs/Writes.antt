@@ -1,18 +1,19 @@
 -- What a write of one field does.
-use Rattle.std.proofs.Common.{◌≡◌, ◌∙◌, ◌≢◌, ℕ, ◌+◌, ◌<◌, Bool, true, false, not, cond, Option, Some, None, option_map, is_some, IsSome, refl, sym, ap, subst, arith, inl, inr}
+use Rattle.std.proofs.Common.{set, List, ◌≡◌, ◌∙◌, ◌≢◌, ℕ, ◌+◌, ◌<◌, Bool, true, false, not, cond, Option, Some, None, option_map, is_some, IsSome, refl, sym, ap, subst, arith, inl, inr, add-zero}
 use Rattle.std.specs.Prelude.{sum_by}
 use Rattle.std.proofs.lemmas.Bool.{cases_eq}
 use Rattle.std.proofs.lemmas.List.Sums.{sum_by-set}
-use Rattle.slab.specs.Slab.{Slab, get, with_value, HasRoomFor}
+use Rattle.slab.specs.Slab.{Slab, get, ContainsKey, Updates, with_value, slab_len, HasRoomFor}
 use Rattle.slab.proofs.SlabLemmas.{ContainsKey-within, Updates-with_value}
 use Rattle.box_arena.specs.declared.entry.Entry.{Entry}
 use Rattle.box_arena.specs.declared.entry.Held.{Held}
 use Rattle.box_arena.specs.declared.entry.Links.{Links}
 use Rattle.box_arena.specs.declared.entry.Mark.{Mark}
-use Rattle.box_arena.specs.At.{mark_at}
+use Rattle.box_arena.specs.At.{links_at, mark_at}
 use Rattle.box_arena.specs.Climbing.{entry_seen, entry_unseen}
 use Rattle.box_arena.specs.Freeing.{links_weight, weight}
 use Rattle.box_arena.specs.Marks.{is_seen}
+use Rattle.box_arena.specs.Releasing.{Removes}
 use Rattle.box_arena.specs.Writing.{Puts, WritesHeld, WritesLinks, WritesMark}
 
 -- under the key lives something
@@ -105,3 +106,16 @@ module _ {T : Type 0} where
       at {b} was =
           let P : Option (Entry T) → Type 0 = λ o. is_seen (option_map (λ entry. entry.mark) o) ≡ b in
           subst P is was
+
+  -- a key that is freed
+  pub removes : (old new : Slab (Entry T)) (key : ℕ) → ContainsKey old key → Updates old new key None → new.slots ≡ set old.slots key None → slab_len new + 1 ≡ slab_len old → new.capacity ≡ old.capacity
+      → Removes old new key
+  removes old new key live updates slots fewer capacity = record {
+    here = updates.changed;
+    others = updates.others;
+    room = λ n fits. omega (arith, fewer, capacity);
+    weights = λ root.
+        let sums = sum_by-set (λ (o : Option (Entry T)). links_weight root (option_map (λ entry. entry.links) o)) old.slots key None None (ContainsKey-within old key live) in
+        let P : List (Option (Entry T)) → Type 0 = λ xs. weight root xs + links_weight root (links_at old.slots key) ≡ weight root old.slots in
+        subst P (sym slots) (sums ∙ add-zero (weight root old.slots));
+  }

@@ -149,3 +149,15 @@ module _ {T : Type 0} where
     pub texts : SameTexts old.slots new.slots
     pub live : (k : ℕ) → ContainsKey old k → ContainsKey new k
     pub room : SameRoom old new
+
+  -- under this key is what was: the links, the mark, the box and what is kept for it
+  pub record IsSame (old new : Slots T) (k : ℕ) : Type 0 where
+    pub links : links_at new k ≡ links_at old k
+    pub mark : mark_at new k ≡ mark_at old k
+    pub held : held_at new k ≡ held_at old k
+
+  -- the keys of a box and of all inside it are free, and under all others is what was
+  pub record Releases (old new : Slab (Entry T)) (key : ℕ) : Type 0 where
+    pub freed : (k : ℕ) → IsAbove old.slots key k → get new k ≡ None
+    pub others : (k : ℕ) → (IsAbove old.slots key k → ⊥) → IsSame old.slots new.slots k
+    pub room : (n : ℕ) → HasRoomFor old n → HasRoomFor new (n + 1)

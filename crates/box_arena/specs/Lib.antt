@@ -7,5 +7,6 @@ pub mod Joining
 pub mod Laws
 pub mod Linked
 pub mod Marks
+pub mod Releasing
 pub mod Results
 pub mod Writing

@@ -2,6 +2,7 @@
 
 use crate::climb::mark_up;
 use crate::entry::Entry;
+use crate::free::free;
 use crate::key::{BoxKey, index_of, key_of};
 use crate::links::{detach_at, link};
 use crate::write::{drop_text, forget_below, keep_at, put_node, put_text};
@@ -169,10 +170,10 @@ impl<T> BoxArena<T> {
 }
 
 impl<T: Drop> BoxArena<T> {
-    ghost use Rattle.std.specs.Prelude.{◌≡◌, Some};
+    ghost use Rattle.std.specs.Prelude.{◌≡◌, None, Some};
     ghost use Rattle.slab.specs.Slab.{ContainsKey};
-    ghost use Rattle.box_arena.specs.At.{node_at, node_of};
-    ghost use Rattle.box_arena.specs.Calls.{DropsText, Forgets, KeepsText, Restyles};
+    ghost use Rattle.box_arena.specs.At.{node_at, node_of, parent_at};
+    ghost use Rattle.box_arena.specs.Calls.{DropsText, Forgets, KeepsText, Releases, Restyles};
 
     /// Keeps what was prepared of its text. Takes no memory.
     pub fn keep_text(&mut self, key: BoxKey, text: T)
@@ -197,6 +198,15 @@ impl<T: Drop> BoxArena<T> {
     {
         let slots = self.boxes.capacity();
         forget_below(&mut self.boxes, slots);
+    }
+
+    /// Frees a box that isn't attached, and all boxes inside it. Takes no memory.
+    pub fn release(&mut self, key: BoxKey)
+        requires live { ContainsKey self.old key }
+        requires free { parent_at self.old.slots key ≡ None }
+        ensures { Releases self.old self.new key }
+    {
+        free(&mut self.boxes, key.index);
     }
 
     /// Puts the box anew, which keeps its children, and gives the old one back. Its text is dropped, and it and every box

@@ -5,6 +5,7 @@
 mod arena;
 mod climb;
 mod entry;
+mod free;
 mod key;
 pub mod laws;
 mod links;

@@ -3,6 +3,7 @@
 ghost use Rattle.std.specs.Prelude.{◌≡◌, ◌≤◌, ◌<◌, ℕ, [], Some, None, length, option_map, OnOk, OnErr};
 ghost use Rattle.slab.specs.Slab.{ContainsKey, get, with_value};
 ghost use Rattle.box_arena.specs.At.{held_at, links_at, mark_at};
+ghost use Rattle.box_arena.specs.Releasing.{Removes};
 ghost use Rattle.box_arena.specs.Writing.{ForgetsBelow, WritesHeld, WritesKept, WritesLinks, WritesMark};
 
 use crate::entry::{Entry, Links, Mark};
@@ -45,6 +46,15 @@ pub(crate) fn set_mark<T>(boxes: &mut Slab<Entry<T>>, key: usize, mark: Mark)
 {
     let entry = &mut boxes[key];
     entry.mark = mark;
+}
+
+/// Frees a key.
+#[tactic(auto, using(crate::proofs::Writes::removes))]
+pub(crate) fn remove_at<T: Drop>(boxes: &mut Slab<Entry<T>>, key: usize)
+    requires { ContainsKey boxes.old key }
+    ensures { Removes boxes.old boxes.new key }
+{
+    let _ = boxes.remove(key);
 }
 
 /// Keeps a fragment for a box.
