@@ -19,7 +19,7 @@ use Rattle.box_arena.specs.Marks.{IsStill, is_marked, is_seen}
 use Rattle.box_arena.specs.Results.{result_for}
 use Rattle.box_arena.specs.Writing.{ForgetsBelow, OnlyMarks, Puts, WritesHeld, WritesKept, forgotten}
 use Rattle.box_arena.proofs.Alike.{linked_alike}
-use Rattle.box_arena.proofs.Climbs.{links_move, reaches_itself}
+use Rattle.box_arena.proofs.Climbs.{links_move, lives_on, reaches_itself}
 use Rattle.box_arena.proofs.Writes.{field_stays, same_room}
 
 -- what a function can't tell from what stood there
@@ -119,6 +119,7 @@ module _ {T : Type 0} where
     nodes = λ k. ap node_in (only.held k);
     texts = λ k. ap text_in (only.held k);
     links = only.links;
+    live = lives_on old new only.links;
     room = only.room;
   }
 
@@ -150,6 +151,7 @@ module _ {T : Type 0} where
         elsewhere = λ k apart. ap text_in (held_elsewhere k apart);
         nodes = λ k. puts_same node_in (held_at mid.slots) (held_at new.slots) key held put is writes.held (ap (λ (h : Held T). Some (node_of h.node)) what) k ∙ ap node_in (only.held k);
         links = same_links;
+        live = lives_on old new same_links;
         room = λ n fits. writes.room n (only.room n fits);
       };
       marked = still_marked;
@@ -165,6 +167,7 @@ module _ {T : Type 0} where
       marked = still_marked;
       kept = still_kept;
       links = same_links;
+      live = lives_on old new same_links;
       room = λ n fits. writes.room n (only.room n fits);
     }
 
@@ -177,6 +180,7 @@ module _ {T : Type 0} where
       elsewhere = λ k apart. ap text_in (writes.held.others k apart);
       nodes = puts_same node_in (held_at old.slots) (held_at new.slots) key held (record held { text = Some text }) is writes.held refl;
       links = writes.links;
+      live = lives_on old new writes.links;
       room = writes.room;
     };
     marks = λ k. ap is_marked (writes.marks k);
@@ -207,6 +211,7 @@ module _ {T : Type 0} where
     marks = λ k. ap is_marked (all.marks k);
     nodes = λ k. ap node_in (forgot k) ∙ same_node (held_at old.slots k);
     links = all.links;
+    live = lives_on old new all.links;
     room = all.room;
   }
     where
@@ -309,6 +314,7 @@ module _ {T : Type 0} where
       nodes = same_part node_in (ap (λ (e : Entry T). Some (node_of e.held.node)) writes.keeps.rest);
       texts = same_part text_in (ap (λ (e : Entry T). e.held.text) writes.keeps.rest);
       links = field_stays (λ entry. entry.links) old key writes.entry writes.put writes.was (ap (λ (e : Entry T). e.links) writes.keeps.rest);
+      live = lives_on old after (field_stays (λ entry. entry.links) old key writes.entry writes.put writes.was (ap (λ (e : Entry T). e.links) writes.keeps.rest));
       room = same_room old key writes.entry writes.put writes.was;
     })
 
@@ -336,6 +342,15 @@ module _ {T : Type 0} where
     same_at f same k = elim (cases_eq k key) [
       | inl at ↦ ap (λ j. f (get new j)) at ∙ ap f updates.changed ∙ same ∙ sym (ap f free) ∙ ap (λ j. f (get old j)) (sym at)
       | inr apart ↦ ap f (updates.others k apart)
+    ]
+
+    pub alive : ContainsKey new key
+    alive = let P : Option (Entry T) → Type 0 = λ o. IsSome o in subst P (sym updates.changed) refl
+
+    pub live_on : (k : ℕ) → ContainsKey old k → ContainsKey new k
+    live_on k was = elim (cases_eq k key) [
+      | inl same ↦ let P : ℕ → Type 0 = λ j. ContainsKey new j in subst P (sym same) alive
+      | inr apart ↦ let P : Option (Entry T) → Type 0 = λ o. IsSome o in subst P (sym (updates.others k apart)) was
     ]
 
     pub is_new : IsNew new.slots key (node_of node)

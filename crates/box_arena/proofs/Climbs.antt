@@ -66,6 +66,9 @@ linked_where {T} boxes k live = within (get boxes k) live
     within None live = live
     within (Some entry) live = refl
 
+pub lives_on : {T : Type 0} (old new : Slab (Entry T)) → SameLinks old.slots new.slots → (k : ℕ) → ContainsKey old k → ContainsKey new k
+lives_on old new same k was = lives old new same k (linked_where old k was)
+
 -- ---- the first pass
 
 module _ (s : Linking) (key : ℕ) where

@@ -351,8 +351,19 @@ module _ {T : Type 0} where
           let one = lessens.others k out in
           let two = same_at now new k (removes.others k apart) in
           record { links = two.links ∙ one.links; mark = two.mark ∙ one.mark; held = two.held ∙ one.held };
+      live = λ k out was.
+          let apart : k ≢ root = λ is. out (let P : ℕ → Type 0 = λ j. Reaches (links_at old.slots) root j in subst P (sym is) (reaches_itself (links_at old.slots) root)) in
+          let P : Option (Entry T) → Type 0 = λ o. IsSome o in
+          subst P (sym (removes.others k apart)) (alive_in (get now k) ((lessens.others k out).links) (linked_where old k was));
       room = λ n fits. removes.room n (lessens.room n fits);
     }
+      where
+        alive_in : {o : Option Links} (e : Option (Entry T)) → option_map (λ entry. entry.links) e ≡ o → IsSome o → IsSome e
+        alive_in {o} None is was = let P : Option Links → Type 0 = λ l. IsSome l in absurd (none_is_none (subst P (sym is) was))
+          where
+            none_is_none : IsSome {T = Links} None → ⊥
+            none_is_none some = absurd (cc)
+        alive_in {o} (Some e) is was = refl
 
     pub sound_released : IsSound new.slots
     sound_released = record {

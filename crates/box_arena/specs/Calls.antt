@@ -36,6 +36,10 @@ module _ {T : Type 0} where
   abbrev pub KeepsApart : Slots T → Slots T → (key : ℕ) → Type 0
   KeepsApart old new key = (k : ℕ) → (IsAbove old k key → ⊥) → (c : Constraint) → kept_at new k c ≡ kept_at old k c
 
+  -- what lived lives on
+  abbrev pub LiveOn : Slab (Entry T) → Slab (Entry T) → Type 0
+  LiveOn old new = (k : ℕ) → ContainsKey old k → ContainsKey new k
+
   -- as many boxes as before still fit
   abbrev pub SameRoom : Slab (Entry T) → Slab (Entry T) → Type 0
   SameRoom old new = (n : ℕ) → HasRoomFor old n → HasRoomFor new n
@@ -53,6 +57,8 @@ module _ {T : Type 0} where
   -- a box is put under a key that was free, and takes one place of the room
   pub record Inserts (old new : Slab (Entry T)) (key : ℕ) (node : Node) : Type 0 where
     pub free : get old key ≡ None
+    pub alive : ContainsKey new key
+    pub live : LiveOn old new
     pub here : IsNew new.slots key node
     pub others : (k : ℕ) → k ≢ key → get new k ≡ get old k
     pub room : (n : ℕ) → HasRoomFor old (n + 1) → HasRoomFor new n
@@ -67,6 +73,7 @@ module _ {T : Type 0} where
     pub nodes : SameNodes old.slots new.slots
     pub texts : SameTexts old.slots new.slots
     pub links : SameLinks old.slots new.slots
+    pub live : LiveOn old new
     pub room : SameRoom old new
 
   -- a box and all above it are marked
@@ -76,6 +83,7 @@ module _ {T : Type 0} where
     pub nodes : SameNodes old.slots new.slots
     pub texts : SameTexts old.slots new.slots
     pub links : SameLinks old.slots new.slots
+    pub live : LiveOn old new
     pub room : SameRoom old new
 
   -- a text is kept for a box, or none
@@ -84,6 +92,7 @@ module _ {T : Type 0} where
     pub elsewhere : (k : ℕ) → k ≢ key → text_at new.slots k ≡ text_at old.slots k
     pub nodes : SameNodes old.slots new.slots
     pub links : SameLinks old.slots new.slots
+    pub live : LiveOn old new
     pub room : SameRoom old new
 
   -- a text is kept for a box, and all else stays
@@ -105,6 +114,7 @@ module _ {T : Type 0} where
     pub marks : (k : ℕ) → marked_at new.slots k ≡ marked_at old.slots k
     pub nodes : SameNodes old.slots new.slots
     pub links : SameLinks old.slots new.slots
+    pub live : LiveOn old new
     pub room : SameRoom old new
 
   -- a box is put anew, with the children that it has; its text is dropped, and it and all above it are marked
@@ -116,6 +126,7 @@ module _ {T : Type 0} where
     pub marked : IsMarkedUp old.slots new.slots key
     pub kept : KeepsApart old.slots new.slots key
     pub links : SameLinks old.slots new.slots
+    pub live : LiveOn old new
     pub room : SameRoom old new
 
   -- a box stands among the children of another, before that one or last; the parent and all above it are marked
@@ -130,7 +141,7 @@ module _ {T : Type 0} where
     pub kept : KeepsApart old.slots new.slots parent
     pub nodes : SameNodes old.slots new.slots
     pub texts : SameTexts old.slots new.slots
-    pub live : (k : ℕ) → ContainsKey old k → ContainsKey new k
+    pub live : LiveOn old new
     pub room : SameRoom old new
 
   -- a box is no child of its parent any more; the parent and all above it are marked, the box and all inside it keep their
@@ -147,7 +158,7 @@ module _ {T : Type 0} where
     pub inside : (k : ℕ) → IsAbove old.slots key k → (c : Constraint) → kept_at new.slots k c ≡ kept_at old.slots k c
     pub nodes : SameNodes old.slots new.slots
     pub texts : SameTexts old.slots new.slots
-    pub live : (k : ℕ) → ContainsKey old k → ContainsKey new k
+    pub live : LiveOn old new
     pub room : SameRoom old new
 
   -- under this key is what was: the links, the mark, the box and what is kept for it
@@ -160,4 +171,5 @@ module _ {T : Type 0} where
   pub record Releases (old new : Slab (Entry T)) (key : ℕ) : Type 0 where
     pub freed : (k : ℕ) → IsAbove old.slots key k → get new k ≡ None
     pub others : (k : ℕ) → (IsAbove old.slots key k → ⊥) → IsSame old.slots new.slots k
+    pub live : (k : ℕ) → (IsAbove old.slots key k → ⊥) → ContainsKey old k → ContainsKey new k
     pub room : (n : ℕ) → HasRoomFor old n → HasRoomFor new (n + 1)

@@ -90,7 +90,8 @@ impl<T> Entry<T> {
         ensures ok { OnOk result (EntryKeeps self.old self.new c fragment) }
         ensures err { OnErr result (self.new ≡ self.old) }
     {
-        if self.mark.marked {
+        let stale = self.mark.marked;
+        if stale {
             let mut fresh = Results::new(alloc);
             fresh.put(c, fragment)?;
             self.held.results = fresh;
@@ -111,13 +112,5 @@ impl<T: Drop> Held<T> {
     {
         self.text = None;
         mem::replace(&mut self.node, node)
-    }
-
-    /// Drops all that is kept.
-    pub(crate) fn forget(&mut self)
-        ensures { self.new ≡ record self.old { text = None; results = [] } }
-    {
-        self.text = None;
-        self.results.clear();
     }
 }

@@ -15,7 +15,8 @@ type Sizes = (Option<i64>, Option<i64>);
 fn sizes_of(c: Constraint) -> Sizes
     ensures { result ≡ (c.inline, c.block) }
 {
-    (c.inline, c.block)
+    let Constraint { inline, block } = c;
+    (inline, block)
 }
 
 /// Fragments by their constraints, in the constraints' order.

@@ -112,7 +112,8 @@ fn forget_at<T: Drop>(boxes: &mut Slab<Entry<T>>, key: usize)
     ensures { (held : _) → held_at boxes.old.slots key ≡ Some held → WritesHeld boxes.old boxes.new key (record held { text = None; results = [] }) }
 {
     let entry = &mut boxes[key];
-    entry.held.forget();
+    entry.held.text = None;
+    entry.held.results.clear();
 }
 
 /// Drops all that is kept for the boxes with keys below this one.

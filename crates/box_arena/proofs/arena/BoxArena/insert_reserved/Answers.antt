@@ -1,7 +1,7 @@
 use Rattle.std.proofs.Common.{arith, Some, subst}
 use Rattle.slab.specs.Slab.{Updates}
 use Rattle.box_arena.specs.declared.entry.Entry.{Entry}
-use Rattle.box_arena.proofs.CallLemmas.{is_new, sound_inserted}
+use Rattle.box_arena.proofs.CallLemmas.{alive, is_new, live_on, sound_inserted}
 use Rattle.box_arena.proofs.arena.BoxArena.insert_reserved.Goals as goal
 
 pub invariant_of-self : goal.invariant_of-self
@@ -15,6 +15,8 @@ returns g c =
     let updates = subst P c.new-entry.ensures c.insert_reserved-index.ensures.updates in
     rw (← c.self.view_is) (record {
       free = c.insert_reserved-index.ensures.was_vacant;
+      alive = alive c.self.inside.boxes c.insert_reserved-index.new.self c.insert_reserved-index.result c.args.node c.insert_reserved-index.ensures.was_vacant updates;
+      live = live_on c.self.inside.boxes c.insert_reserved-index.new.self c.insert_reserved-index.result c.args.node c.insert_reserved-index.ensures.was_vacant updates;
       here = is_new c.self.inside.boxes c.insert_reserved-index.new.self c.insert_reserved-index.result c.args.node c.insert_reserved-index.ensures.was_vacant updates;
       others = updates.others;
       room = λ n fits. omega (arith, c.insert_reserved-index.ensures.len, c.insert_reserved-index.ensures.capacity);
