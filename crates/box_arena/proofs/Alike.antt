@@ -1,6 +1,6 @@
 -- Where boxes have the same links, what holds of links goes on holding.
 use Rattle.std.proofs.Common.{◌≡◌, ◌∙◌, ℕ, zero, suc, List, [], ◌∷◌, Option, Some, None, IsSome, sym, ap, subst}
-use Rattle.box_arena.specs.Linked.{Linking, Chain, Climbs, IsIn, IsLinked, behind, ahead, parent_of, first_of, last_of, previous_of, next_of}
+use Rattle.box_arena.specs.Links.{Linking, Chain, Climbs, IsIn, IsLinked, behind, ahead, parent_of, first_of, last_of, previous_of, next_of}
 
 -- the same links at each key, also where one has no box and the other one with no links
 pub record Alike (s t : Linking) : Type 0 where

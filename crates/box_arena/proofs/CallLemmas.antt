@@ -13,11 +13,11 @@ use Rattle.box_arena.specs.declared.entry.Entry.{Entry}
 use Rattle.box_arena.specs.declared.entry.Held.{Held}
 use Rattle.box_arena.specs.declared.entry.Links.{Links}
 use Rattle.box_arena.specs.At.{Slots, Node, IsAbove, IsSound, links_at, mark_at, held_at, node_of, kept_at, marked_at}
-use Rattle.box_arena.specs.Calls.{DropsText, Forgets, IsMarkedUp, IsNew, Keeps, KeepsApart, KeepsText, Marks, Restyles, SameLinks, SameMarks}
-use Rattle.box_arena.specs.Linked.{Climbs, IsIn, IsLinked, ahead, behind, parent_of, first_of, last_of, previous_of, next_of}
+use Rattle.box_arena.specs.Arena.{DropsText, Forgets, IsMarkedUp, IsNew, Keeps, KeepsApart, KeepsText, Marks, Restyles, SameLinks, SameMarks}
+use Rattle.box_arena.specs.Links.{Climbs, IsIn, IsLinked, ahead, behind, parent_of, first_of, last_of, previous_of, next_of}
 use Rattle.box_arena.specs.Marks.{IsStill, is_marked, is_seen}
 use Rattle.box_arena.specs.Results.{result_for}
-use Rattle.box_arena.specs.Writing.{ForgetsBelow, OnlyMarks, Puts, WritesHeld, WritesKept, forgotten}
+use Rattle.box_arena.specs.Write.{ForgetsBelow, OnlyMarks, Puts, WritesHeld, WritesKept, forgotten}
 use Rattle.box_arena.proofs.Alike.{linked_alike}
 use Rattle.box_arena.proofs.Climbs.{links_move, lives_on, reaches_itself}
 use Rattle.box_arena.proofs.Writes.{field_stays, same_room}

@@ -4,7 +4,7 @@ use Rattle.std.specs.Prelude.{if◌then◌else◌}
 use Rattle.std.proofs.lemmas.Bool.{cases_eq}
 use Rattle.std.proofs.lemmas.Bool.Decides.{nat_tests}
 use Rattle.std.proofs.lemmas.Option.{none-some, same_Some}
-use Rattle.box_arena.specs.Linked.{Linking, Chain, Has, IsIn, IsLinked, first_of, next_of, parent_of, put_before, without, is_it, behind}
+use Rattle.box_arena.specs.Links.{Linking, Chain, Has, IsIn, IsLinked, first_of, next_of, parent_of, put_before, without, is_it, behind}
 
 pub same_option : (one other : Option ℕ) → (one ≡ other) ⊎ (one ≡ other → ⊥)
 same_option None None = inl refl

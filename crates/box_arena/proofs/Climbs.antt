@@ -8,11 +8,11 @@ use Rattle.box_arena.specs.declared.entry.Entry.{Entry}
 use Rattle.box_arena.specs.declared.entry.Links.{Links}
 use Rattle.box_arena.specs.declared.entry.Mark.{Mark}
 use Rattle.box_arena.specs.At.{Slots, links_at}
-use Rattle.box_arena.specs.Calls.{SameLinks}
-use Rattle.box_arena.specs.Climbing.{Rises, Risen, Clears}
-use Rattle.box_arena.specs.Linked.{Linking, Climbs, Reaches, IsLinked, parent_of}
+use Rattle.box_arena.specs.Arena.{SameLinks}
+use Rattle.box_arena.specs.Climb.{Rises, Risen, Clears}
+use Rattle.box_arena.specs.Links.{Linking, Climbs, Reaches, IsLinked, parent_of}
 use Rattle.box_arena.specs.Marks.{Marking, MarksUp, IsStill, is_marked, is_seen}
-use Rattle.box_arena.specs.Writing.{OnlyMarks, Puts, WritesMark}
+use Rattle.box_arena.specs.Write.{OnlyMarks, Puts, WritesMark}
 
 -- ---- reaching
 

@@ -4,7 +4,7 @@ use Rattle.std.specs.Prelude.{if◌then◌else◌}
 use Rattle.std.proofs.lemmas.Bool.{cases_eq}
 use Rattle.std.proofs.lemmas.Option.{none-some, same_Some}
 use Rattle.box_arena.specs.Joining.{Joins, Parts}
-use Rattle.box_arena.specs.Linked.{Linking, Chain, Children, Climbs, Reaches, Has, IsIn, IsLinked, behind, ahead, parent_of, first_of, previous_of, next_of, put_before, without, is_it}
+use Rattle.box_arena.specs.Links.{Linking, Chain, Children, Climbs, Reaches, Has, IsIn, IsLinked, behind, ahead, parent_of, first_of, previous_of, next_of, put_before, without, is_it}
 use Rattle.box_arena.proofs.Chains.{chain_apart, chain_inside, chain_next, chain_same, chain_stays, eq_false, eq_true, next_apart, put_has, put_keeps, same_option, without_keeps}
 
 -- ---- climbs

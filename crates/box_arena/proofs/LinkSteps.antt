@@ -7,8 +7,8 @@ use Rattle.box_arena.specs.declared.entry.Entry.{Entry}
 use Rattle.box_arena.specs.declared.entry.Links.{Links}
 use Rattle.box_arena.specs.At.{links_at}
 use Rattle.box_arena.specs.Joining.{Joins, Parts, PutsAhead, PutsBehind}
-use Rattle.box_arena.specs.Linked.{Linking, IsIn, IsLinked, behind, ahead, parent_of, first_of, last_of, previous_of, next_of}
-use Rattle.box_arena.specs.Writing.{OnlyLinks, Puts, WritesLinks}
+use Rattle.box_arena.specs.Links.{Linking, IsIn, IsLinked, behind, ahead, parent_of, first_of, last_of, previous_of, next_of}
+use Rattle.box_arena.specs.Write.{OnlyLinks, Puts, WritesLinks}
 use Rattle.box_arena.proofs.CallLemmas.{puts_same}
 use Rattle.box_arena.proofs.Chains.{next_apart}
 use Rattle.box_arena.proofs.Climbs.{linked_where}

@@ -6,13 +6,13 @@ use Rattle.slab.specs.Slab.{Slab, ContainsKey, get}
 use Rattle.box_arena.specs.declared.entry.Entry.{Entry}
 use Rattle.box_arena.specs.declared.entry.Links.{Links}
 use Rattle.box_arena.specs.At.{IsAbove, IsSound, first_at, links_at, mark_at, parent_at}
-use Rattle.box_arena.specs.Calls.{IsSame, Releases}
-use Rattle.box_arena.specs.Freeing.{links_weight, weight}
+use Rattle.box_arena.specs.Arena.{IsSame, Releases}
+use Rattle.box_arena.specs.Weight.{links_weight, weight}
 use Rattle.box_arena.specs.Joining.{Joins, Parts}
-use Rattle.box_arena.specs.Linked.{Linking, Chain, Climbs, Has, IsIn, IsLinked, Reaches, ahead, parent_of, first_of, last_of, previous_of, next_of}
+use Rattle.box_arena.specs.Links.{Linking, Chain, Climbs, Has, IsIn, IsLinked, Reaches, ahead, parent_of, first_of, last_of, previous_of, next_of}
 use Rattle.box_arena.specs.Marks.{is_seen}
-use Rattle.box_arena.specs.Releasing.{Lessens, Removes, Steps}
-use Rattle.box_arena.specs.Writing.{OnlyLinks}
+use Rattle.box_arena.specs.Free.{Lessens, Removes, Steps}
+use Rattle.box_arena.specs.Write.{OnlyLinks}
 use Rattle.box_arena.proofs.Alike.{Alike, climbs_alike, linked_alike}
 use Rattle.box_arena.proofs.Climbs.{linked_where, reaches_itself}
 use Rattle.box_arena.proofs.Joined.{climbs_before, linked_joined, linked_parted}

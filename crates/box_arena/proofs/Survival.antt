@@ -4,7 +4,7 @@ use Rattle.box_gen.specs.Tree.{Boxes, none, box}
 use Rattle.box_arena.specs.At.{Slots, IsAbove, links_at, parent_at, first_at, next_at, node_at}
 use Rattle.box_arena.specs.Boxes.{Stands, StandFrom}
 use Rattle.box_arena.specs.Laws.{SurviveAttach, SurviveDetach, SurviveRestyle}
-use Rattle.box_arena.specs.Linked.{IsIn, IsLinked, first_of, next_of}
+use Rattle.box_arena.specs.Links.{IsIn, IsLinked, first_of, next_of}
 use Rattle.box_arena.proofs.Climbs.{reaches_itself, reaches_on}
 
 module _ {T : Type 0} (old new : Slots T) (x : ℕ) (linked : IsLinked (links_at old)) where

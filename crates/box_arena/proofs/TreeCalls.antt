@@ -5,11 +5,11 @@ use Rattle.std.proofs.lemmas.Option.{same_Some}
 use Rattle.slab.specs.Slab.{Slab, ContainsKey}
 use Rattle.box_arena.specs.declared.entry.Entry.{Entry}
 use Rattle.box_arena.specs.At.{IsAbove, IsSound, links_at, mark_at, parent_at}
-use Rattle.box_arena.specs.Calls.{Attaches, Detaches, IsMarkedUp, KeepsApart}
+use Rattle.box_arena.specs.Arena.{Attaches, Detaches, IsMarkedUp, KeepsApart}
 use Rattle.box_arena.specs.Joining.{Joins, Parts}
-use Rattle.box_arena.specs.Linked.{Linking, IsIn}
+use Rattle.box_arena.specs.Links.{Linking, IsIn}
 use Rattle.box_arena.specs.Marks.{IsStill, is_marked, is_seen}
-use Rattle.box_arena.specs.Writing.{OnlyLinks, OnlyMarks}
+use Rattle.box_arena.specs.Write.{OnlyLinks, OnlyMarks}
 use Rattle.box_arena.proofs.CallLemmas.{kept_same, node_in, text_in}
 use Rattle.box_arena.proofs.Climbs.{climbs_on, linked_where}
 use Rattle.box_arena.proofs.Joined.{children_joined, children_parted, climbs_both, linked_joined, linked_parted, other_chain, other_children}

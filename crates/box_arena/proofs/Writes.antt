@@ -10,11 +10,11 @@ use Rattle.box_arena.specs.declared.entry.Held.{Held}
 use Rattle.box_arena.specs.declared.entry.Links.{Links}
 use Rattle.box_arena.specs.declared.entry.Mark.{Mark}
 use Rattle.box_arena.specs.At.{links_at, mark_at}
-use Rattle.box_arena.specs.Climbing.{entry_seen, entry_unseen}
-use Rattle.box_arena.specs.Freeing.{links_weight, weight}
+use Rattle.box_arena.specs.Climb.{entry_seen, entry_unseen}
+use Rattle.box_arena.specs.Weight.{links_weight, weight}
 use Rattle.box_arena.specs.Marks.{is_seen}
-use Rattle.box_arena.specs.Releasing.{Removes}
-use Rattle.box_arena.specs.Writing.{Puts, WritesHeld, WritesLinks, WritesMark}
+use Rattle.box_arena.specs.Free.{Removes}
+use Rattle.box_arena.specs.Write.{Puts, WritesHeld, WritesLinks, WritesMark}
 
 -- under the key lives something
 there : {X : Type 0} (o : Option X) (x : X) → o ≡ Some x → IsSome o

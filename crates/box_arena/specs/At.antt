@@ -8,7 +8,7 @@ use Rattle.box_gen.specs.declared.tree.BoxNode as code_node
 use Rattle.box_gen.specs.Tree.{Content, content_of}
 use Rattle.box_arena.specs.declared.entry.Entry.{Entry}
 use Rattle.box_arena.specs.declared.entry.Held.{Held}
-use Rattle.box_arena.specs.Linked.{IsLinked, Linking, Reaches, Chain, parent_of, first_of, next_of}
+use Rattle.box_arena.specs.Links.{IsLinked, Linking, Reaches, Chain, parent_of, first_of, next_of}
 use Rattle.box_arena.specs.Marks.{IsStill, Marking, is_marked}
 use Rattle.box_arena.specs.Results.{result_for}
 

@@ -1,6 +1,6 @@
 -- Links that are written where a box is put among others, or taken from among them.
 use Rattle.std.specs.Prelude.{◌≡◌, ◌≢◌, ℕ, Option, Some, None, IsSome}
-use Rattle.box_arena.specs.Linked.{Linking, IsIn, behind, ahead, parent_of, first_of, last_of, previous_of, next_of}
+use Rattle.box_arena.specs.Links.{Linking, IsIn, behind, ahead, parent_of, first_of, last_of, previous_of, next_of}
 
 -- what stands behind a place of a ring is put anew
 pub record PutsBehind (s t : Linking) (p : ℕ) (at put : Option ℕ) : Type 0 where

@@ -6,8 +6,8 @@ use Rattle.box_gen.specs.Tree.{Boxes}
 use Rattle.box_arena.specs.declared.entry.Entry.{Entry}
 use Rattle.box_arena.specs.At.{Slots, Node, IsAbove, kept_at, links_at}
 use Rattle.box_arena.specs.Boxes.{Stands}
-use Rattle.box_arena.specs.Calls.{Attaches, Detaches, Restyles}
-use Rattle.box_arena.specs.Linked.{IsLinked}
+use Rattle.box_arena.specs.Arena.{Attaches, Detaches, Restyles}
+use Rattle.box_arena.specs.Links.{IsLinked}
 
 -- the same trees stand under a key, and the same is kept for its box: what was right for what stands there still is
 pub record Survives {T : Type 0} (old new : Slots T) (k : ℕ) : Type 0 where

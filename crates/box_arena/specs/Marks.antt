@@ -1,7 +1,7 @@
 -- Which boxes are marked, and which a climb has seen.
 use Rattle.std.specs.Prelude.{◌≡◌, ℕ, Bool, true, false, Option, Some, None}
 use Rattle.box_arena.specs.declared.entry.Mark.{Mark}
-use Rattle.box_arena.specs.Linked.{Linking, Reaches}
+use Rattle.box_arena.specs.Links.{Linking, Reaches}
 
 -- the mark of the box under each key
 abbrev pub Marking : Type 0

@@ -42,8 +42,8 @@ impl<T> BoxArena<T> {
     ghost use Rattle.slab.specs.Slab.{ContainsKey, HasRoomFor};
     ghost use Rattle.style_types.specs.Fragment.{piece_of};
     ghost use Rattle.box_arena.specs.At.{IsAbove, links_at, parent_at, first_at, next_at, node_at, node_of, text_at, kept_at};
-    ghost use Rattle.box_arena.specs.Calls.{Attaches, Detaches, Inserts, Keeps, Marks};
-    ghost use Rattle.box_arena.specs.Linked.{IsIn, IsLinked};
+    ghost use Rattle.box_arena.specs.Arena.{Attaches, Detaches, Inserts, Keeps, Marks};
+    ghost use Rattle.box_arena.specs.Links.{IsIn, IsLinked};
 
     /// No boxes. Takes no memory.
     pub fn new(alloc: Global) -> BoxArena<T>
@@ -173,7 +173,7 @@ impl<T: Drop> BoxArena<T> {
     ghost use Rattle.std.specs.Prelude.{◌≡◌, None, Some};
     ghost use Rattle.slab.specs.Slab.{ContainsKey};
     ghost use Rattle.box_arena.specs.At.{node_at, node_of, parent_at};
-    ghost use Rattle.box_arena.specs.Calls.{DropsText, Forgets, KeepsText, Releases, Restyles};
+    ghost use Rattle.box_arena.specs.Arena.{DropsText, Forgets, KeepsText, Releases, Restyles};
 
     /// Keeps what was prepared of its text. Takes no memory.
     pub fn keep_text(&mut self, key: BoxKey, text: T)

@@ -4,11 +4,11 @@
 ghost use Rattle.std.specs.Prelude.{◌≡◌, ℕ};
 ghost use Rattle.slab.specs.Slab.{ContainsKey};
 ghost use Rattle.box_arena.specs.At.{IsSound, links_at, mark_at};
-ghost use Rattle.box_arena.specs.Calls.{IsMarkedUp};
-ghost use Rattle.box_arena.specs.Climbing.{Risen};
-ghost use Rattle.box_arena.specs.Linked.{IsLinked};
+ghost use Rattle.box_arena.specs.Arena.{IsMarkedUp};
+ghost use Rattle.box_arena.specs.Climb.{Risen};
+ghost use Rattle.box_arena.specs.Links.{IsLinked};
 ghost use Rattle.box_arena.specs.Marks.{IsStill, MarksUp, is_marked};
-ghost use Rattle.box_arena.specs.Writing.{OnlyMarks};
+ghost use Rattle.box_arena.specs.Write.{OnlyMarks};
 
 use crate::entry::{Entry, Mark};
 use crate::write::{links_of, mark_of, set_mark};

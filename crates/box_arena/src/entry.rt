@@ -3,7 +3,7 @@
 ghost use Rattle.std.specs.Prelude.{◌≡◌, [], false, None, Some, option_map, OnOk, OnErr, if◌then◌else◌};
 ghost use Rattle.box_arena.specs.At.{node_of};
 ghost use Rattle.box_arena.specs.Results.{result_for};
-ghost use Rattle.box_arena.specs.Writing.{EntryKeeps};
+ghost use Rattle.box_arena.specs.Write.{EntryKeeps};
 
 use crate::results::Results;
 use box_gen::BoxNode;

@@ -4,8 +4,8 @@
 ghost use Rattle.std.specs.Prelude.{◌≡◌, None, Some};
 ghost use Rattle.slab.specs.Slab.{ContainsKey};
 ghost use Rattle.box_arena.specs.At.{IsSound, first_at, parent_at};
-ghost use Rattle.box_arena.specs.Calls.{Releases};
-ghost use Rattle.box_arena.specs.Releasing.{Steps};
+ghost use Rattle.box_arena.specs.Arena.{Releases};
+ghost use Rattle.box_arena.specs.Free.{Steps};
 
 use crate::entry::Entry;
 use crate::links::{link, unlink};

@@ -3,11 +3,11 @@
 ghost use Rattle.std.specs.Prelude.{◌≡◌, ◌≢◌, ℕ, ◌+◌, Some, None, IsSome};
 ghost use Rattle.slab.specs.Slab.{ContainsKey};
 ghost use Rattle.box_arena.specs.At.{IsSound, links_at, parent_at};
-ghost use Rattle.box_arena.specs.Calls.{Detaches};
-ghost use Rattle.box_arena.specs.Freeing.{weight};
+ghost use Rattle.box_arena.specs.Arena.{Detaches};
+ghost use Rattle.box_arena.specs.Weight.{weight};
 ghost use Rattle.box_arena.specs.Joining.{Joins, Parts, PutsAhead, PutsBehind};
-ghost use Rattle.box_arena.specs.Linked.{IsIn, IsLinked, ahead};
-ghost use Rattle.box_arena.specs.Writing.{OnlyLinks};
+ghost use Rattle.box_arena.specs.Links.{IsIn, IsLinked, ahead};
+ghost use Rattle.box_arena.specs.Write.{OnlyLinks};
 
 use crate::climb::mark_up;
 use crate::entry::{Entry, Links};

@@ -3,8 +3,8 @@
 ghost use Rattle.std.specs.Prelude.{◌≡◌, ◌≤◌, ◌<◌, ℕ, [], Some, None, length, option_map, OnOk, OnErr};
 ghost use Rattle.slab.specs.Slab.{ContainsKey, get, with_value};
 ghost use Rattle.box_arena.specs.At.{held_at, links_at, mark_at};
-ghost use Rattle.box_arena.specs.Releasing.{Removes};
-ghost use Rattle.box_arena.specs.Writing.{ForgetsBelow, WritesHeld, WritesKept, WritesLinks, WritesMark};
+ghost use Rattle.box_arena.specs.Free.{Removes};
+ghost use Rattle.box_arena.specs.Write.{ForgetsBelow, WritesHeld, WritesKept, WritesLinks, WritesMark};
 
 use crate::entry::{Entry, Links, Mark};
 use box_gen::BoxNode;

@@ -1,8 +1,8 @@
 use Rattle.std.proofs.Common.{◌≡◌, ◌∙◌, ℕ, Option, refl, sym, ap, subst, false}
 use Rattle.std.proofs.lemmas.Option.{same_Some}
 use Rattle.box_arena.specs.At.{links_at, mark_at}
-use Rattle.box_arena.specs.Climbing.{Clears}
-use Rattle.box_arena.specs.Linked.{parent_of}
+use Rattle.box_arena.specs.Climb.{Clears}
+use Rattle.box_arena.specs.Links.{parent_of}
 use Rattle.box_arena.specs.Marks.{is_marked, is_seen}
 use Rattle.box_arena.proofs.Climbs.{clears_next, cleared, is_false, only_more}
 use Rattle.box_arena.proofs.climb.clear.Goals as goal

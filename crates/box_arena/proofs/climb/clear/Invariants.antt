@@ -1,6 +1,6 @@
 use Rattle.box_arena.specs.At.{links_at, mark_at}
-use Rattle.box_arena.specs.Climbing.{Clears, seen_count}
-use Rattle.box_arena.specs.Writing.{OnlyMarks}
+use Rattle.box_arena.specs.Climb.{Clears, seen_count}
+use Rattle.box_arena.specs.Write.{OnlyMarks}
 use Rattle.box_arena.proofs.climb.clear.Given as goal
 
 abbrev pub invariant-loop-current : goal.invariant-loop-current

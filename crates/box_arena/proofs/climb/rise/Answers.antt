@@ -1,8 +1,8 @@
 use Rattle.std.proofs.Common.{rules, ◌≡◌, ◌∙◌, ℕ, Option, None, refl, sym, ap, subst, true}
 use Rattle.std.proofs.lemmas.Option.{same_Some}
 use Rattle.box_arena.specs.At.{links_at, mark_at}
-use Rattle.box_arena.specs.Climbing.{Rises}
-use Rattle.box_arena.specs.Linked.{parent_of}
+use Rattle.box_arena.specs.Climb.{Rises}
+use Rattle.box_arena.specs.Links.{parent_of}
 use Rattle.box_arena.specs.Marks.{is_seen}
 use Rattle.box_arena.proofs.Climbs.{rises_next, risen, only_more}
 use Rattle.box_arena.proofs.climb.rise.Goals as goal

@@ -1,6 +1,6 @@
 use Rattle.box_arena.specs.At.{links_at, mark_at}
-use Rattle.box_arena.specs.Climbing.{Rises, unseen_count}
-use Rattle.box_arena.specs.Writing.{OnlyMarks}
+use Rattle.box_arena.specs.Climb.{Rises, unseen_count}
+use Rattle.box_arena.specs.Write.{OnlyMarks}
 use Rattle.box_arena.proofs.climb.rise.Given as goal
 
 abbrev pub invariant-loop-current : goal.invariant-loop-current

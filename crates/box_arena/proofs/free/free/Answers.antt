@@ -1,5 +1,5 @@
 use Rattle.std.proofs.Common.{rules, ◌≡◌, ◌∙◌, None, sym, ap}
-use Rattle.box_arena.specs.Linked.{first_of}
+use Rattle.box_arena.specs.Links.{first_of}
 use Rattle.box_arena.proofs.Releasing.{first_inside, lessens_more, releases, sound_released}
 use Rattle.box_arena.proofs.free.free.Goals as goal
 

@@ -1,7 +1,7 @@
 use Rattle.std.proofs.Common.{◌≡◌}
 use Rattle.box_arena.specs.At.{first_at}
-use Rattle.box_arena.specs.Freeing.{weight}
-use Rattle.box_arena.specs.Releasing.{Lessens}
+use Rattle.box_arena.specs.Weight.{weight}
+use Rattle.box_arena.specs.Free.{Lessens}
 use Rattle.box_arena.proofs.free.free.Given as goal
 
 abbrev pub invariant-loop-first : goal.invariant-loop-first

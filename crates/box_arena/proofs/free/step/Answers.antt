@@ -1,5 +1,5 @@
 use Rattle.std.proofs.Common.{◌∙◌, ap}
-use Rattle.box_arena.specs.Linked.{first_of}
+use Rattle.box_arena.specs.Links.{first_of}
 use Rattle.box_arena.proofs.Releasing.{first_inside}
 use Rattle.box_arena.proofs.free.step.Goals as goal
 

@@ -1,8 +1,8 @@
 use Rattle.std.proofs.Common.{◌≡◌, ◌∙◌, ℕ, Some, refl, sym, ap, subst}
 use Rattle.std.proofs.lemmas.Option.{same_Some}
 use Rattle.box_arena.specs.At.{parent_at}
-use Rattle.box_arena.specs.Calls.{Detaches}
-use Rattle.box_arena.specs.Linked.{parent_of}
+use Rattle.box_arena.specs.Arena.{Detaches}
+use Rattle.box_arena.specs.Links.{parent_of}
 use Rattle.box_arena.proofs.Climbs.{links_move, lives}
 use Rattle.box_arena.proofs.TreeCalls.{detaches, sound_detached}
 use Rattle.box_arena.proofs.links.detach_at.Goals as goal

@@ -1,7 +1,7 @@
 use Rattle.std.proofs.Common.{Option, Some, subst, ℕ}
 use Rattle.box_arena.specs.At.{links_at}
 use Rattle.box_arena.specs.Joining.{PutsBehind}
-use Rattle.box_arena.specs.Writing.{Puts}
+use Rattle.box_arena.specs.Write.{Puts}
 use Rattle.box_arena.proofs.LinkSteps.{joins_made, only_links, only_then}
 use Rattle.box_arena.proofs.links.link.Goals as goal
 

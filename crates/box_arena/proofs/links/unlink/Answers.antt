@@ -1,7 +1,7 @@
 use Rattle.std.proofs.Common.{◌≡◌, ◌∙◌, Option, Some, refl, sym, ap, subst, ℕ}
 use Rattle.box_arena.specs.At.{links_at}
 use Rattle.box_arena.specs.Joining.{PutsAhead, PutsBehind}
-use Rattle.box_arena.specs.Linked.{next_of, previous_of}
+use Rattle.box_arena.specs.Links.{next_of, previous_of}
 use Rattle.box_arena.proofs.Climbs.{lives}
 use Rattle.box_arena.proofs.LinkSteps.{has_links, only_links, only_then, parts_made, still_lives}
 use Rattle.box_arena.proofs.links.unlink.Goals as goal

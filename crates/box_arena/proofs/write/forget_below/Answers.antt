@@ -1,7 +1,7 @@
 use Rattle.std.proofs.Common.{◌+◌, sym, subst}
 use Rattle.slab.specs.Slab.{Slab}
 use Rattle.box_arena.specs.declared.entry.Entry.{Entry}
-use Rattle.box_arena.specs.Writing.{ForgetsBelow}
+use Rattle.box_arena.specs.Write.{ForgetsBelow}
 use Rattle.box_arena.proofs.CallLemmas.{forgets_more, forgets_none, held_there}
 use Rattle.box_arena.proofs.write.forget_below.Goals.{then-contains, else-contains}
 use Rattle.box_arena.proofs.write.forget_below.Goals as goal

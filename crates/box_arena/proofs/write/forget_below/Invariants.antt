@@ -1,4 +1,4 @@
-use Rattle.box_arena.specs.Writing.{ForgetsBelow}
+use Rattle.box_arena.specs.Write.{ForgetsBelow}
 use Rattle.box_arena.proofs.write.forget_below.Given as goal
 
 abbrev pub invariant-loop-key : goal.invariant-loop-key

@@ -3,7 +3,7 @@ use Rattle.std.proofs.lemmas.Option.{same_Some}
 use Rattle.slab.specs.Slab.{with_value}
 use Rattle.box_arena.specs.declared.entry.Entry.{Entry}
 use Rattle.box_arena.specs.declared.entry.Held.{Held}
-use Rattle.box_arena.specs.Writing.{WritesHeld}
+use Rattle.box_arena.specs.Write.{WritesHeld}
 use Rattle.box_arena.proofs.Writes.{writes_held}
 use Rattle.box_arena.proofs.write.put_node.Goals as goal
 

@@ -1,6 +1,6 @@
 -- A climb to the top in two passes: the first marks each box and remembers that it was there, the second forgets that.
 use Rattle.std.specs.Prelude.{◌≡◌, ℕ, ◌⊎◌, Bool, true, false, not, Option, Some, None, IsSome, count_by}
-use Rattle.box_arena.specs.Linked.{Linking, Reaches, parent_of}
+use Rattle.box_arena.specs.Links.{Linking, Reaches, parent_of}
 use Rattle.box_arena.specs.Marks.{Marking, is_marked, is_seen}
 use Rattle.box_arena.specs.At.{Slots}
 use Rattle.box_arena.specs.declared.entry.Entry.{Entry}

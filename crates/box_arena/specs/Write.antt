@@ -8,9 +8,9 @@ use Rattle.box_arena.specs.declared.entry.Held.{Held}
 use Rattle.box_arena.specs.declared.entry.Links.{Links}
 use Rattle.box_arena.specs.declared.entry.Mark.{Mark}
 use Rattle.box_arena.specs.At.{links_at, mark_at, held_at}
-use Rattle.box_arena.specs.Calls.{SameLinks, SameMarks, SameHeld, SameRoom}
-use Rattle.box_arena.specs.Climbing.{seen_count, unseen_count}
-use Rattle.box_arena.specs.Freeing.{links_weight, weight}
+use Rattle.box_arena.specs.Arena.{SameLinks, SameMarks, SameHeld, SameRoom}
+use Rattle.box_arena.specs.Climb.{seen_count, unseen_count}
+use Rattle.box_arena.specs.Weight.{links_weight, weight}
 use Rattle.box_arena.specs.Marks.{is_seen}
 use Rattle.box_arena.specs.Results.{result_for}
 

@@ -5,7 +5,7 @@ use Rattle.style_types.specs.declared.constraint.Constraint.{Constraint}
 use Rattle.style_types.specs.Fragment.{Pieces}
 use Rattle.box_arena.specs.declared.entry.Entry.{Entry}
 use Rattle.box_arena.specs.At.{Slots, Node, links_at, mark_at, held_at, parent_at, first_at, next_at, node_at, text_at, kept_at, marked_at, IsAbove, HasChildren}
-use Rattle.box_arena.specs.Linked.{put_before, without}
+use Rattle.box_arena.specs.Links.{put_before, without}
 use Rattle.box_arena.specs.Marks.{MarksUp}
 
 module _ {T : Type 0} where

@@ -3,8 +3,8 @@ use Rattle.std.specs.Prelude.{◌≡◌, ◌≢◌, ℕ, ◌+◌, ◌<◌, None}
 use Rattle.slab.specs.Slab.{Slab, ContainsKey, get, HasRoomFor}
 use Rattle.box_arena.specs.declared.entry.Entry.{Entry}
 use Rattle.box_arena.specs.At.{IsAbove, IsSound, links_at, parent_at}
-use Rattle.box_arena.specs.Calls.{IsSame}
-use Rattle.box_arena.specs.Freeing.{links_weight, weight}
+use Rattle.box_arena.specs.Arena.{IsSame}
+use Rattle.box_arena.specs.Weight.{links_weight, weight}
 
 module _ {T : Type 0} where
   -- a key is free, and all others are as they were
