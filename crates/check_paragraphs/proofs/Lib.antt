@@ -1,2 +1,3 @@
+mod Atoms
 mod Lines
 mod Texts

@@ -148,7 +148,8 @@ fn with_extents(sum: u64, extents: Extents) -> Option<u64>
     Some(all)
 }
 
-fn with_four(sum: u64, a: i64, b: i64, c: i64, d: i64) -> Option<u64>
+/// The sum with four lengths more, if it is at most 2^60.
+pub(crate) fn with_four(sum: u64, a: i64, b: i64, c: i64, d: i64) -> Option<u64>
     ensures { IfSome result (λ more. (more ≡ sum + unsigned_abs a + unsigned_abs b + unsigned_abs c + unsigned_abs d) × (more ≤ 2 ^ 60)) }
 {
     let two = with_two(sum, a, b)?;

@@ -17,17 +17,20 @@
 //!   first; the items, `text` (node, place of its style, bytes in hexadecimal), `open` (node, place of its style, whether it
 //!   opens), `close` (node, whether it closes), `atom` (node, ordinal) or `break` (node). The answer has the items, each with its
 //!   source and its level apart, and then the lists of levels, classes, base levels and breaks.
-//! - `count`: how far the paragraph is taken, `read` or `prepared`; a paragraph as above, whose styles tell besides align, the
-//!   length of `vertical-align`, line height (`Normal`, or `Number` or `Length` with its value), and, each for top, right, bottom
-//!   and left, margins and paddings (`Auto`, or `Length` or `Percent` with its value) and border widths. The answer has how many items
-//!   there are: those that are read, or those that are prepared. It is for tools/count-paragraphs.
+//! - `lines`: the block container's node and ordinal, and its inline size; a paragraph as above, whose styles tell besides align,
+//!   the length of `vertical-align`, line height (`Normal`, or `Number` or `Length` with its value), and, each for top, right,
+//!   bottom and left, margins and paddings (`Auto`, or `Length` or `Percent` with its value) and border widths; the inline-blocks,
+//!   each with node and ordinal, the inline and the block size of its border box, the fields of an `Atom` from its extent on,
+//!   and its min-content and max-content contribution. The answer has the two sizes of the paragraph, and its lines.
+//! - `count`: how far the paragraph is taken, `read`, `prepared` or `lines`; the words of `lines`. The answer has how many items
+//!   are read or prepared, or how many lines there are. It is for tools/count-paragraphs.
 //! - A question that no call takes is `outside`, and `too long` where it is of the kind `fill`. What is not such a line is
 //!   `not a case`.
 #![tactic(auto)]
 
 ghost use Rattle.std.specs.Prelude.{◌≡◌, ◌<◌};
 
-mod counts;
+mod bounds;
 mod fills;
 mod fragments;
 mod glyphs;
@@ -38,9 +41,9 @@ mod preparings;
 mod printed;
 mod styles;
 mod sums;
+mod wholes;
 mod words;
 
-use counts::{answer_count, count_case};
 use face_api::{Face, Faces, MonoFace, TableFace, WideFace};
 use fills::{answer_fill, fill_case};
 use placings::{answer_line, line_case};
@@ -50,6 +53,7 @@ use std::io;
 use std::io::{BufRead, BufReader, BufWriter, Write};
 use std::marker::Brand;
 use std::sync::ledger::{Blank, Ledger};
+use wholes::{answer_lines, count_case, lines_case};
 use wm_units::Steps;
 use words::{CaseError, Words};
 
@@ -115,8 +119,12 @@ fn answer<W: Write, L: Ledger, M: Ledger>(
             Ok(line) => answer_line(alloc, &line, output),
             Err(error) => print_error(output, error),
         },
+        Ok("lines") => match lines_case(alloc, &mut words) {
+            Ok(case) => answer_lines(alloc, &case, faces, prepared, arranged, output),
+            Err(error) => print_error(output, error),
+        },
         Ok("count") => match count_case(alloc, &mut words) {
-            Ok(case) => answer_count(alloc, &case, faces, prepared, output),
+            Ok(case) => answer_lines(alloc, &case, faces, prepared, arranged, output),
             Err(error) => print_error(output, error),
         },
         Ok("paragraph") => match prepare_case(alloc, &mut words) {

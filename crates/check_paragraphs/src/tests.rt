@@ -4,10 +4,12 @@
 mod filled;
 mod placed;
 mod prepared;
+mod wholes;
 
 use self::filled::FILLED;
 use self::placed::{BOXES, TEXTS};
 use self::prepared::PREPARED;
+use self::wholes::WHOLES;
 use crate::counted;
 use std::marker::Brand;
 use std::process::Abort;
@@ -53,4 +55,9 @@ fn texts_are_placed(rt: HostRuntime) -> Result<(), Fail> {
 #[test]
 fn boxes_are_placed(rt: HostRuntime) -> Result<(), Fail> {
     check(&rt, &BOXES)
+}
+
+#[test]
+fn paragraphs_have_their_lines(rt: HostRuntime) -> Result<(), Fail> {
+    check(&rt, &WHOLES)
 }
