@@ -1,0 +1,80 @@
+-- The inline size of a box. CSS 2, 10.3.3 and 10.3.9; CSS Writing Modes 4, 7.3.
+use Rattle.std.specs.Prelude.{Bool, true, false, not, ◌&&◌, List, Option, Some, None, unwrap_or, ℤ, pos, ◌+ℤ◌, ◌-ℤ◌}
+use Rattle.wm_modes.specs.declared.mode.WritingMode.{WritingMode}
+use Rattle.wm_modes.specs.declared.sides.FlowSide.TheVariants.{InlineStart, InlineEnd}
+use Rattle.wm_modes.specs.Mode.{is_horizontal}
+use Rattle.wm_modes.specs.Sides.{side_of}
+use Rattle.face_api.specs.Table.{Table}
+use Rattle.style_types.specs.declared.style.Style.{Style}
+use Rattle.box_gen.specs.Tree.{Content}
+use Rattle.ortho_flow.specs.Orthogonal.{available}
+use Rattle.size_rules.specs.declared.equation.Used.{Used}
+use Rattle.size_rules.specs.Equation.{equation, settled}
+use Rattle.size_rules.specs.Limits.{fit}
+use Rattle.relayout.specs.Edges.{inner_edges_along, margin, margins_along}
+use Rattle.relayout.specs.Flowed.{Laid, Member}
+use Rattle.relayout.specs.Intrinsic.{inner}
+use Rattle.relayout.specs.Sizes.{Constraint, Containing, given, hold, inline_sizes, is_atom, is_parallel, sizes_along}
+
+-- what layout is given from outside: the faces, and the view's sizes across and down the page
+pub record Outside : Type 0 where
+  pub faces : List (Option Table)
+  pub across : ℤ
+  pub down : ℤ
+
+abbrev pub view_on : (across : Bool) → Outside → ℤ
+view_on true outside = outside.across
+view_on false outside = outside.down
+
+abbrev pub start_margin : Containing → Style → (inline : ℤ) → Option ℤ
+start_margin containing style inline = margin style (Some inline) (side_of containing.mode containing.dir InlineStart)
+
+abbrev pub end_margin : Containing → Style → (inline : ℤ) → Option ℤ
+end_margin containing style inline = margin style (Some inline) (side_of containing.mode containing.dir InlineEnd)
+
+-- a block-level box that goes along its containing block's lines fills its inline size with its margins, borders and paddings
+unfoldable pub equation_of : Containing → Style → (inline : ℤ) → Used
+equation_of containing style inline =
+    let sizes = sizes_along containing.mode style (Some inline) in
+    equation inline (inner_edges_along style (Some inline) containing.mode) sizes.size sizes.min sizes.max
+    (start_margin containing style inline) (end_margin containing style inline)
+
+-- what another box with an auto size has available on its inline axis: of the containing block's inline size, or, for an orthogonal one, of
+-- its block size or the view's
+abbrev pub room : Outside → (parallel : Bool) → Constraint → (mode : WritingMode) → (around : ℤ) → ℤ
+room outside true c mode around = available c.inline (pos 0) around
+room outside false c mode around = available c.block (view_on (is_horizontal mode) outside) around
+
+abbrev pub around : Style → Constraint → ℤ
+around style c = inner_edges_along style c.inline style.mode +ℤ margins_along style c.inline style.mode
+
+-- it shrinks to fit its content
+unfoldable pub shrunk : Outside → Containing → Style → Content → Constraint → (handed : Option ℤ) → List Member → ℤ
+shrunk outside containing style content c handed members =
+    let sizes = inner outside.faces style content handed members in
+    hold (inline_sizes containing style c) (fit sizes.min sizes.max (room outside (is_parallel containing style) c style.mode (around style c)))
+
+abbrev pub given_or_shrunk : Option ℤ → Outside → Containing → Style → Content → Constraint → (handed : Option ℤ) → List Member → ℤ
+given_or_shrunk (Some size) outside containing style content c handed members = size
+given_or_shrunk None outside containing style content c handed members = shrunk outside containing style content c handed members
+
+abbrev pub inline_size_by : (fills : Bool) → Outside → Containing → Style → Content → Constraint → (handed : Option ℤ) → List Member → ℤ
+inline_size_by true outside containing style content c handed members = (equation_of containing style (unwrap_or c.inline (pos 0))).size
+inline_size_by false outside containing style content c handed members =
+    given_or_shrunk (given (inline_sizes containing style c)) outside containing style content c handed members
+
+-- the inline size of a box's content area
+unfoldable pub inline_size : Outside → Containing → Style → Content → Constraint → (handed : Option ℤ) → List Member → ℤ
+inline_size outside containing style content c handed members =
+    inline_size_by (is_parallel containing style && not (is_atom style.display)) outside containing style content c handed members
+
+-- where a block-level child's border box stands from the inline-start edge of its containing block. An orthogonal one has its block size as
+-- the given size.
+abbrev pub inline_place_by : (parallel : Bool) → Containing → (inline : ℤ) → Laid → ℤ
+inline_place_by true containing inline laid = (equation_of containing laid.style inline).start
+inline_place_by false containing inline laid =
+    let extent = laid.flowed.part.rect.inline in
+    (settled (inline -ℤ extent) extent (start_margin containing laid.style inline) (end_margin containing laid.style inline)).start
+
+unfoldable pub inline_place : Containing → (inline : ℤ) → Laid → ℤ
+inline_place containing inline laid = inline_place_by (is_parallel containing laid.style) containing inline laid

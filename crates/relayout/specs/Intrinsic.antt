@@ -1,0 +1,59 @@
+-- Intrinsic sizes: what a box asks of its containing block's inline axis, and what its content comes to at least and at most.
+-- CSS 2, 10.3.5; CSS Writing Modes 4, 7.3.
+use Rattle.std.specs.Prelude.{ℕ, List, map, fold, Option, Some, None, ℤ, pos, ◌+ℤ◌}
+use Rattle.std.specs.Int.{int_max}
+use Rattle.wm_units.specs.Numbers.{cap_size}
+use Rattle.wm_modes.specs.declared.mode.Direction.{Direction}
+use Rattle.wm_modes.specs.declared.mode.Direction.TheVariants.{Ltr, Rtl}
+use Rattle.wm_modes.specs.declared.mode.WritingMode.{WritingMode}
+use Rattle.wm_modes.specs.declared.rects.FlowRect.{FlowRect}
+use Rattle.face_api.specs.Table.{Table}
+use Rattle.style_types.specs.declared.style.Style.{Style}
+use Rattle.style_types.specs.declared.style.UnicodeBidi.{UnicodeBidi}
+use Rattle.style_types.specs.declared.style.UnicodeBidi.TheVariants as bidis
+use Rattle.style_types.specs.Fragment.{Kind, measure}
+use Rattle.style_types.specs.Item.{Entry}
+use Rattle.box_gen.specs.Tree.{Content, blocks, inline}
+use Rattle.line_fill.specs.declared.item.Intrinsic.{Intrinsic}
+use Rattle.para_prepare.specs.Parts.{used_direction}
+use Rattle.para_prepare.specs.Preparation.{Preparation, preparation}
+use Rattle.para_lines.specs.Filling.{paragraph_sizes}
+use Rattle.relayout.specs.Edges.{margins_along}
+use Rattle.relayout.specs.Flowed.{Member}
+
+-- the margin box of a child on the inline axis of its containing block: as it was measured, or as it is laid out
+abbrev pub contributed : WritingMode → Style → FlowRect → Kind → Intrinsic
+contributed mode style rect (measure min max) = record { min = min; max = max }
+contributed mode style rect _ =
+    record { min = rect.inline +ℤ margins_along style None mode; max = rect.inline +ℤ margins_along style None mode }
+
+-- what a child asks in a containing block of this mode, whose inline size isn't known
+unfoldable pub contribution : WritingMode → (handed : Option ℤ) → Member → Intrinsic
+contribution mode handed member =
+    let part = (member.flow (record { inline = None; block = handed })).part in
+    contributed mode member.style part.rect part.kind
+
+abbrev pub level_of : Direction → ℕ
+level_of Ltr = 0
+level_of Rtl = 1
+
+-- the base level of a paragraph in a block container; none where each of its bidi paragraphs has its own
+abbrev pub base_by : UnicodeBidi → Direction → Option ℕ
+base_by bidis.Plaintext dir = None
+base_by _ dir = Some (level_of dir)
+
+abbrev pub prepared : List (Option Table) → Style → List Entry → Preparation
+prepared faces style entries = preparation faces (base_by style.bidi (used_direction style)) style entries
+
+-- the greatest of what block-level children ask; of a paragraph, the widths of its pieces, with what its inline-blocks ask
+abbrev pub together : List (Option Table) → Style → Content → List Intrinsic → Intrinsic
+together faces style blocks asked =
+    record { min = fold int_max (pos 0) (map (λ a. a.min) asked); max = fold int_max (pos 0) (map (λ a. a.max) asked) }
+together faces style (inline entries) asked =
+    paragraph_sizes entries (prepared faces style entries) (map (λ a. a.min) asked) (map (λ a. a.max) asked)
+
+-- the min-content and the max-content size of a box's content
+unfoldable pub inner : List (Option Table) → Style → Content → (handed : Option ℤ) → List Member → Intrinsic
+inner faces style content handed members =
+    let sizes = together faces style content (map (contribution style.mode handed) members) in
+    record { min = cap_size sizes.min; max = cap_size sizes.max }

@@ -1,0 +1,82 @@
+-- Sizes of boxes: what a style asks for on an axis, which sizes of the containing block it refers to, and which block size is
+-- definite. CSS 2, 10.2 to 10.7; CSS Writing Modes 4, 7.1 to 7.3.
+use Rattle.std.specs.Prelude.{Bool, true, false, not, Option, option_map, ℤ}
+use Rattle.wm_modes.specs.declared.mode.WritingMode.{WritingMode}
+use Rattle.wm_modes.specs.declared.mode.Direction.{Direction}
+use Rattle.wm_modes.specs.Mode.{are_parallel, is_horizontal}
+use Rattle.size_rules.specs.Limits.{used_size}
+use Rattle.size_rules.specs.Resolving.{resolved, resolved_or_zero}
+use Rattle.style_types.specs.declared.style.Display.{Display}
+use Rattle.style_types.specs.declared.style.Display.TheVariants as displays
+use Rattle.style_types.specs.declared.style.Size.{Size}
+use Rattle.style_types.specs.declared.style.Style.{Style}
+
+-- what a containing block is to the boxes in it: its mode and its used direction
+pub record Containing : Type 0 where
+  pub mode : WritingMode
+  pub dir : Direction
+
+-- the inline and the block size of the containing block, where they are known or definite
+pub record Constraint : Type 0 where
+  pub inline : Option ℤ
+  pub block : Option ℤ
+
+-- a size, a minimum and a maximum, where percentages refer to `base`
+pub record Sizes : Type 0 where
+  pub size : Option ℤ
+  pub min : ℤ
+  pub max : Option ℤ
+
+abbrev pub resolved_sizes : (size min max : Size) → (base : Option ℤ) → Sizes
+resolved_sizes size min max base = record { size = resolved size base; min = resolved_or_zero min base; max = resolved max base }
+
+-- what a style asks for across the page or down the page
+abbrev pub sizes_on : (across : Bool) → Style → (base : Option ℤ) → Sizes
+sizes_on true style base = resolved_sizes style.width style.min_width style.max_width base
+sizes_on false style base = resolved_sizes style.height style.min_height style.max_height base
+
+abbrev pub sizes_along : WritingMode → Style → (base : Option ℤ) → Sizes
+sizes_along mode style base = sizes_on (is_horizontal mode) style base
+
+abbrev pub sizes_across : WritingMode → Style → (base : Option ℤ) → Sizes
+sizes_across mode style base = sizes_on (not (is_horizontal mode)) style base
+
+abbrev pub hold : Sizes → ℤ → ℤ
+hold sizes size = used_size size sizes.min sizes.max
+
+-- a size that isn't auto, held
+abbrev pub given : Sizes → Option ℤ
+given sizes = option_map (hold sizes) sizes.size
+
+-- its lines go along those of its containing block, or across the page where those go down
+abbrev pub is_parallel : Containing → Style → Bool
+is_parallel containing style = are_parallel containing.mode style.mode
+
+-- its own axes have the containing block's sizes, in the other order where it is orthogonal
+abbrev pub inline_base : (parallel : Bool) → Constraint → Option ℤ
+inline_base true c = c.inline
+inline_base false c = c.block
+
+abbrev pub block_base : (parallel : Bool) → Constraint → Option ℤ
+block_base true c = c.block
+block_base false c = c.inline
+
+abbrev pub inline_sizes : Containing → Style → Constraint → Sizes
+inline_sizes containing style c = sizes_along style.mode style (inline_base (is_parallel containing style) c)
+
+abbrev pub block_sizes : Containing → Style → Constraint → Sizes
+block_sizes containing style c = sizes_across style.mode style (block_base (is_parallel containing style) c)
+
+-- the block size, where it is definite: a length, or a percentage of a size that is
+abbrev pub definite : Containing → Style → Constraint → Option ℤ
+definite containing style c = given (block_sizes containing style c)
+
+-- an inline-block stands in a paragraph
+abbrev pub is_atom : Display → Bool
+is_atom displays.InlineBlock = true
+is_atom _ = false
+
+abbrev pub is_flow_root : Display → Bool
+is_flow_root displays.InlineBlock = true
+is_flow_root displays.FlowRoot = true
+is_flow_root _ = false
