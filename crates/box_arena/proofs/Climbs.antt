@@ -2,7 +2,7 @@
 use Rattle.std.proofs.Common.{◌≡◌, ◌∙◌, ◌≢◌, ◌⊎◌, ℕ, zero, suc, Bool, true, false, not, Option, Some, None, IsSome, option_map, refl, sym, ap, subst, inl, inr}
 use Rattle.std.proofs.Math.Path.{fun_ext}
 use Rattle.std.proofs.lemmas.Bool.{cases_eq}
-use Rattle.std.proofs.lemmas.Option.{same_Some}
+use Rattle.std.proofs.lemmas.Option.{none-some, same_Some}
 use Rattle.slab.specs.Slab.{Slab, get, ContainsKey}
 use Rattle.box_arena.specs.declared.entry.Entry.{Entry}
 use Rattle.box_arena.specs.declared.entry.Links.{Links}
@@ -37,6 +37,13 @@ pub handed_up : (s : Linking) (P : ℕ → Type 0) → ((q r : ℕ) → P q → 
     → (n : ℕ) (from : Option ℕ) (k : ℕ) → ((q : ℕ) → from ≡ Some q → P q) → Climbs n s from k → P k
 handed_up s P hand zero from k all at = all k at
 handed_up s P hand (suc n) from k all (p, at, rest) = handed_up s P hand n (parent_of (s p)) k (λ q is. hand p q (all p at) is) rest
+
+-- nothing else is above a box that isn't attached
+pub top_alone : (s : Linking) (c r : ℕ) → parent_of (s r) ≡ None → Reaches s c r → c ≡ r
+top_alone s c r free (zero, is) = sym (same_Some r c is)
+top_alone s c r free (suc n, (q, is, rest)) =
+    let (p, at, up) = climbs_from s n (parent_of (s q)) c rest in
+    absurd (none-some p (sym free ∙ ap (λ j. parent_of (s j)) (same_Some r q is) ∙ at))
 
 -- ---- small steps
 

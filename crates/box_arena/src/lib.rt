@@ -10,6 +10,8 @@ mod key;
 pub mod laws;
 mod links;
 mod results;
+#[cfg(test)]
+mod tests;
 mod write;
 
 pub use arena::BoxArena;
