@@ -9,7 +9,8 @@ use Rattle.line_place.specs.Reach.{total}
 use Rattle.check_paragraphs.specs.Bounds.{IsBoundedItem}
 use Rattle.para_lines.specs.Boxes.{HasBounds}
 use Rattle.para_lines.specs.Paragraph.{atom_of}
-use Rattle.para_lines.specs.Reach.{atom_reach, atoms_first, atoms_in}
+use Rattle.para_lines.specs.Reach.{atom_reach}
+use Rattle.para_prepare.specs.Preparation.{atoms_first, atoms_in}
 use Rattle.para_prepare.specs.declared.item.PreparedContent.{PreparedContent}
 use Rattle.para_prepare.specs.declared.item.PreparedContent.TheVariants as contents
 use Rattle.para_prepare.specs.declared.item.PreparedItem.{PreparedItem}

@@ -7,7 +7,8 @@ ghost use Rattle.line_place.specs.Reach.{total};
 ghost use Rattle.check_paragraphs.specs.Bounds.{IsBoundedItem};
 ghost use Rattle.para_lines.specs.Boxes.{HasBounds};
 ghost use Rattle.para_lines.specs.Paragraph.{atom_of};
-ghost use Rattle.para_lines.specs.Reach.{atom_reach, atoms_first, atoms_in, lengths_of};
+ghost use Rattle.para_lines.specs.Reach.{atom_reach, lengths_of};
+ghost use Rattle.para_prepare.specs.Preparation.{atoms_first, atoms_in};
 
 use crate::bounds::is_bounded;
 use crate::fragments::print_fragments;

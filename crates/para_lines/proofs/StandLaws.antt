@@ -19,7 +19,7 @@ use Rattle.para_lines.specs.Lines as rule
 use Rattle.para_lines.specs.Lines.{no_atom, standings_by}
 use Rattle.para_lines.specs.Paragraph.{atom_of}
 use Rattle.para_lines.specs.Prepared.{AreSources}
-use Rattle.para_lines.specs.Reach.{atoms_first, atoms_in}
+use Rattle.para_prepare.specs.Preparation.{atoms_first, atoms_in}
 
 first_is : (atoms : List code_atom.Atom) → get_or (map atom_of atoms) 0 no_atom ≡ first_atom atoms
 first_is [] = refl

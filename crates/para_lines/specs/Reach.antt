@@ -1,5 +1,5 @@
 -- How far the lengths of a paragraph reach.
-use Rattle.std.specs.Prelude.{◌≤◌, ◌+◌, ◌^◌, ℕ, suc, ⊤, List, [], ◌∷◌, All, length, Option, IfSome, ℤ, pos, ◌≤ℤ◌, unsigned_abs}
+use Rattle.std.specs.Prelude.{◌≤◌, ◌+◌, ◌^◌, ℕ, ⊤, List, [], ◌∷◌, All, length, Option, IfSome, ℤ, pos, ◌≤ℤ◌, unsigned_abs}
 use Rattle.std.specs.List.{sum_by}
 use Rattle.style_types.specs.declared.fragment.Fragment.{Fragment, out-Fragment}
 use Rattle.line_place.specs.Reach.{piece_reach}
@@ -41,18 +41,6 @@ abbrev pub atom_reach : rule.Atom → ℕ
 atom_reach atom =
     unsigned_abs atom.extent + piece_reach atom.fragment + unsigned_abs atom.left_margin + unsigned_abs atom.over_margin + unsigned_abs atom.over
     + unsigned_abs atom.under + unsigned_abs atom.shift
-
--- one more where that is an atom
-abbrev pub atoms_first : PreparedContent → (others : ℕ) → ℕ
-atoms_first (Atom name) others = suc others
-atoms_first (Unit node first end_ form advance space glyphs) others = others
-atoms_first (Combined node first end_ advance natural glyphs) others = others
-atoms_first (Break node) others = others
-
--- how many of these items are atoms
-abbrev pub atoms_in : List PreparedItem → ℕ
-atoms_in [] = 0
-atoms_in (item ∷ items) = atoms_first item.what (atoms_in items)
 
 -- the lengths that an atom brings to a line, without their signs; raised, it reaches up to 2^32 further over and under
 abbrev pub atom_part : PreparedContent → rule.Atom → ℕ

@@ -9,14 +9,14 @@ ghost use Rattle.style_types.specs.Style.{IsBounded};
 ghost use Rattle.line_fill.specs.Filling.{Divide};
 ghost use Rattle.line_place.specs.Reach.{total};
 ghost use Rattle.line_place.specs.Walk.{followed};
-ghost use Rattle.para_prepare.specs.Preparation.{AreFrom, HasBounds as prepared_bounds};
+ghost use Rattle.para_prepare.specs.Preparation.{AreFrom, HasBounds as prepared_bounds, atoms_in};
 ghost use Rattle.para_lines.specs.Boxes.{AreBoxes, HasBounds};
 ghost use Rattle.para_lines.specs.Filling as filling;
 ghost use Rattle.para_lines.specs.Lines as rule;
 ghost use Rattle.para_lines.specs.Lines.{atom_extents, extent_of, line_piece, lines_from};
 ghost use Rattle.para_lines.specs.Paragraph.{atom_of};
 ghost use Rattle.para_lines.specs.Prepared.{AreSources, IsWhole, preparation_of};
-ghost use Rattle.para_lines.specs.Reach.{AreNear, IsNearLine, atom_reach, atoms_in};
+ghost use Rattle.para_lines.specs.Reach.{AreNear, IsNearLine, atom_reach};
 ghost use Rattle.para_lines.specs.Setting.{IsSetting, entries_in, line_between, room_between, standings_in};
 
 use crate::boxes::{Boxes, Places, inline_boxes};

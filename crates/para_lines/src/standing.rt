@@ -3,6 +3,7 @@
 ghost use Rattle.std.specs.Prelude.{◌≡◌, ◌+◌, ◌<◌, ◌≤◌, ◌^◌, true, [], ℕ, All, IfOk, IfSome, List, length, map, slice_index_or, unsigned_abs};
 ghost use Rattle.style_types.specs.Item.{Entry, entries_of};
 ghost use Rattle.line_fill.specs.declared.item.FillItem.{FillItem};
+ghost use Rattle.para_prepare.specs.Preparation.{atoms_in};
 ghost use Rattle.para_lines.specs.Filling.{item_chains};
 ghost use Rattle.para_lines.specs.Boxes.{AreBoxes, chain_at, innermost};
 ghost use Rattle.line_place.specs.Line.{content_of, item_of};
@@ -10,7 +11,6 @@ ghost use Rattle.para_lines.specs.Line.{AreSeats, HasAtom, IsAble, IsNearAtom, a
 ghost use Rattle.para_lines.specs.Paragraph.{atom_of};
 ghost use Rattle.para_lines.specs.Lines as rule;
 ghost use Rattle.para_lines.specs.Prepared.{AreSources, IsWhole};
-ghost use Rattle.para_lines.specs.Reach.{atoms_in};
 ghost use Rattle.para_lines.specs.Around.{has};
 
 use crate::boxes::Boxes;

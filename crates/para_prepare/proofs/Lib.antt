@@ -1,3 +1,4 @@
+pub mod AtomLaws
 pub mod Begins
 pub mod ContentLaws
 pub mod Controls

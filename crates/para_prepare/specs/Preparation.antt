@@ -1,10 +1,10 @@
 -- A paragraph that is prepared for its lines.
-use Rattle.std.specs.Prelude.{ℕ, ◌≡◌, ◌-◌, ◌*◌, ◌<◌, ◌≤◌, ⊤, List, [], ◌∷◌, length, map, All, Option, pos, ◌≤ℤ◌}
+use Rattle.std.specs.Prelude.{ℕ, suc, ◌≡◌, ◌-◌, ◌*◌, ◌<◌, ◌≤◌, ⊤, List, [], ◌∷◌, length, map, All, Option, pos, ◌≤ℤ◌}
 use Rattle.face_api.specs.Table.{Table}
 use Rattle.wm_chars.specs.declared.classes.BidiClass.{BidiClass}
 use Rattle.style_types.specs.declared.breaking.Breaking.{Breaking}
 use Rattle.style_types.specs.declared.style.Style.{Style}
-use Rattle.style_types.specs.Item.{Entry}
+use Rattle.style_types.specs.Item.{Entry, text, begins, ends, atom, line_break}
 use Rattle.para_prepare.specs.declared.bidi_text.Around.{Around}
 use Rattle.para_prepare.specs.declared.item.PreparedContent as content
 use Rattle.para_prepare.specs.declared.item.PreparedContent.TheVariants as contents
@@ -47,6 +47,27 @@ HasBounds (contents.Break node) = ⊤
 abbrev pub AreFrom : (first many : ℕ) → List PreparedItem → Type 0
 AreFrom first many [] = ⊤
 AreFrom first many (item ∷ items) = (first ≤ item.source) × (item.source < many) × AreFrom item.source many items
+
+-- one more where that is an inline-block
+abbrev pub atoms_first : content.PreparedContent → (others : ℕ) → ℕ
+atoms_first (contents.Atom name) others = suc others
+atoms_first (contents.Unit node first end_ form advance space glyphs) others = others
+atoms_first (contents.Combined node first end_ advance natural glyphs) others = others
+atoms_first (contents.Break node) others = others
+
+-- how many of these items are inline-blocks
+abbrev pub atoms_in : List PreparedItem → ℕ
+atoms_in [] = 0
+atoms_in (item ∷ items) = atoms_first item.what (atoms_in items)
+
+-- how many inline-blocks a paragraph has
+abbrev pub atoms_of : List Entry → ℕ
+atoms_of [] = 0
+atoms_of (text node bytes style ∷ entries) = atoms_of entries
+atoms_of (begins node style edges ∷ entries) = atoms_of entries
+atoms_of (ends node edges ∷ entries) = atoms_of entries
+atoms_of (atom name ∷ entries) = suc (atoms_of entries)
+atoms_of (line_break node ∷ entries) = atoms_of entries
 
 abbrev pub container_of : Style → Around
 container_of style = record { bidi = style.bidi; dir = used_direction style }

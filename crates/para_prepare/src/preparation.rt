@@ -9,7 +9,7 @@ ghost use Rattle.para_prepare.specs.Kept.{kept as kept_of, joined, ends_from};
 ghost use Rattle.para_prepare.specs.Limits.{HasFontSize, text_bytes};
 ghost use Rattle.para_prepare.specs.Parts.{raws};
 ghost use Rattle.para_prepare.specs.Preparation as spec;
-ghost use Rattle.para_prepare.specs.Preparation.{AreFrom, HasBounds, preparation};
+ghost use Rattle.para_prepare.specs.Preparation.{AreFrom, HasBounds, atoms_in, atoms_of, preparation};
 ghost use Rattle.para_prepare.specs.Standing.{IsStanding};
 ghost use Rattle.para_prepare.specs.Views.{HasSize, IsCovered, IsPart, IsPlaced, parts_of};
 
@@ -112,8 +112,9 @@ impl Prepared {
 
 /// Prepares a paragraph. All its texts together have at most 1,048,576 bytes, and their font sizes are from 0 to 65,536.
 /// `arena` is for scratch memory, and empty when the call returns. The call is a step, also one that runs out of memory. The
-/// items come in the order of the paragraph's, and there are at most as many as bytes of text and items together. No unit
-/// advances by less than 0 or by more than 655,360, and no combined run by more than 65,536.
+/// items come in the order of the paragraph's, and there are at most as many as bytes of text and items together, and no more
+/// inline-blocks among them than the paragraph has. No unit advances by less than 0 or by more than 655,360, and no combined
+/// run by more than 65,536.
 pub fn prepare<L: Ledger>(
     alloc: Global,
     paragraph: &Paragraph,
@@ -128,6 +129,7 @@ pub fn prepare<L: Ledger>(
     ensures prepared { IfOk result (λ p. p ≡ preparation (faces_of ⟦<dyn Face as Face>⟧ faces.now) paragraph.now.base paragraph.now.style (entries_of paragraph.now.items.items)) }
     ensures count { IfOk result (λ p. length p.items ≤ text_bytes (entries_of paragraph.now.items.items) + length paragraph.now.items.items) }
     ensures sources { IfOk result (λ p. AreFrom 0 (length paragraph.now.items.items) p.items) }
+    ensures atoms { IfOk result (λ p. atoms_in p.items ≤ atoms_of (entries_of paragraph.now.items.items)) }
     ensures lengths { IfOk result (λ p. All (λ item. HasBounds item.what) p.items) }
 {
     steps.tick();
@@ -148,6 +150,7 @@ fn scratch(
     ensures prepared { IfOk result (λ p. p ≡ preparation (faces_of ⟦<dyn Face as Face>⟧ faces.now) paragraph.now.base paragraph.now.style (entries_of paragraph.now.items.items)) }
     ensures count { IfOk result (λ p. length p.items ≤ text_bytes (entries_of paragraph.now.items.items) + length paragraph.now.items.items) }
     ensures sources { IfOk result (λ p. AreFrom 0 (length paragraph.now.items.items) p.items) }
+    ensures atoms { IfOk result (λ p. atoms_in p.items ≤ atoms_of (entries_of paragraph.now.items.items)) }
     ensures lengths { IfOk result (λ p. All (λ item. HasBounds item.what) p.items) }
 {
     let kept = kept_letters(arena, &paragraph.items)?;
@@ -172,6 +175,7 @@ fn at_level_zero(
     ensures prepared { IfOk result (λ made. IfSome made (λ p. p ≡ preparation (faces_of ⟦<dyn Face as Face>⟧ faces.now) paragraph.now.base paragraph.now.style (entries_of paragraph.now.items.items))) }
     ensures count { IfOk result (λ made. IfSome made (λ p. length p.items ≤ text_bytes (entries_of paragraph.now.items.items) + length paragraph.now.items.items)) }
     ensures sources { IfOk result (λ made. IfSome made (λ p. AreFrom 0 (length paragraph.now.items.items) p.items)) }
+    ensures atoms { IfOk result (λ made. IfSome made (λ p. atoms_in p.items ≤ atoms_of (entries_of paragraph.now.items.items))) }
     ensures lengths { IfOk result (λ made. IfSome made (λ p. All (λ item. HasBounds item.what) p.items)) }
 {
     if !starts_at_zero(paragraph.base, paragraph.style.bidi)
@@ -238,6 +242,7 @@ fn by_all_rules<'a>(
     ensures prepared { IfOk result (λ p. p ≡ preparation (faces_of ⟦<dyn Face as Face>⟧ faces.now) paragraph.now.base paragraph.now.style (entries_of paragraph.now.items.items)) }
     ensures count { IfOk result (λ p. length p.items ≤ text_bytes (entries_of paragraph.now.items.items) + length paragraph.now.items.items) }
     ensures sources { IfOk result (λ p. AreFrom 0 (length paragraph.now.items.items) p.items) }
+    ensures atoms { IfOk result (λ p. atoms_in p.items ≤ atoms_of (entries_of paragraph.now.items.items)) }
     ensures lengths { IfOk result (λ p. All (λ item. HasBounds item.what) p.items) }
 {
     let content = content_of(alloc, arena, &paragraph.items, kept, faces)?;

@@ -1,16 +1,16 @@
 //! The layout of one paragraph.
 
-ghost use Rattle.std.specs.Prelude.{◌≡◌, ◌≤◌, ℕ, false, true, All, IfOk, length};
+ghost use Rattle.std.specs.Prelude.{◌≡◌, ◌≤◌, All, IfOk, length};
 ghost use Rattle.style_types.specs.Item.{entries_of};
 ghost use Rattle.style_types.specs.Style.{IsBounded};
 ghost use Rattle.para_prepare.specs.Limits.{HasFontSize, text_bytes};
+ghost use Rattle.para_prepare.specs.Preparation.{atoms_of};
 ghost use Rattle.para_lines.specs.Boxes.{HasBounds};
-ghost use Rattle.para_lines.specs.Reach.{atoms_first, atoms_in};
 
 use bumpalo::Bump;
 use face_api::Faces;
 use para_lines::{Container, paragraph_lines};
-use para_prepare::{Paragraph, PreparedContent, PreparedItem, prepare};
+use para_prepare::{Paragraph, prepare};
 use std::alloc::{AllocError, Global};
 use std::sync::ledger::Ledger;
 use style_types::{BoxName, Fragments, Item, Items, Style};
@@ -48,9 +48,6 @@ pub(crate) fn lay_out<L: Ledger, M: Ledger>(
         style,
         size: 10 * EM,
     };
-    if !are_without_atoms(ready.items()) {
-        return Ok(Vec::new(alloc));
-    }
     let lines = paragraph_lines(
         alloc,
         &paragraph.items,
@@ -70,6 +67,7 @@ fn items(alloc: Global, style: Style) -> Result<Items, AllocError>
     ensures bytes { IfOk result (λ made. text_bytes (entries_of made.items) ≤ 100) }
     ensures sizes { IfOk result (λ made. All HasFontSize (entries_of made.items)) }
     ensures bounds { IfOk result (λ made. All HasBounds (entries_of made.items)) }
+    ensures atoms { IfOk result (λ made. atoms_of (entries_of made.items) ≡ 0) }
 {
     let hebrew = Style {
         direction: Direction::Rtl,
@@ -101,25 +99,4 @@ fn items(alloc: Global, style: Style) -> Result<Items, AllocError>
         text: "も続く。".to_string(alloc)?,
     })?;
     Ok(items)
-}
-
-// No item is an inline-block, so that none is to be laid out before.
-#[tactic(auto, using(crate::proofs::Atoms::none_before))]
-fn are_without_atoms(items: &[PreparedItem]) -> bool
-    ensures { result ≡ true → atoms_in items.now ≤ 0 }
-{
-    let mut from = items.len();
-    while from > 0 {
-        from -= 1;
-        if is_atom(&items[from].what) {
-            return false;
-        }
-    }
-    true
-}
-
-fn is_atom(what: &PreparedContent) -> bool
-    ensures { (others : ℕ) → result ≡ false → atoms_first what.now others ≡ others }
-{
-    matches!(what, PreparedContent::Atom { .. })
 }

@@ -1,5 +1,5 @@
 use Rattle.std.proofs.Common.{◌≤◌, drop}
-use Rattle.para_lines.specs.Reach.{atoms_in}
+use Rattle.para_prepare.specs.Preparation.{atoms_in}
 use Rattle.check_paragraphs.proofs.wholes.have_atoms.Given as goal
 
 -- there are enough for all, if there are for those still to come

@@ -1,4 +1,4 @@
-use Rattle.std.proofs.Common.{◌≡◌, ◌∙◌, length, subst, sym, ap, true, replicate, rules, arith}
+use Rattle.std.proofs.Common.{◌≤◌, ◌≡◌, ◌∙◌, length, subst, sym, ap, true, replicate, rules, arith}
 use Rattle.std.specs.Prelude.{All}
 use Rattle.std.proofs.lemmas.List.{length-map}
 use Rattle.face_api.specs.Faces.{faces_of}
@@ -6,11 +6,12 @@ use Rattle.style_types.specs.Item.{entries_of, entry_of}
 use Rattle.para_prepare.specs.Breaks.{breaks_of}
 use Rattle.para_prepare.specs.Content.{parts}
 use Rattle.para_prepare.specs.Flat.{flat_of, grown, nothing}
-use Rattle.para_prepare.specs.Preparation.{AreFrom}
+use Rattle.para_prepare.specs.Preparation.{AreFrom, atoms_in, atoms_of}
 use Rattle.para_prepare.specs.Views.{IsPlaced}
 use Rattle.para_prepare.proofs.ContentLaws.{few_letters}
 use Rattle.para_prepare.proofs.FlatRuns.{flat_prepared, flat_whole}
 use Rattle.para_prepare.proofs.PlacedLaws.{placed_of}
+use Rattle.para_prepare.proofs.AtomLaws.{few_atoms}
 use Rattle.para_prepare.proofs.SourceLaws.{are_from}
 use Rattle.para_prepare.proofs.preparation.at_level_zero.Goals as goal
 
@@ -53,3 +54,8 @@ returns-clause-sources g c =
     let items = c.args.paragraph.now.items.items in
     subst (λ n. AreFrom 0 n c.in_ok-made.made.items.items) (length-map items entry_of)
     (subst (λ p. AreFrom 0 (length (entries_of items)) p.items) (sym (returns-clause-prepared g c)) (are_from _ c.args.paragraph.now.base c.args.paragraph.now.style (entries_of items)))
+
+pub returns-clause-atoms : goal.returns-clause-atoms
+returns-clause-atoms g c =
+    let entries = entries_of c.args.paragraph.now.items.items in
+    subst (λ p. atoms_in p.items ≤ atoms_of entries) (sym (returns-clause-prepared g c)) (few_atoms _ c.args.paragraph.now.base c.args.paragraph.now.style entries)

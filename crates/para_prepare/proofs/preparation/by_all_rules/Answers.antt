@@ -1,10 +1,11 @@
-use Rattle.std.proofs.Common.{◌∙◌, ap₂, ap, length, subst, sym, arith}
+use Rattle.std.proofs.Common.{◌≤◌, ◌∙◌, ap₂, ap, length, subst, sym, arith}
 use Rattle.std.proofs.lemmas.List.{length-map}
 use Rattle.style_types.specs.Item.{entries_of, entry_of}
 use Rattle.para_prepare.specs.Views.{parts_of}
 use Rattle.para_prepare.specs.Limits.{text_bytes}
-use Rattle.para_prepare.specs.Preparation.{AreFrom}
+use Rattle.para_prepare.specs.Preparation.{AreFrom, atoms_in, atoms_of}
 use Rattle.para_prepare.proofs.PreparationLaws.{prepared_from}
+use Rattle.para_prepare.proofs.AtomLaws.{few_atoms}
 use Rattle.para_prepare.proofs.SourceLaws.{are_from, covered}
 use Rattle.para_prepare.proofs.preparation.by_all_rules.Goals as goal
 
@@ -33,3 +34,8 @@ pub prepared_by-requires-clause-covered : goal.prepared_by-requires-clause-cover
 prepared_by-requires-clause-covered g c =
     covered _ _ (parts_of c.deref-4.result.now c.deref-5.result.now)
     (ap₂ (λ letters made. parts_of letters made) c.deref-4.ensures.value c.deref-5.ensures.value ∙ c.in_ok-content.ensures.parts)
+
+pub returns-clause-atoms : goal.returns-clause-atoms
+returns-clause-atoms g c =
+    let entries = entries_of c.args.paragraph.now.items.items in
+    subst (λ p. atoms_in p.items ≤ atoms_of entries) (sym (returns-clause-prepared g c)) (few_atoms _ c.args.paragraph.now.base c.args.paragraph.now.style entries)
