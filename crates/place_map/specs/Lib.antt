@@ -1,0 +1,4 @@
+pub mod Frame
+pub mod Near
+pub mod Placed
+pub mod Placing

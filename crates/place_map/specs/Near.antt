@@ -1,0 +1,30 @@
+-- Trees of fragments whose coordinates stay within 2^60 of 0, in the flow and on the page.
+use Rattle.std.specs.Prelude.{⊤}
+use Rattle.wm_modes.specs.Near.{IsNear, IsNearFlow}
+use Rattle.wm_modes.specs.declared.rects.FlowRect.{FlowRect}
+use Rattle.style_types.specs.Fragment.{Kind, block, line, span, run, measure, Pieces, none, piece}
+use Rattle.place_map.specs.declared.frame.Frame.{Frame}
+use Rattle.place_map.specs.Frame.{inside, on_page}
+
+abbrev pub IsNearFrame : Frame → Type 0
+IsNearFrame frame = IsNear frame.area
+
+-- the content area of a box
+abbrev pub IsNearKind : Kind → Type 0
+IsNearKind (block mode dir content definite start end_ through) = IsNearFlow content
+IsNearKind (line index base mode baseline) = ⊤
+IsNearKind span = ⊤
+IsNearKind (run form level natural units) = ⊤
+IsNearKind (measure min max) = ⊤
+
+pub record IsNearPart (frame : Frame) (rect : FlowRect) (kind : Kind) : Type 0 where
+  pub here : IsNearFrame frame
+  pub flow : IsNearFlow rect
+  pub page : IsNear (on_page frame rect)
+  pub content : IsNearKind kind
+
+-- these fragments and all inside them, measured from there
+abbrev pub AreNear : Frame → Pieces → Type 0
+AreNear frame none = ⊤
+AreNear frame (piece name rect kind inner next) =
+    IsNearPart frame rect kind × AreNear (inside frame kind (on_page frame rect)) inner × AreNear frame next
