@@ -3,4 +3,5 @@ pub mod JoinLaws
 pub mod Order
 pub mod Pieces
 pub mod PlainLaws
+pub mod PlainUnits
 pub mod Walk

@@ -93,7 +93,7 @@ in_front place end_ unit (next ∷ units) is are =
         }
 
 module _ (style : Style) (table : Table) (sound : IsTable table) (low : pos 0 ≤ℤ style.font_size) (high : style.font_size ≤ℤ pos 65536) where
-  lone_in : (place end_ : ℕ) (piece : List ℕ) (unit : Unit) → 0 < length piece → place + length piece ≤ end_ → Some unit ≡ lone_unit style table (cluster_of place piece)
+  pub lone_in : (place end_ : ℕ) (piece : List ℕ) (unit : Unit) → 0 < length piece → place + length piece ≤ end_ → Some unit ≡ lone_unit style table (cluster_of place piece)
       → IsUnitIn place end_ unit × (unit.end ≡ place + length piece)
   lone_in place end_ piece unit some within one =
       subst (λ unit. IsUnitIn place end_ unit × (unit.end ≡ place + length piece)) (sym (unit_is (is_control cluster.head) one)) (either (combines style cluster))

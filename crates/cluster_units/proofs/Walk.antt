@@ -52,7 +52,7 @@ last_at : (x : Cluster) (xs : List Cluster) (d e : Cluster) → unwrap_or (last_
 last_at x [] d e = refl
 last_at x (y ∷ ys) d e = last_at y ys d e
 
-some_same : {x y : Unit} → Some x ≡ Some y → x ≡ y
+pub some_same : {x y : Unit} → Some x ≡ Some y → x ≡ y
 some_same {x = x} e = ap (λ o. unwrap_or o x) e
 
 module _ (style : Style) (table : Table) where
@@ -64,7 +64,7 @@ module _ (style : Style) (table : Table) where
   alone cluster = record { first = cluster; others = [] }
 
   -- a unit is a combined run exactly where its first cluster combines
-  kind_is : (run : Run Cluster) → is_combined (unit_of style table run).kind ≡ combines style run.first
+  pub kind_is : (run : Run Cluster) → is_combined (unit_of style table run).kind ≡ combines style run.first
   kind_is run = chosen (combines style run.first) (combined_unit style table run) (single_unit style table run.first) refl (never_alone style run.first.head)
 
   combined_more : (cluster : Cluster) (run : Run Cluster) → combined_unit style table (record { first = cluster; others = items run }) ≡ merged (combined_unit style table (alone cluster)) (combined_unit style table run)

@@ -1,6 +1,10 @@
 -- Characters that are clusters by themselves among their like: those of Latin text, letters of Greek, Cyrillic, Hebrew and Arabic,
 -- kana and Han, punctuation and bidi controls. None is a mark, and none joins its like.
-use Rattle.std.specs.Prelude.{ℕ, Bool, ◌&&◌, ◌||◌, ◌==◌, not, nat_le, nat_lt}
+use Rattle.std.specs.Prelude.{ℕ, ◌+◌, Bool, ◌&&◌, ◌||◌, ◌==◌, not, nat_le, nat_lt, List, [], ◌∷◌, Option, Some, None}
+use Rattle.face_api.specs.Table.{Table}
+use Rattle.style_types.specs.declared.style.Style.{Style}
+use Rattle.cluster_units.specs.Unit.{is_all, is_vertical, lone_unit}
+use Rattle.cluster_units.specs.declared.unit.Unit.{Unit}
 
 abbrev pub is_latin : ℕ → Bool
 is_latin c = nat_lt c 0x300 && not (c == 0x0D)
@@ -21,3 +25,20 @@ is_wide c =
 
 abbrev pub is_plain : ℕ → Bool
 is_plain c = (is_latin c || is_letter c) || (is_sign c || is_wide c)
+
+-- a style by which no units are combined
+abbrev pub combines_none : Style → Bool
+combines_none style = not (is_vertical style.mode && is_all style.combine)
+
+-- the unit of a character that is a cluster by itself, at this place of its text; none of a bidi control
+abbrev pub character_unit : Style → Table → (place c : ℕ) → Option Unit
+character_unit style table place c = lone_unit style table (record { first = place; end = place + 1; head = c })
+
+abbrev pub with_first : Option Unit → List Unit → List Unit
+with_first None units = units
+with_first (Some unit) units = unit ∷ units
+
+-- those of characters that follow one another, the first at this place
+abbrev pub character_units : Style → Table → (place : ℕ) → List ℕ → List Unit
+character_units style table place [] = []
+character_units style table place (c ∷ text) = with_first (character_unit style table place c) (character_units style table (place + 1) text)

@@ -8,5 +8,7 @@ mod single;
 mod text;
 mod unit;
 
+pub use plain::is_plain_character;
+pub use single::{character_unit, combines_none};
 pub use text::units;
 pub use unit::{Unit, Units};

@@ -25,8 +25,9 @@ pub(crate) fn is_plain(text: &str) -> bool
     )
 }
 
-// A character of Latin text, but for the carriage return; or one further on.
-fn is_plain_character(c: char) -> bool
+/// Whether a character is a cluster by itself among its like (UAX 29, 3.1.1): one of Latin text, but for the carriage return,
+/// or one further on that is neither a mark nor joins others.
+pub fn is_plain_character(c: char) -> bool
     ensures { result ≡ is_plain c }
 {
     c < '\u{300}' && c != '\r' || is_letter(c) || is_sign(c) || is_wide(c)

@@ -1,7 +1,11 @@
 //! The unit of one cluster: its orientation, its advance, its break class (CSS Writing Modes 4, 5.1; UAX 50).
 
-ghost use Rattle.std.specs.Prelude.{◌≡◌, ◌≤◌, pos, ◌≤ℤ◌, unsigned_abs, IfSome, []};
+ghost use Rattle.std.specs.Prelude.{◌≡◌, ◌+◌, ◌<◌, ◌≤◌, ◌^◌, pos, ◌≤ℤ◌, true, unsigned_abs, IfSome, []};
+ghost use Rattle.face_api.specs.Table.{IsTable};
 ghost use Rattle.wm_chars.specs.Repertoire.{break_class};
+ghost use Rattle.cluster_units.specs.Cluster.{is_control_class};
+ghost use Rattle.cluster_units.specs.Laws.{IsUnitIn};
+ghost use Rattle.cluster_units.specs.Plain as plain;
 ghost use Rattle.cluster_units.specs.Unit as spec;
 
 use crate::Unit;
@@ -10,6 +14,36 @@ use face_api::Face;
 use style_types::{Combine, Style, TextOrientation, UnitKind};
 use wm_chars::{BreakClass, Orient, break_class, orientation};
 use wm_modes::WritingMode;
+
+/// The unit of a plain character at this place of its text, by this face; None of a bidi control. No units are combined in
+/// its style, whose font size is from 0 to 65,536.
+#[inline(always)]
+pub fn character_unit(c: char, place: usize, style: &Style, face: &dyn Face) -> Option<Unit>
+    requires place { place < 2 ^ 32 }
+    requires apart { plain.combines_none style.now ≡ true }
+    requires low { pos 0 ≤ℤ style.now.font_size }
+    requires high { style.now.font_size ≤ℤ pos 65536 }
+    ensures unit { result ≡ plain.character_unit style.now (table face.now) place c }
+    ensures bounds { IfSome result (IsUnitIn place (place + 1)) }
+{
+    let class = break_class(c);
+    if is_control(class) {
+        return None;
+    }
+    let cluster = Cluster {
+        first: place,
+        end: place + 1,
+        head: c,
+    };
+    Some(single(cluster, class.unwrap_or(BreakClass::Other), style, face))
+}
+
+/// Whether no units are combined in text of this style (CSS Writing Modes 4, 9.1).
+pub fn combines_none(style: &Style) -> bool
+    ensures { result ≡ plain.combines_none style.now }
+{
+    !(is_vertical(style.mode) && style.combine == Combine::All)
+}
 
 // The unit of a cluster by itself, a combined run of one where it combines; None of a bidi control.
 #[inline(always)]
@@ -20,14 +54,20 @@ pub(crate) fn unit_of(cluster: Cluster, style: &Style, face: &dyn Face) -> Optio
     ensures near { IfSome result (λ unit. unsigned_abs unit.natural ≤ 655360) }
 {
     let class = break_class(cluster.head);
-    if class == Some(BreakClass::Control) {
+    if is_control(class) {
         return None;
     }
     if combines(cluster, style) {
         Some(combined(cluster, style, face))
     } else {
-        Some(single(cluster, class, style, face))
+        Some(single(cluster, class_of(cluster, class), style, face))
     }
+}
+
+fn is_control(class: Option<BreakClass>) -> bool
+    ensures { result ≡ is_control_class class }
+{
+    class == Some(BreakClass::Control)
 }
 
 // Whether the cluster belongs to a combined run.
@@ -60,14 +100,15 @@ fn combined(cluster: Cluster, style: &Style, face: &dyn Face) -> Unit
     }
 }
 
-// A cluster that stands by itself. The class is that of its first character.
+// A cluster of this class that stands by itself.
 #[inline(always)]
-fn single(cluster: Cluster, class: Option<BreakClass>, style: &Style, face: &dyn Face) -> Unit
+fn single(cluster: Cluster, class: BreakClass, style: &Style, face: &dyn Face) -> Unit
     requires low { pos 0 ≤ℤ style.now.font_size }
     requires high { style.now.font_size ≤ℤ pos 65536 }
-    requires class { class ≡ break_class cluster.head }
+    requires class { class ≡ spec.class_of cluster }
     ensures unit { result ≡ spec.single_unit style.now (table face.now) cluster }
     ensures near { unsigned_abs result.natural ≤ 655360 }
+    ensures sound { IsTable (table face.now) }
 {
     let kind = kind_of(style, cluster.head);
     let upright = kind == UnitKind::Upright;
@@ -78,7 +119,7 @@ fn single(cluster: Cluster, class: Option<BreakClass>, style: &Style, face: &dyn
         kind,
         advance,
         natural: advance,
-        break_class: class_of(cluster, class),
+        break_class: class,
     }
 }
 
