@@ -1,3 +1,4 @@
+pub mod AloneLaws
 pub mod AtomLaws
 pub mod Begins
 pub mod ContentLaws

@@ -14,5 +14,6 @@ pub mod Parts
 pub mod Preparation
 pub mod Reach
 pub mod Standing
+pub mod Text
 pub mod Views
 pub mod White

@@ -1,12 +1,13 @@
 //! A paragraph in which nothing asks for a level but 0 (UAX 9), as most are: its items as they come, without the bidi
 //! algorithm.
 
-ghost use Rattle.std.specs.Prelude.{◌≡◌, ◌≤◌, ◌≤ℤ◌, ◌+◌, ◌-◌, ◌&&◌, [], ◌∷◌, ◌++◌, pos, true, Bool, length, map, All, encode_utf8_all, IfOk, OnOk, None};
+ghost use Rattle.std.specs.Prelude.{◌≡◌, ◌<◌, ◌≤◌, ◌≤ℤ◌, ◌^◌, ◌+◌, ◌-◌, ◌&&◌, [], ◌∷◌, ◌++◌, pos, true, Bool, length, map, All, encode_utf8_all, IfOk, OnOk, None};
 ghost use Rattle.std.specs.List.{list_all};
 ghost use Rattle.bidi_resolve.specs.Paragraph as paragraph;
 ghost use Rattle.face_api.specs.Faces.{faces_of};
 ghost use Rattle.style_types.specs.Item.{entry_of, entries_of};
 ghost use Rattle.cluster_units.specs.Laws.{AreInOrder};
+ghost use Rattle.cluster_units.specs.Plain.{combines_none};
 ghost use Rattle.cluster_units.specs.Text.{is_combined};
 ghost use Rattle.para_prepare.specs.Content as content;
 ghost use Rattle.para_prepare.specs.Content.{raw_of, text_parts};
@@ -18,6 +19,7 @@ ghost use Rattle.para_prepare.specs.Limits.{HasFontSize, IsFontSize, text_bytes}
 ghost use Rattle.para_prepare.specs.Parts as parts;
 ghost use Rattle.para_prepare.specs.Parts.{control_of, item, of_unit, opens, parts_by};
 ghost use Rattle.para_prepare.specs.Preparation.{HasBounds};
+ghost use Rattle.para_prepare.specs.Text.{letter_parts};
 ghost use Rattle.para_prepare.specs.Views.{HasOneSize, IsPlaced, IsSize, item_parts, letters_at};
 ghost use Rattle.wm_modes.specs.declared.mode.Direction.{Direction};
 
@@ -31,12 +33,14 @@ use crate::kept::text_of;
 use crate::letter::Letter;
 use crate::parts::{Span, class_in};
 use crate::standing::Standing;
-use crate::text::{Text, sets_upright};
+use crate::text::{Text, sets_upright, stand_alone};
 use bidi_explicit::ClassList;
 use bumpalo::Bump;
-use cluster_units::{Unit, units};
+use cluster_units::laws::plain_units_are_of_characters;
+use cluster_units::{Unit, character_unit, units};
 use face_api::{Face, Faces};
 use std::alloc::{AllocError, Global};
+use std::slice;
 use style_types::{Item, UnicodeBidi, UnitKind};
 use wm_chars::BidiClass::{B, CS, EN, ES, ET, L, NSM, ON, S, WS};
 use wm_chars::{BidiClass, BreakClass};
@@ -203,6 +207,81 @@ impl FlatLists<'_> {
 
     // Adds the units and combined runs of a text that has these kept characters.
     fn add_text(
+        &mut self,
+        alloc: Global,
+        arena: &Bump,
+        text: Text,
+        letters: &[Letter],
+        faces: &Faces,
+    ) -> Result<(), AllocError>
+        requires bytes { length (encode_utf8_all (chars_of letters.now)) ≤ 1048576 }
+        requires rises { Rises 0 letters.now }
+        requires size { IsFontSize text.style.now }
+        requires placed { All IsPlaced letters.now }
+        requires bounds { All HasBoundsIn self.old.items.items }
+        ensures grown { OnOk result (flat_of self.new ≡ grown (flat_of self.old) (text_parts (faces_of ⟦<dyn Face as Face>⟧ faces.now) text.entry.source text.entry.node text.entry.style.now letters.now)) }
+        ensures bounds { OnOk result (All HasBoundsIn self.new.items.items) }
+        ensures count { OnOk result (length self.new.items.items ≤ length self.old.items.items + length letters.now) }
+    {
+        if stand_alone(text.style, letters) {
+            plain_units_are_of_characters();
+            self.add_letters(alloc, text, letters, faces.used(text.style.face))?;
+        } else {
+            self.add_clusters(alloc, arena, text, letters, faces)?;
+        }
+        Ok(())
+    }
+
+    // The same where each character is a unit by itself, but for the bidi controls.
+    fn add_letters(
+        &mut self,
+        alloc: Global,
+        text: Text,
+        letters: &[Letter],
+        face: &dyn Face,
+    ) -> Result<(), AllocError>
+        requires few { length letters.now ≤ 1048576 }
+        requires alone { combines_none text.style.now ≡ true }
+        requires size { IsFontSize text.style.now }
+        requires placed { All IsPlaced letters.now }
+        requires bounds { All HasBoundsIn self.old.items.items }
+        ensures grown { OnOk result (flat_of self.new ≡ grown (flat_of self.old) (letter_parts (table face.now) text.entry.source text.entry.node text.entry.style.now 0 letters.now)) }
+        ensures bounds { OnOk result (All HasBoundsIn self.new.items.items) }
+        ensures count { OnOk result (length self.new.items.items ≤ length self.old.items.items + length letters.now) }
+    {
+        for i in 0..letters.len() {
+            self.add_letter(alloc, text, &letters[i], i, face)?;
+        }
+        Ok(())
+    }
+
+    // The same of one character, which stands at this place of its text.
+    #[inline(always)]
+    fn add_letter(
+        &mut self,
+        alloc: Global,
+        text: Text,
+        letter: &Letter,
+        place: usize,
+        face: &dyn Face,
+    ) -> Result<(), AllocError>
+        requires place { place < 2 ^ 32 }
+        requires alone { combines_none text.style.now ≡ true }
+        requires size { IsFontSize text.style.now }
+        requires placed { IsPlaced letter.now }
+        requires bounds { All HasBoundsIn self.old.items.items }
+        ensures grown { OnOk result (flat_of self.new ≡ grown (flat_of self.old) (letter_parts (table face.now) text.entry.source text.entry.node text.entry.style.now place (letter.now ∷ []))) }
+        ensures bounds { OnOk result (All HasBoundsIn self.new.items.items) }
+    {
+        match character_unit(letter.char, place, text.style, face) {
+            Some(unit) => self.add_unit(alloc, text, slice::from_ref(letter), unit)?,
+            None => self.pass(slice::from_ref(letter)),
+        }
+        Ok(())
+    }
+
+    // The same of any text.
+    fn add_clusters(
         &mut self,
         alloc: Global,
         arena: &Bump,

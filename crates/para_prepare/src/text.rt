@@ -4,12 +4,14 @@
 ghost use Rattle.std.specs.Prelude.{◌≡◌, ◌≤◌, ◌+◌, ◌-◌, ◌^◌, ◌++◌, [], ◌∷◌, length, map, All, encode_utf8_all, IfOk, OnOk};
 ghost use Rattle.face_api.specs.Faces.{faces_of};
 ghost use Rattle.cluster_units.specs.Laws.{AreInOrder};
+ghost use Rattle.cluster_units.specs.Plain.{is_plain};
 ghost use Rattle.cluster_units.specs.Unit.{is_vertical};
 ghost use Rattle.style_types.specs.Style.{is_upright};
 ghost use Rattle.para_prepare.specs.Content.{text_parts};
 ghost use Rattle.para_prepare.specs.Kept.{chars_of};
 ghost use Rattle.para_prepare.specs.Limits.{IsFontSize};
 ghost use Rattle.para_prepare.specs.Parts as spec;
+ghost use Rattle.para_prepare.specs.Text as texts;
 ghost use Rattle.para_prepare.specs.Views.{IsSound, letters_at, parts_of, span_of, stored_by, stored_control, stored_run};
 
 use crate::inside::inside;
@@ -17,7 +19,7 @@ use crate::kept::text_of;
 use crate::letter::Letter;
 use crate::parts::{Part, Parts, Span, class_in};
 use bumpalo::Bump;
-use cluster_units::{Unit, units};
+use cluster_units::{Unit, combines_none, is_plain_character, units};
 use face_api::{Face, Faces};
 use std::alloc::{AllocError, Global};
 use style_types::{Style, TextOrientation, UnitKind};
@@ -148,6 +150,23 @@ fn add_controls(parts: &mut Parts, letters: &[Letter], upright: bool) -> Result<
         })?;
     }
     Ok(())
+}
+
+/// Whether in this style each of these characters is a unit by itself, but for the bidi controls.
+pub(crate) fn stand_alone(style: &Style, letters: &[Letter]) -> bool
+    ensures { result ≡ texts.stand_alone style.now letters.now }
+{
+    combines_none(style) && are_plain(letters)
+}
+
+fn are_plain(letters: &[Letter]) -> bool
+    ensures { result ≡ texts.are_plain letters.now }
+{
+    letters.iter().all(
+        |letter| -> bool
+            ensures { result ≡ is_plain letter.now.char }
+        { is_plain_character(letter.char) },
+    )
 }
 
 /// Is the text of this style set upright (CSS Writing Modes 4, 5.1)?

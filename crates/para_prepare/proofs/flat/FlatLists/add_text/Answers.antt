@@ -1,22 +1,18 @@
-use Rattle.std.proofs.Common.{◌≡◌, ◌∙◌, ap}
-use Rattle.std.specs.Str.{chars}
+use Rattle.std.proofs.Common.{◌∙◌, ap, sym}
 use Rattle.face_api.specs.Faces.{faces_of}
-use Rattle.para_prepare.specs.Content.{raw_of}
-use Rattle.para_prepare.specs.Flat.{flat_of}
-use Rattle.para_prepare.specs.Kept.{chars_of}
-use Rattle.para_prepare.specs.Parts.{sets_upright}
-use Rattle.para_prepare.proofs.FlatRuns.{text_count}
-use Rattle.para_prepare.proofs.OneSize.{sizes_of}
-use Rattle.para_prepare.proofs.PartsLaws.{order_of}
+use Rattle.para_prepare.specs.Flat.{flat_of, grown}
+use Rattle.para_prepare.specs.Text.{letter_parts}
+use Rattle.para_prepare.proofs.AloneLaws.{alone_parts, few_alone}
 use Rattle.para_prepare.proofs.flat.FlatLists.add_text.Goals as goal
 
-pub add_runs-requires-clause-one : goal.add_runs-requires-clause-one
-add_runs-requires-clause-one g c =
-    sizes_of c.args.text.style.now _ (chars c.deref.result.now) c.in_ok-units.units.items c.deref-2.result.now c.in_ok-units.ensures.units c.deref-2.ensures.value
+pub add_letters-requires-clause-few : goal.add_letters-requires-clause-few
+add_letters-requires-clause-few g c = few_alone c.args.letters.now c.requires.bytes
 
-pub returns-clause-count : goal.returns-clause-count
-returns-clause-count g c =
-    let text : chars c.deref.result.now ≡ chars_of c.args.letters.now = ap chars c.deref.ensures ∙ c.in_ok-kept.ensures.chars in
-    text_count c.args.letters.now (sets_upright c.args.text.style.now)
-    (raw_of (faces_of (λ vtable. (g.dyn-1.0.entry vtable).1) c.args.faces.now) c.args.text.source c.args.text.node c.args.text.style.now) c.deref-2.result.now (flat_of c.args.self.now) (flat_of c.add_runs.new.self)
-    (order_of c.args.letters.now (chars c.deref.result.now) c.in_ok-units.units.items c.deref-2.result.now text c.deref-2.ensures.value c.in_ok-units.ensures.order) c.in_ok-add_runs.ensures.grown
+pub returns-in_ok-add_letters-clause-grown : goal.returns-in_ok-add_letters-clause-grown
+returns-in_ok-add_letters-clause-grown g c =
+    let style = c.args.text.style.now in
+    let faces = faces_of (λ vtable. (g.dyn-1.0.entry vtable).1) c.args.faces.now in
+    let laws = c.plain_units_are_of_characters.ensures in
+    c.in_ok-add_letters.ensures.grown
+    ∙ ap (λ table. grown (flat_of c.args.self.now) (letter_parts table c.args.text.source c.args.text.node style 0 c.args.letters.now)) c.used.ensures
+    ∙ sym (ap (grown (flat_of c.args.self.now)) (alone_parts laws.units laws.apart faces c.args.text.source c.args.text.node style c.args.letters.now (sym c.stand_alone.ensures ∙ c.if-stand_alone.true)))
