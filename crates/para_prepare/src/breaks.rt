@@ -62,13 +62,15 @@ pub(crate) fn breaks_of(
     ensures { IfOk result (λ out. out.items ≡ breaks.breaks_of classes.now) }
 {
     let mut out = Vec::with_capacity(alloc, classes.len())?;
-    for k in 0..classes.len() {
-        out.push(if k + 1 < classes.len() {
-            break_between(classes[k], classes[k + 1])
-        } else {
-            break_at_end(classes[k])
-        })?;
+    let Some((first, rest)) = classes.split_first() else {
+        return Ok(out);
+    };
+    let mut before = *first;
+    for after in rest {
+        out.push(break_between(before, *after))?;
+        before = *after;
     }
+    out.push(break_at_end(before))?;
     Ok(out)
 }
 

@@ -41,7 +41,7 @@ use cluster_units::{Unit, character_unit, units};
 use face_api::{Face, Faces};
 use std::alloc::{AllocError, Global};
 use std::slice;
-use style_types::{Item, UnicodeBidi, UnitKind};
+use style_types::{Glyphs, Item, UnicodeBidi, UnitKind};
 use wm_chars::BidiClass::{B, CS, EN, ES, ET, L, NSM, ON, S, WS};
 use wm_chars::{BidiClass, BreakClass};
 
@@ -225,7 +225,7 @@ impl FlatLists<'_> {
     {
         if stand_alone(text.style, letters) {
             plain_units_are_of_characters();
-            self.add_letters(alloc, text, letters, faces.used(text.style.face))?;
+            self.add_letters(text, letters, faces.used(text.style.face))?;
         } else {
             self.add_clusters(alloc, arena, text, letters, faces)?;
         }
@@ -235,7 +235,6 @@ impl FlatLists<'_> {
     // The same where each character is a unit by itself, but for the bidi controls.
     fn add_letters(
         &mut self,
-        alloc: Global,
         text: Text,
         letters: &[Letter],
         face: &dyn Face,
@@ -250,7 +249,7 @@ impl FlatLists<'_> {
         ensures count { OnOk result (length self.new.items.items ≤ length self.old.items.items + length letters.now) }
     {
         for i in 0..letters.len() {
-            self.add_letter(alloc, text, &letters[i], i, face)?;
+            self.add_letter(text, letters[i], i, face)?;
         }
         Ok(())
     }
@@ -259,24 +258,51 @@ impl FlatLists<'_> {
     #[inline(always)]
     fn add_letter(
         &mut self,
-        alloc: Global,
         text: Text,
-        letter: &Letter,
+        letter: Letter,
         place: usize,
         face: &dyn Face,
     ) -> Result<(), AllocError>
         requires place { place < 2 ^ 32 }
         requires alone { combines_none text.style.now ≡ true }
         requires size { IsFontSize text.style.now }
-        requires placed { IsPlaced letter.now }
+        requires placed { IsPlaced letter }
         requires bounds { All HasBoundsIn self.old.items.items }
-        ensures grown { OnOk result (flat_of self.new ≡ grown (flat_of self.old) (letter_parts (table face.now) text.entry.source text.entry.node text.entry.style.now place (letter.now ∷ []))) }
+        ensures grown { OnOk result (flat_of self.new ≡ grown (flat_of self.old) (letter_parts (table face.now) text.entry.source text.entry.node text.entry.style.now place (letter ∷ []))) }
         ensures bounds { OnOk result (All HasBoundsIn self.new.items.items) }
     {
         match character_unit(letter.char, place, text.style, face) {
-            Some(unit) => self.add_unit(alloc, text, slice::from_ref(letter), unit)?,
-            None => self.pass(slice::from_ref(letter)),
+            Some(unit) => self.add_single(text, letter, unit)?,
+            None => self.pass(slice::from_ref(&letter)),
         }
+        Ok(())
+    }
+
+    // Adds a unit of this one character.
+    #[inline(always)]
+    fn add_single(&mut self, text: Text, letter: Letter, unit: Unit) -> Result<(), AllocError>
+        requires placed { IsPlaced letter }
+        requires unit { IsSize unit }
+        requires bounds { All HasBoundsIn self.old.items.items }
+        ensures grown { OnOk result (flat_of self.new ≡ grown (flat_of self.old) (item (of_unit text.entry.source text.entry.node (parts.sets_upright text.entry.style.now) unit (letter ∷ [])) ∷ [])) }
+        ensures bounds { OnOk result (All HasBoundsIn self.new.items.items) }
+    {
+        let class = class_in(sets_upright(text.style), letter.char);
+        self.flat &= is_left_to_right(class);
+        self.add(
+            text.source,
+            class,
+            Some(unit.break_class),
+            PreparedContent::Unit {
+                node: text.node,
+                first: letter.place,
+                end: letter.place + 1,
+                form: unit.kind,
+                advance: unit.advance,
+                space: letter.char == ' ',
+                glyphs: Glyphs::one(letter.char),
+            },
+        )?;
         Ok(())
     }
 
@@ -414,6 +440,7 @@ impl FlatLists<'_> {
     }
 
     // Adds an item.
+    #[inline(always)]
     fn add(
         &mut self,
         source: usize,

@@ -8,7 +8,7 @@ use Rattle.para_prepare.proofs.flat.FlatLists.add_letter.Goals as goal
 pub returns-in-None-clause-grown : goal.returns-in-None-clause-grown
 returns-in-None-clause-grown g c =
     let upright = sets_upright c.args.text.style.now in
-    let none : None ≡ character_unit c.args.text.style.now ((goal.Face-dyn g c.args.face.now).table c.args.face.now.1) c.args.place c.args.letter.now.char = sym c.in-None.is ∙ c.character_unit.ensures.unit in
+    let none : None ≡ character_unit c.args.text.style.now ((goal.Face-dyn g c.args.face.now).table c.args.face.now.1) c.args.place c.args.letter.char = sym c.in-None.is ∙ c.character_unit.ensures.unit in
     c.pass.ensures.grown upright
-    ∙ ap (λ controls. grown (flat_of c.args.self.now) (map (control_of upright) controls)) c.from_ref-in-None.ensures.value
-    ∙ ap (λ one. grown (flat_of c.args.self.now) (letter_part upright c.args.text.source c.args.text.node c.args.letter.now one ∷ [])) none
+    ∙ ap (λ controls. grown (flat_of c.args.self.now) (map (control_of upright) controls)) c.from_ref.ensures.value
+    ∙ ap (λ one. grown (flat_of c.args.self.now) (letter_part upright c.args.text.source c.args.text.node c.args.letter one ∷ [])) none
