@@ -1,4 +1,5 @@
 pub mod AloneLaws
+pub mod AloneParts
 pub mod AtomLaws
 pub mod Begins
 pub mod ContentLaws

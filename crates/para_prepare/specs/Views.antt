@@ -1,5 +1,5 @@
 -- The parts of a paragraph as the code holds them: places in the list of all kept characters stand for these characters.
-use Rattle.std.specs.Prelude.{ℕ, ◌≡◌, length, ◌+◌, ◌-◌, ◌*◌, ◌<◌, ◌≤◌, ◌^◌, ⊤, Bool, true, cond, List, [], ◌∷◌, ◌++◌, map, drop, Option, pos, ◌≤ℤ◌}
+use Rattle.std.specs.Prelude.{ℕ, ◌≡◌, length, ◌+◌, ◌-◌, ◌*◌, ◌<◌, ◌≤◌, ◌^◌, ⊤, Bool, true, cond, List, [], ◌∷◌, ◌++◌, map, drop, Option, Some, None, pos, ◌≤ℤ◌}
 use Rattle.std.specs.List.{slice_range}
 use Rattle.face_api.specs.Table.{Table}
 use Rattle.style_types.specs.declared.style.Style.{Style}
@@ -97,7 +97,12 @@ stored_by upright stored letters at (unit ∷ units) =
 abbrev pub stored_unit : (source node : ℕ) → (upright : Bool) → (from : ℕ) → Unit → code.Part
 stored_unit source node upright from unit = codes.Unit source node upright unit (span_of from unit)
 
--- the same, or a combined run
+-- a character that is a unit by itself, or a bidi control
+abbrev pub stored_letter : (source node : ℕ) → (upright : Bool) → (from : ℕ) → Letter → Option Unit → code.Part
+stored_letter source node upright from l None = stored_control upright l
+stored_letter source node upright from l (Some unit) = stored_unit source node upright from unit
+
+-- a unit, or a combined run
 abbrev pub stored_run : List (Option Table) → List Letter → (source node : ℕ) → Style → (from : ℕ) → Unit → code.Part
 stored_run faces letters source node style from unit =
     cond (is_combined unit.kind)

@@ -1,10 +1,10 @@
 //! The parts of one text of a paragraph: its units, its combined runs, and the bidi controls between them (CSS Writing
 //! Modes 4, 5.1 and 9.1).
 
-ghost use Rattle.std.specs.Prelude.{◌≡◌, ◌≤◌, ◌+◌, ◌-◌, ◌^◌, ◌++◌, [], ◌∷◌, length, map, All, encode_utf8_all, IfOk, OnOk};
+ghost use Rattle.std.specs.Prelude.{◌≡◌, ◌≤◌, ◌<◌, ◌+◌, ◌-◌, ◌^◌, ◌++◌, [], ◌∷◌, true, length, map, All, encode_utf8_all, IfOk, IfSome, OnOk};
 ghost use Rattle.face_api.specs.Faces.{faces_of};
-ghost use Rattle.cluster_units.specs.Laws.{AreInOrder};
-ghost use Rattle.cluster_units.specs.Plain.{is_plain};
+ghost use Rattle.cluster_units.specs.Laws.{AreInOrder, IsUnitIn};
+ghost use Rattle.cluster_units.specs.Plain.{character_unit, combines_none, is_plain};
 ghost use Rattle.cluster_units.specs.Unit.{is_vertical};
 ghost use Rattle.style_types.specs.Style.{is_upright};
 ghost use Rattle.para_prepare.specs.Content.{text_parts};
@@ -12,14 +12,16 @@ ghost use Rattle.para_prepare.specs.Kept.{chars_of};
 ghost use Rattle.para_prepare.specs.Limits.{IsFontSize};
 ghost use Rattle.para_prepare.specs.Parts as spec;
 ghost use Rattle.para_prepare.specs.Text as texts;
-ghost use Rattle.para_prepare.specs.Views.{IsSound, letters_at, parts_of, span_of, stored_by, stored_control, stored_run};
+ghost use Rattle.para_prepare.specs.Text.{letter_parts};
+ghost use Rattle.para_prepare.specs.Views.{IsSound, letters_at, parts_of, span_of, stored_by, stored_control, stored_letter, stored_run};
 
 use crate::inside::inside;
 use crate::kept::text_of;
 use crate::letter::Letter;
 use crate::parts::{Part, Parts, Span, class_in};
 use bumpalo::Bump;
-use cluster_units::{Unit, combines_none, is_plain_character, units};
+use cluster_units::laws::plain_units_are_of_characters;
+use cluster_units::{Unit, character_unit, combines_none, is_plain_character, units};
 use face_api::{Face, Faces};
 use std::alloc::{AllocError, Global};
 use style_types::{Style, TextOrientation, UnitKind};
@@ -37,6 +39,91 @@ pub(crate) struct Text<'b> {
 
 /// Adds the parts of a text.
 pub(crate) fn add_text(
+    alloc: Global,
+    arena: &Bump,
+    parts: &mut Parts,
+    text: Text,
+    letters: &[Letter],
+    faces: &Faces,
+) -> Result<(), AllocError>
+    requires order { text.span.from ≤ text.span.to }
+    requires within { text.span.to ≤ length letters.now }
+    requires bytes { length (encode_utf8_all (chars_of (letters_at letters.now text.span))) ≤ 1048576 }
+    requires size { IsFontSize text.style.now }
+    requires sound { All (IsSound (length letters.now)) parts.old.items }
+    ensures parts { OnOk result (parts_of letters.now parts.new.items ≡ parts_of letters.now parts.old.items ++ text_parts (faces_of ⟦<dyn Face as Face>⟧ faces.now) text.entry.source text.entry.node text.entry.style.now (letters_at letters.now text.entry.span)) }
+    ensures sound { OnOk result (All (IsSound (length letters.now)) parts.new.items) }
+    ensures count { OnOk result (length parts.new.items ≤ length parts.old.items + (text.entry.span.to - text.entry.span.from)) }
+{
+    if stand_alone(text.style, &letters[text.span.from..text.span.to]) {
+        plain_units_are_of_characters();
+        add_letters(parts, text, letters, faces.used(text.style.face))?;
+    } else {
+        add_clusters(alloc, arena, parts, text, letters, faces)?;
+    }
+    Ok(())
+}
+
+// The same where each character is a unit by itself, but for the bidi controls.
+fn add_letters(
+    parts: &mut Parts,
+    text: Text,
+    letters: &[Letter],
+    face: &dyn Face,
+) -> Result<(), AllocError>
+    requires order { text.span.from ≤ text.span.to }
+    requires within { text.span.to ≤ length letters.now }
+    requires few { text.span.to - text.span.from ≤ 1048576 }
+    requires alone { combines_none text.style.now ≡ true }
+    requires size { IsFontSize text.style.now }
+    requires sound { All (IsSound (length letters.now)) parts.old.items }
+    ensures parts { OnOk result (parts_of letters.now parts.new.items ≡ parts_of letters.now parts.old.items ++ letter_parts (table face.now) text.entry.source text.entry.node text.entry.style.now 0 (letters_at letters.now text.entry.span)) }
+    ensures sound { OnOk result (All (IsSound (length letters.now)) parts.new.items) }
+    ensures count { OnOk result (length parts.new.items ≤ length parts.old.items + (text.entry.span.to - text.entry.span.from)) }
+{
+    plain_units_are_of_characters();
+    let own = &letters[text.span.from..text.span.to];
+    for i in 0..own.len() {
+        add_letter(parts, text, own[i], i, face)?;
+    }
+    Ok(())
+}
+
+// The same of one character, which stands at this place of its text.
+#[inline(always)]
+fn add_letter(
+    parts: &mut Parts,
+    text: Text,
+    letter: Letter,
+    place: usize,
+    face: &dyn Face,
+) -> Result<(), AllocError>
+    requires place { text.span.from + place < 2 ^ 62 }
+    requires few { place ≤ 1048576 }
+    requires alone { combines_none text.style.now ≡ true }
+    requires size { IsFontSize text.style.now }
+    ensures part { OnOk result (parts.new.items ≡ parts.old.items ++ stored_letter text.entry.source text.entry.node (spec.sets_upright text.entry.style.now) text.entry.span.from letter (character_unit text.entry.style.now (table face.now) place letter.char) ∷ []) }
+    ensures unit { IfSome (character_unit text.entry.style.now (table face.now) place letter.char) (IsUnitIn place (place + 1)) }
+{
+    let char = letter.char;
+    match character_unit(char, place, text.style, face) {
+        Some(unit) => parts.push(Part::Unit {
+            source: text.source,
+            node: text.node,
+            upright: sets_upright(text.style),
+            unit,
+            letters: span_of(text.span.from, unit),
+        })?,
+        None => parts.push(Part::Control {
+            char,
+            class: class_in(sets_upright(text.style), char),
+        })?,
+    }
+    Ok(())
+}
+
+// The same of any text.
+fn add_clusters(
     alloc: Global,
     arena: &Bump,
     parts: &mut Parts,

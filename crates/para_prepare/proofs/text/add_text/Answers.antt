@@ -1,30 +1,26 @@
-use Rattle.std.proofs.Common.{◌≡◌, ◌∙◌, ap, arith}
+use Rattle.std.proofs.Common.{◌≡◌, ◌∙◌, ◌++◌, ap, sym, true, arith}
 use Rattle.std.specs.List.{slice_range}
-use Rattle.std.specs.Str.{chars}
-use Rattle.para_prepare.specs.Kept.{chars_of}
-use Rattle.para_prepare.proofs.OneSize.{sizes_of}
-use Rattle.para_prepare.proofs.PartsLaws.{count_more, order_of, sound_more, stretch_length, text_more}
+use Rattle.face_api.specs.Faces.{faces_of}
+use Rattle.para_prepare.specs.Text.{letter_parts, stand_alone}
+use Rattle.para_prepare.specs.Views.{parts_of}
+use Rattle.para_prepare.proofs.AloneLaws.{alone_parts, few_alone}
+use Rattle.para_prepare.proofs.PartsLaws.{stretch_length}
 use Rattle.para_prepare.proofs.text.add_text.Goals as goal
 
-pub returns-clause-parts : goal.returns-clause-parts
-returns-clause-parts g c =
-    text_more _ c.args.letters.now c.args.text.source c.args.text.node c.args.text.style.now c.args.text.span.from c.args.text.span.to (chars c.deref.result.now) c.in_ok-units.units.items c.deref-2.result.now _ _
-    c.in_ok-units.ensures.order c.requires.within (ap chars c.deref.ensures ∙ c.in_ok-kept.ensures.chars) c.in_ok-units.ensures.units c.deref-2.ensures.value c.in_ok-add_runs.ensures
-
-pub returns-clause-sound : goal.returns-clause-sound
-returns-clause-sound g c =
-    let own = slice_range c.args.letters.now c.args.text.span.from c.args.text.span.to in
-    let text : chars c.deref.result.now ≡ chars_of own = ap chars c.deref.ensures ∙ c.in_ok-kept.ensures.chars in
-    sound_more _ c.args.letters.now c.args.text.source c.args.text.node c.args.text.style.now c.args.text.span.from c.args.text.span.to c.deref-2.result.now _ _
-    (order_of own (chars c.deref.result.now) c.in_ok-units.units.items c.deref-2.result.now text c.deref-2.ensures.value c.in_ok-units.ensures.order)
-    (sizes_of c.args.text.style.now _ (chars c.deref.result.now) c.in_ok-units.units.items c.deref-2.result.now c.in_ok-units.ensures.units c.deref-2.ensures.value) c.requires.size.high c.requires.order c.requires.within
-    c.in_ok-add_runs.ensures c.requires.sound
-
-pub returns-clause-count : goal.returns-clause-count
-returns-clause-count g c =
-    let own = slice_range c.args.letters.now c.args.text.span.from c.args.text.span.to in
-    let text : chars c.deref.result.now ≡ chars_of own = ap chars c.deref.ensures ∙ c.in_ok-kept.ensures.chars in
-    let many = count_more own _ _ c.deref-2.result.now c.args.parts.now.items c.add_runs.new.parts.items
-    (order_of own (chars c.deref.result.now) c.in_ok-units.units.items c.deref-2.result.now text c.deref-2.ensures.value c.in_ok-units.ensures.order) c.in_ok-add_runs.ensures in
+pub add_letters-requires-clause-few : goal.add_letters-requires-clause-few
+add_letters-requires-clause-few g c =
+    let few = few_alone (slice_range c.args.letters.now c.args.text.span.from c.args.text.span.to) c.requires.bytes in
     let long = stretch_length c.args.letters.now c.args.text.span.from c.args.text.span.to c.requires.within in
     omega arith
+
+pub returns-in_ok-add_letters-clause-parts : goal.returns-in_ok-add_letters-clause-parts
+returns-in_ok-add_letters-clause-parts g c =
+    let style = c.args.text.style.now in
+    let faces = faces_of (λ vtable. (g.dyn-1.0.entry vtable).1) c.args.faces.now in
+    let own = slice_range c.args.letters.now c.args.text.span.from c.args.text.span.to in
+    let laws = c.plain_units_are_of_characters.ensures in
+    let front = parts_of c.args.letters.now c.args.parts.now.items in
+    let alone : stand_alone style own ≡ true = sym c.stand_alone.ensures ∙ c.if-stand_alone.true in
+    c.in_ok-add_letters.ensures.parts
+    ∙ ap (λ table. front ++ letter_parts table c.args.text.source c.args.text.node style 0 own) c.used.ensures
+    ∙ sym (ap (λ parts. front ++ parts) (alone_parts laws.units laws.apart faces c.args.text.source c.args.text.node style own alone))
