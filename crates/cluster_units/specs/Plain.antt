@@ -1,13 +1,10 @@
 -- Characters that are clusters by themselves among their like: those of Latin text, letters of Greek, Cyrillic, Hebrew and Arabic,
 -- kana and Han, punctuation and bidi controls. None is a mark, and none joins its like.
-use Rattle.std.specs.Prelude.{ℕ, ◌+◌, Bool, ◌&&◌, ◌||◌, ◌==◌, not, nat_le, nat_lt, List, [], ◌∷◌, Option, Some, None}
+use Rattle.std.specs.Prelude.{ℕ, ◌+◌, Bool, ◌&&◌, ◌||◌, ◌==◌, not, nat_le, nat_lt, if◌then◌else◌, List, [], ◌∷◌, Option, Some, None}
 use Rattle.face_api.specs.Table.{Table}
 use Rattle.style_types.specs.declared.style.Style.{Style}
 use Rattle.cluster_units.specs.Unit.{is_all, is_vertical, lone_unit}
 use Rattle.cluster_units.specs.declared.unit.Unit.{Unit}
-
-abbrev pub is_latin : ℕ → Bool
-is_latin c = nat_lt c 0x300 && not (c == 0x0D)
 
 -- letters of Greek and Cyrillic, Hebrew, Arabic
 abbrev pub is_letter : ℕ → Bool
@@ -23,8 +20,9 @@ is_wide c =
     ((nat_le 0x3000 c && nat_le c 0x3029) || (nat_le 0x3030 c && nat_le c 0x3098))
     || ((nat_le 0x309B c && nat_le c 0x30FF) || ((nat_le 0x4E00 c && nat_le c 0x9FFF) || (nat_le 0xFF01 c && nat_le c 0xFF9D)))
 
+-- before U+0300 all but the carriage return
 abbrev pub is_plain : ℕ → Bool
-is_plain c = (is_latin c || is_letter c) || (is_sign c || is_wide c)
+is_plain c = if nat_lt c 0x300 then not (c == 0x0D) else (if nat_lt c 0x3000 then is_letter c || is_sign c else is_wide c)
 
 -- a style by which no units are combined
 abbrev pub combines_none : Style → Bool

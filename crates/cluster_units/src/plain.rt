@@ -30,7 +30,13 @@ pub(crate) fn is_plain(text: &str) -> bool
 pub fn is_plain_character(c: char) -> bool
     ensures { result ≡ is_plain c }
 {
-    c < '\u{300}' && c != '\r' || is_letter(c) || is_sign(c) || is_wide(c)
+    if c < '\u{300}' {
+        c != '\r'
+    } else if c < '\u{3000}' {
+        is_letter(c) || is_sign(c)
+    } else {
+        is_wide(c)
+    }
 }
 
 // A letter of Greek, Cyrillic, Hebrew or Arabic.
