@@ -1,9 +1,11 @@
 //! What the bidi algorithm reads of a paragraph (CSS Writing Modes 4, 2.4): the characters of its items and the controls
 //! that boxes put round them.
 
-ghost use Rattle.std.specs.Prelude.{◌≡◌, ◌++◌, reverse, OnOk};
+ghost use Rattle.std.specs.Prelude.{◌≡◌, ◌++◌, [], ◌∷◌, map, reverse, OnOk};
 ghost use Rattle.para_prepare.specs.BidiText as texts;
 ghost use Rattle.para_prepare.specs.BidiText.{unit_characters};
+ghost use Rattle.para_prepare.specs.Parts.{class_in};
+ghost use Rattle.para_prepare.specs.declared.bidi_text.Role.TheVariants.{Continues};
 
 use crate::letter::Letter;
 use crate::parts::class_in;
@@ -132,7 +134,7 @@ pub(crate) fn put_all_before(text: &mut BidiText<'_>, opened: &[Around]) -> Resu
 }
 
 /// Puts the characters of a unit.
-#[tactic(auto, using(crate::proofs::Texts::begins_whole, crate::proofs::Texts::continues_whole))]
+#[inline(always)]
 pub(crate) fn put_unit(
     text: &mut BidiText<'_>,
     upright: bool,
@@ -140,15 +142,39 @@ pub(crate) fn put_unit(
 ) -> Result<(), AllocError>
     ensures { OnOk result (text.new.items ≡ text.old.items ++ unit_characters upright letters.now) }
 {
-    let mut role = Role::Begins;
-    for letter in letters {
-        text.push(Character {
-            char: letter.char,
-            class: class_in(upright, letter.char),
-            role,
-        })?;
-        role = Role::Continues;
+    if let Some((first, others)) = letters.split_first() {
+        put_letter(text, upright, *first, Role::Begins)?;
+        put_others(text, upright, others)?;
     }
+    Ok(())
+}
+
+// Puts the characters of a unit behind its first.
+fn put_others(text: &mut BidiText<'_>, upright: bool, letters: &[Letter]) -> Result<(), AllocError>
+    ensures { OnOk result (text.new.items ≡ text.old.items ++ map (λ l. texts.character l.char (class_in upright l.char) Continues) letters.now) }
+{
+    for letter in letters {
+        put_letter(text, upright, *letter, Role::Continues)?;
+    }
+    Ok(())
+}
+
+// Puts a character of a unit.
+#[inline(always)]
+fn put_letter(
+    text: &mut BidiText<'_>,
+    upright: bool,
+    letter: Letter,
+    role: Role,
+) -> Result<(), AllocError>
+    ensures { OnOk result (text.new.items ≡ text.old.items ++ texts.character letter.char (class_in upright letter.char) role ∷ []) }
+{
+    let char = letter.char;
+    text.push(Character {
+        char,
+        class: class_in(upright, char),
+        role,
+    })?;
     Ok(())
 }
 

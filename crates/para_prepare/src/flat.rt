@@ -135,8 +135,11 @@ fn read_left_to_right(letters: &[Letter]) -> bool
 fn reads_left_to_right(c: char) -> bool
     ensures { result ≡ spec.reads_left_to_right c }
 {
-    c < '\u{590}'
-        || matches!(c, '\u{2010}'..='\u{2027}' | '\u{2E80}'..='\u{D7FF}' | '\u{FF00}'..='\u{FFEF}')
+    if c < '\u{2E80}' {
+        c < '\u{590}' || matches!(c, '\u{2010}'..='\u{2027}')
+    } else {
+        c <= '\u{D7FF}' || matches!(c, '\u{FF00}'..='\u{FFEF}')
+    }
 }
 
 impl FlatLists<'_> {

@@ -69,7 +69,7 @@ fn add_item(
             inside,
         } => {
             let own = &letters[span.from..span.to];
-            let what = combined_content(*node, *unit, own, inside.copy(alloc)?);
+            let what = combined_content(*node, *unit, own, copied(alloc, inside)?);
             push(items, *source, standings[place], what)?;
         }
         Part::Atom { source, name } => {
@@ -82,6 +82,14 @@ fn add_item(
         }
     }
     Ok(())
+}
+
+#[inline(never)]
+fn copied(alloc: Global, inside: &Glyphs) -> Result<Glyphs, AllocError>
+    ensures { IfOk result (λ own. own ≡ inside.now) }
+{
+    let own = inside.copy(alloc)?;
+    Ok(own)
 }
 
 fn push(

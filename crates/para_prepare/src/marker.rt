@@ -106,12 +106,13 @@ pub(crate) fn is_white(c: char) -> bool
     c <= ' ' && matches!(c, ' ' | '\n' | '\t' | '\u{C}' | '\r')
 }
 
-// The bidi controls of the repertoire.
+// The bidi controls of the repertoire. One comparison tells them from Latin letters.
 fn is_bidi_control(c: char) -> bool
     ensures { result ≡ is_bidi_control c }
 {
-    matches!(
-        c,
-        '\u{61C}' | '\u{200E}'..='\u{200F}' | '\u{202A}'..='\u{202E}' | '\u{2066}'..='\u{2069}'
-    )
+    c >= '\u{61C}'
+        && matches!(
+            c,
+            '\u{61C}' | '\u{200E}'..='\u{200F}' | '\u{202A}'..='\u{202E}' | '\u{2066}'..='\u{2069}'
+        )
 }
