@@ -13,6 +13,7 @@ pub mod KeptLaws
 pub mod LastLetter
 pub mod MarkerLaws
 pub mod MoreItems
+pub mod NoEnds
 pub mod OneSize
 pub mod PartsLaws
 pub mod PlacedLaws

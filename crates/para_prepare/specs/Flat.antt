@@ -98,9 +98,9 @@ pub record HasRunBounds (unit : Unit) (letters : List Letter) : Type 0 where
 -- letters of scripts that are read from left to right, and what stands between them
 abbrev pub reads_left_to_right : ℕ → Bool
 reads_left_to_right c =
-    if nat_lt c 0x2E80
-    then nat_lt c 0x590 || (nat_le 0x2010 c && nat_le c 0x2027)
-    else (nat_le c 0xD7FF || (nat_le 0xFF00 c && nat_le c 0xFFEF))
+    if nat_lt c 0x590
+    then true
+    else (if nat_lt c 0x2E80 then nat_le 0x2010 c && nat_le c 0x2027 else (nat_le c 0xD7FF || (nat_le 0xFF00 c && nat_le c 0xFFEF)))
 
 -- an inline box that puts no control round its content, or what is no beginning of one
 abbrev pub puts_none : Entry → Bool

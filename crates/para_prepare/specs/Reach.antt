@@ -64,3 +64,9 @@ code_kind (codes.Unit source node upright unit span) = Content
 code_kind (codes.Combined source node unit span inside) = Content
 code_kind (codes.Atom source name) = Content
 code_kind (codes.Break source node) = Content
+
+abbrev pub is_no_end : Kind → Bool
+is_no_end Opening = false
+is_no_end Closing = false
+is_no_end Content = true
+is_no_end Aside = true

@@ -150,6 +150,7 @@ pub(crate) fn put_unit(
 }
 
 // Puts the characters of a unit behind its first.
+#[inline(always)]
 fn put_others(text: &mut BidiText<'_>, upright: bool, letters: &[Letter]) -> Result<(), AllocError>
     ensures { OnOk result (text.new.items ≡ text.old.items ++ map (λ l. texts.character l.char (class_in upright l.char) Continues) letters.now) }
 {

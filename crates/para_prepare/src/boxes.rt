@@ -1,6 +1,7 @@
 //! Which inline boxes take part: those with an item between their ends.
 
 ghost use Rattle.std.specs.Prelude.{◌≡◌, ◌+◌, ◌<◌, ◌^◌, [], cond, length, map, IfOk, IfSome};
+ghost use Rattle.std.specs.List.{list_all};
 ghost use Rattle.para_prepare.specs.Boxes as boxes;
 ghost use Rattle.para_prepare.specs.Boxes.{takes_from};
 ghost use Rattle.para_prepare.specs.Reach as reaches;
@@ -23,12 +24,28 @@ pub(crate) enum Kind {
 pub(crate) type Marks<'a> = Vec<bool, &'a Bump>;
 
 /// For each part whether it takes part: the ends of a box only where it has an item.
+#[tactic(auto, using(crate::proofs::NoEnds::all_take))]
 pub(crate) fn taking<'a>(arena: &'a Bump, parts: &[Part]) -> Result<Marks<'a>, AllocError>
     ensures { IfOk result (λ marks. marks.items ≡ takes_from [] (map code_kind parts.now)) }
 {
+    if have_no_ends(parts) {
+        let all = Vec::from_elem(arena, true, parts.len())?;
+        return Ok(all);
+    }
     let mut marks = mark_closings(arena, parts)?;
     mark_openings(&mut marks, parts);
     Ok(marks)
+}
+
+// Whether no part is an end of a box: then all take part.
+fn have_no_ends(parts: &[Part]) -> bool
+    ensures { result ≡ list_all (λ part. reaches.is_no_end (code_kind part)) parts.now }
+{
+    parts.iter().all(
+        |part| -> bool
+            ensures { result ≡ reaches.is_no_end (code_kind part.now) }
+        { !matches!(part, Part::Opens(_) | Part::Closes) },
+    )
 }
 
 // The marks of the ends of boxes, by what stands before them; all others are set.

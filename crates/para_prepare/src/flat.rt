@@ -135,8 +135,10 @@ fn read_left_to_right(letters: &[Letter]) -> bool
 fn reads_left_to_right(c: char) -> bool
     ensures { result ≡ spec.reads_left_to_right c }
 {
-    if c < '\u{2E80}' {
-        c < '\u{590}' || matches!(c, '\u{2010}'..='\u{2027}')
+    if c < '\u{590}' {
+        true
+    } else if c < '\u{2E80}' {
+        matches!(c, '\u{2010}'..='\u{2027}')
     } else {
         c <= '\u{D7FF}' || matches!(c, '\u{FF00}'..='\u{FFEF}')
     }

@@ -1,6 +1,7 @@
 //! The items of a paragraph, with what lines need of each.
 
-ghost use Rattle.std.specs.Prelude.{◌≡◌, ◌<◌, ◌≤◌, ◌+◌, ◌++◌, [], ◌∷◌, ℕ, drop, length, map, All, IfOk, IfSome, OnOk};
+ghost use Rattle.std.specs.Prelude.{◌≡◌, ◌<◌, ◌≤◌, ◌+◌, ◌++◌, [], ◌∷◌, ℕ, drop, length, map, unwrap_or, All, IfOk, IfSome, OnOk};
+ghost use Rattle.wm_chars.specs.Pairs.{mirror};
 ghost use Rattle.para_prepare.specs.Glyph as glyphs;
 ghost use Rattle.para_prepare.specs.Items as items;
 ghost use Rattle.para_prepare.specs.Items.{items_by, unit_content};
@@ -237,12 +238,16 @@ fn chars_of(alloc: Global, letters: &[Letter]) -> Result<Vec<char>, AllocError>
 }
 
 // What stands for the first character of a unit at this level.
+#[inline(always)]
 fn mirrored(level: u8, c: char) -> char
     ensures { result ≡ glyphs.mirrored level c }
 {
-    if level % 2 == 1 {
-        mirror(c).unwrap_or(c)
-    } else {
-        c
-    }
+    if level % 2 == 1 { mirror_or(c) } else { c }
+}
+
+#[inline(never)]
+fn mirror_or(c: char) -> char
+    ensures { result ≡ unwrap_or (mirror c) c }
+{
+    mirror(c).unwrap_or(c)
 }
