@@ -116,7 +116,7 @@ fn answer<W: Write, L: Ledger, M: Ledger>(
             Err(error) => print_error(output, error),
         },
         Ok("line") => match line_case(alloc, &mut words) {
-            Ok(line) => answer_line(alloc, &line, output),
+            Ok(case) => answer_line(alloc, case, output),
             Err(error) => print_error(output, error),
         },
         Ok("lines") => match lines_case(alloc, &mut words) {

@@ -8,21 +8,75 @@ use crate::words::{CaseError, Words};
 use line_place::{
     Extents, LineBox, LineBoxes, LineContent, LineInput, LineItem, LineItems, place_line,
 };
-use std::alloc::Global;
+use std::alloc::{AllocError, Global};
 use std::io;
 use std::io::Write;
+use style_types::{Align, Fragment, Glyphs, UnitKind};
+use wm_chars::BidiClass;
+use wm_modes::WritingMode;
+
+/// A line whose items have glyphs and fragments of their own.
+#[derive(Debug, Drop)]
+pub(crate) struct LineCase {
+    mode: WritingMode,
+    base: u8,
+    align: Align,
+    available: i64,
+    strut: Extents,
+    items: Vec<CaseItem>,
+    boxes: LineBoxes,
+}
+
+// The fields of a `LineItem`.
+#[derive(Debug, Drop)]
+struct CaseItem {
+    level: u8,
+    class: BidiClass,
+    extent: i64,
+    inside: Option<usize>,
+    space: bool,
+    apart: Option<u8>,
+    what: CaseContent,
+}
+
+// What a `LineContent` borrows.
+#[derive(Debug, Drop)]
+enum CaseContent {
+    Unit {
+        node: u32,
+        first: usize,
+        end: usize,
+        form: UnitKind,
+        glyphs: Glyphs,
+    },
+    Combined {
+        node: u32,
+        first: usize,
+        end: usize,
+        natural: i64,
+        glyphs: Glyphs,
+    },
+    Atom {
+        left_margin: i64,
+        over_margin: i64,
+        over: i64,
+        under: i64,
+        fragment: Fragment,
+    },
+    Break,
+}
 
 /// The line of these words.
-pub(crate) fn line_case(alloc: Global, words: &mut Words<'_>) -> Result<LineInput, CaseError> {
+pub(crate) fn line_case(alloc: Global, words: &mut Words<'_>) -> Result<LineCase, CaseError> {
     let mode = words.named(&MODES)?;
     let base = words.small()?;
     let align = words.named(&ALIGNS)?;
     let available = words.length()?;
     let strut = extents(words)?;
-    let items = line_items(alloc, words)?;
+    let items = case_items(alloc, words)?;
     let boxes = line_boxes(alloc, words)?;
     words.end()?;
-    Ok(LineInput {
+    Ok(LineCase {
         mode,
         base,
         align,
@@ -43,50 +97,50 @@ fn extents(words: &mut Words<'_>) -> Result<Extents, CaseError> {
     })
 }
 
-fn line_items(alloc: Global, words: &mut Words<'_>) -> Result<LineItems, CaseError> {
+fn case_items(alloc: Global, words: &mut Words<'_>) -> Result<Vec<CaseItem>, CaseError> {
     let mut items = Vec::new(alloc);
     for _ in 0..words.place()? {
-        items.push(line_item(alloc, words)?)?;
+        items.push(case_item(alloc, words)?)?;
     }
     Ok(items)
 }
 
-fn line_item(alloc: Global, words: &mut Words<'_>) -> Result<LineItem, CaseError> {
-    Ok(LineItem {
+fn case_item(alloc: Global, words: &mut Words<'_>) -> Result<CaseItem, CaseError> {
+    Ok(CaseItem {
         level: words.small()?,
         class: words.named(&CLASSES)?,
         extent: words.length()?,
         inside: words.place_if_any()?,
         space: words.flag()?,
         apart: words.small_if_any()?,
-        what: line_content(alloc, words)?,
+        what: case_content(alloc, words)?,
     })
 }
 
-fn line_content(alloc: Global, words: &mut Words<'_>) -> Result<LineContent, CaseError> {
+fn case_content(alloc: Global, words: &mut Words<'_>) -> Result<CaseContent, CaseError> {
     match words.word()? {
-        "unit" => Ok(LineContent::Unit {
+        "unit" => Ok(CaseContent::Unit {
             node: words.node()?,
             first: words.place()?,
             end: words.place()?,
             form: words.named(&FORMS)?,
             glyphs: glyphs(alloc, words)?,
         }),
-        "combined" => Ok(LineContent::Combined {
+        "combined" => Ok(CaseContent::Combined {
             node: words.node()?,
             first: words.place()?,
             end: words.place()?,
             natural: words.length()?,
             glyphs: glyphs(alloc, words)?,
         }),
-        "atom" => Ok(LineContent::Atom {
+        "atom" => Ok(CaseContent::Atom {
             left_margin: words.length()?,
             over_margin: words.length()?,
             over: words.length()?,
             under: words.length()?,
             fragment: fragment(alloc, words)?,
         }),
-        "break" => Ok(LineContent::Break),
+        "break" => Ok(CaseContent::Break),
         _ => Err(CaseError::Malformed),
     }
 }
@@ -119,13 +173,92 @@ fn line_box(words: &mut Words<'_>) -> Result<LineBox, CaseError> {
 /// Prints how far the line reaches over and under its baseline, and its fragments.
 pub(crate) fn answer_line<W: Write>(
     alloc: Global,
-    line: &LineInput,
+    case: LineCase,
     output: &mut W,
 ) -> io::Result<()> {
-    if !can_be_placed(line) {
+    let LineCase {
+        mode,
+        base,
+        align,
+        available,
+        strut,
+        items,
+        boxes,
+    } = case;
+    let line = LineInput {
+        mode,
+        base,
+        align,
+        available,
+        strut,
+        items: line_items(alloc, &items)?,
+        boxes,
+    };
+    if !can_be_placed(&line) {
         return write!(output, "outside");
     }
-    let placed = place_line(alloc, line)?;
+    let placed = place_line(alloc, &line)?;
     write!(output, "{} {}", placed.over, placed.under)?;
     print_fragments(output, &placed.parts)
+}
+
+fn line_items(alloc: Global, items: &[CaseItem]) -> Result<LineItems<'_>, AllocError> {
+    let mut made = Vec::with_capacity(alloc, items.len())?;
+    for item in items {
+        made.push(LineItem {
+            level: item.level,
+            class: item.class,
+            extent: item.extent,
+            inside: item.inside,
+            space: item.space,
+            apart: item.apart,
+            what: line_content(&item.what),
+        })?;
+    }
+    Ok(made)
+}
+
+fn line_content(what: &CaseContent) -> LineContent<'_> {
+    match what {
+        CaseContent::Unit {
+            node,
+            first,
+            end,
+            form,
+            glyphs,
+        } => LineContent::Unit {
+            node: *node,
+            first: *first,
+            end: *end,
+            form: *form,
+            glyphs,
+        },
+        CaseContent::Combined {
+            node,
+            first,
+            end,
+            natural,
+            glyphs,
+        } => LineContent::Combined {
+            node: *node,
+            first: *first,
+            end: *end,
+            natural: *natural,
+            glyphs,
+        },
+        CaseContent::Atom {
+            left_margin,
+            over_margin,
+            over,
+            under,
+            fragment,
+        } => LineContent::Atom {
+            fragment,
+            left_margin: *left_margin,
+            over_margin: *over_margin,
+            over: *over,
+            under: *under,
+        },
+        CaseContent::Break => LineContent::Break,
+    }
 }

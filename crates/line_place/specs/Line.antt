@@ -36,9 +36,9 @@ pub record Line : Type 0 where
   pub boxes : List LineBox
 
 abbrev pub content_of : code.LineContent → Content
-content_of (codes.Unit node first end_ form glyphs) = unit node first end_ form glyphs
-content_of (codes.Combined node first end_ natural glyphs) = combined node first end_ natural glyphs
-content_of (codes.Atom fragment left_margin over_margin over under) = atom (piece_of fragment) left_margin over_margin over under
+content_of (codes.Unit node first end_ form glyphs) = unit node first end_ form glyphs.now
+content_of (codes.Combined node first end_ natural glyphs) = combined node first end_ natural glyphs.now
+content_of (codes.Atom fragment left_margin over_margin over under) = atom (piece_of fragment.now) left_margin over_margin over under
 content_of codes.Break = nothing
 
 abbrev pub item_of : LineItem → Item

@@ -16,7 +16,7 @@ use std::alloc::{AllocError, Global};
 /// has no extent there and isn't seen.
 #[derive(Clone, Copy, Debug)]
 pub(crate) struct Leaf<'a> {
-    pub(crate) item: &'a LineItem,
+    pub(crate) item: &'a LineItem<'a>,
     pub(crate) place: usize,
     pub(crate) level: u8,
     pub(crate) hangs: bool,
@@ -47,7 +47,7 @@ impl Leaf<'_> {
 }
 
 /// The items of a line from line-left.
-pub(crate) fn leaves<'a>(alloc: Global, line: &'a LineInput) -> Result<Leaves<'a>, AllocError>
+pub(crate) fn leaves<'a>(alloc: Global, line: &'a LineInput<'a>) -> Result<Leaves<'a>, AllocError>
     ensures are { IfOk result (λ made. map leaf_of made.items ≡ leaves (line_of line.now)) }
     ensures reach { IfOk result (λ made. total leaf_reach (map leaf_of made.items) ≤ total item_reach (line_of line.now).items) }
 {
@@ -79,7 +79,7 @@ fn are_level_zero(items: &[LineItem]) -> bool
 }
 
 // The items in their own order, with their own levels.
-fn leaves_in_order<'a>(alloc: Global, items: &'a [LineItem]) -> Result<Leaves<'a>, AllocError>
+fn leaves_in_order<'a>(alloc: Global, items: &'a [LineItem<'a>]) -> Result<Leaves<'a>, AllocError>
     ensures { IfOk result (λ made. map leaf_of made.items ≡ leaves_from 0 (map (λ item. item.level) (map item_of items.now)) (map item_of items.now)) }
 {
     let hanging = hanging_from(items);
@@ -98,7 +98,7 @@ fn leaves_in_order<'a>(alloc: Global, items: &'a [LineItem]) -> Result<Leaves<'a
 
 // The items by L1 and L2, whatever their levels.
 #[tactic(auto, unfolding(crate::specs::Leaves::leaves))]
-fn ordered_leaves<'a>(alloc: Global, line: &'a LineInput) -> Result<Leaves<'a>, AllocError>
+fn ordered_leaves<'a>(alloc: Global, line: &'a LineInput<'a>) -> Result<Leaves<'a>, AllocError>
     ensures are { IfOk result (λ made. map leaf_of made.items ≡ leaves (line_of line.now)) }
     ensures reach { IfOk result (λ made. total leaf_reach (map leaf_of made.items) ≤ total item_reach (line_of line.now).items) }
 {
@@ -114,7 +114,7 @@ fn ordered_leaves<'a>(alloc: Global, line: &'a LineInput) -> Result<Leaves<'a>, 
 }
 
 // The item at this place of the line, where its Spaces hang from `hanging` on.
-fn leaf_at<'a>(line: &'a LineInput, levels: &[u8], hanging: usize, place: usize) -> Leaf<'a>
+fn leaf_at<'a>(line: &'a LineInput<'a>, levels: &[u8], hanging: usize, place: usize) -> Leaf<'a>
     requires place { place < length line.now.items.items }
     requires levels { length levels.now ≡ length line.now.items.items }
     requires hanging { (k : ℕ) → k < length line.now.items.items → are_spaces (drop k (map item_of line.now.items.items)) ≡ leb hanging k }

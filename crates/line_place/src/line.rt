@@ -19,14 +19,14 @@ pub struct Extents {
 }
 
 /// The items of a line in logical order.
-pub type LineItems = Vec<LineItem>;
+pub type LineItems<'a> = Vec<LineItem<'a>>;
 
 /// The inline boxes of a line, each behind those round it.
 pub type LineBoxes = Vec<LineBox>;
 
 /// An item of a line. Lengths are in units of 1/64 px.
-#[derive(Debug, Drop)]
-pub struct LineItem {
+#[derive(Clone, Copy, Debug)]
+pub struct LineItem<'a> {
     /// Its resolved level (UAX 9, I1 and I2), and the class of its last character, for L1.
     pub level: u8,
     pub class: BidiClass,
@@ -39,19 +39,19 @@ pub struct LineItem {
     pub space: bool,
     /// The least level of the bidi controls between it and the item before it that X9 leaves in the line.
     pub apart: Option<u8>,
-    pub what: LineContent,
+    pub what: LineContent<'a>,
 }
 
 /// What an item is. Lengths are in units of 1/64 px.
-#[derive(Debug, Drop)]
-pub enum LineContent {
+#[derive(Clone, Copy, Debug)]
+pub enum LineContent<'a> {
     /// A unit of a text node: the places of its first character in the node's text and after its last.
     Unit {
         node: u32,
         first: usize,
         end: usize,
         form: UnitKind,
-        glyphs: Glyphs,
+        glyphs: &'a Glyphs,
     },
     /// A combined run of a text node, with the sum of the plain advances of its units.
     Combined {
@@ -59,12 +59,12 @@ pub enum LineContent {
         first: usize,
         end: usize,
         natural: i64,
-        glyphs: Glyphs,
+        glyphs: &'a Glyphs,
     },
     /// An inline-block, laid out: its margins at line-left and line-over, and the extents of its margin box over and under
     /// the line's baseline.
     Atom {
-        fragment: Fragment,
+        fragment: &'a Fragment,
         left_margin: i64,
         over_margin: i64,
         over: i64,
@@ -98,7 +98,7 @@ pub struct LineBox {
 
 /// A line that is to be placed. Lengths are in units of 1/64 px.
 #[derive(Debug, Drop)]
-pub struct LineInput {
+pub struct LineInput<'a> {
     pub mode: WritingMode,
     /// The base level of its bidi paragraph, 0 or 1.
     pub base: u8,
@@ -107,6 +107,6 @@ pub struct LineInput {
     pub available: i64,
     /// The extents of the container's strut.
     pub strut: Extents,
-    pub items: LineItems,
+    pub items: LineItems<'a>,
     pub boxes: LineBoxes,
 }

@@ -89,7 +89,7 @@ fn box_rect(inline_box: &LineBox, over: i64, left: i64, right: i64) -> FlowRect
     }
 }
 
-fn extents_in(line: &LineInput, inside: Option<usize>) -> &Extents
+fn extents_in<'a>(line: &'a LineInput, inside: Option<usize>) -> &'a Extents
     requires { IsBefore (length line.now.boxes.items) inside }
     ensures { result.now ≡ rule.extents_in (line_of line.now) inside }
 {

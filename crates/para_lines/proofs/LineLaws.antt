@@ -1,5 +1,5 @@
 -- The boxes of a line.
-use Rattle.std.proofs.Common.{inl, inr, ◌≡◌, ◌∙◌, refl, sym, ap, arith, Bool, true, false, ◌||◌, ℕ, suc, ◌+◌, ◌-◌, ◌<◌, ◌≤◌, List, [], ◌∷◌, length, map, get_or, set, drop, Option, ℤ, pos}
+use Rattle.std.proofs.Common.{inl, inr, ◌≡◌, ◌∙◌, refl, sym, ap, arith, Bool, true, false, ◌||◌, ℕ, suc, ◌+◌, ◌-◌, ◌<◌, ◌≤◌, List, [], ◌∷◌, ◌++◌, length, map, get_or, set, drop, reverse, append-nil, Option, Some, ℤ, pos}
 use Rattle.std.specs.Prelude.{All, ◌==◌, option_map}
 use Rattle.std.proofs.lemmas.List.{drop_all, drop_more, get_or-set_same, get_or-set_other, length-set}
 use Rattle.std.proofs.lemmas.Bool.{cases_eq, eq-eqb, ne_eqb}
@@ -7,11 +7,8 @@ use Rattle.std.proofs.lemmas.Simd.{map-map}
 use Rattle.face_api.specs.Table.{Table}
 use Rattle.wm_chars.specs.declared.classes.BidiClass.{BidiClass}
 use Rattle.wm_modes.specs.declared.mode.Direction.{Direction}
-use Rattle.wm_modes.specs.declared.rects.FlowRect.{FlowRect}
 use Rattle.style_types.specs.declared.style.Align.{Align}
-use Rattle.style_types.specs.declared.fragment.Fragment.{Fragment, out-Fragment}
-use Rattle.style_types.specs.declared.fragment.Fragment.TheFolds.{fold_out-Fragment}
-use Rattle.style_types.specs.Fragment.{Pieces, before, in_line, kind_of, moved_to, none, piece, piece_of, piece_step}
+use Rattle.style_types.specs.Fragment.{Pieces}
 use Rattle.style_types.specs.Item.{Entry}
 use Rattle.line_place.specs.declared.line.Extents.{Extents}
 use Rattle.line_place.specs.declared.line.LineBox.{LineBox}
@@ -24,10 +21,17 @@ use Rattle.para_lines.specs.declared.standing.Standing as code
 use Rattle.para_lines.specs.Edges.{shifts}
 use Rattle.para_lines.specs.Filling.{is_space}
 use Rattle.para_lines.specs.Lines as rule
-use Rattle.para_lines.specs.Around.{has}
-use Rattle.para_lines.specs.Boxes.{apart, chain_at, innermost, round_of}
+use Rattle.para_lines.specs.Around.{fresh, has}
+use Rattle.para_lines.specs.Boxes.{apart, chain_at, chain_behind, innermost, round_of}
 use Rattle.para_lines.specs.Line.{AreSeats, content_in, first_atom, on_line, standing_of}
 use Rattle.para_lines.specs.Lines.{innermost_in, place_in}
+use Rattle.para_lines.proofs.Chaining.{none_apart}
+
+-- no box begins where an item comes from the same entry as the one before it
+pub none_fresh : (entries : List Entry) (place : ℕ) (other : Option ℕ) (places : List ℕ) → other ≡ Some place → places ≡ places ++ fresh (chain_at entries place) (chain_behind entries other)
+none_fresh entries place other places at_ =
+    sym (ap (λ (o : Option ℕ). places ++ fresh (chain_at entries place) (chain_behind entries o)) at_
+    ∙ ap (λ (bs : List ℕ). places ++ reverse bs) (none_apart (chain_at entries place) (chain_at entries place) (λ box in_. in_)) ∙ append-nil places)
 
 -- the boxes from one on are seated
 pub record Seating (places seats old : List ℕ) (left : ℕ) : Type 0 where
@@ -134,16 +138,6 @@ line_item_is entries boxes standing round extent inside space what is e f g h =
     let w : what ≡ rule.content_of entries chain (first_atom standing.atoms.now) standing.item.now.what =
     h ∙ ap (λ (r : Round). content_in r.shifts standing.item.now.what (first_atom standing.atoms.now)) is ∙ content_by entries chain standing.item.now.what (first_atom standing.atoms.now) in
     rw (e, i, g, w) refl
-
--- a copy of a fragment
-as_piece : (f : Fragment) → piece_of f ≡ piece (out-Fragment f).name (out-Fragment f).rect (kind_of (out-Fragment f).kind) (in_line (map before (out-Fragment f).children.value.items)) none
-as_piece f = ap (λ (g : Pieces → Pieces). g none) (fold_out-Fragment (Pieces → Pieces) piece_step f)
-
-pub copy_is : (own f : Fragment) (rect : FlowRect) → piece_of own ≡ moved_to rect (piece_of f) → rect ≡ (out-Fragment f).rect → piece_of own ≡ piece_of f
-copy_is own f rect is same =
-    is ∙ ap (moved_to rect) (as_piece f)
-    ∙ ap (λ (r : FlowRect). piece (out-Fragment f).name r (kind_of (out-Fragment f).kind) (in_line (map before (out-Fragment f).children.value.items)) none) same
-    ∙ sym (as_piece f)
 
 abbrev atom_with : Pieces → ℤ → ℤ → ℤ → ℤ → place.Content
 atom_with fragment left over_margin over under = place.atom fragment left over_margin over under

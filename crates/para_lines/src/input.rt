@@ -20,15 +20,15 @@ use line_place::LineInput;
 use std::alloc::{AllocError, Global};
 
 /// The line of these items, between items that come from these. `seats` is a table by box for its use.
-pub(crate) fn line_input(
+pub(crate) fn line_input<'a>(
     alloc: Global,
     boxes: &Boxes,
     container: &Container,
     faces: &Faces,
     seats: &mut Places,
-    standings: &[Standing],
+    standings: &[Standing<'a>],
     sides: Sides,
-) -> Result<LineInput, AllocError>
+) -> Result<LineInput<'a>, AllocError>
     requires boxes { AreBoxes boxes.now }
     requires style { IsBounded container.now.style }
     requires low { pos 0 ≤ℤ container.now.size }
@@ -57,15 +57,15 @@ pub(crate) fn line_input(
 }
 
 // The line whose boxes stand in these seats.
-fn seated_line(
+fn seated_line<'a>(
     alloc: Global,
     boxes: &Boxes,
     container: &Container,
     faces: &Faces,
     seated: &Seated,
-    standings: &[Standing],
+    standings: &[Standing<'a>],
     sides: Sides,
-) -> Result<LineInput, AllocError>
+) -> Result<LineInput<'a>, AllocError>
     requires boxes { AreBoxes boxes.now }
     requires style { IsBounded container.now.style }
     requires low { pos 0 ≤ℤ container.now.size }

@@ -30,7 +30,7 @@ pub(crate) struct Setting<'a> {
     pub(crate) standings: &'a [Standing<'a>],
 }
 
-impl Setting<'_> {
+impl<'a> Setting<'a> {
     /// Places the line of the items from one place up to another. `seats` is a table by box for its use.
     pub(crate) fn line(
         &self,
@@ -63,7 +63,7 @@ impl Setting<'_> {
         seats: &mut Places,
         from: usize,
         end: usize,
-    ) -> Result<LineInput, AllocError>
+    ) -> Result<LineInput<'a>, AllocError>
         requires set { IsSetting self.now }
         requires seats { length seats.old.items ≡ length self.now.boxes.now.items.now }
         requires from { from ≤ end }

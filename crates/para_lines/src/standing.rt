@@ -89,12 +89,12 @@ fn standing_at<'a>(
 }
 
 /// The items of a line with these boxes.
-pub(crate) fn line_items(
+pub(crate) fn line_items<'a>(
     alloc: Global,
     boxes: &Boxes,
     seated: &Seated,
-    standings: &[Standing],
-) -> Result<LineItems, AllocError>
+    standings: &[Standing<'a>],
+) -> Result<LineItems<'a>, AllocError>
     requires boxes { AreBoxes boxes.now }
     requires seats { AreSeats seated.now.places.now seated.now.seats.now }
     requires able { All (IsAble (length boxes.now.items.now)) standings.now }
@@ -103,28 +103,23 @@ pub(crate) fn line_items(
 {
     let mut made = Vec::with_capacity(alloc, standings.len())?;
     for k in 0..standings.len() {
-        made.push(line_item(alloc, boxes, seated, &standings[k])?)?;
+        made.push(line_item(boxes, seated, &standings[k]))?;
     }
     Ok(made)
 }
 
 // One of them.
-fn line_item(
-    alloc: Global,
-    boxes: &Boxes,
-    seated: &Seated,
-    standing: &Standing,
-) -> Result<LineItem, AllocError>
+fn line_item<'a>(boxes: &Boxes, seated: &Seated, standing: &Standing<'a>) -> LineItem<'a>
     requires boxes { AreBoxes boxes.now }
     requires seats { AreSeats seated.now.places.now seated.now.seats.now }
     requires able { IsAble (length boxes.now.items.now) standing.now }
     requires inside { IfSome (innermost (chain_at (entries_of boxes.now.items.now) standing.now.item.now.source)) (λ box. has seated.now.places.now box ≡ true) }
-    ensures { IfOk result (λ made. item_of made ≡ rule.line_item (entries_of boxes.now.items.now) seated.now.places.now (standing_of (entries_of boxes.now.items.now) standing.now)) }
+    ensures { item_of result ≡ rule.line_item (entries_of boxes.now.items.now) seated.now.places.now (standing_of (entries_of boxes.now.items.now) standing.now) }
 {
     let item = standing.item;
     let round = boxes.round(item.source);
-    let what = content(alloc, &item.what, round.shifts, standing.atoms)?;
-    Ok(LineItem {
+    let what = content(&item.what, round.shifts, standing.atoms);
+    LineItem {
         level: standing.level,
         class: standing.class,
         extent: standing.extent,
@@ -132,20 +127,15 @@ fn line_item(
         space: is_space(&item.what),
         apart: item.apart,
         what,
-    })
+    }
 }
 
 // What an item is, inside boxes with these lengths of `vertical-align`.
-fn content(
-    alloc: Global,
-    what: &PreparedContent,
-    shifts: i64,
-    atoms: &[Atom],
-) -> Result<LineContent, AllocError>
+fn content<'a>(what: &'a PreparedContent, shifts: i64, atoms: &'a [Atom]) -> LineContent<'a>
     requires shifts { unsigned_abs shifts ≤ 2 ^ 53 }
     requires atom { HasAtom what.now atoms.now }
     requires near { All IsNearAtom atoms.now }
-    ensures { IfOk result (λ made. content_of made ≡ content_in shifts what.now (first_atom atoms.now)) }
+    ensures { content_of result ≡ content_in shifts what.now (first_atom atoms.now) }
 {
     match what {
         PreparedContent::Unit {
@@ -156,13 +146,13 @@ fn content(
             advance: _,
             space: _,
             glyphs,
-        } => Ok(LineContent::Unit {
+        } => LineContent::Unit {
             node: *node,
             first: *first,
             end: *end,
             form: *form,
-            glyphs: glyphs.copy(alloc)?,
-        }),
+            glyphs,
+        },
         PreparedContent::Combined {
             node,
             first,
@@ -170,34 +160,30 @@ fn content(
             advance: _,
             natural,
             glyphs,
-        } => Ok(LineContent::Combined {
+        } => LineContent::Combined {
             node: *node,
             first: *first,
             end: *end,
             natural: *natural,
-            glyphs: glyphs.copy(alloc)?,
-        }),
-        PreparedContent::Atom { .. } => {
-            let made = atom_content(&atoms[0], shifts)?;
-            Ok(made)
-        }
-        PreparedContent::Break { .. } => Ok(LineContent::Break),
+            glyphs,
+        },
+        PreparedContent::Atom { .. } => atom_content(&atoms[0], shifts),
+        PreparedContent::Break { .. } => LineContent::Break,
     }
 }
 
 // An atom, raised by its own length and those of the boxes round it.
-fn atom_content(atom: &Atom, shifts: i64) -> Result<LineContent, AllocError>
+fn atom_content(atom: &Atom, shifts: i64) -> LineContent<'_>
     requires shifts { unsigned_abs shifts ≤ 2 ^ 53 }
     requires near { IsNearAtom atom.now }
-    ensures { IfOk result (λ made. content_of made ≡ atom_in shifts (atom_of atom.now)) }
+    ensures { content_of result ≡ atom_in shifts (atom_of atom.now) }
 {
     let raised = raised(atom.shift, shifts);
-    let fragment = atom.fragment.moved_to(atom.fragment.rect)?;
-    Ok(LineContent::Atom {
-        fragment,
+    LineContent::Atom {
+        fragment: &atom.fragment,
         left_margin: atom.left_margin,
         over_margin: atom.over_margin,
         over: atom.over + raised,
         under: atom.under - raised,
-    })
+    }
 }

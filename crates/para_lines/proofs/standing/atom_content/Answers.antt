@@ -1,7 +1,7 @@
-use Rattle.std.proofs.Common.{rules, ◌≡◌, ◌+ℤ◌, ◌-ℤ◌, ◌∙◌, ap, arith, w64, to_z, of_z, FitsSigned}
+use Rattle.std.proofs.Common.{rules, ◌≡◌, refl, ◌+ℤ◌, ◌-ℤ◌, ◌∙◌, ap, arith, w64, to_z, of_z, FitsSigned}
 use Rattle.std.proofs.lemmas.Int.{ints, to_z-of_z}
 use Rattle.wm_units.specs.Numbers.{cap}
-use Rattle.para_lines.proofs.LineLaws.{atom_is, copy_is}
+use Rattle.para_lines.proofs.LineLaws.{atom_is}
 use Rattle.para_lines.proofs.standing.atom_content.Goals as goal
 
 pub returns : goal.returns
@@ -17,7 +17,7 @@ returns c =
     let o : to_z w64 (of_z w64 (to_z w64 (of_z w64 c.args.atom.now.over) +ℤ to_z w64 (of_z w64 c.raised-raised.result))) ≡ c.args.atom.now.over +ℤ c.raised-raised.result = omega (arith, ints) in
     let u : to_z w64 (of_z w64 (to_z w64 (of_z w64 c.args.atom.now.under) -ℤ to_z w64 (of_z w64 c.raised-raised.result))) ≡ c.args.atom.now.under -ℤ c.raised-raised.result = omega (arith, ints) in
     atom_is _ _ _ _ _ _ _ _ _ _
-    (copy_is c.in_ok-fragment.fragment c.args.atom.now.fragment _ c.in_ok-fragment.ensures (search rules))
+    refl
     (to_z-of_z w64 c.args.atom.now.left_margin fits)
     (to_z-of_z w64 c.args.atom.now.over_margin fits-2)
     (o ∙ ap (λ z. c.args.atom.now.over +ℤ z) raised)

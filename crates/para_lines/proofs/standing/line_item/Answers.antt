@@ -11,4 +11,4 @@ returns c =
     let fits-2 : FitsSigned w64 c.round-round.result.shifts = search rules in
     line_item_is (entries_of c.args.boxes.now.items.now) c.args.seated.now.places.now c.args.standing.now c.round-round.result _ _ _ _
     c.round-round.ensures.is (to_z-of_z w64 c.args.standing.now.extent fits) c.seat_of.ensures c.is_space.ensures
-    (c.in_ok-what.ensures ∙ ap (λ z. content_in z c.args.standing.now.item.now.what (first_atom c.args.standing.now.atoms.now)) (to_z-of_z w64 c.round-round.result.shifts fits-2))
+    (c.content-what.ensures ∙ ap (λ z. content_in z c.args.standing.now.item.now.what (first_atom c.args.standing.now.atoms.now)) (to_z-of_z w64 c.round-round.result.shifts fits-2))
