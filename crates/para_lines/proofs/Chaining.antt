@@ -545,11 +545,12 @@ abbrev pub left_of : Option ℕ → ℕ
 left_of None = 0
 left_of (Some box) = suc box
 
+pub left_near : (entries : List Entry) (limit : ℕ) (chain : List ℕ) → AreLinked entries limit chain → left_of (innermost chain) ≤ limit
+left_near entries limit [] h = omega arith
+left_near entries limit (box ∷ chain) h = let b = h.0 in omega arith
+
 pub less_left : (entries : List Entry) (inside next : Option ℕ) (box : ℕ) → inside ≡ Some box → box < length entries → next ≡ innermost (at 0 [] entries box) → left_of next < left_of inside
-less_left entries inside next box at_ lt is = rw at_ (rw is (less (at 0 [] entries box) (linked entries box (omega arith)))) where
-  less : (chain : List ℕ) → AreLinked entries box chain → left_of (innermost chain) < suc box
-  less [] h = omega arith
-  less (other ∷ chain) h = let b = h.0 in omega arith
+less_left entries inside next box at_ lt is = rw at_ (rw is (let l = left_near entries box (at 0 [] entries box) (linked entries box (omega arith)) in omega arith))
 
 -- ---- what tables tell
 
@@ -594,28 +595,6 @@ some_within other place n at_ h =
 
 pub other_within : (items : List Item) (other : Option ℕ) → IfSome other (λ o. o < length items) → IfSome other (λ o. o < length (entries_of items))
 other_within items other h = rw (length-map items entry_of) h
-
--- ---- boxes that are apart from others are boxes of their chain
-
-all_first : (P : ℕ → Type 0) (x : ℕ) (xs : List ℕ) → P x → All P xs → All P (x ∷ xs)
-all_first P x xs p all zero d lt = p
-all_first P x xs p all (suc k) d lt = all k d (omega arith)
-
-apart_within : (entries : List Entry) (limit : ℕ) (chain other : List ℕ) → AreLinked entries limit chain → (length (apart chain other) ≤ limit) × All (λ box. box < length entries) (apart chain other)
-apart_within entries limit [] other h = (omega arith, λ k d lt. absurd (omega arith))
-apart_within entries limit (box ∷ chain) other h =
-    kept (not (has other box)) (apart_within entries box chain other h.4) where
-      kept : (keep : Bool) → (length (apart chain other) ≤ box) × All (λ b. b < length entries) (apart chain other)
-          → (length (if keep then (box ∷ apart chain other) else apart chain other) ≤ limit) × All (λ b. b < length entries) (if keep then (box ∷ apart chain other) else apart chain other)
-      kept true rest = let b = h.0 in let r = rest.0 in (omega arith, all_first (λ b. b < length entries) box (apart chain other) h.1 rest.1)
-      kept false rest = let b = h.0 in let r = rest.0 in (omega arith, rest.1)
-
-pub apart_there : (entries : List Entry) (place : ℕ) (other : List ℕ) → place < length entries → (length (apart (chain_at entries place) other) ≤ length entries) × All (λ box. box < length entries) (apart (chain_at entries place) other)
-apart_there entries place other lt =
-    let P : List ℕ → Type 0 = λ c. (length (apart c other) ≤ length entries) × All (λ box. box < length entries) (apart c other) in
-    let a = apart_within entries place (at 0 [] entries place) other (linked entries place (omega arith)) in
-    let n = a.0 in
-    subst P (sym (there entries place [] lt)) (omega arith, a.1)
 
 abbrev mark : ℕ → Bool → BoxEnd
 mark place edges = record { place = place; closes = edges }

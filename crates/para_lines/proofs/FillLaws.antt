@@ -1,5 +1,6 @@
 -- The items of a paragraph as lines are filled with them, item by item.
-use Rattle.std.proofs.Common.{◌≡◌, ◌∙◌, refl, sym, ap, arith, ℕ, suc, ◌+◌, ◌*◌, ◌<◌, ◌≤◌, ◌^◌, List, [], ◌∷◌, ◌++◌, length, map, get_or, drop, reverse, Option, Some, append_assoc, append-nil, ℤ, pos, ◌+ℤ◌, unsigned_abs}
+use Rattle.std.specs.Prelude.{IfSome}
+use Rattle.std.proofs.Common.{◌≡◌, ◌∙◌, refl, sym, ap, arith, true, false, None, ℕ, suc, ◌+◌, ◌*◌, ◌<◌, ◌≤◌, ◌^◌, List, [], ◌∷◌, ◌++◌, length, map, get_or, drop, reverse, Option, Some, append_assoc, append-nil, ℤ, pos, ◌+ℤ◌, unsigned_abs}
 use Rattle.std.proofs.lemmas.Int.{ints}
 use Rattle.std.proofs.lemmas.List.{drop-map, drop_all, drop_more, reverse-append}
 use Rattle.style_types.specs.declared.breaking.Breaking.{Breaking}
@@ -9,10 +10,11 @@ use Rattle.para_prepare.specs.declared.item.PreparedItem.{PreparedItem}
 use Rattle.para_prepare.specs.Preparation.{Preparation}
 use Rattle.para_lines.specs.declared.filling.BoxSide.{BoxSide}
 use Rattle.para_lines.specs.declared.filling.BoxSide.TheVariants.{Start, End}
-use Rattle.para_lines.specs.Around.{fresh}
-use Rattle.para_lines.specs.Boxes.{apart, chain_at, chain_behind}
+use Rattle.para_lines.specs.Around.{fresh, has}
+use Rattle.para_lines.specs.Boxes.{apart, chain_at, chain_behind, innermost}
 use Rattle.para_lines.specs.Filling.{advance_of, closing_edges, fill_item, fill_items, fill_items_from, first_chain, item_chains, opening_edges, past}
 use Rattle.para_lines.specs.Prepared.{edge_of, edges_of, first_source, source_before, source_behind}
+use Rattle.para_lines.proofs.Chaining.{Climbing, at, climbing_ends, climbing_first, climbing_on, climbing_stops, climbing_within, left_near, left_of, less_left, linked, none_apart, there}
 
 -- ---- edges of some boxes together
 
@@ -50,41 +52,57 @@ opening_apart inline entries chain other = sym (opening_is inline entries (fresh
 pub closing_apart : (inline : Option ℤ) (entries : List Entry) (chain other : List ℕ) → edges_of inline entries End (apart chain other) ≡ closing_edges inline entries (fresh chain other)
 closing_apart inline entries chain other = sym (closing_is inline entries (fresh chain other) ∙ edges_reverse inline entries End (apart chain other))
 
--- the loop over some boxes
-pub record Summing (inline : Option ℤ) (entries : List Entry) (side : BoxSide) (places : List ℕ) (edges : ℤ) (k : ℕ) : Type 0 where
-  pub done : edges +ℤ edges_of inline entries side (drop k places) ≡ edges_of inline entries side places
-  pub near : unsigned_abs edges ≤ k * 2 ^ 34
+-- what comes from the same entry has no edges apart
+pub no_edges : (inline : Option ℤ) (entries : List Entry) (side : BoxSide) (place : ℕ) (other : Option ℕ) → other ≡ Some place
+    → pos 0 ≡ edges_of inline entries side (apart (chain_at entries place) (chain_behind entries other))
+no_edges inline entries side place other at_ =
+    sym (ap (edges_of inline entries side) (ap (λ (o : Option ℕ). apart (chain_at entries place) (chain_behind entries o)) at_ ∙ none_apart (chain_at entries place) (chain_at entries place) (λ box in_. in_)))
 
-pub summing_first : (inline : Option ℤ) (entries : List Entry) (side : BoxSide) (places : List ℕ) → Summing inline entries side places (pos 0) 0
-summing_first inline entries side places = record { done = zero_more (edges_of inline entries side places); near = omega (arith, ints) } where
-  zero_more : (z : ℤ) → pos 0 +ℤ z ≡ z
-  zero_more z = omega (arith, ints)
+-- where a loop over a chain stands, which sums the edges of its boxes that aren't in another
+pub record Edging (inline : Option ℤ) (entries : List Entry) (side : BoxSide) (chain other : List ℕ) (inside : Option ℕ) (edges : ℤ) : Type 0 where
+  pub places : List ℕ
+  pub climbing : Climbing entries chain other inside places
+  pub sum : edges ≡ edges_of inline entries side places
+  pub near : unsigned_abs edges + left_of inside * 2 ^ 34 ≤ length entries * 2 ^ 34
 
-pub summing_on : (inline : Option ℤ) (entries : List Entry) (side : BoxSide) (places : List ℕ) (edges next own : ℤ) (k d : ℕ) → k < length places → own ≡ edge_of inline entries side (get_or places k d)
-    → unsigned_abs own ≤ 2 ^ 34 → next ≡ edges +ℤ own → Summing inline entries side places edges k → Summing inline entries side places next (k + 1)
-summing_on inline entries side places edges next own k d lt is near sum h =
+pub edging_first : (inline : Option ℤ) (entries : List Entry) (side : BoxSide) (place : ℕ) (other : List ℕ) (inside : Option ℕ) → place < length entries → inside ≡ innermost (chain_at entries place)
+    → Edging inline entries side (chain_at entries place) other inside (pos 0)
+edging_first inline entries side place other inside lt is =
+    let at_ : inside ≡ innermost (at 0 [] entries place) = is ∙ ap innermost (there entries place [] lt) in
+    let left = ap left_of at_ in
+    let few = left_near entries place (at 0 [] entries place) (linked entries place (omega arith)) in
+    record { places = []; climbing = climbing_first entries place other inside lt at_; sum = refl; near = omega (arith, ints) }
+
+pub edging_on : (inline : Option ℤ) (entries : List Entry) (side : BoxSide) (chain other : List ℕ) (inside next : Option ℕ) (edges own more : ℤ) (box : ℕ) → inside ≡ Some box
+    → has other box ≡ false → own ≡ edge_of inline entries side box → unsigned_abs own ≤ 2 ^ 34 → more ≡ edges +ℤ own → next ≡ innermost (chain_at entries box)
+    → Edging inline entries side chain other inside edges → Edging inline entries side chain other next more
+edging_on inline entries side chain other inside next edges own more box at_ out is near sum inner h =
+    let lt = (climbing_within entries chain other inside h.places box at_ h.climbing).0 in
+    let next_is : next ≡ innermost (at 0 [] entries box) = inner ∙ ap innermost (there entries box [] lt) in
+    let less = less_left entries inside next box at_ lt next_is in
     let n = h.near in
     record {
-      done =
-          ap (λ z. z +ℤ edges_of inline entries side (drop (k + 1) places)) sum
-          ∙ assoc edges own (edges_of inline entries side (drop (k + 1) places))
-          ∙ ap (λ z. edges +ℤ (z +ℤ edges_of inline entries side (drop (k + 1) places))) is
-          ∙ ap (λ (ps : List ℕ). edges +ℤ edges_of inline entries side ps) (sym (drop_more places k d lt))
-          ∙ h.done;
+      places = h.places ++ box ∷ [];
+      climbing = climbing_on entries chain other inside next h.places (h.places ++ box ∷ []) box at_ out refl next_is h.climbing;
+      sum =
+          sum ∙ ap (λ z. z +ℤ own) h.sum ∙ ap (λ z. edges_of inline entries side h.places +ℤ z) (is ∙ and_zero (edge_of inline entries side box)) ∙ sym (edges_append inline entries side h.places (box ∷ []));
       near = rw sum (let a = abs_add edges own in omega arith);
     } where
-      assoc : (a b c : ℤ) → (a +ℤ b) +ℤ c ≡ a +ℤ (b +ℤ c)
-      assoc a b c = omega (arith, ints)
+      and_zero : (z : ℤ) → z ≡ z +ℤ pos 0
+      and_zero z = omega (arith, ints)
 
       abs_add : (a b : ℤ) → unsigned_abs (a +ℤ b) ≤ unsigned_abs a + unsigned_abs b
       abs_add a b = omega (arith, ints)
 
-pub summing_all : (inline : Option ℤ) (entries : List Entry) (side : BoxSide) (places : List ℕ) (edges : ℤ) (k : ℕ) → length places ≤ k → Summing inline entries side places edges k
-    → edges ≡ edges_of inline entries side places
-summing_all inline entries side places edges k past h =
-    zero_more edges ∙ ap (λ (ps : List ℕ). edges +ℤ edges_of inline entries side ps) (sym (drop_all k places past)) ∙ h.done where
-      zero_more : (z : ℤ) → z ≡ z +ℤ pos 0
-      zero_more z = omega (arith, ints)
+pub edging_stops : (inline : Option ℤ) (entries : List Entry) (side : BoxSide) (chain : List ℕ) (other : Option ℕ) (inside : Option ℕ) (edges : ℤ) (box : ℕ) → inside ≡ Some box
+    → IfSome other (λ o. o < length entries) → has (chain_behind entries other) box ≡ true → Edging inline entries side chain (chain_behind entries other) inside edges
+    → edges ≡ edges_of inline entries side (apart chain (chain_behind entries other))
+edging_stops inline entries side chain other inside edges box at_ within in_ h =
+    h.sum ∙ ap (edges_of inline entries side) (climbing_stops entries chain other inside h.places box at_ within in_ h.climbing)
+
+pub edging_ends : (inline : Option ℤ) (entries : List Entry) (side : BoxSide) (chain other : List ℕ) (inside : Option ℕ) (edges : ℤ) → inside ≡ None
+    → Edging inline entries side chain other inside edges → edges ≡ edges_of inline entries side (apart chain other)
+edging_ends inline entries side chain other inside edges at_ h = h.sum ∙ ap (edges_of inline entries side) (climbing_ends entries chain other inside h.places at_ h.climbing)
 
 -- ---- item by item
 

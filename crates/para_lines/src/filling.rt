@@ -4,7 +4,7 @@ ghost use Rattle.std.specs.Prelude.{◌≡◌, ◌+◌, ◌-◌, ◌<◌, ◌≤
 ghost use Rattle.style_types.specs.Item.{entries_of};
 ghost use Rattle.style_types.specs.declared.breaking.Breaking.{Breaking};
 ghost use Rattle.para_prepare.specs.declared.item.PreparedItem.{PreparedItem};
-ghost use Rattle.para_lines.specs.Boxes.{AreBoxes, chain_at, chain_behind};
+ghost use Rattle.para_lines.specs.Boxes.{AreBoxes, apart, chain_at, chain_behind};
 ghost use Rattle.para_lines.specs.Filling as rule;
 ghost use Rattle.para_lines.specs.Filling.{fill_item, fill_items};
 ghost use Rattle.para_lines.specs.Prepared.{AreSources, IsWhole, edge_of, edges_of, preparation_of, source_before, source_behind};
@@ -45,7 +45,7 @@ pub(crate) fn fill_items(
     let mut made = Vec::with_capacity(alloc, prepared.items.len())?;
     let mut advances = advances;
     for place in 0..prepared.items.len() {
-        made.push(fill_item(alloc, boxes, prepared, inline, place, advances)?)?;
+        made.push(fill_item(boxes, prepared, inline, place, advances))?;
         advances = past(&prepared.items[place].what, advances);
     }
     Ok(made)
@@ -53,43 +53,76 @@ pub(crate) fn fill_items(
 
 // An item with the edges of the boxes that begin before it and end behind it.
 fn fill_item(
-    alloc: Global,
     boxes: &Boxes,
     prepared: &PreparedLists,
     inline: Option<i64>,
     place: usize,
     advances: &[i64],
-) -> Result<FillItem, AllocError>
+) -> FillItem
     requires boxes { AreBoxes boxes.now }
     requires whole { IsWhole prepared.now }
     requires sources { AreSources (length boxes.now.items.now) prepared.now.items.now }
     requires inline { IsInlineSize inline }
     requires place { place < length prepared.now.items.now }
-    ensures { IfOk result (λ made. (item : PreparedItem) (end_ : Breaking) → item ≡ slice_index_or prepared.now.items.now place item → end_ ≡ slice_index_or prepared.now.breaks.now place end_ → made ≡ fill_item inline (entries_of boxes.now.items.now) item end_ (chain_behind (entries_of boxes.now.items.now) (source_before prepared.now.items.now place)) (chain_at (entries_of boxes.now.items.now) item.source) (chain_behind (entries_of boxes.now.items.now) (source_behind prepared.now.items.now place)) (rule.advance_of item.what advances.now)) }
+    ensures { (item : PreparedItem) (end_ : Breaking) → item ≡ slice_index_or prepared.now.items.now place item → end_ ≡ slice_index_or prepared.now.breaks.now place end_ → result ≡ fill_item inline (entries_of boxes.now.items.now) item end_ (chain_behind (entries_of boxes.now.items.now) (source_before prepared.now.items.now place)) (chain_at (entries_of boxes.now.items.now) item.source) (chain_behind (entries_of boxes.now.items.now) (source_behind prepared.now.items.now place)) (rule.advance_of item.what advances.now) }
 {
     let item = &prepared.items[place];
-    let before = boxes.apart(alloc, item.source, prepared.source_before(place))?;
-    let after = boxes.apart(alloc, item.source, prepared.source_behind(place))?;
-    Ok(FillItem {
+    let before = prepared.source_before(place);
+    let after = prepared.source_behind(place);
+    FillItem {
         advance: advance_of(&item.what, advances),
-        before: edges_of(boxes, inline, BoxSide::Start, &before),
-        after: edges_of(boxes, inline, BoxSide::End, &after),
+        before: edges_apart(boxes, inline, BoxSide::Start, item.source, before),
+        after: edges_apart(boxes, inline, BoxSide::End, item.source, after),
         space: is_space(&item.what),
         end: prepared.breaks[place],
-    })
+    }
 }
 
-// The edges of these boxes on one side together.
-fn edges_of(boxes: &Boxes, inline: Option<i64>, side: BoxSide, places: &[usize]) -> i64
+// The edges on one side of the boxes round an item that are not round another one. What comes from the same item of the
+// paragraph stands in the same boxes.
+#[tactic(auto, using(crate::proofs::FillLaws::no_edges))]
+fn edges_apart(
+    boxes: &Boxes,
+    inline: Option<i64>,
+    side: BoxSide,
+    source: usize,
+    other: Option<usize>,
+) -> i64
     requires boxes { AreBoxes boxes.now }
     requires inline { IsInlineSize inline }
-    requires within { All (λ place. place < length boxes.now.items.now) places.now }
-    requires few { length places.now ≤ 2 ^ 20 }
-    ensures { result ≡ edges_of inline (entries_of boxes.now.items.now) side places.now }
+    requires source { source < length boxes.now.items.now }
+    requires other { IfSome other (λ other. other < length boxes.now.items.now) }
+    ensures { result ≡ edges_of inline (entries_of boxes.now.items.now) side (apart (chain_at (entries_of boxes.now.items.now) source) (chain_behind (entries_of boxes.now.items.now) other)) }
+{
+    if other == Some(source) {
+        0
+    } else {
+        edges_between(boxes, inline, side, source, other)
+    }
+}
+
+// The same, where both may come from different items.
+fn edges_between(
+    boxes: &Boxes,
+    inline: Option<i64>,
+    side: BoxSide,
+    source: usize,
+    other: Option<usize>,
+) -> i64
+    requires boxes { AreBoxes boxes.now }
+    requires inline { IsInlineSize inline }
+    requires source { source < length boxes.now.items.now }
+    requires other { IfSome other (λ other. other < length boxes.now.items.now) }
+    ensures { result ≡ edges_of inline (entries_of boxes.now.items.now) side (apart (chain_at (entries_of boxes.now.items.now) source) (chain_behind (entries_of boxes.now.items.now) other)) }
 {
     let mut edges = 0;
-    for place in places {
-        edges += edge_of(boxes, inline, side, *place);
+    let mut inside = boxes.round(source).inside;
+    while let Some(beginning) = inside {
+        if boxes.stands_round(beginning, other) {
+            break;
+        }
+        edges += edge_of(boxes, inline, side, beginning);
+        inside = boxes.round(beginning).inside;
     }
     edges
 }

@@ -7,9 +7,9 @@ ghost use Rattle.style_types.specs.Style.{IsBounded};
 ghost use Rattle.line_place.specs.Reach.{AreNear};
 ghost use Rattle.wm_units.specs.Numbers.{cap};
 ghost use Rattle.face_api.specs.Table.{Table};
-ghost use Rattle.para_lines.specs.Around.{box_at, has, no_entry};
+ghost use Rattle.para_lines.specs.Around.{box_at, fresh, has, no_entry};
 ghost use Rattle.para_lines.specs.Edges.{raised_in};
-ghost use Rattle.para_lines.specs.Boxes.{AreBoxes, Begins, chain_behind};
+ghost use Rattle.para_lines.specs.Boxes.{AreBoxes, Begins, chain_at, chain_behind};
 ghost use Rattle.para_lines.specs.Line.{AreOnLine, AreSeats, IsAble, IsOnLine, on_line};
 ghost use Rattle.para_lines.specs.Lines as rule;
 
@@ -39,11 +39,32 @@ pub(crate) fn boxes_on(
     let mut before = None;
     for k in 0..standings.len() {
         let source = standings[k].item.source;
-        let fresh = boxes.apart(alloc, source, before)?;
-        add_reversed(&mut places, &fresh)?;
+        add_fresh(alloc, &mut places, boxes, source, before)?;
         before = Some(source);
     }
     Ok(places)
+}
+
+// Adds the boxes round an item that are not round another one, the outer before the inner. What comes from the same item of the
+// paragraph stands in the same boxes.
+#[tactic(auto, using(crate::proofs::LineLaws::none_fresh))]
+fn add_fresh(
+    alloc: Global,
+    places: &mut Places,
+    boxes: &Boxes,
+    source: usize,
+    other: Option<usize>,
+) -> Result<(), AllocError>
+    requires boxes { AreBoxes boxes.now }
+    requires source { source < length boxes.now.items.now }
+    requires other { IfSome other (λ other. other < length boxes.now.items.now) }
+    ensures { OnOk result (places.new.items ≡ places.old.items ++ fresh (chain_at (entries_of boxes.now.items.now) source) (chain_behind (entries_of boxes.now.items.now) other)) }
+{
+    if other != Some(source) {
+        let fresh = boxes.apart(alloc, source, other)?;
+        add_reversed(places, &fresh)?;
+    }
+    Ok(())
 }
 
 fn add_reversed(places: &mut Places, fresh: &[usize]) -> Result<(), AllocError>

@@ -41,18 +41,18 @@ returns c = λ item end_ read read_end.
     let is : own ≡ item = get_or_default items c.args.place c.index-prepared-place.result item lt ∙ sym read in
     let is_end : get_or c.args.prepared.now.breaks.now c.args.place No ≡ end_ = get_or_default c.args.prepared.now.breaks.now c.args.place No end_ (omega arith) ∙ sym read_end in
     let fits : FitsSigned w64 c.advance_of.result = search rules in
-    let fits-2 : FitsSigned w64 c.edges_of.result = search rules in
-    let fits-3 : FitsSigned w64 c.edges_of-2.result = search rules in
-    let first : c.edges_of.result ≡ opening_edges c.args.inline entries (fresh (chain_at entries own.source) before) =
-    c.edges_of.ensures
-    ∙ ap (edges_of c.args.inline entries Start) (c.deref.ensures.value ∙ c.in_ok-before.ensures.apart ∙ ap (λ (o : Option ℕ). apart (chain_at entries own.source) (chain_behind entries o)) c.source_before.ensures.is)
+    let fits-2 : FitsSigned w64 c.edges_apart.result = search rules in
+    let fits-3 : FitsSigned w64 c.edges_apart-2.result = search rules in
+    let first : c.edges_apart.result ≡ opening_edges c.args.inline entries (fresh (chain_at entries own.source) before) =
+    c.edges_apart.ensures
+    ∙ ap (λ (o : Option ℕ). edges_of c.args.inline entries Start (apart (chain_at entries own.source) (chain_behind entries o))) c.source_before-before.ensures.is
     ∙ opening_apart c.args.inline entries (chain_at entries own.source) before in
-    let last : c.edges_of-2.result ≡ closing_edges c.args.inline entries (fresh (chain_at entries own.source) after) =
-    c.edges_of-2.ensures
-    ∙ ap (edges_of c.args.inline entries End) (c.deref-2.ensures.value ∙ c.in_ok-after.ensures.apart ∙ ap (λ (o : Option ℕ). apart (chain_at entries own.source) (chain_behind entries o)) c.source_behind.ensures.is)
+    let last : c.edges_apart-2.result ≡ closing_edges c.args.inline entries (fresh (chain_at entries own.source) after) =
+    c.edges_apart-2.ensures
+    ∙ ap (λ (o : Option ℕ). edges_of c.args.inline entries End (apart (chain_at entries own.source) (chain_behind entries o))) c.source_behind-after.ensures.is
     ∙ closing_apart c.args.inline entries (chain_at entries own.source) after in
     made c.args.inline entries item own end_ (get_or c.args.prepared.now.breaks.now c.args.place No) before after c.args.advances.now _ _ _ _ is is_end
     (to_z-of_z w64 c.advance_of.result fits ∙ c.advance_of.ensures)
-    (to_z-of_z w64 c.edges_of.result fits-2 ∙ first)
-    (to_z-of_z w64 c.edges_of-2.result fits-3 ∙ last)
+    (to_z-of_z w64 c.edges_apart.result fits-2 ∙ first)
+    (to_z-of_z w64 c.edges_apart-2.result fits-3 ∙ last)
     c.is_space.ensures

@@ -19,8 +19,8 @@ loop-place-preserved c =
     let many : length breaks ≡ length items = c.requires.whole.breaks in
     let read : item ≡ get_or items k item = get_or_default items k c.index-prepared-place.result item lt in
     let read_end : end_ ≡ get_or breaks k end_ = get_or_default breaks k No end_ (omega arith) in
-    rw c.past-advances.ensures (filling_on c.args.inline (entries_of c.args.boxes.now.items.now) items breaks c.args.advances.now c.loop-place.advances.now c.loop-place.made.items _ k item end_ c.in_ok-fill_item.field-0
-    lt many read read_end (c.in_ok-fill_item.ensures item end_ read read_end) c.in_ok-push.ensures.items c.loop-place.invariant)
+    rw c.past-advances.ensures (filling_on c.args.inline (entries_of c.args.boxes.now.items.now) items breaks c.args.advances.now c.loop-place.advances.now c.loop-place.made.items _ k item end_ c.fill_item.result
+    lt many read read_end (c.fill_item.ensures item end_ read read_end) c.in_ok-push.ensures.items c.loop-place.invariant)
 
 pub returns : goal.returns
 returns c =

@@ -1,8 +1,7 @@
-use Rattle.std.proofs.Common.{◌≡◌, ◌∙◌, sym, arith}
+use Rattle.std.proofs.Common.{◌∙◌, sym, arith}
 use Rattle.std.proofs.lemmas.List.{length-map}
 use Rattle.style_types.specs.Item.{entries_of, entry_of}
-use Rattle.para_lines.specs.Boxes.{apart, chain_at, chain_behind}
-use Rattle.para_lines.proofs.Chaining.{apart_there, climbing_ends, climbing_first, climbing_on, climbing_stops, climbing_within, inside_read, less_left, other_within, table_count}
+use Rattle.para_lines.proofs.Chaining.{climbing_ends, climbing_first, climbing_on, climbing_stops, climbing_within, inside_read, less_left, other_within, table_count}
 use Rattle.para_lines.proofs.boxes.Boxes.apart.Goals.{in-Some+then-stands_round, in_default}
 use Rattle.para_lines.proofs.boxes.Boxes.apart.Goals as goal
 
@@ -41,29 +40,11 @@ loop-inside-preserved c =
     (inside_read (entries_of c.args.self.now.items.now) c.args.self.now.rounds.items c.in-Some.beginning c.index-in-Some.result.now c.requires.boxes.rounds box.0 c.index-in-Some.ensures)
     c.loop-inside.invariant
 
-is_apart : (c : goal.Joined-inside) → c.loop-inside.places.items ≡ apart (chain_at (entries_of c.args.self.now.items.now) c.args.place) (chain_behind (entries_of c.args.self.now.items.now) c.args.other)
-is_apart c =
+pub returns : goal.returns
+returns c =
     let within = other_within c.args.self.now.items.now c.args.other c.requires.other in
     elim c.match-inside.branch [
       | in-Some+then-stands_round w ↦
           climbing_stops (entries_of c.args.self.now.items.now) _ c.args.other c.loop-inside.inside c.loop-inside.places.items w.in-Some.beginning w.in-Some.is within (sym w.stands_round.ensures ∙ w.if-stands_round.true) c.loop-inside.invariant
       | in_default w ↦ climbing_ends (entries_of c.args.self.now.items.now) _ _ c.loop-inside.inside c.loop-inside.places.items w.in_default.is c.loop-inside.invariant
     ]
-
-pub returns-clause-apart : goal.returns-clause-apart
-returns-clause-apart c = is_apart c
-
-pub returns-clause-few : goal.returns-clause-few
-returns-clause-few c =
-    let many = length-map c.args.self.now.items.now entry_of in
-    let lt = c.requires.place in
-    let most = c.requires.boxes.count in
-    let l = (apart_there (entries_of c.args.self.now.items.now) c.args.place (chain_behind (entries_of c.args.self.now.items.now) c.args.other) (omega arith)).0 in
-    rw (is_apart c) (omega arith)
-
-pub returns-clause-within : goal.returns-clause-within
-returns-clause-within c =
-    let many = length-map c.args.self.now.items.now entry_of in
-    let lt = c.requires.place in
-    let l = (apart_there (entries_of c.args.self.now.items.now) c.args.place (chain_behind (entries_of c.args.self.now.items.now) c.args.other) (omega arith)).1 in
-    rw (is_apart c) (rw many at l)

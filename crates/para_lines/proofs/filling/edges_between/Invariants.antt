@@ -1,0 +1,12 @@
+use Rattle.style_types.specs.Item.{entries_of}
+use Rattle.para_lines.specs.Boxes.{chain_at, chain_behind}
+use Rattle.para_lines.proofs.Chaining.{left_of}
+use Rattle.para_lines.proofs.FillLaws.{Edging}
+use Rattle.para_lines.proofs.filling.edges_between.Given as goal
+
+abbrev pub invariant-loop-inside : goal.invariant-loop-inside
+invariant-loop-inside l =
+    Edging l.inline (entries_of l.boxes.items.now) l.side (chain_at (entries_of l.boxes.items.now) l.source) (chain_behind (entries_of l.boxes.items.now) l.other) l.inside l.edges
+
+abbrev pub decreases-loop-inside : goal.decreases-loop-inside
+decreases-loop-inside l = left_of l.inside
