@@ -11,7 +11,7 @@ use Rattle.bidi_order.specs.Visual.{visual_order}
 use Rattle.line_place.specs.declared.leaves.Leaf as code
 use Rattle.line_place.specs.declared.line.LineInput.{LineInput}
 use Rattle.line_place.specs.declared.line.LineItem.{LineItem}
-use Rattle.line_place.specs.Line.{Item, item_of, line_of}
+use Rattle.line_place.specs.Line.{Item, Line, item_of, line_of}
 use Rattle.line_place.specs.Leaves.{Leaf, are_spaces, leaf, leaf_of, leaves, leaves_from, levels_of}
 use Rattle.line_place.proofs.ReachLaws.{from_length}
 
@@ -80,21 +80,22 @@ all_there : {X : Type 0} (xs : List X) → filter_map (λ p. slice_get xs p) (ra
 all_there [] = refl
 all_there {X = X} (x ∷ xs) = ap (λ (l : List X). x ∷ l) (shifted x xs 0 (length xs) ∙ all_there xs)
 
+pub in_order_of : LevelZeroStays → (line : Line) → line.base ≡ 0 → All (λ level. level ≡ 0) (levels_in line.items) → leaves line ≡ leaves_from 0 (levels_in line.items) line.items
+unfolding leaves
+in_order_of stays line base all =
+    let own : List ℕ = levels_in line.items in
+    let aparts : List (Option ℕ) = map (λ (item : Item). item.apart) line.items in
+    let classes : List BidiClass = map (λ (item : Item). item.class) line.items in
+    let l : length own ≡ length line.items = length-map line.items (λ (item : Item). item.level) in
+    let m : length aparts ≡ length line.items = length-map line.items (λ (item : Item). item.apart) in
+    let n : length (leaves_from 0 own line.items) ≡ length own = from_length 0 own line.items l ∙ sym l in
+    let levels : levels_of line ≡ own = ap (λ (base : ℕ). reset base own classes) base ∙ unreset own classes all in
+    ap (λ (ls : List ℕ). filter_map (λ place. slice_get (leaves_from 0 ls line.items) place) (visual_order ls aparts)) levels
+    ∙ ap (filter_map (λ place. slice_get (leaves_from 0 own line.items) place)) (stays own aparts (l ∙ sym m) all ∙ ap (range_with_len 0) (sym n))
+    ∙ all_there (leaves_from 0 own line.items)
+
 pub in_order : LevelZeroStays → (line : LineInput) → (line.base == 0 && list_all (λ item. item.level == 0) line.items.items) ≡ true
     → leaves (line_of line) ≡ leaves_from 0 (levels_in (map item_of line.items.items)) (map item_of line.items.items)
-unfolding leaves
 in_order stays line h =
-    let its : List Item = map item_of line.items.items in
-    let own : List ℕ = levels_in its in
-    let aparts : List (Option ℕ) = map (λ (item : Item). item.apart) its in
-    let classes : List BidiClass = map (λ (item : Item). item.class) its in
     let b = both (line.base == 0) (list_all (λ item. item.level == 0) line.items.items) h in
-    let base : line.base ≡ 0 = is_zero line.base b.0 in
-    let all : All (λ level. level ≡ 0) own = zeros line.items.items b.1 in
-    let l : length own ≡ length its = length-map its (λ (item : Item). item.level) in
-    let m : length aparts ≡ length its = length-map its (λ (item : Item). item.apart) in
-    let n : length (leaves_from 0 own its) ≡ length own = from_length 0 own its l ∙ sym l in
-    let levels : levels_of (line_of line) ≡ own = ap (λ (base : ℕ). reset base own classes) base ∙ unreset own classes all in
-    ap (λ (ls : List ℕ). filter_map (λ place. slice_get (leaves_from 0 ls its) place) (visual_order ls aparts)) levels
-    ∙ ap (filter_map (λ place. slice_get (leaves_from 0 own its) place)) (stays own aparts (l ∙ sym m) all ∙ ap (range_with_len 0) (sym n))
-    ∙ all_there (leaves_from 0 own its)
+    in_order_of stays (line_of line) (is_zero line.base b.0) (zeros line.items.items b.1)

@@ -16,4 +16,5 @@ pub mod ReachLaws
 pub mod RunLaws
 pub mod ShownLaws
 pub mod SumLaws
+pub mod TextLaws
 pub mod WalkLaws

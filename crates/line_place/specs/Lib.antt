@@ -5,4 +5,5 @@ pub mod Marks
 pub mod Placing
 pub mod Reach
 pub mod Runs
+pub mod TextLine
 pub mod Walk

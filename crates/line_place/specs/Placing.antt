@@ -156,8 +156,11 @@ end_of (unit node first end_ form glyphs) = end_
 end_of (combined node first end_ natural glyphs) = end_
 end_of _ = 0
 
+abbrev pub unit_with : Content → (extent : ℤ) → RunUnit
+unit_with what extent = record { first = first_of what; end = end_of what; extent = extent; glyphs = glyphs_of what }
+
 abbrev pub unit_of : Leaf → RunUnit
-unit_of leaf = record { first = first_of leaf.what; end = end_of leaf.what; extent = leaf.extent; glyphs = glyphs_of leaf.what }
+unit_of leaf = unit_with leaf.what leaf.extent
 
 abbrev pub level_of : List Leaf → ℕ
 level_of [] = 0

@@ -57,8 +57,8 @@ struct AtomMargins {
     baseline: i64,
 }
 
-// Text in a line that reaches so far over its baseline.
-fn text_rect(extents: &Extents, over: i64, left: i64, extent: i64) -> FlowRect
+/// Text in a line that reaches so far over its baseline.
+pub(crate) fn text_rect(extents: &Extents, over: i64, left: i64, extent: i64) -> FlowRect
     requires extents { extents_reach extents.now ≤ 2 ^ 60 }
     requires over { unsigned_abs over ≤ 2 ^ 61 }
     ensures { result ≡ rule.text_rect extents.now over left extent }
@@ -99,17 +99,22 @@ fn extents_in<'a>(line: &'a LineInput, inside: Option<usize>) -> &'a Extents
     }
 }
 
-fn unnumbered(node: u32) -> BoxName
+/// The name of what stands in a line, by its node.
+pub(crate) fn unnumbered(node: u32) -> BoxName
     ensures { result ≡ rule.unnumbered node }
 {
     BoxName { node, ordinal: 0 }
 }
 
-fn unit_of(alloc: Global, leaf: &Leaf) -> Result<RunUnit, AllocError>
-    ensures { IfOk result (λ made. made ≡ rule.unit_of (leaf_of leaf.now)) }
+/// What this content shows as a unit of a run, with this extent. What isn't text shows nothing.
+pub fn run_unit(
+    alloc: Global,
+    what: Option<&LineContent>,
+    extent: i64,
+) -> Result<RunUnit, AllocError>
+    ensures { IfOk result (λ made. made ≡ rule.unit_with (seen what.entry) extent) }
 {
-    let extent = leaf.extent();
-    match leaf.what() {
+    match what {
         Some(
             LineContent::Unit {
                 first,
@@ -136,6 +141,13 @@ fn unit_of(alloc: Global, leaf: &Leaf) -> Result<RunUnit, AllocError>
             glyphs: Glyphs::many(Vec::new(alloc)),
         }),
     }
+}
+
+fn unit_of(alloc: Global, leaf: &Leaf) -> Result<RunUnit, AllocError>
+    ensures { IfOk result (λ made. made ≡ rule.unit_of (leaf_of leaf.now)) }
+{
+    let made = run_unit(alloc, leaf.what(), leaf.extent())?;
+    Ok(made)
 }
 
 fn units_of(alloc: Global, run: &[Leaf]) -> Result<RunUnits, AllocError>
@@ -202,7 +214,8 @@ fn run_kind(
     })
 }
 
-fn without_inner(
+/// A fragment with none inside it.
+pub(crate) fn without_inner(
     alloc: Global,
     name: BoxName,
     rect: FlowRect,

@@ -1,5 +1,5 @@
 -- Which boxes stand round an entry, step by step.
-use Rattle.std.proofs.Common.{inl, inr, ◌≡◌, ◌∙◌, refl, sym, ap, arith, subst, if◌then◌else◌, Bool, true, false, cond, not, ◌||◌, ◌&&◌, ◌⊎◌, leb, ltb, ℕ, zero, suc, ◌+◌, ◌-◌, ◌*◌, ◌<◌, ◌≤◌, ◌^◌, List, [], ◌∷◌, ◌++◌, length, map, get_or, take, drop, set, replicate, Option, Some, None, ℤ, ◌+ℤ◌, unsigned_abs}
+use Rattle.std.proofs.Common.{inl, inr, ◌≡◌, ◌∙◌, refl, sym, ap, arith, subst, Bool, true, false, cond, ◌||◌, ◌&&◌, ◌⊎◌, leb, ltb, ℕ, zero, suc, ◌+◌, ◌-◌, ◌*◌, ◌<◌, ◌≤◌, ◌^◌, List, [], ◌∷◌, ◌++◌, length, map, get_or, take, drop, set, replicate, Option, Some, None, ℤ, ◌+ℤ◌, unsigned_abs}
 use Rattle.std.specs.Prelude.{⊤, All, IfSome, ◌==◌}
 use Rattle.std.proofs.lemmas.Int.{ints}
 use Rattle.std.proofs.lemmas.List.{append-nil, append_assoc, get_or-map, get_or-take, get_or_default, get_or_past, get_or-replicate, get_or-set_same, get_or-set_other, length-append, length-map, length-replicate, length-set, length-take-le, drop_all, drop_more, take_all, take_more}

@@ -11,3 +11,4 @@ pub mod SettingLaws
 pub mod Spreading
 pub mod StackLaws
 pub mod StandLaws
+pub mod TextLines

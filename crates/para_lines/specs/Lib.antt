@@ -8,3 +8,4 @@ pub mod Paragraph
 pub mod Prepared
 pub mod Reach
 pub mod Setting
+pub mod Text

@@ -12,6 +12,7 @@ mod prepared;
 mod setting;
 mod sizes;
 mod standing;
+mod text;
 
 pub use lines::paragraph_lines;
 pub use paragraph::{Atom, Container};

@@ -17,6 +17,7 @@ use crate::input::line_input;
 use crate::line::Sides;
 use crate::paragraph::Container;
 use crate::standing::Standing;
+use crate::text::{text_in, text_line};
 use face_api::{Face, Faces};
 use line_place::{LineInput, place_line};
 use std::alloc::{AllocError, Global};
@@ -31,7 +32,7 @@ pub(crate) struct Setting<'a> {
 }
 
 impl<'a> Setting<'a> {
-    /// Places the line of the items from one place up to another. `seats` is a table by box for its use.
+    /// Places the line of the items from one place up to another: most lines are one run of text. `seats` is a table by box for its use.
     pub(crate) fn line(
         &self,
         alloc: Global,
@@ -50,9 +51,18 @@ impl<'a> Setting<'a> {
         ensures parts { IfOk result (λ made. pieces_of made.parts.items ≡ parts (line_between (faces_of ⟦<dyn Face as Face>⟧ faces.now) self.now.container.now (entries_in self.now) (standings_in self.now) from end)) }
         ensures within { IfOk result (λ made. (unsigned_abs made.over ≤ 2 ^ 34 + room_between (standings_in self.now) from end) × (unsigned_abs made.under ≤ 2 ^ 34 + room_between (standings_in self.now) from end)) }
     {
-        let input = self.input(alloc, faces, seats, from, end)?;
-        let made = place_line(alloc, &input)?;
-        Ok(made)
+        let standings = &self.standings[from..end];
+        match text_in(self.boxes, standings) {
+            Some(text) => {
+                let made = text_line(alloc, self.container, faces, standings, text)?;
+                Ok(made)
+            }
+            None => {
+                let input = self.input(alloc, faces, seats, from, end)?;
+                let made = place_line(alloc, &input)?;
+                Ok(made)
+            }
+        }
     }
 
     // That line, before it is placed.

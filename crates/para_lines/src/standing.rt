@@ -130,8 +130,12 @@ fn line_item<'a>(boxes: &Boxes, seated: &Seated, standing: &Standing<'a>) -> Lin
     }
 }
 
-// What an item is, inside boxes with these lengths of `vertical-align`.
-fn content<'a>(what: &'a PreparedContent, shifts: i64, atoms: &'a [Atom]) -> LineContent<'a>
+/// What an item is, inside boxes with these lengths of `vertical-align`.
+pub(crate) fn content<'a>(
+    what: &'a PreparedContent,
+    shifts: i64,
+    atoms: &'a [Atom],
+) -> LineContent<'a>
     requires shifts { unsigned_abs shifts ≤ 2 ^ 53 }
     requires atom { HasAtom what.now atoms.now }
     requires near { All IsNearAtom atoms.now }

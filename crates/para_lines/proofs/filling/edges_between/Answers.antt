@@ -1,11 +1,11 @@
-use Rattle.std.proofs.Common.{◌≡◌, ◌<◌, ◌+ℤ◌, ◌∙◌, sym, ap, arith, List, [], length, w64, to_z, of_z}
+use Rattle.std.proofs.Common.{◌≡◌, ◌+ℤ◌, ◌∙◌, sym, ap, arith, List, [], w64, to_z, of_z}
 use Rattle.std.proofs.lemmas.Int.{ints}
 use Rattle.std.proofs.lemmas.List.{length-map}
 use Rattle.style_types.specs.Item.{Entry, entries_of, entry_of}
 use Rattle.para_lines.specs.declared.boxes.Round.{Round}
 use Rattle.para_lines.specs.Boxes.{innermost}
 use Rattle.para_lines.proofs.Chaining.{climbing_within, less_left, other_within, there}
-use Rattle.para_lines.proofs.FillLaws.{edging_ends, edging_first, edging_on, edging_stops}
+use Rattle.para_lines.proofs.FillLaws.{edging_first, edging_on, edging_stops}
 use Rattle.para_lines.proofs.filling.edges_between.Goals as goal
 
 pub loop-inside-init : goal.loop-inside-init

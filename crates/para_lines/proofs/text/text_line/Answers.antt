@@ -1,0 +1,51 @@
+use Rattle.std.proofs.Common.{◌≡◌, ◌∙◌, refl, arith, map, take, to_z, of_z, w64}
+use Rattle.std.proofs.lemmas.Int.{ints}
+use Rattle.line_place.specs.Reach.{item_reach, total}
+use Rattle.para_lines.specs.Text.{HasOwnAtom, bare}
+use Rattle.para_lines.proofs.TextLines.{all_take, take_reach, text_is, text_near}
+use Rattle.para_lines.proofs.text.text_line.Goals as goal
+
+pub extent_of-extent-requires : goal.extent_of-extent-requires
+extent_of-extent-requires g c = omega (arith, take_reach c.args.standings.now c.args.text.count, c.requires.reach)
+
+pub units_of-requires : goal.units_of-requires
+units_of-requires g c = record { atoms = all_take HasOwnAtom c.args.standings.now c.args.text.count c.requires.count c.requires.atoms }
+
+pub place_text-requires : goal.place_text-requires
+place_text-requires g c =
+    let t = take_reach c.args.standings.now c.args.text.count in
+    let r = c.requires.reach in
+    record {
+      reach = text_near c.args.container.now.size c.extent_of-extent.result c.extents_in-strut.result (total item_reach (map bare (take c.args.text.count c.args.standings.now))) c.requires.low c.requires.high
+          c.extent_of-extent.ensures.near (omega (arith, t, r)) c.extents_in-strut.ensures.near;
+    }
+
+pub returns-clause-over : goal.returns-clause-over
+returns-clause-over g c entries before after is =
+    let low = c.requires.low in
+    let high = c.requires.high in
+    let extent = c.extent_of-extent.ensures.near in
+    let size : to_z w64 (of_z w64 c.args.container.now.size) ≡ c.args.container.now.size = omega (arith, ints) in
+    let own : to_z w64 (of_z w64 c.extent_of-extent.result) ≡ c.extent_of-extent.result = omega (arith, ints, take_reach c.args.standings.now c.args.text.count, c.requires.reach) in
+    c.in_ok-made.ensures.over _
+    (text_is _ c.args.container.now entries before after c.args.standings.now c.args.text _ is refl size c.extents_in-strut.ensures.are refl refl (own ∙ c.extent_of-extent.ensures.is) c.in_ok-units.ensures)
+
+pub returns-clause-under : goal.returns-clause-under
+returns-clause-under g c entries before after is =
+    let low = c.requires.low in
+    let high = c.requires.high in
+    let extent = c.extent_of-extent.ensures.near in
+    let size : to_z w64 (of_z w64 c.args.container.now.size) ≡ c.args.container.now.size = omega (arith, ints) in
+    let own : to_z w64 (of_z w64 c.extent_of-extent.result) ≡ c.extent_of-extent.result = omega (arith, ints, take_reach c.args.standings.now c.args.text.count, c.requires.reach) in
+    c.in_ok-made.ensures.under _
+    (text_is _ c.args.container.now entries before after c.args.standings.now c.args.text _ is refl size c.extents_in-strut.ensures.are refl refl (own ∙ c.extent_of-extent.ensures.is) c.in_ok-units.ensures)
+
+pub returns-clause-parts : goal.returns-clause-parts
+returns-clause-parts g c entries before after is =
+    let low = c.requires.low in
+    let high = c.requires.high in
+    let extent = c.extent_of-extent.ensures.near in
+    let size : to_z w64 (of_z w64 c.args.container.now.size) ≡ c.args.container.now.size = omega (arith, ints) in
+    let own : to_z w64 (of_z w64 c.extent_of-extent.result) ≡ c.extent_of-extent.result = omega (arith, ints, take_reach c.args.standings.now c.args.text.count, c.requires.reach) in
+    c.in_ok-made.ensures.parts _
+    (text_is _ c.args.container.now entries before after c.args.standings.now c.args.text _ is refl size c.extents_in-strut.ensures.are refl refl (own ∙ c.extent_of-extent.ensures.is) c.in_ok-units.ensures)
