@@ -1,5 +1,5 @@
 -- Lists that grow by one element more.
-use Rattle.std.proofs.Common.{◌≡◌, ◌∙◌, ap, ℕ, ◌+◌, ◌<◌, List, [], ◌∷◌, ◌++◌, length, get_or, take, map, Option, refl}
+use Rattle.std.proofs.Common.{◌≡◌, ◌∙◌, ap, arith, ℕ, ◌+◌, ◌<◌, List, [], ◌∷◌, ◌++◌, length, get_or, take, map, Option, refl}
 use Rattle.wm_chars.specs.declared.classes.BidiClass.{BidiClass}
 use Rattle.line_place.specs.declared.line.LineItem.{LineItem}
 use Rattle.line_place.specs.Line.{Item, item_of}
@@ -23,3 +23,11 @@ classes_are (item ∷ items) = ap (λ (classes : List BidiClass). item.class ∷
 pub aparts_are : (items : List LineItem) → map (λ (item : Item). item.apart) (map item_of items) ≡ map (λ (item : LineItem). item.apart) items
 aparts_are [] = refl
 aparts_are (item ∷ items) = ap (λ (aparts : List (Option ℕ)). item.apart ∷ aparts) (aparts_are items)
+
+-- one unit of one character
+pub one_character : (units : List (List ℕ)) (c : ℕ) → length units ≡ 1 → length (get_or units 0 []) ≡ 1 → c ≡ get_or (get_or units 0 []) 0 c → (c ∷ []) ∷ [] ≡ units
+one_character [] c one own is = absurd (omega arith)
+one_character ([] ∷ units) c one own is = absurd (omega arith)
+one_character ((first ∷ rest) ∷ more ∷ units) c one own is = absurd (omega arith)
+one_character ((first ∷ next ∷ rest) ∷ []) c one own is = absurd (omega arith)
+one_character ((first ∷ []) ∷ []) c one own is = ap (λ (x : ℕ). (x ∷ []) ∷ []) is

@@ -1,6 +1,6 @@
 //! The walk along a row of marks, which makes the fragments of a line (CSS 2, 9.4.2).
 
-ghost use Rattle.std.specs.Prelude.{◌≡◌, ◌+◌, ◌<◌, ◌≤◌, ◌^◌, ◌++◌, ◌+ℤ◌, ◌-ℤ◌, [], ◌∷◌, List, IfOk, OnOk, length, map, reverse, unsigned_abs};
+ghost use Rattle.std.specs.Prelude.{◌≡◌, ◌+◌, ◌<◌, ◌≤◌, ◌^◌, ◌++◌, ◌+ℤ◌, ◌-ℤ◌, [], ◌∷◌, List, IfOk, IfSome, OnOk, length, map, reverse, unsigned_abs};
 ghost use Rattle.style_types.specs.Fragment.{Pieces, before, kind_of, none, piece, piece_of, pieces_of, run as run_kind, span as span_kind};
 ghost use Rattle.style_types.specs.declared.fragment.Fragment.{out-Fragment};
 ghost use Rattle.line_place.specs.Leaves.{leaf_of, seen};
@@ -107,6 +107,7 @@ pub(crate) fn unnumbered(node: u32) -> BoxName
 }
 
 /// What this content shows as a unit of a run, with this extent. What isn't text shows nothing.
+#[inline(always)]
 pub fn run_unit(
     alloc: Global,
     what: Option<&LineContent>,
@@ -132,7 +133,7 @@ pub fn run_unit(
             first: *first,
             end: *end,
             extent,
-            glyphs: glyphs.copy(alloc)?,
+            glyphs: copy_of(alloc, glyphs)?,
         }),
         Some(LineContent::Atom { .. } | LineContent::Break) | None => Ok(RunUnit {
             first: 0,
@@ -140,6 +141,34 @@ pub fn run_unit(
             extent,
             glyphs: Glyphs::many(Vec::new(alloc)),
         }),
+    }
+}
+
+// The same glyphs once more. One character, as most units have, is no call.
+#[inline(always)]
+fn copy_of(alloc: Global, glyphs: &Glyphs) -> Result<Glyphs, AllocError>
+    ensures { IfOk result (λ own. own ≡ glyphs.now) }
+{
+    match only_character(glyphs) {
+        Some(c) => Ok(Glyphs::one(c)),
+        None => {
+            let own = glyphs.copy(alloc)?;
+            Ok(own)
+        }
+    }
+}
+
+// The character of one unit that has no other.
+#[inline(always)]
+#[tactic(auto, using(crate::proofs::Lists::one_character))]
+fn only_character(glyphs: &Glyphs) -> Option<char>
+    ensures { IfSome result (λ c. (c ∷ []) ∷ [] ≡ glyphs.now) }
+{
+    if glyphs.len() == 1 {
+        let unit = glyphs.unit(0);
+        if unit.len() == 1 { Some(unit[0]) } else { None }
+    } else {
+        None
     }
 }
 

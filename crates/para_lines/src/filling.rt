@@ -80,6 +80,7 @@ fn fill_item(
 
 // The edges on one side of the boxes round an item that are not round another one. What comes from the same item of the
 // paragraph stands in the same boxes.
+#[inline(always)]
 #[tactic(auto, using(crate::proofs::FillLaws::no_edges))]
 fn edges_apart(
     boxes: &Boxes,
@@ -102,6 +103,7 @@ fn edges_apart(
 }
 
 // The same, where both may come from different items.
+#[inline(never)]
 fn edges_between(
     boxes: &Boxes,
     inline: Option<i64>,
