@@ -1,1 +1,3 @@
+pub mod BoxedLaws
 mod Examples
+pub mod InlineLaws

@@ -14,8 +14,9 @@ use Rattle.style_types.specs.declared.style.Style.{Style}
 use Rattle.style_types.specs.Fragment.{Kind, block, line, span, run, measure, Pieces, none, piece}
 use Rattle.style_types.specs.Style.{baseline_of}
 use Rattle.para_lines.specs.Lines.{Atom}
-use Rattle.relayout.specs.Edges.{both, margin_or_zero}
-use Rattle.relayout.specs.Flowed.{Laid, at}
+use Rattle.relayout.specs.declared.atoms.LastLine.{LastLine}
+use Rattle.relayout.specs.Edges.{margin_or_zero, margins_along, margins_over}
+use Rattle.relayout.specs.Flowed.{Laid, Part, at}
 
 abbrev pub same_mode : WritingMode → WritingMode → Bool
 same_mode HorizontalTb HorizontalTb = true
@@ -37,14 +38,6 @@ same_baseline Alphabetic Alphabetic = true
 same_baseline Central Central = true
 same_baseline _ _ = false
 
--- a line in a box of its mode: its distance from the block-start edge of the box's content area, its block extent, the distance of its
--- baseline from its line-over edge, and the kind of that
-pub record LastLine : Type 0 where
-  pub from : ℤ
-  pub extent : ℤ
-  pub over : ℤ
-  pub baseline : Baseline
-
 abbrev pub or_later : (earlier later : Option LastLine) → Option LastLine
 or_later earlier None = earlier
 or_later earlier (Some found) = Some found
@@ -57,31 +50,57 @@ abbrev pub if_same : Bool → Option LastLine → Option LastLine
 if_same true found = found
 if_same false found = None
 
--- the last line of what stands in a box of this mode: its own last one, or that of the last of its block children in exactly its mode
--- that has one
+-- the last line of a fragment in a box of this mode, from the last one of what stands in it: a line itself, or that of a block child
+-- in exactly its mode
+abbrev pub line_of : WritingMode → FlowRect → Kind → (inner : Option LastLine) → Option LastLine
+line_of mode rect (line index base m baseline) inner =
+    Some (record { from = rect.b; extent = rect.block; over = base; baseline = baseline })
+line_of mode rect (block m dir content definite start end_ through) inner =
+    if_same (same_mode m mode) (further (rect.b +ℤ content.b) inner)
+line_of mode rect span inner = None
+line_of mode rect (run form level natural units) inner = None
+line_of mode rect (measure min max) inner = None
+
+-- the last line of what stands in a box of this mode
 abbrev pub last_line : WritingMode → Pieces → Option LastLine
 last_line mode none = None
-last_line mode (piece name rect (line index base m baseline) inner next) =
-    or_later (Some (record { from = rect.b; extent = rect.block; over = base; baseline = baseline })) (last_line mode next)
-last_line mode (piece name rect (block m dir content definite start end_ through) inner next) =
-    or_later (if_same (same_mode m mode) (further (rect.b +ℤ content.b) (last_line mode inner))) (last_line mode next)
-last_line mode (piece name rect span inner next) = last_line mode next
-last_line mode (piece name rect (run form level natural units) inner next) = last_line mode next
-last_line mode (piece name rect (measure min max) inner next) = last_line mode next
+last_line mode (piece name rect kind inner next) =
+    or_later (line_of mode rect kind (last_line mode inner)) (last_line mode next)
+
+abbrev pub own_line : WritingMode → Part → Option LastLine
+own_line mode part = line_of mode part.rect part.kind (last_line mode part.inner)
+
+-- where it ends
+abbrev pub end_of : LastLine → ℤ
+end_of found = found.from +ℤ found.extent
 
 -- the distance of a line from the line-over edge of the content area, which begins at block-start or ends there
 abbrev pub from_over : (over_at_start : Bool) → (content : FlowRect) → LastLine → ℤ
 from_over true content found = found.from
-from_over false content found = content.block -ℤ found.from -ℤ found.extent
+from_over false content found = content.block -ℤ end_of found
 
--- the last line's baseline, from the line-over edge of the border box, where it goes along the paragraph's lines and is of their kind
+-- the same from the line-over edge of the border box of a box of this mode
+abbrev pub from_edge : (m : WritingMode) → (content : FlowRect) → LastLine → ℤ
+from_edge m content found = content.b +ℤ from_over (same_side (block_start m) (line_over m)) content found
+
+abbrev pub from_border : (m : WritingMode) → (content : FlowRect) → LastLine → LastLine
+from_border m content found = record found { from = from_edge m content found }
+
+-- it goes along the paragraph's lines and has their kind of baseline
+abbrev pub fits : (m mode : WritingMode) → (own baseline : Baseline) → Bool
+fits m mode own baseline = same_side (line_over m) (line_over mode) && same_baseline own baseline
+
+abbrev pub where_it_fits : (m mode : WritingMode) → (content : FlowRect) → Baseline → Option LastLine → Option LastLine
+where_it_fits m mode content baseline None = None
+where_it_fits m mode content baseline (Some found) = if_same (fits m mode found.baseline baseline) (Some (from_border m content found))
+
+-- the last line of an inline-block in a paragraph of this mode and kind of baseline
 abbrev pub own_baseline : WritingMode → Baseline → Kind → Pieces → Option LastLine
-own_baseline mode baseline (block m dir content definite start end_ through) inner = fitting (last_line m inner) where
-  fitting : Option LastLine → Option LastLine
-  fitting None = None
-  fitting (Some found) = if_same (same_side (line_over m) (line_over mode) && same_baseline found.baseline baseline)
-      (Some (record found { from = content.b +ℤ from_over (same_side (block_start m) (line_over m)) content found }))
-own_baseline mode baseline _ inner = None
+own_baseline mode baseline (block m dir content definite start end_ through) inner = where_it_fits m mode content baseline (last_line m inner)
+own_baseline mode baseline (line index base m kind) inner = None
+own_baseline mode baseline span inner = None
+own_baseline mode baseline (run form level natural units) inner = None
+own_baseline mode baseline (measure min max) inner = None
 
 -- without such a line a box stands on the alphabetic baseline, and has the central one in its middle
 abbrev pub by_middle : Baseline → (whole : ℤ) → ℤ
@@ -101,11 +120,11 @@ atom_in paragraph size laid =
     let part = laid.flowed.part in
     let baseline = baseline_of paragraph.mode paragraph.orientation in
     let margin = margin_or_zero laid.style (Some size) in
-    let whole = part.rect.block +ℤ both margin (line_over paragraph.mode) in
+    let whole = part.rect.block +ℤ margins_over laid.style (Some size) paragraph.mode in
     let over = held_distance (over_baseline (margin (line_over paragraph.mode)) whole baseline (own_baseline paragraph.mode baseline part.kind part.inner)) in
     record {
       fragment = at (pos 0) (pos 0) part none;
-      extent = part.rect.inline +ℤ both margin (line_left paragraph.mode);
+      extent = part.rect.inline +ℤ margins_along laid.style (Some size) paragraph.mode;
       left_margin = margin (line_left paragraph.mode);
       over_margin = margin (line_over paragraph.mode);
       over = over;

@@ -5,26 +5,29 @@ use Rattle.wm_modes.specs.declared.sides.FlowSide.TheVariants.{InlineStart, Inli
 use Rattle.wm_modes.specs.Mode.{is_horizontal}
 use Rattle.wm_modes.specs.Sides.{side_of}
 use Rattle.face_api.specs.Table.{Table}
+use Rattle.style_types.specs.declared.constraint.Constraint.{Constraint}
 use Rattle.style_types.specs.declared.style.Style.{Style}
 use Rattle.box_gen.specs.Tree.{Content}
 use Rattle.ortho_flow.specs.Orthogonal.{available}
 use Rattle.size_rules.specs.declared.equation.Used.{Used}
 use Rattle.size_rules.specs.Equation.{equation, settled}
 use Rattle.size_rules.specs.Limits.{fit}
+use Rattle.line_fill.specs.declared.item.Intrinsic.{Intrinsic}
+use Rattle.relayout.specs.declared.inline.PageView.{PageView}
+use Rattle.relayout.specs.declared.sizes.Containing.{Containing}
 use Rattle.relayout.specs.Edges.{inner_edges_along, margin, margins_along}
-use Rattle.relayout.specs.Flowed.{Laid, Member}
+use Rattle.relayout.specs.Flowed.{Member}
 use Rattle.relayout.specs.Intrinsic.{inner}
-use Rattle.relayout.specs.Sizes.{Constraint, Containing, given, hold, inline_sizes, is_atom, is_parallel, sizes_along}
+use Rattle.relayout.specs.Sizes.{given, hold, inline_sizes, is_atom, is_parallel, sizes_along}
 
--- what layout is given from outside: the faces, and the view's sizes across and down the page
+-- what layout is given from outside: the faces and the view
 pub record Outside : Type 0 where
   pub faces : List (Option Table)
-  pub across : ℤ
-  pub down : ℤ
+  pub view : PageView
 
-abbrev pub view_on : (across : Bool) → Outside → ℤ
-view_on true outside = outside.across
-view_on false outside = outside.down
+abbrev pub view_on : (across : Bool) → PageView → ℤ
+view_on true view = view.across
+view_on false view = view.down
 
 abbrev pub start_margin : Containing → Style → (inline : ℤ) → Option ℤ
 start_margin containing style inline = margin style (Some inline) (side_of containing.mode containing.dir InlineStart)
@@ -41,22 +44,22 @@ equation_of containing style inline =
 
 -- what another box with an auto size has available on its inline axis: of the containing block's inline size, or, for an orthogonal one, of
 -- its block size or the view's
-abbrev pub room : Outside → (parallel : Bool) → Constraint → (mode : WritingMode) → (around : ℤ) → ℤ
-room outside true c mode around = available c.inline (pos 0) around
-room outside false c mode around = available c.block (view_on (is_horizontal mode) outside) around
+abbrev pub room : PageView → (parallel : Bool) → Constraint → (mode : WritingMode) → (around : ℤ) → ℤ
+room view true c mode around = available c.inline (pos 0) around
+room view false c mode around = available c.block (view_on (is_horizontal mode) view) around
 
 abbrev pub around : Style → Constraint → ℤ
 around style c = inner_edges_along style c.inline style.mode +ℤ margins_along style c.inline style.mode
 
--- it shrinks to fit its content
-unfoldable pub shrunk : Outside → Containing → Style → Content → Constraint → (handed : Option ℤ) → List Member → ℤ
-shrunk outside containing style content c handed members =
-    let sizes = inner outside.faces style content handed members in
-    hold (inline_sizes containing style c) (fit sizes.min sizes.max (room outside (is_parallel containing style) c style.mode (around style c)))
+-- it shrinks to fit its content, which has these sizes
+unfoldable pub shrunk : PageView → Containing → Style → Constraint → (content : Intrinsic) → ℤ
+shrunk view containing style c content =
+    hold (inline_sizes containing style c) (fit content.min content.max (room view (is_parallel containing style) c style.mode (around style c)))
 
 abbrev pub given_or_shrunk : Option ℤ → Outside → Containing → Style → Content → Constraint → (handed : Option ℤ) → List Member → ℤ
 given_or_shrunk (Some size) outside containing style content c handed members = size
-given_or_shrunk None outside containing style content c handed members = shrunk outside containing style content c handed members
+given_or_shrunk None outside containing style content c handed members =
+    shrunk outside.view containing style c (inner outside.faces style content handed members)
 
 abbrev pub inline_size_by : (fills : Bool) → Outside → Containing → Style → Content → Constraint → (handed : Option ℤ) → List Member → ℤ
 inline_size_by true outside containing style content c handed members = (equation_of containing style (unwrap_or c.inline (pos 0))).size
@@ -68,13 +71,15 @@ unfoldable pub inline_size : Outside → Containing → Style → Content → Co
 inline_size outside containing style content c handed members =
     inline_size_by (is_parallel containing style && not (is_atom style.display)) outside containing style content c handed members
 
--- where a block-level child's border box stands from the inline-start edge of its containing block. An orthogonal one has its block size as
--- the given size.
-abbrev pub inline_place_by : (parallel : Bool) → Containing → (inline : ℤ) → Laid → ℤ
-inline_place_by true containing inline laid = (equation_of containing laid.style inline).start
-inline_place_by false containing inline laid =
-    let extent = laid.flowed.part.rect.inline in
-    (settled (inline -ℤ extent) extent (start_margin containing laid.style inline) (end_margin containing laid.style inline)).start
+-- an orthogonal child, whose border box has this extent, has its block size as the given size
+abbrev pub orthogonal_place : Containing → (inline : ℤ) → Style → (extent : ℤ) → ℤ
+orthogonal_place containing inline style extent =
+    (settled (inline -ℤ extent) extent (start_margin containing style inline) (end_margin containing style inline)).start
 
-unfoldable pub inline_place : Containing → (inline : ℤ) → Laid → ℤ
-inline_place containing inline laid = inline_place_by (is_parallel containing laid.style) containing inline laid
+-- where the border box of a block-level child of this extent stands from the inline-start edge of its containing block
+abbrev pub inline_place_by : (parallel : Bool) → Containing → (inline : ℤ) → Style → (extent : ℤ) → ℤ
+inline_place_by true containing inline style extent = (equation_of containing style inline).start
+inline_place_by false containing inline style extent = orthogonal_place containing inline style extent
+
+unfoldable pub inline_place : Containing → (inline : ℤ) → Style → (extent : ℤ) → ℤ
+inline_place containing inline style extent = inline_place_by (is_parallel containing style) containing inline style extent

@@ -1,6 +1,6 @@
 -- Intrinsic sizes: what a box asks of its containing block's inline axis, and what its content comes to at least and at most.
 -- CSS 2, 10.3.5; CSS Writing Modes 4, 7.3.
-use Rattle.std.specs.Prelude.{ℕ, List, map, fold, Option, Some, None, ℤ, pos, ◌+ℤ◌}
+use Rattle.std.specs.Prelude.{◌≡◌, ℕ, ⊤, List, map, fold, Option, Some, None, ℤ, pos, ◌+ℤ◌}
 use Rattle.std.specs.Int.{int_max}
 use Rattle.wm_units.specs.Numbers.{cap_size}
 use Rattle.wm_modes.specs.declared.mode.Direction.{Direction}
@@ -21,11 +21,15 @@ use Rattle.para_lines.specs.Filling.{paragraph_sizes}
 use Rattle.relayout.specs.Edges.{margins_along}
 use Rattle.relayout.specs.Flowed.{Member}
 
--- the margin box of a child on the inline axis of its containing block: as it was measured, or as it is laid out
+-- the margin box of a child on the inline axis of its containing block
+abbrev pub whole : WritingMode → Style → FlowRect → Intrinsic
+whole mode style rect =
+    record { min = rect.inline +ℤ margins_along style None mode; max = rect.inline +ℤ margins_along style None mode }
+
+-- as it was measured, or as it is laid out
 abbrev pub contributed : WritingMode → Style → FlowRect → Kind → Intrinsic
 contributed mode style rect (measure min max) = record { min = min; max = max }
-contributed mode style rect _ =
-    record { min = rect.inline +ℤ margins_along style None mode; max = rect.inline +ℤ margins_along style None mode }
+contributed mode style rect _ = whole mode style rect
 
 -- what a child asks in a containing block of this mode, whose inline size isn't known
 unfoldable pub contribution : WritingMode → (handed : Option ℤ) → Member → Intrinsic
@@ -45,15 +49,32 @@ base_by _ dir = Some (level_of dir)
 abbrev pub prepared : List (Option Table) → Style → List Entry → Preparation
 prepared faces style entries = preparation faces (base_by style.bidi (used_direction style)) style entries
 
--- the greatest of what block-level children ask; of a paragraph, the widths of its pieces, with what its inline-blocks ask
+abbrev pub greater : Intrinsic → Intrinsic → Intrinsic
+greater one other = record { min = int_max one.min other.min; max = int_max one.max other.max }
+
+-- the greatest of what block-level children ask
+abbrev pub greatest : List Intrinsic → Intrinsic
+greatest asked = fold greater (record { min = pos 0; max = pos 0 }) asked
+
+-- of a paragraph, the widths of its pieces, with what its inline-blocks ask
+abbrev pub paragraph_asks : List Entry → Preparation → List Intrinsic → Intrinsic
+paragraph_asks entries text asked = paragraph_sizes entries text (map (λ a. a.min) asked) (map (λ a. a.max) asked)
+
 abbrev pub together : List (Option Table) → Style → Content → List Intrinsic → Intrinsic
-together faces style blocks asked =
-    record { min = fold int_max (pos 0) (map (λ a. a.min) asked); max = fold int_max (pos 0) (map (λ a. a.max) asked) }
-together faces style (inline entries) asked =
-    paragraph_sizes entries (prepared faces style entries) (map (λ a. a.min) asked) (map (λ a. a.max) asked)
+together faces style blocks asked = greatest asked
+together faces style (inline entries) asked = paragraph_asks entries (prepared faces style entries) asked
+
+abbrev pub cap_both : Intrinsic → Intrinsic
+cap_both sizes = record { min = cap_size sizes.min; max = cap_size sizes.max }
+
+abbrev pub inner_by : List (Option Table) → Style → Content → List Intrinsic → Intrinsic
+inner_by faces style content asked = cap_both (together faces style content asked)
 
 -- the min-content and the max-content size of a box's content
 unfoldable pub inner : List (Option Table) → Style → Content → (handed : Option ℤ) → List Member → Intrinsic
-inner faces style content handed members =
-    let sizes = together faces style content (map (contribution style.mode handed) members) in
-    record { min = cap_size sizes.min; max = cap_size sizes.max }
+inner faces style content handed members = inner_by faces style content (map (contribution style.mode handed) members)
+
+-- what is prepared of a paragraph that a box holds
+abbrev pub IsTextOf : List (Option Table) → Style → Content → Option Preparation → Type 0
+IsTextOf faces style blocks text = ⊤
+IsTextOf faces style (inline entries) text = text ≡ Some (prepared faces style entries)

@@ -1,8 +1,12 @@
 pub mod Atoms
+pub mod Boxed
 pub mod Content
 pub mod Edges
 pub mod Flow
 pub mod Flowed
 pub mod Inline
 pub mod Intrinsic
+pub mod Near
+pub mod Paragraph
+pub mod Reach
 pub mod Sizes

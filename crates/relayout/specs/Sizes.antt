@@ -2,31 +2,24 @@
 -- definite. CSS 2, 10.2 to 10.7; CSS Writing Modes 4, 7.1 to 7.3.
 use Rattle.std.specs.Prelude.{Bool, true, false, not, Option, option_map, ℤ}
 use Rattle.wm_modes.specs.declared.mode.WritingMode.{WritingMode}
-use Rattle.wm_modes.specs.declared.mode.Direction.{Direction}
 use Rattle.wm_modes.specs.Mode.{are_parallel, is_horizontal}
+use Rattle.line_fill.specs.declared.item.Intrinsic.{Intrinsic}
+use Rattle.para_prepare.specs.Parts.{used_direction}
 use Rattle.size_rules.specs.Limits.{used_size}
 use Rattle.size_rules.specs.Resolving.{resolved, resolved_or_zero}
+use Rattle.style_types.specs.declared.constraint.Constraint.{Constraint}
 use Rattle.style_types.specs.declared.style.Display.{Display}
 use Rattle.style_types.specs.declared.style.Display.TheVariants as displays
 use Rattle.style_types.specs.declared.style.Size.{Size}
 use Rattle.style_types.specs.declared.style.Style.{Style}
+use Rattle.relayout.specs.declared.sizes.Containing.{Containing}
+use Rattle.relayout.specs.declared.sizes.Sizes.{Sizes}
 
--- what a containing block is to the boxes in it: its mode and its used direction
-pub record Containing : Type 0 where
-  pub mode : WritingMode
-  pub dir : Direction
-
--- the inline and the block size of the containing block, where they are known or definite
-pub record Constraint : Type 0 where
-  pub inline : Option ℤ
-  pub block : Option ℤ
+-- what a box is to the boxes in it
+abbrev pub containing_of : Style → Containing
+containing_of style = record { mode = style.mode; dir = used_direction style }
 
 -- a size, a minimum and a maximum, where percentages refer to `base`
-pub record Sizes : Type 0 where
-  pub size : Option ℤ
-  pub min : ℤ
-  pub max : Option ℤ
-
 abbrev pub resolved_sizes : (size min max : Size) → (base : Option ℤ) → Sizes
 resolved_sizes size min max base = record { size = resolved size base; min = resolved_or_zero min base; max = resolved max base }
 
@@ -43,6 +36,9 @@ sizes_across mode style base = sizes_on (not (is_horizontal mode)) style base
 
 abbrev pub hold : Sizes → ℤ → ℤ
 hold sizes size = used_size size sizes.min sizes.max
+
+abbrev pub hold_both : Sizes → Intrinsic → Intrinsic
+hold_both sizes content = record { min = hold sizes content.min; max = hold sizes content.max }
 
 -- a size that isn't auto, held
 abbrev pub given : Sizes → Option ℤ

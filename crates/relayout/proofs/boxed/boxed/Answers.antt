@@ -1,0 +1,21 @@
+use Rattle.std.proofs.Common.{rules, ◌≡◌, ◌∙◌, ap, w64, to_z, of_z, FitsSigned}
+use Rattle.std.proofs.lemmas.Int.{to_z-of_z}
+use Rattle.box_arena.specs.At.{node_of}
+use Rattle.relayout.specs.Boxed.{block_size, border_box, content_area}
+use Rattle.relayout.proofs.BoxedLaws.{boxed_is, same_sizes}
+use Rattle.relayout.proofs.boxed.boxed.Goals as goal
+
+pub returns : goal.returns
+returns c = λ filled is.
+    let fits : FitsSigned w64 c.args.content.extent = search rules in
+    let content : to_z w64 (of_z w64 c.args.content.extent) ≡ c.args.content.extent = to_z-of_z w64 c.args.content.extent fits in
+    let size : to_z w64 (of_z w64 c.args.size) ≡ c.args.size = to_z-of_z w64 c.args.size c.ranges.size in
+    let extent : to_z w64 (of_z w64 c.block_size-extent.result) ≡ c.block_size-extent.result = to_z-of_z w64 c.block_size-extent.result (search rules) in
+    boxed_is c.args.containing (node_of c.args.node.now) c.args.c c.args.size c.args.content filled _ _ _ _ _ _ _ _ _ c.block_size-extent.result c.block_box.result is
+    c.in_ok-made.ensures is.parts
+    (c.block_size-extent.ensures.value ∙ ap (block_size c.args.containing c.args.node.now.style c.args.c) content)
+    c.block_box.ensures c.is_through-through.ensures
+    (c.border_box-rect.ensures ∙ same_sizes (border_box c.args.containing c.args.node.now.style c.args.c) _ _ _ _ size extent)
+    (c.content_area.ensures ∙ same_sizes (content_area c.args.containing c.args.node.now.style c.args.c) _ _ _ _ size extent)
+    c.used_direction.ensures c.handed_on.ensures.value
+    (c.start_margins.ensures filled.starts is.start) (c.end_margins.ensures filled.ends is.end_)

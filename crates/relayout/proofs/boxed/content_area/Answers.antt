@@ -1,0 +1,12 @@
+use Rattle.std.proofs.Common.{rules, ◌∙◌, ap, w64}
+use Rattle.std.proofs.lemmas.Int.{to_z-of_z}
+use Rattle.relayout.specs.Boxed.{edge_on, near_block, near_inline}
+use Rattle.relayout.proofs.BoxedLaws.{content_area_is}
+use Rattle.relayout.proofs.boxed.content_area.Goals as goal
+
+pub returns : goal.returns
+returns c =
+    content_area_is c.args.containing c.args.style.now c.args.c c.args.size c.args.extent c.turned.result _ _ _ _ _ c.turned.ensures c.is_parallel.ensures
+    (to_z-of_z w64 c.edge_on-i.result (search rules) ∙ c.edge_on-i.ensures ∙ ap (edge_on c.args.containing c.args.style.now c.args.c) (c.near_inline.ensures ∙ ap near_inline c.is_atom-atom.ensures))
+    (to_z-of_z w64 c.edge_on-b.result (search rules) ∙ c.edge_on-b.ensures ∙ ap (edge_on c.args.containing c.args.style.now c.args.c) (c.near_block.ensures ∙ ap near_block c.is_atom-atom.ensures))
+    (to_z-of_z w64 c.args.size c.ranges.size) (to_z-of_z w64 c.args.extent c.ranges.extent)

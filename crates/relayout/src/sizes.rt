@@ -1,0 +1,187 @@
+//! Sizes of boxes: what a style asks for on an axis, which sizes of the containing block it refers to, and which block size is
+//! definite (CSS 2, 10.2 to 10.7; CSS Writing Modes 4, 7.1 to 7.3).
+
+ghost use Rattle.std.specs.Prelude.{◌≡◌, ◌^◌, pos, ◌≤ℤ◌};
+ghost use Rattle.style_types.specs.Style.{IsBounded, IsSize};
+ghost use Rattle.relayout.specs.Reach as reach;
+ghost use Rattle.relayout.specs.Reach.{IsBase};
+ghost use Rattle.relayout.specs.Sizes as rule;
+
+use line_fill::Intrinsic;
+use size_rules::{resolved, resolved_or_zero, used_size};
+use style_types::{Constraint, Display, Size, Style};
+use wm_modes::{Direction, WritingMode};
+
+/// What a containing block is to the boxes in it: its mode and its used direction.
+#[derive(Clone, Copy, Debug, PartialEq, Eq)]
+pub struct Containing {
+    pub mode: WritingMode,
+    pub dir: Direction,
+}
+
+impl Containing {
+    /// What a box is to the boxes in it.
+    pub(crate) fn of(style: &Style) -> Containing
+        ensures { result ≡ rule.containing_of style.now }
+    {
+        Containing {
+            mode: style.mode,
+            dir: style.used_direction(),
+        }
+    }
+
+    /// Whether the lines of a box go along its own, or both go down the page (CSS Writing Modes 4, 7.3).
+    pub(crate) fn is_parallel(self, style: &Style) -> bool
+        ensures { result ≡ rule.is_parallel self style.now }
+    {
+        self.mode.is_parallel(style.mode)
+    }
+}
+
+/// A size, a minimum and a maximum, in units of 1/64 px. `None` is auto, or that there is no maximum.
+#[derive(Clone, Copy, Debug, PartialEq, Eq)]
+pub struct Sizes {
+    pub size: Option<i64>,
+    pub min: i64,
+    pub max: Option<i64>,
+}
+
+impl Sizes {
+    /// A size held between the limits.
+    pub(crate) fn hold(self, size: i64) -> i64
+        ensures value { result ≡ rule.hold self size }
+        ensures low { pos 0 ≤ℤ result }
+        ensures high { result ≤ℤ pos (2 ^ 32) }
+    {
+        used_size(size, self.min, self.max)
+    }
+
+    /// The least and the greatest size of a content, held so.
+    pub(crate) fn hold_both(self, content: Intrinsic) -> Intrinsic
+        ensures value { result ≡ rule.hold_both self content }
+        ensures near { reach.IsContent result }
+    {
+        Intrinsic {
+            min: self.hold(content.min),
+            max: self.hold(content.max),
+        }
+    }
+
+    /// The size, held, unless it is auto.
+    pub(crate) fn given(self) -> Option<i64>
+        ensures value { result ≡ rule.given self }
+        ensures near { IsBase result }
+    {
+        let size = self.size?;
+        Some(self.hold(size))
+    }
+}
+
+// What a style asks for across the page or down the page, where percentages refer to `base`.
+fn sizes_on(across: bool, style: &Style, base: Option<i64>) -> Sizes
+    requires style { IsBounded style.now }
+    requires base { IsBase base }
+    ensures { result ≡ rule.sizes_on across style.now base }
+{
+    if across {
+        resolved_sizes(style.width, style.min_width, style.max_width, base)
+    } else {
+        resolved_sizes(style.height, style.min_height, style.max_height, base)
+    }
+}
+
+fn resolved_sizes(size: Size, min: Size, max: Size, base: Option<i64>) -> Sizes
+    requires size { IsSize size }
+    requires min { IsSize min }
+    requires max { IsSize max }
+    requires base { IsBase base }
+    ensures { result ≡ rule.resolved_sizes size min max base }
+{
+    Sizes {
+        size: resolved(size, base),
+        min: resolved_or_zero(min, base),
+        max: resolved(max, base),
+    }
+}
+
+/// What a style asks for along the lines of a mode.
+pub(crate) fn sizes_along(mode: WritingMode, style: &Style, base: Option<i64>) -> Sizes
+    requires style { IsBounded style.now }
+    requires base { IsBase base }
+    ensures { result ≡ rule.sizes_along mode style.now base }
+{
+    sizes_on(mode.is_horizontal(), style, base)
+}
+
+/// What a style asks for across the lines of a mode.
+pub(crate) fn sizes_across(mode: WritingMode, style: &Style, base: Option<i64>) -> Sizes
+    requires style { IsBounded style.now }
+    requires base { IsBase base }
+    ensures { result ≡ rule.sizes_across mode style.now base }
+{
+    sizes_on(!mode.is_horizontal(), style, base)
+}
+
+/// The size of the containing block on a box's own inline axis.
+pub(crate) fn inline_base(parallel: bool, c: Constraint) -> Option<i64>
+    ensures { result ≡ rule.inline_base parallel c }
+{
+    if parallel { c.inline } else { c.block }
+}
+
+/// The size of the containing block on a box's own block axis.
+pub(crate) fn block_base(parallel: bool, c: Constraint) -> Option<i64>
+    ensures { result ≡ rule.block_base parallel c }
+{
+    if parallel { c.block } else { c.inline }
+}
+
+/// What a style asks for on its own inline axis.
+pub(crate) fn inline_sizes(containing: Containing, style: &Style, c: Constraint) -> Sizes
+    requires style { IsBounded style.now }
+    requires constraint { reach.IsBounded c }
+    ensures { result ≡ rule.inline_sizes containing style.now c }
+{
+    let base = inline_base(containing.is_parallel(style), c);
+    sizes_along(style.mode, style, base)
+}
+
+/// What a style asks for on its own block axis.
+pub(crate) fn block_sizes(containing: Containing, style: &Style, c: Constraint) -> Sizes
+    requires style { IsBounded style.now }
+    requires constraint { reach.IsBounded c }
+    ensures { result ≡ rule.block_sizes containing style.now c }
+{
+    let base = block_base(containing.is_parallel(style), c);
+    sizes_across(style.mode, style, base)
+}
+
+/// The block size of a box, where it is definite: a length, or a percentage of a size that is (CSS 2, 10.5).
+pub(crate) fn definite(containing: Containing, style: &Style, c: Constraint) -> Option<i64>
+    requires style { IsBounded style.now }
+    requires constraint { reach.IsBounded c }
+    ensures value { result ≡ rule.definite containing style.now c }
+    ensures near { IsBase result }
+{
+    block_sizes(containing, style, c).given()
+}
+
+/// Whether it stands in a paragraph as an inline-block.
+pub(crate) fn is_atom(display: Display) -> bool
+    ensures { result ≡ rule.is_atom display }
+{
+    match display {
+        Display::InlineBlock => true,
+        Display::Block | Display::Inline | Display::FlowRoot | Display::Hidden => false,
+    }
+}
+
+/// Whether it is the root of a flow of its own.
+pub(crate) fn is_flow_root(display: Display) -> bool
+    ensures { result ≡ rule.is_flow_root display }
+{
+    match display {
+        Display::InlineBlock | Display::FlowRoot => true,
+        Display::Block | Display::Inline | Display::Hidden => false,
+    }
+}
