@@ -15,7 +15,7 @@ use Rattle.block_flow.specs.Adjoining.{is_through}
 use Rattle.box_arena.specs.At.{Node}
 use Rattle.line_fill.specs.declared.item.Intrinsic.{Intrinsic}
 use Rattle.para_prepare.specs.Parts.{used_direction}
-use Rattle.relayout.specs.declared.content.Filled as code
+use Rattle.relayout.specs.declared.content.Filling as code
 use Rattle.relayout.specs.declared.sizes.Containing.{Containing}
 use Rattle.relayout.specs.Boxed.{around, block_box, block_size, border_along, border_across, border_box, boxed, content_area, edge_at, edge_on, ends_with, handed_by, handed_on, measured, near_block, near_inline, starts_with, turned}
 use Rattle.relayout.specs.Content.{Filled, IsFilled}
@@ -92,7 +92,7 @@ same_sizes rect size s extent e p q = rw (p, q) refl
 abbrev kind_with : Style → Direction → FlowRect → Option ℤ → Margins → Margins → Bool → Kind
 kind_with style dir content definite start finish through = block style.mode dir content definite start finish through
 
-pub boxed_is : (containing : Containing) (node : Node) (c : Constraint) (size : ℤ) (own : code.Filled) (filled : Filled) (part : Part) (rect content : FlowRect) (dir : Direction) (handed : Option ℤ)
+pub boxed_is : (containing : Containing) (node : Node) (c : Constraint) (size : ℤ) (own : code.Filling) (filled : Filled) (part : Part) (rect content : FlowRect) (dir : Direction) (handed : Option ℤ)
     (start finish : Margins) (through : Bool) (inner : Pieces) (extent : ℤ) (bx : BlockBox) → IsFilled own filled
     → part ≡ part_with node.name rect (kind_with node.style dir content handed start finish through) inner
     → inner ≡ filled.parts → extent ≡ block_size containing node.style c own.extent → bx ≡ block_box containing node.style c own.lines → through ≡ is_through bx own.through

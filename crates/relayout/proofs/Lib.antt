@@ -1,3 +1,4 @@
+pub mod AskedLaws
 pub mod BoxedLaws
 mod Examples
 pub mod InlineLaws

@@ -114,20 +114,30 @@ over_baseline margin whole baseline (Some found) = margin +ℤ (found.from +ℤ 
 abbrev pub held_distance : ℤ → ℤ
 held_distance distance = int_max (neg_ℤ (pos (2 ^ 33))) (int_min distance (pos (2 ^ 33)))
 
--- an inline-block in a paragraph of this style, whose lines have this inline size
-abbrev pub atom_in : Style → (size : ℤ) → Laid → Atom
-atom_in paragraph size laid =
+-- its margin box, along the lines of a mode and across them, where they have this inline size
+abbrev pub extent_along : (size : ℤ) → WritingMode → Laid → ℤ
+extent_along size mode laid = laid.flowed.part.rect.inline +ℤ margins_along laid.style (Some size) mode
+
+abbrev pub extent_across : (size : ℤ) → WritingMode → Laid → ℤ
+extent_across size mode laid = laid.flowed.part.rect.block +ℤ margins_over laid.style (Some size) mode
+
+-- how far it reaches over its baseline in a paragraph of this style
+abbrev pub over_of : Style → (size : ℤ) → Laid → ℤ
+over_of paragraph size laid =
     let part = laid.flowed.part in
     let baseline = baseline_of paragraph.mode paragraph.orientation in
-    let margin = margin_or_zero laid.style (Some size) in
-    let whole = part.rect.block +ℤ margins_over laid.style (Some size) paragraph.mode in
-    let over = held_distance (over_baseline (margin (line_over paragraph.mode)) whole baseline (own_baseline paragraph.mode baseline part.kind part.inner)) in
-    record {
-      fragment = at (pos 0) (pos 0) part none;
-      extent = part.rect.inline +ℤ margins_along laid.style (Some size) paragraph.mode;
-      left_margin = margin (line_left paragraph.mode);
-      over_margin = margin (line_over paragraph.mode);
-      over = over;
-      under = whole -ℤ over;
-      shift = laid.style.shift;
-    }
+    held_distance (
+    over_baseline (margin_or_zero laid.style (Some size) (line_over paragraph.mode)) (extent_across size paragraph.mode laid) baseline
+    (own_baseline paragraph.mode baseline part.kind part.inner))
+
+-- an inline-block in a paragraph of this style, whose lines have this inline size
+abbrev pub atom_in : Style → (size : ℤ) → Laid → Atom
+atom_in paragraph size laid = record {
+  fragment = at (pos 0) (pos 0) laid.flowed.part none;
+  extent = extent_along size paragraph.mode laid;
+  left_margin = margin_or_zero laid.style (Some size) (line_left paragraph.mode);
+  over_margin = margin_or_zero laid.style (Some size) (line_over paragraph.mode);
+  over = over_of paragraph size laid;
+  under = extent_across size paragraph.mode laid -ℤ over_of paragraph size laid;
+  shift = laid.style.shift;
+}

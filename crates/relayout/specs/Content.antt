@@ -16,7 +16,7 @@ use Rattle.para_lines.specs.declared.paragraph.Container.{Container}
 use Rattle.para_lines.specs.Lines.{paragraph_lines}
 use Rattle.para_prepare.specs.Preparation.{Preparation}
 use Rattle.relayout.specs.declared.sizes.Containing.{Containing}
-use Rattle.relayout.specs.declared.content.Filled as code
+use Rattle.relayout.specs.declared.content.Filling as code
 use Rattle.relayout.specs.declared.flowed.LaidBox.{LaidBox}
 use Rattle.relayout.specs.Atoms.{atom_in}
 use Rattle.relayout.specs.Flowed.{Laid, at, pair_of, part_of}
@@ -89,7 +89,7 @@ filled faces name style joins size (inline entries) laid = paragraph faces name 
 -- ---- the code's values
 
 -- what has been filled is such a content
-pub record IsFilled (own : code.Filled) (content : Filled) : Type 0 where
+pub record IsFilled (own : code.Filling) (content : Filled) : Type 0 where
   pub parts : pieces_of own.parts.items ≡ content.parts
   pub extent : own.extent ≡ content.extent
   pub start : IsPairOf own.start content.starts

@@ -36,31 +36,35 @@ pub record IsNearPart (part : Part) : Type 0 where
   pub block : unsigned_abs part.rect.block ≤ 2 ^ 36
   pub kind : IsNearKind part.kind
 
--- how far the last line of a fragment is from the block-start edge of what it stands in, with its own extents
-abbrev pub kind_reach : FlowRect → Kind → ℕ
-kind_reach rect (line index base mode baseline) = unsigned_abs rect.b + unsigned_abs rect.block + unsigned_abs base
-kind_reach rect (block mode dir content definite start end_ through) = unsigned_abs rect.b + unsigned_abs content.b
-kind_reach rect span = 0
-kind_reach rect (run form level natural units) = 0
-kind_reach rect (measure min max) = 0
+-- how far the last line of a fragment is from the block-start edge of what it stands in, with its extent, from that of what is inside
+abbrev pub reach_in : FlowRect → Kind → (inner : ℕ) → ℕ
+reach_in rect (line index base mode baseline) inner = unsigned_abs rect.b + unsigned_abs rect.block
+reach_in rect (block mode dir content definite start end_ through) inner = unsigned_abs rect.b + unsigned_abs content.b + inner
+reach_in rect span inner = 0
+reach_in rect (run form level natural units) inner = 0
+reach_in rect (measure min max) inner = 0
 
 -- at most, of any of these fragments
 abbrev pub line_reach : Pieces → ℕ
 line_reach none = 0
-line_reach (piece name rect kind inner next) = max (kind_reach rect kind + line_reach inner) (line_reach next)
+line_reach (piece name rect kind inner next) = max (reach_in rect kind (line_reach inner)) (line_reach next)
 
 abbrev pub own_reach : Fragment → ℕ
-own_reach fragment = kind_reach (part_of fragment).rect (part_of fragment).kind + line_reach (part_of fragment).inner
+own_reach fragment = reach_in (part_of fragment).rect (part_of fragment).kind (line_reach (part_of fragment).inner)
 
 -- a line within that
 abbrev pub IsNearLine : (reach : ℕ) → LastLine → Type 0
-IsNearLine reach found = unsigned_abs found.from + unsigned_abs found.extent + unsigned_abs found.over ≤ reach
+IsNearLine reach found = unsigned_abs found.from + unsigned_abs found.extent ≤ reach
+
+-- the lines inside what has been laid out
+abbrev pub HasReach : (reach : ℕ) → LaidBox → Type 0
+HasReach reach laid = line_reach (part_of laid.fragment).inner ≤ reach
 
 -- a box that has been laid out
 pub record IsNearLaid (laid : LaidBox) : Type 0 where
   pub style : IsBounded laid.style
   pub part : IsNearPart (part_of laid.fragment)
-  pub lines : line_reach (part_of laid.fragment).inner ≤ 2 ^ 61
+  pub lines : HasReach (2 ^ 61) laid
 
 -- ---- what boxes come to
 

@@ -13,7 +13,7 @@ ghost use Rattle.relayout.specs.Flowed.{pair_of, part_of};
 ghost use Rattle.relayout.specs.Reach as reach;
 ghost use Rattle.relayout.specs.Reach.{IsBase, IsContent};
 
-use crate::content::Filled;
+use crate::content::Filling;
 use crate::edges::{
     border, inner_edge, inner_edges_across, inner_edges_along, margin_or_zero, margins_along,
     padding, side_in,
@@ -309,7 +309,7 @@ pub(crate) fn boxed(
     node: &BoxNode,
     c: Constraint,
     size: i64,
-    content: Filled,
+    content: Filling,
 ) -> Result<Fragment, AllocError>
     requires style { IsBounded node.now.style }
     requires constraint { reach.IsBounded c }

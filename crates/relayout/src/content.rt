@@ -5,7 +5,7 @@ use style_types::Fragments;
 
 /// What stands in a box. Lengths are in units of 1/64 px.
 #[derive(Debug, Drop)]
-pub struct Filled {
+pub struct Filling {
     pub parts: Fragments,
     /// Its block extent.
     pub extent: i64,

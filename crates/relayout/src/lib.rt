@@ -1,4 +1,4 @@
-//! Flow layout (CSS 2, 9.4 and 10).
+//! Flow layout (CSS 2, 9.4 and 10): the parts of which it is made.
 #![tactic(auto)]
 
 mod atoms;
@@ -7,4 +7,5 @@ mod content;
 mod edges;
 mod flowed;
 mod inline;
+mod intrinsic;
 mod sizes;

@@ -1,0 +1,272 @@
+//! Intrinsic sizes: what a box asks of its containing block's inline axis, and what its content comes to at least and at most
+//! (CSS 2, 10.3.5; CSS Writing Modes 4, 7.3).
+
+ghost use Rattle.std.specs.Prelude.{◌≡◌, ◌+◌, ◌≤◌, ◌^◌, ℤ, List, Option, All, IfOk, IfSome, OnOk, length, map, option_copied, unsigned_abs};
+ghost use Rattle.face_api.specs.Faces.{faces_of};
+ghost use Rattle.face_api.specs.Table.{Table};
+ghost use Rattle.style_types.specs.declared.fragment.Fragment.{out-Fragment};
+ghost use Rattle.style_types.specs.Fragment.{kind_of};
+ghost use Rattle.style_types.specs.Item.{entries_of, entry_of};
+ghost use Rattle.style_types.specs.declared.style.Style as styles;
+ghost use Rattle.style_types.specs.Style.{IsBounded};
+ghost use Rattle.box_gen.specs.Tree.{content_of};
+ghost use Rattle.para_prepare.specs.Parts as parts;
+ghost use Rattle.relayout.specs.Flowed.{part_of};
+ghost use Rattle.relayout.specs.Intrinsic as rule;
+ghost use Rattle.relayout.specs.Intrinsic.{IsTextOf};
+ghost use Rattle.relayout.specs.Near.{IsNearPart};
+ghost use Rattle.relayout.specs.Paragraph.{IsParagraph, IsReady, IsReadyIn};
+ghost use Rattle.relayout.specs.Reach.{IsAsked, IsContent};
+
+use crate::edges::margins_along;
+use box_gen::Content;
+use bumpalo::Bump;
+use face_api::{Face, Faces};
+use line_fill::Intrinsic;
+use para_lines::paragraph_sizes;
+use para_prepare::{Paragraph, Prepared, prepare};
+use std::alloc::{AllocError, Global};
+use std::sync::ledger::Ledger;
+use style_types::{Fragment, FragmentKind, Item, Items, Style, UnicodeBidi};
+use wm_modes::{Direction, FlowRect, WritingMode};
+use wm_units::{Steps, cap_size};
+
+/// Lengths in units of 1/64 px.
+type Lengths = Vec<i64>;
+
+/// What a child asks in a containing block of this mode: as it was measured, or its margin box as it was laid out.
+pub(crate) fn contributed(mode: WritingMode, style: &Style, child: &Fragment) -> Intrinsic
+    requires style { IsBounded style.now }
+    requires near { IsNearPart (part_of child.now) }
+    ensures value { result ≡ rule.contributed mode style.now (out-Fragment child.now).rect (kind_of (out-Fragment child.now).kind) }
+    ensures near { IsAsked result }
+{
+    match &child.kind {
+        FragmentKind::Measure { min, max } => Intrinsic {
+            min: *min,
+            max: *max,
+        },
+        FragmentKind::Box { .. }
+        | FragmentKind::Line { .. }
+        | FragmentKind::Span
+        | FragmentKind::Run { .. } => whole(mode, style, child.rect),
+    }
+}
+
+// The margin box of what has this border box.
+fn whole(mode: WritingMode, style: &Style, rect: FlowRect) -> Intrinsic
+    requires style { IsBounded style.now }
+    requires near { unsigned_abs rect.inline ≤ 2 ^ 36 }
+    ensures value { result ≡ rule.whole mode style.now rect }
+    ensures near { IsAsked result }
+{
+    let extent = rect.inline + margins_along(style, None, mode);
+    Intrinsic {
+        min: extent,
+        max: extent,
+    }
+}
+
+fn level_of(dir: Direction) -> u8
+    ensures value { result ≡ rule.level_of dir }
+    ensures near { result ≤ 1 }
+{
+    match dir {
+        Direction::Ltr => 0,
+        Direction::Rtl => 1,
+    }
+}
+
+/// The base level of a paragraph in a block container (CSS Writing Modes 4, 2.4.3).
+fn base_by(bidi: UnicodeBidi, dir: Direction) -> Option<u8>
+    ensures value { result ≡ rule.base_by bidi dir }
+    ensures near { IfSome result (λ base. base ≤ 1) }
+{
+    match bidi {
+        UnicodeBidi::Plaintext => None,
+        UnicodeBidi::Normal
+        | UnicodeBidi::Embed
+        | UnicodeBidi::Isolate
+        | UnicodeBidi::BidiOverride
+        | UnicodeBidi::IsolateOverride => Some(level_of(dir)),
+    }
+}
+
+// The text of an item, and all else of it, once more.
+fn copy_of(item: &Item) -> Result<Item, AllocError>
+    ensures { IfOk result (λ own. entry_of own ≡ entry_of item.now) }
+{
+    let own = match item {
+        Item::Text { node, text, style } => Item::Text {
+            node: *node,
+            text: text.clone()?,
+            style: *style,
+        },
+        Item::Open { node, style, opens } => Item::Open {
+            node: *node,
+            style: *style,
+            opens: *opens,
+        },
+        Item::Close { node, closes } => Item::Close {
+            node: *node,
+            closes: *closes,
+        },
+        Item::Atom { name } => Item::Atom { name: *name },
+        Item::Break { node } => Item::Break { node: *node },
+    };
+    Ok(own)
+}
+
+fn copies_of(alloc: Global, items: &[Item]) -> Result<Items, AllocError>
+    ensures { IfOk result (λ own. entries_of own.items ≡ entries_of items.now) }
+{
+    let mut own = Vec::with_capacity(alloc, items.len())?;
+    for item in items {
+        own.push(copy_of(item)?)?;
+    }
+    Ok(own)
+}
+
+// The paragraph of these items in a block container of this style.
+fn paragraph_of(alloc: Global, style: &Style, items: &[Item]) -> Result<Paragraph, AllocError>
+    ensures base { IfOk result (λ own. own.base ≡ rule.base_by style.now.bidi (parts.used_direction style.now)) }
+    ensures level { IfOk result (λ own. IfSome own.base (λ base. base ≤ 1)) }
+    ensures style { IfOk result (λ own. own.style ≡ style.now) }
+    ensures items { IfOk result (λ own. entries_of own.items.items ≡ entries_of items.now) }
+{
+    let items = copies_of(alloc, items)?;
+    Ok(Paragraph {
+        base: base_by(style.bidi, style.used_direction()),
+        style: *style,
+        items,
+    })
+}
+
+/// The prepared text of a paragraph in a block container of this style. Counts one step, and none where memory runs out before.
+pub(crate) fn prepared<L: Ledger>(
+    alloc: Global,
+    style: &Style,
+    items: &[Item],
+    faces: &Faces,
+    scratch: &mut Bump,
+    steps: &mut Steps<L>,
+) -> Result<Prepared, AllocError>
+    requires paragraph { IsParagraph (entries_of items.now) }
+    ensures ticks { OnOk result (steps.new ≡ steps.old + 1) }
+    ensures most { (steps.old ≤ steps.new) × (steps.new ≤ steps.old + 1) }
+    ensures text { IfOk result (λ text. text ≡ rule.prepared (faces_of ⟦<dyn Face as Face>⟧ faces.now) style.now (entries_of items.now)) }
+    ensures ready { IfOk result (λ text. IsReady (entries_of items.now) text) }
+{
+    let paragraph = paragraph_of(alloc, style, items)?;
+    let text = prepare(alloc, &paragraph, faces, scratch, steps)?;
+    Ok(text)
+}
+
+fn greater(one: Intrinsic, other: Intrinsic) -> Intrinsic
+    ensures { result ≡ rule.greater one other }
+{
+    Intrinsic {
+        min: one.min.max(other.min),
+        max: one.max.max(other.max),
+    }
+}
+
+// The greatest of what block-level children ask.
+fn greatest(asked: &[Intrinsic]) -> Intrinsic
+    ensures { result ≡ rule.greatest asked.now }
+{
+    let mut greatest = Intrinsic { min: 0, max: 0 };
+    for one in asked {
+        greatest = greater(greatest, *one);
+    }
+    greatest
+}
+
+fn mins_of(alloc: Global, asked: &[Intrinsic]) -> Result<Lengths, AllocError>
+    ensures { IfOk result (λ made. made.items ≡ map (λ a. a.min) asked.now) }
+{
+    let mut made = Vec::with_capacity(alloc, asked.len())?;
+    for one in asked {
+        made.push(one.min)?;
+    }
+    Ok(made)
+}
+
+fn maxs_of(alloc: Global, asked: &[Intrinsic]) -> Result<Lengths, AllocError>
+    ensures { IfOk result (λ made. made.items ≡ map (λ a. a.max) asked.now) }
+{
+    let mut made = Vec::with_capacity(alloc, asked.len())?;
+    for one in asked {
+        made.push(one.max)?;
+    }
+    Ok(made)
+}
+
+// What a paragraph with these inline-blocks comes to.
+#[tactic(auto, using(crate::proofs::AskedLaws::mins_near, crate::proofs::AskedLaws::maxs_near))]
+fn paragraph_asks(
+    alloc: Global,
+    items: &[Item],
+    text: &Prepared,
+    asked: &[Intrinsic],
+) -> Result<Intrinsic, AllocError>
+    requires paragraph { IsParagraph (entries_of items.now) }
+    requires ready { IsReady (entries_of items.now) text.now }
+    requires count { length asked.now ≤ 2 ^ 20 }
+    requires near { All IsAsked asked.now }
+    ensures { IfOk result (λ sizes. sizes ≡ rule.paragraph_asks (entries_of items.now) text.now asked.now) }
+{
+    let mins = mins_of(alloc, asked)?;
+    let maxs = maxs_of(alloc, asked)?;
+    let sizes = paragraph_sizes(alloc, items, text, &mins, &maxs)?;
+    Ok(sizes)
+}
+
+fn cap_both(sizes: Intrinsic) -> Intrinsic
+    ensures value { result ≡ rule.cap_both sizes }
+    ensures near { IsContent result }
+{
+    Intrinsic {
+        min: cap_size(sizes.min),
+        max: cap_size(sizes.max),
+    }
+}
+
+// What a content with these children comes to, before it is held.
+fn together(
+    alloc: Global,
+    content: &Content,
+    text: Option<&Prepared>,
+    asked: &[Intrinsic],
+) -> Result<Intrinsic, AllocError>
+    requires ready { IsReadyIn (content_of content.now) (option_copied text) }
+    requires count { length asked.now ≤ 2 ^ 20 }
+    requires near { All IsAsked asked.now }
+    ensures { IfOk result (λ sizes. (faces : List (Option Table)) (style : styles.Style) → IsTextOf faces style (content_of content.now) (option_copied text.entry) → sizes ≡ rule.together faces style (content_of content.now) asked.now) }
+{
+    match (content, text) {
+        (Content::Inline(items), Some(text)) => {
+            let sizes = paragraph_asks(alloc, items, text, asked)?;
+            Ok(sizes)
+        }
+        (Content::Blocks, _) | (Content::Inline(_), None) => Ok(greatest(asked)),
+    }
+}
+
+/// The min-content and the max-content size of a box's content, from what its children ask. `text` is the prepared text of the
+/// paragraph that it holds, if it holds one.
+pub(crate) fn inner(
+    alloc: Global,
+    content: &Content,
+    text: Option<&Prepared>,
+    asked: &[Intrinsic],
+) -> Result<Intrinsic, AllocError>
+    requires ready { IsReadyIn (content_of content.now) (option_copied text) }
+    requires count { length asked.now ≤ 2 ^ 20 }
+    requires near { All IsAsked asked.now }
+    ensures value { IfOk result (λ sizes. (faces : List (Option Table)) (style : styles.Style) → IsTextOf faces style (content_of content.now) (option_copied text.entry) → sizes ≡ rule.inner_by faces style (content_of content.now) asked.now) }
+    ensures near { IfOk result IsContent }
+{
+    let sizes = together(alloc, content, text, asked)?;
+    Ok(cap_both(sizes))
+}
