@@ -4,4 +4,5 @@ pub mod Order
 pub mod Pieces
 pub mod PlainLaws
 pub mod PlainUnits
+pub mod Upright
 pub mod Walk

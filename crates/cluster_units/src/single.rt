@@ -1,8 +1,8 @@
 //! The unit of one cluster: its orientation, its advance, its break class (CSS Writing Modes 4, 5.1; UAX 50).
 
-ghost use Rattle.std.specs.Prelude.{◌≡◌, ◌+◌, ◌<◌, ◌≤◌, ◌^◌, pos, ◌≤ℤ◌, true, unsigned_abs, IfSome, []};
+ghost use Rattle.std.specs.Prelude.{◌≡◌, ◌+◌, ◌<◌, ◌≤◌, ◌^◌, pos, ◌≤ℤ◌, ◌&&◌, true, leb, is_some, unsigned_abs, IfSome, []};
 ghost use Rattle.face_api.specs.Table.{IsTable};
-ghost use Rattle.wm_chars.specs.Repertoire.{break_class};
+ghost use Rattle.wm_chars.specs.Repertoire.{break_class, orientation};
 ghost use Rattle.cluster_units.specs.Cluster.{is_control_class};
 ghost use Rattle.cluster_units.specs.Laws.{IsUnitIn};
 ghost use Rattle.cluster_units.specs.Plain as plain;
@@ -12,7 +12,8 @@ use crate::Unit;
 use crate::cluster::Cluster;
 use face_api::Face;
 use style_types::{Combine, Style, TextOrientation, UnitKind};
-use wm_chars::{BreakClass, Orient, break_class, orientation};
+use wm_chars::laws::upright_from_u_3000;
+use wm_chars::{BreakClass, break_class};
 use wm_modes::WritingMode;
 
 /// The unit of a plain character at this place of its text, by this face; None of a bidi control. No units are combined in
@@ -35,7 +36,14 @@ pub fn character_unit(c: char, place: usize, style: &Style, face: &dyn Face) -> 
         end: place + 1,
         head: c,
     };
-    Some(single(cluster, class.unwrap_or(BreakClass::Other), style, face))
+    let kind = kind_of(style, c, class);
+    Some(single(
+        cluster,
+        kind,
+        class.unwrap_or(BreakClass::Other),
+        style,
+        face,
+    ))
 }
 
 /// Whether no units are combined in text of this style (CSS Writing Modes 4, 9.1).
@@ -60,7 +68,8 @@ pub(crate) fn unit_of(cluster: Cluster, style: &Style, face: &dyn Face) -> Optio
     if combines(cluster, style) {
         Some(combined(cluster, style, face))
     } else {
-        Some(single(cluster, class_of(cluster, class), style, face))
+        let kind = kind_of(style, cluster.head, class);
+        Some(single(cluster, kind, class_of(cluster, class), style, face))
     }
 }
 
@@ -100,9 +109,16 @@ fn combined(cluster: Cluster, style: &Style, face: &dyn Face) -> Unit
     }
 }
 
-// A cluster of this class that stands by itself.
+// A cluster of this class that stands so by itself.
 #[inline(always)]
-fn single(cluster: Cluster, class: BreakClass, style: &Style, face: &dyn Face) -> Unit
+fn single(
+    cluster: Cluster,
+    kind: UnitKind,
+    class: BreakClass,
+    style: &Style,
+    face: &dyn Face,
+) -> Unit
+    requires kind { kind ≡ spec.kind_of style.now cluster.head }
     requires low { pos 0 ≤ℤ style.now.font_size }
     requires high { style.now.font_size ≤ℤ pos 65536 }
     requires class { class ≡ spec.class_of cluster }
@@ -110,7 +126,6 @@ fn single(cluster: Cluster, class: BreakClass, style: &Style, face: &dyn Face) -
     ensures near { unsigned_abs result.natural ≤ 655360 }
     ensures sound { IsTable (table face.now) }
 {
-    let kind = kind_of(style, cluster.head);
     let upright = kind == UnitKind::Upright;
     let advance = scaled(style.font_size, face.advance(cluster.head, upright));
     Unit {
@@ -135,30 +150,52 @@ fn class_of(cluster: Cluster, class: Option<BreakClass>) -> BreakClass
     }
 }
 
-// How a unit with this first character stands on its line.
+// How a unit with this first character, which has this class, stands on its line.
 #[inline(always)]
-fn kind_of(style: &Style, c: char) -> UnitKind
+fn kind_of(style: &Style, c: char, class: Option<BreakClass>) -> UnitKind
+    requires { class ≡ break_class c }
     ensures { result ≡ spec.kind_of style.now c }
 {
     if is_vertical(style.mode) {
-        vertical_kind(style.orientation, c)
+        vertical_kind(style.orientation, c, class)
     } else {
         UnitKind::Along
     }
 }
 
 // How it stands in a vertical line.
-fn vertical_kind(text_orientation: TextOrientation, c: char) -> UnitKind
+#[inline(always)]
+fn vertical_kind(text_orientation: TextOrientation, c: char, class: Option<BreakClass>) -> UnitKind
+    requires { class ≡ break_class c }
     ensures { result ≡ spec.vertical_kind text_orientation c }
 {
     match text_orientation {
-        TextOrientation::Mixed => match orientation(c) {
-            Some(Orient::V) => UnitKind::Upright,
-            _ => UnitKind::Turned,
-        },
+        TextOrientation::Mixed => mixed_kind(c, class),
         TextOrientation::Upright => UnitKind::Upright,
         TextOrientation::Sideways => UnitKind::Turned,
     }
+}
+
+// The same where the character tells it.
+#[inline(always)]
+fn mixed_kind(c: char, class: Option<BreakClass>) -> UnitKind
+    requires { class ≡ break_class c }
+    ensures { result ≡ spec.kind_by (orientation c) }
+{
+    upright_from_u_3000();
+    if is_upright(c, class) {
+        UnitKind::Upright
+    } else {
+        UnitKind::Turned
+    }
+}
+
+// Characters of the repertoire, which have a class, are upright from U+3000 on.
+#[inline(always)]
+fn is_upright(c: char, class: Option<BreakClass>) -> bool
+    ensures { result ≡ (leb 0x3000 c && is_some class) }
+{
+    c >= '\u{3000}' && class.is_some()
 }
 
 // An advance in thousandths of the font size, rounded down.
