@@ -16,7 +16,7 @@ abbrev pub Above : ℕ → List ℕ → Type 0
 Above p [] = ⊤
 Above p (place ∷ places) = (p ≤ place) × Above p places
 
-above_later : (p q : ℕ) (places : List ℕ) → p ≤ q → Above q places → Above p places
+pub above_later : (p q : ℕ) (places : List ℕ) → p ≤ q → Above q places → Above p places
 above_later p q [] h above = tt
 above_later p q (place ∷ places) h above = let a = above.0 in (omega arith, above_later p q places h above.1)
 
@@ -25,7 +25,7 @@ above_at p No place places h above = above
 above_at p May place places h above = (h, above)
 above_at p Must place places h above = (h, tt)
 
-ends_above : (place : ℕ) (items : List FillItem) → Above (place + 1) (ends_from place items)
+pub ends_above : (place : ℕ) (items : List FillItem) → Above (place + 1) (ends_from place items)
 ends_above place [] = tt
 ends_above place (item ∷ items) =
     above_at (place + 1) (break_before items item.end) (place + 1) (ends_from (place + 1) items) (omega arith)
@@ -55,7 +55,7 @@ some_greatest test p (place ∷ places) above some = go (test place) refl (some_
       (rest.0, ap (λ b. greatest (cond b (place ∷ filter test places) (filter test places))) e ∙ rest.1, rest.2)
 
 -- where a later place fits, the first one doesn't matter
-best_later : (test : ℕ → Bool) (p : ℕ) (places : List ℕ) → Above p places → list_any test places ≡ true → best test (p ∷ places) ≡ best test places
+pub best_later : (test : ℕ → Bool) (p : ℕ) (places : List ℕ) → Above p places → list_any test places ≡ true → best test (p ∷ places) ≡ best test places
 best_later test p places above some =
     let r = some_greatest test p places above some in
     go r.0 r.1 r.2 (test p) refl
@@ -74,7 +74,7 @@ best_later test p places above some =
         left ∙ sym right
 
 -- where no later place fits, it is the first
-best_first : (test : ℕ → Bool) (p : ℕ) (places : List ℕ) → Above p places → list_any test places ≡ false → best test (p ∷ places) ≡ p
+pub best_first : (test : ℕ → Bool) (p : ℕ) (places : List ℕ) → Above p places → list_any test places ≡ false → best test (p ∷ places) ≡ p
 best_first test p places above none = go (test p) refl where
   empty : filter test places ≡ []
   empty = filter_none test places none
@@ -107,7 +107,7 @@ break_inside items q d inside =
     let m = drop_more items (q + 1) d inside in
     break_with items q d (omega arith) ∙ rw m refl
 
-break_out : (items : List FillItem) (q : ℕ) (d : FillItem) → q < length items → length items ≤ q + 1 → break_at items q ≡ Must
+pub break_out : (items : List FillItem) (q : ℕ) (d : FillItem) → q < length items → length items ≤ q + 1 → break_at items q ≡ Must
 break_out items q d inside last =
     let none = drop_all (q + 1) items last in
     break_with items q d inside ∙ rw none refl

@@ -1,4 +1,5 @@
 pub mod Ending
+pub mod Forwarding
 pub mod Examples
 pub mod Lengths
 pub mod LineLaws

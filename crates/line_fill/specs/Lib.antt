@@ -1,5 +1,6 @@
 pub mod Ahead
 pub mod Filling
+pub mod Forward
 pub mod Item
 pub mod Laws
 pub mod Sizes

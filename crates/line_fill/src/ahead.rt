@@ -47,8 +47,8 @@ pub(crate) fn all_ahead(
     Ok(aheads)
 }
 
-// Whether a line ends behind an item. The text ends with a forced break.
-fn break_behind(items: &[FillItem], place: usize) -> Breaking
+/// Whether a line ends behind an item. The text ends with a forced break.
+pub(crate) fn break_behind(items: &[FillItem], place: usize) -> Breaking
     requires { place < length items.now }
     ensures { result ≡ break_at items.now place }
 {

@@ -1,14 +1,16 @@
 //! The lines of a paragraph (CSS Text 3, 5.1).
 
 ghost use Rattle.std.specs.Prelude.{◌≡◌, ◌+◌, ◌≤◌, ◌<◌, ◌^◌, length, IfOk};
-ghost use Rattle.std.specs.List.{list_any};
+ghost use Rattle.std.specs.List.{All, list_any};
 ghost use Rattle.line_fill.specs.Item.{spread};
 ghost use Rattle.line_fill.specs.Ahead.{AreAhead};
 ghost use Rattle.line_fill.specs.Filling.{lines, line_end, ends, fits, Divide};
+ghost use Rattle.line_fill.specs.Forward.{IsForward};
 ghost use Rattle.line_fill.specs.Sums.{StandFor};
 
 use crate::FillItem;
 use crate::ahead::{Ahead, all_ahead, is_within};
+use crate::forward::{are_forward, forward_end};
 use crate::sums::Sums;
 use std::alloc::{AllocError, Global};
 use std::marker::Model;
@@ -41,7 +43,7 @@ impl Lines {
 
 /// The lines of a paragraph in so much room, in units of 1/64 px (CSS Text 3, 5.1), and counts one step. A line ends at the
 /// last place where a break is allowed and up to which it fits, else at the first where one is allowed, and never
-/// behind a forced break. All lengths, without their signs, come to at most 2^60. Each item is looked at three times,
+/// behind a forced break. All lengths, without their signs, come to at most 2^60. Each item is looked at four times,
 /// whatever the lengths are.
 pub fn fill<M: Ledger>(
     alloc: Global,
@@ -56,8 +58,49 @@ pub fn fill<M: Ledger>(
 {
     arranged.tick();
     let sums = Sums::new(alloc, items)?;
-    let aheads = all_ahead(alloc, items, &sums)?;
-    let reach = Reach { sums, aheads };
+    if are_forward(items) {
+        let lines = forward_lines(alloc, items, &sums, available)?;
+        Ok(lines)
+    } else {
+        let aheads = all_ahead(alloc, items, &sums)?;
+        let lines = lines_of(alloc, items, &Reach { sums, aheads }, available)?;
+        Ok(lines)
+    }
+}
+
+// The lines of items whose lengths are not below 0.
+fn forward_lines(
+    alloc: Global,
+    items: &[FillItem],
+    sums: &Sums,
+    available: i64,
+) -> Result<Lines, AllocError>
+    requires forward { All IsForward items.now }
+    requires sums { StandFor items.now sums.now }
+    ensures lines { IfOk result (λ found. found ≡ lines available items.now) }
+    ensures divide { IfOk result (λ found. Divide 0 (length items.now) found) }
+{
+    let mut ends = Vec::new(alloc);
+    let mut from = 0;
+    while from < items.len() {
+        from = forward_end(items, sums, from, available);
+        ends.push(from)?;
+    }
+    Ok(Lines { ends })
+}
+
+// The lines by what lies ahead of each place.
+fn lines_of(
+    alloc: Global,
+    items: &[FillItem],
+    reach: &Reach,
+    available: i64,
+) -> Result<Lines, AllocError>
+    requires sums { StandFor items.now reach.now.sums }
+    requires aheads { AreAhead items.now reach.now.aheads.items }
+    ensures lines { IfOk result (λ found. found ≡ lines available items.now) }
+    ensures divide { IfOk result (λ found. Divide 0 (length items.now) found) }
+{
     let mut ends = Vec::new(alloc);
     let mut from = 0;
     while from < items.len() {

@@ -4,6 +4,7 @@
 
 mod ahead;
 mod filling;
+mod forward;
 mod item;
 pub mod laws;
 mod sizes;

@@ -5,13 +5,13 @@ use Rattle.style_types.specs.declared.breaking.Breaking.TheVariants.{No}
 use Rattle.line_fill.specs.declared.item.FillItem.{FillItem}
 use Rattle.line_fill.specs.Filling.{line_end}
 use Rattle.line_fill.proofs.Lining.{Filled, filled_on}
-use Rattle.line_fill.proofs.filling.fill.Goals as goal
+use Rattle.line_fill.proofs.filling.lines_of.Goals as goal
 
 plain : FillItem
 plain = record { advance = pos 0; before = pos 0; after = pos 0; space = false; end = No }
 
 pub loop-from-preserved : goal.loop-from-preserved
-loop-from-preserved g c =
+loop-from-preserved c =
     let given : to_z w64 (of_z w64 c.args.available) ≡ c.args.available = to_z-of_z w64 c.args.available c.ranges.available in
     let filled : Filled c.args.available c.args.items.now c.loop-from.ends.items c.loop-from.from = rw given at c.loop-from.invariant in
     let is : c.line_end-from.result ≡ line_end c.args.available c.args.items.now c.loop-from.from = rw given at c.line_end-from.ensures.value in

@@ -1,0 +1,228 @@
+-- Lines of items whose lengths are not below 0.
+use Rattle.std.proofs.Common.{◌≡◌, ◌∙◌, refl, sym, ap, arith, subst, Bool, true, false, List, [], ◌∷◌, ℕ, zero, suc, ◌+◌, ◌-◌, ◌≤◌, ◌<◌, ℤ, pos, length, take, drop, Option, Some, None}
+use Rattle.std.specs.Prelude.{⊤, IfSome, ◌≤ℤ◌, int_le}
+use Rattle.std.specs.List.{All, list_any}
+use Rattle.std.proofs.lemmas.Int.{ints}
+use Rattle.std.proofs.lemmas.Bool.{cases_lt}
+use Rattle.std.proofs.Common.{inl, inr}
+use Rattle.style_types.specs.declared.breaking.Breaking.{Breaking}
+use Rattle.style_types.specs.declared.breaking.Breaking.TheVariants.{No, May, Must}
+use Rattle.line_fill.specs.declared.item.FillItem.{FillItem}
+use Rattle.line_fill.specs.Ahead.{break_at}
+use Rattle.line_fill.specs.Filling.{best, ends, ends_at, fits, line_end}
+use Rattle.line_fill.specs.Forward.{IsForward, last_or}
+use Rattle.line_fill.specs.Item.{advances, edges, solid, solid_at, width, width_of}
+use Rattle.line_fill.proofs.Ending.{Above, above_later, best_first, best_later, break_out, ends_above}
+use Rattle.line_fill.proofs.Reaching.{ends_more}
+use Rattle.line_fill.proofs.Widths.{content_advances}
+
+-- ---- no piece is narrower than a shorter one that begins with it
+
+abbrev AreForward : List FillItem → Type 0
+AreForward [] = ⊤
+AreForward (item ∷ items) = IsForward item × AreForward items
+
+pub each_forward : (items : List FillItem) → All IsForward items → AreForward items
+each_forward [] all = tt
+each_forward (item ∷ items) all = (all 0 item (omega arith), each_forward items (λ k d lt. all (suc k) d (omega arith)))
+
+drop_forward : (n : ℕ) (items : List FillItem) → AreForward items → AreForward (drop n items)
+drop_forward zero items h = h
+drop_forward (suc n) [] h = tt
+drop_forward (suc n) (item ∷ items) h = drop_forward n items h.1
+
+abbrev content : List FillItem → ℤ
+content items = advances (take (solid items) items)
+
+content_some : (n : ℕ) (items : List FillItem) → AreForward items → pos 0 ≤ℤ advances (take n items)
+content_some zero items h = omega (arith, ints)
+content_some (suc n) [] h = omega (arith, ints)
+content_some (suc n) (item ∷ items) h = let a = h.0.advance in let r = content_some n items h.1 in omega (arith, ints)
+
+edges_some : (items : List FillItem) → AreForward items → pos 0 ≤ℤ edges items
+edges_some [] h = omega (arith, ints)
+edges_some (item ∷ items) h = let b = h.0.before in let a = h.0.after in let r = edges_some items h.1 in omega (arith, ints)
+
+-- the content of a shorter piece is no longer, item by item
+longer : (space : Bool) (n m : ℕ) (item : FillItem) (xs ys : List FillItem) → IsForward item → AreForward ys → n ≤ m → advances (take n xs) ≤ℤ advances (take m ys) → (n ≡ 0 → advances (take n xs) ≡ pos 0)
+    → advances (take (solid_at space n) (item ∷ xs)) ≤ℤ advances (take (solid_at space m) (item ∷ ys))
+longer true zero zero item xs ys own rest le h none = omega (arith, ints)
+longer true zero (suc m) item xs ys own rest le h none = let a = own.advance in let c = content_some (suc m) ys rest in omega (arith, ints)
+longer true (suc n) zero item xs ys own rest le h none = absurd (omega arith)
+longer true (suc n) (suc m) item xs ys own rest le h none = omega (arith, ints)
+longer false n m item xs ys own rest le h none = omega (arith, ints)
+
+solid_grows : (space : Bool) (n m : ℕ) → n ≤ m → solid_at space n ≤ solid_at space m
+solid_grows true zero zero le = omega arith
+solid_grows true zero (suc m) le = omega arith
+solid_grows true (suc n) zero le = absurd (omega arith)
+solid_grows true (suc n) (suc m) le = omega arith
+solid_grows false n m le = omega arith
+
+solid_longer : (n : ℕ) (items : List FillItem) → solid (take n items) ≤ solid items
+solid_longer zero items = omega arith
+solid_longer (suc n) [] = omega arith
+solid_longer (suc n) (item ∷ items) = solid_grows item.space (solid (take n items)) (solid items) (solid_longer n items)
+
+take_none : (n : ℕ) (xs : List FillItem) → n ≡ 0 → advances (take n xs) ≡ pos 0
+take_none zero xs is = refl
+take_none (suc n) xs is = absurd (omega arith)
+
+content_longer : (n : ℕ) (items : List FillItem) → AreForward items → content (take n items) ≤ℤ content items
+content_longer zero items h = content_some (solid items) items h
+content_longer (suc n) [] h = omega (arith, ints)
+content_longer (suc n) (item ∷ items) h =
+    longer item.space (solid (take n items)) (solid items) item (take n items) items h.0 h.1 (solid_longer n items) (content_longer n items h.1) (take_none (solid (take n items)) (take n items))
+
+edges_longer : (n : ℕ) (items : List FillItem) → AreForward items → edges (take n items) ≤ℤ edges items
+edges_longer zero items h = edges_some items h
+edges_longer (suc n) [] h = omega (arith, ints)
+edges_longer (suc n) (item ∷ items) h = let r = edges_longer n items h.1 in omega (arith, ints)
+
+width_longer : (n : ℕ) (items : List FillItem) → AreForward items → width_of (take n items) ≤ℤ width_of items
+width_longer n items h =
+    let a = content_advances (take n items) in
+    let b = content_advances items in
+    let e = edges_longer n items h in
+    let c = content_longer n items h in
+    omega (arith, ints)
+
+take_forward : (n : ℕ) (items : List FillItem) → AreForward items → AreForward (take n items)
+take_forward zero items h = tt
+take_forward (suc n) [] h = tt
+take_forward (suc n) (item ∷ items) h = (h.0, take_forward n items h.1)
+
+take_less : (n m : ℕ) (items : List FillItem) → n ≤ m → take n (take m items) ≡ take n items
+take_less zero m items le = refl
+take_less (suc n) zero items le = absurd (omega arith)
+take_less (suc n) (suc m) [] le = refl
+take_less (suc n) (suc m) (item ∷ items) le = ap (λ (rest : List FillItem). item ∷ rest) (take_less n m items (omega arith))
+
+pub wider : (items : List FillItem) (from low high : ℕ) → AreForward items → from ≤ low → low ≤ high → width items from low ≤ℤ width items from high
+wider items from low high h order le =
+    let rest : List FillItem = drop from items in
+    let piece : List FillItem = take (high - from) rest in
+    let P : List FillItem → Type 0 = λ p. width_of p ≤ℤ width_of piece in
+    subst P (take_less (low - from) (high - from) rest (omega arith)) (width_longer (low - from) piece (take_forward (high - from) rest (drop_forward from items h)))
+
+-- ---- from end to end
+
+less_not : (available a b : ℤ) → a ≤ℤ b → int_le a available ≡ false → int_le b available ≡ false
+less_not available a b le not_so = grind (arith, ints)
+
+none_fits : (available : ℤ) (items : List FillItem) (from first : ℕ) (places : List ℕ) → AreForward items → from ≤ first → Above first places → fits available items from first ≡ false
+    → list_any (fits available items from) places ≡ false
+none_fits available items from first [] h order above not_so = refl
+none_fits available items from first (place ∷ places) h order above not_so =
+    rw (less_not available (width items from first) (width items from place) (wider items from first place h order above.0) not_so, none_fits available items from first places h order above.1 not_so) refl
+
+abbrev pub before : Option ℕ → List ℕ → List ℕ
+before None places = places
+before (Some end) places = end ∷ places
+
+-- what the loop keeps: the last end that fits, and the ends to come
+pub record Fitting (available : ℤ) (items : List FillItem) (from q : ℕ) (last : Option ℕ) : Type 0 where
+  pub inside : q < length items
+  pub order : from ≤ q
+  pub on : line_end available items from ≡ best (fits available items from) (before last (ends items q))
+  pub later : IfSome last (λ end. (from < end) × (end ≤ q))
+
+pub fitting_first : (available : ℤ) (items : List FillItem) (from : ℕ) → from < length items → Fitting available items from from None
+fitting_first available items from inside = record { inside = inside; order = omega arith; on = refl; later = tt }
+
+no_must : No ≡ Must → ⊥
+no_must e = cc
+
+pub may_no : May ≡ No → ⊥
+may_no e = cc
+
+pub must_no : Must ≡ No → ⊥
+must_no e = cc
+
+may_must : May ≡ Must → ⊥
+may_must e = cc
+
+still_inside : (items : List FillItem) (q : ℕ) (d : FillItem) (end_ : Breaking) → q < length items → break_at items q ≡ end_ → (end_ ≡ Must → ⊥) → q + 1 < length items
+still_inside items q d end_ inside is not_so =
+    elim (cases_lt (q + 1) (length items)) [
+      | inl lt ↦ lt
+      | inr past ↦ absurd (not_so (sym is ∙ break_out items q d inside past))
+    ]
+
+-- not_so end there
+pub fitting_on : (available : ℤ) (items : List FillItem) (from q : ℕ) (last : Option ℕ) (d : FillItem) → break_at items q ≡ No → Fitting available items from q last → Fitting available items from (q + 1) last
+fitting_on available items from q last d is f = record {
+  inside = still_inside items q d No f.inside is no_must;
+  order = let o = f.order in omega arith;
+  on = f.on ∙ ap (λ (ps : List ℕ). best (fits available items from) (before last ps)) (ends_more items q d f.inside ∙ ap (λ b. ends_at b (q + 1) (ends items (q + 1))) is);
+  later = later_on last f.later;
+} where
+  later_on : (o : Option ℕ) → IfSome o (λ end. (from < end) × (end ≤ q)) → IfSome o (λ end. (from < end) × (end ≤ q + 1))
+  later_on None h = tt
+  later_on (Some end) h = let a = h.1 in (h.0, omega arith)
+
+above_next : (items : List FillItem) (q : ℕ) → Above (q + 1) (ends items (q + 1))
+above_next items q = above_later (q + 1) (q + 1 + 1) (ends items (q + 1)) (omega arith) (ends_above (q + 1) (drop (q + 1) items))
+
+-- the end that fits is the last one
+passed : (available : ℤ) (items : List FillItem) (from q : ℕ) (last : Option ℕ) (rest : List ℕ) → Above (q + 1) rest → IfSome last (λ end. (from < end) × (end ≤ q)) → fits available items from (q + 1) ≡ true
+    → best (fits available items from) (before last ((q + 1) ∷ rest)) ≡ best (fits available items from) ((q + 1) ∷ rest)
+passed available items from q None rest above later fit = refl
+passed available items from q (Some end) rest above later fit =
+    let l = later.1 in
+    best_later (fits available items from) end ((q + 1) ∷ rest) (omega arith, above_later end (q + 1) rest (omega arith) above) (rw fit refl)
+
+-- none fits from there on
+stopped : (available : ℤ) (items : List FillItem) (from q : ℕ) (last : Option ℕ) (rest : List ℕ) → AreForward items → from ≤ q → Above (q + 1) rest → IfSome last (λ end. (from < end) × (end ≤ q))
+    → fits available items from (q + 1) ≡ false → best (fits available items from) (before last ((q + 1) ∷ rest)) ≡ last_or last (q + 1)
+stopped available items from q None rest h order above later not_so = best_first (fits available items from) (q + 1) rest above (none_fits available items from (q + 1) rest h (omega arith) above not_so)
+stopped available items from q (Some end) rest h order above later not_so =
+    let l = later.1 in
+    let low : q + 1 ≤ q + 1 = omega arith in
+    best_first (fits available items from) end ((q + 1) ∷ rest) (omega arith, above_later end (q + 1) rest (omega arith) above)
+    (none_fits available items from (q + 1) ((q + 1) ∷ rest) h (omega arith) (low, above) not_so)
+
+abbrev rest_at : Breaking → List ℕ → List ℕ
+rest_at No places = places
+rest_at May places = places
+rest_at Must places = []
+
+rest_above : (end_ : Breaking) (p : ℕ) (places : List ℕ) → Above p places → Above p (rest_at end_ places)
+rest_above No p places h = h
+rest_above May p places h = h
+rest_above Must p places h = tt
+
+ends_there : (end_ : Breaking) (place : ℕ) (places : List ℕ) → (end_ ≡ No → ⊥) → ends_at end_ place places ≡ place ∷ rest_at end_ places
+ends_there No place places not_so = absurd (not_so refl)
+ends_there May place places not_so = refl
+ends_there Must place places not_so = refl
+
+pub fitting_more : (available : ℤ) (items : List FillItem) (from q : ℕ) (last : Option ℕ) (d : FillItem) → break_at items q ≡ May → fits available items from (q + 1) ≡ true
+    → Fitting available items from q last → Fitting available items from (q + 1) (Some (q + 1))
+fitting_more available items from q last d is fit f = record {
+  inside = still_inside items q d May f.inside is may_must;
+  order = let o = f.order in omega arith;
+  on = f.on
+      ∙ ap (λ (ps : List ℕ). best (fits available items from) (before last ps)) (ends_more items q d f.inside ∙ ap (λ b. ends_at b (q + 1) (ends items (q + 1))) is)
+      ∙ passed available items from q last (ends items (q + 1)) (above_next items q) f.later fit;
+  later = let o = f.order in (omega arith, omega arith);
+}
+
+pub fitting_stops : (available : ℤ) (items : List FillItem) (from q : ℕ) (last : Option ℕ) (d : FillItem) (end_ : Breaking) → All IsForward items → break_at items q ≡ end_ → (end_ ≡ No → ⊥)
+    → fits available items from (q + 1) ≡ false → Fitting available items from q last → line_end available items from ≡ last_or last (q + 1)
+fitting_stops available items from q last d end_ forward is not_so out f =
+    f.on
+    ∙ ap (λ (ps : List ℕ). best (fits available items from) (before last ps)) (ends_more items q d f.inside ∙ ap (λ b. ends_at b (q + 1) (ends items (q + 1))) is ∙ ends_there end_ (q + 1) (ends items (q + 1)) not_so)
+    ∙ stopped available items from q last (rest_at end_ (ends items (q + 1))) (each_forward items forward) f.order (rest_above end_ (q + 1) (ends items (q + 1)) (above_next items q)) f.later out
+
+pub fitting_ends : (available : ℤ) (items : List FillItem) (from q : ℕ) (last : Option ℕ) (d : FillItem) → break_at items q ≡ Must → fits available items from (q + 1) ≡ true
+    → Fitting available items from q last → line_end available items from ≡ q + 1
+fitting_ends available items from q last d is fit f =
+    f.on
+    ∙ ap (λ (ps : List ℕ). best (fits available items from) (before last ps)) (ends_more items q d f.inside ∙ ap (λ b. ends_at b (q + 1) (ends items (q + 1))) is)
+    ∙ passed available items from q last [] tt f.later fit
+    ∙ best_first (fits available items from) (q + 1) [] tt refl
+
+pub stop_within : (from q n : ℕ) (last : Option ℕ) → from ≤ q → q < n → IfSome last (λ end. (from < end) × (end ≤ q)) → (from < last_or last (q + 1)) × (last_or last (q + 1) ≤ n)
+stop_within from q n None order inside later = (omega arith, omega arith)
+stop_within from q n (Some end) order inside later = let l = later.1 in (later.0, omega arith)

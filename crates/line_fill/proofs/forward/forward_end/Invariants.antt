@@ -1,0 +1,5 @@
+use Rattle.line_fill.proofs.Forwarding.{Fitting}
+use Rattle.line_fill.proofs.forward.forward_end.Given as goal
+
+abbrev pub invariant-loop-place : goal.invariant-loop-place
+invariant-loop-place l = Fitting l.available l.items l.from l.place l.last
