@@ -1,4 +1,8 @@
 pub mod AskedLaws
+pub mod AtomLaws
 pub mod BoxedLaws
+pub mod ContentLaws
 mod Examples
+pub mod FlowLaws
 pub mod InlineLaws
+pub mod LaidLaws
