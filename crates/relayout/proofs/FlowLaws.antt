@@ -36,7 +36,7 @@ use Rattle.relayout.specs.Content.{Filled, child_of, filled, paragraph, stack}
 use Rattle.relayout.specs.Edges.{inner_edge, inner_edges_across, inner_edges_along, margin_or_zero, margins_along}
 use Rattle.relayout.specs.Flow.{answered, asked, asked_by, flow_step, laid_out, laid_under, members}
 use Rattle.relayout.specs.Flowed.{HasMargins, Laid, Member, pair_of}
-use Rattle.relayout.specs.Inline.{Outside, around, end_margin, equation_of, given_or_shrunk, inline_size, inline_size_by, room, shrunk, start_margin}
+use Rattle.relayout.specs.Inline.{Outside, around, end_margin, equation_of, inline_size, known_by, known_or_shrunk, known_size, room, shrunk, start_margin}
 use Rattle.relayout.specs.Intrinsic.{inner}
 use Rattle.relayout.specs.Near.{AreBounded, AreNearMargins, IsNearArea, IsNearFlowed, IsNearMember}
 use Rattle.relayout.specs.Sizes.{block_sizes, containing_of, given, hold, inline_sizes, is_atom, is_parallel, sizes_along}
@@ -123,26 +123,28 @@ equation_near containing style inline =
     let room = inline -ℤ inner_edges_along style (Some inline) containing.mode in
     size_near (held (equation.asked room own.size (start_margin containing style inline) (end_margin containing style inline)) own.min own.max)
 
+known_near : (fills : Bool) (containing : Containing) (style : Style) (c : Constraint) → IfSome (known_by fills containing style c) (λ z. unsigned_abs z ≤ 2 ^ 32)
+known_near true containing style c = equation_near containing style (unwrap_or c.inline (pos 0))
+known_near false containing style c = held_by (inline_sizes containing style c).size where
+  own : Sizes
+  own = inline_sizes containing style c
+
+  held_by : (size : Option ℤ) → IfSome (option_map (hold own) size) (λ z. unsigned_abs z ≤ 2 ^ 32)
+  held_by None = tt
+  held_by (Some size) = hold_near own size
+
 inline_size_near : (outside : Outside) (containing : Containing) (style : Style) (content : Content) (c : Constraint) (handed : Option ℤ) (ms : List Member)
     → unsigned_abs (inline_size outside containing style content c handed ms) ≤ 2 ^ 32
-unfolding inline_size shrunk
-inline_size_near outside containing style content c handed ms = by (is_parallel containing style && not (is_atom style.display)) where
+unfolding inline_size known_size shrunk
+inline_size_near outside containing style content c handed ms = by _ (known_near (is_parallel containing style && not (is_atom style.display)) containing style c) where
   shrunk_near : unsigned_abs (shrunk outside.view containing style c (inner outside.faces style content handed ms)) ≤ 2 ^ 32
   shrunk_near =
       let sizes = inner outside.faces style content handed ms in
       hold_near (inline_sizes containing style c) (fit sizes.min sizes.max (room outside.view (is_parallel containing style) c style.mode (around style c)))
 
-  given_by : (own : Option ℤ) → IfSome own (λ z. unsigned_abs z ≤ 2 ^ 32) → unsigned_abs (given_or_shrunk own outside containing style content c handed ms) ≤ 2 ^ 32
-  given_by None near = shrunk_near
-  given_by (Some size) near = near
-
-  held_by : (own : Sizes) (size : Option ℤ) → IfSome (option_map (hold own) size) (λ z. unsigned_abs z ≤ 2 ^ 32)
-  held_by own None = tt
-  held_by own (Some size) = size_near (held size own.min own.max)
-
-  by : (fills : Bool) → unsigned_abs (inline_size_by fills outside containing style content c handed ms) ≤ 2 ^ 32
-  by true = equation_near containing style (unwrap_or c.inline (pos 0))
-  by false = given_by (given (inline_sizes containing style c)) (held_by (inline_sizes containing style c) (inline_sizes containing style c).size)
+  by : (known : Option ℤ) → IfSome known (λ z. unsigned_abs z ≤ 2 ^ 32) → unsigned_abs (known_or_shrunk known outside containing style content c handed ms) ≤ 2 ^ 32
+  by None near = shrunk_near
+  by (Some size) near = near
 
 -- ---- margins that adjoin
 

@@ -56,20 +56,27 @@ unfoldable pub shrunk : PageView → Containing → Style → Constraint → (co
 shrunk view containing style c content =
     hold (inline_sizes containing style c) (fit content.min content.max (room view (is_parallel containing style) c style.mode (around style c)))
 
-abbrev pub given_or_shrunk : Option ℤ → Outside → Containing → Style → Content → Constraint → (handed : Option ℤ) → List Member → ℤ
-given_or_shrunk (Some size) outside containing style content c handed members = size
-given_or_shrunk None outside containing style content c handed members =
-    shrunk outside.view containing style c (inner outside.faces style content handed members)
+-- it fills its containing block's inline size
+abbrev pub fills : Containing → Style → Bool
+fills containing style = is_parallel containing style && not (is_atom style.display)
 
-abbrev pub inline_size_by : (fills : Bool) → Outside → Containing → Style → Content → Constraint → (handed : Option ℤ) → List Member → ℤ
-inline_size_by true outside containing style content c handed members = (equation_of containing style (unwrap_or c.inline (pos 0))).size
-inline_size_by false outside containing style content c handed members =
-    given_or_shrunk (given (inline_sizes containing style c)) outside containing style content c handed members
+abbrev pub known_by : (fills : Bool) → Containing → Style → Constraint → Option ℤ
+known_by true containing style c = Some (equation_of containing style (unwrap_or c.inline (pos 0))).size
+known_by false containing style c = given (inline_sizes containing style c)
+
+-- the inline size that doesn't hang on the content: that of a box that fills its containing block, or one that is given
+unfoldable pub known_size : Containing → Style → Constraint → Option ℤ
+known_size containing style c = known_by (fills containing style) containing style c
+
+abbrev pub known_or_shrunk : Option ℤ → Outside → Containing → Style → Content → Constraint → (handed : Option ℤ) → List Member → ℤ
+known_or_shrunk (Some size) outside containing style content c handed members = size
+known_or_shrunk None outside containing style content c handed members =
+    shrunk outside.view containing style c (inner outside.faces style content handed members)
 
 -- the inline size of a box's content area
 unfoldable pub inline_size : Outside → Containing → Style → Content → Constraint → (handed : Option ℤ) → List Member → ℤ
 inline_size outside containing style content c handed members =
-    inline_size_by (is_parallel containing style && not (is_atom style.display)) outside containing style content c handed members
+    known_or_shrunk (known_size containing style c) outside containing style content c handed members
 
 -- an orthogonal child, whose border box has this extent, has its block size as the given size
 abbrev pub orthogonal_place : Containing → (inline : ℤ) → Style → (extent : ℤ) → ℤ

@@ -24,14 +24,14 @@ const FURTHEST: i64 = 1 << 33;
 
 /// A line in a box of its mode. Lengths are in units of 1/64 px.
 #[derive(Clone, Copy, Debug, PartialEq, Eq)]
-pub struct LastLine {
+pub(crate) struct LastLine {
     /// Its distance from the block-start edge of the box's content area.
-    pub from: i64,
+    pub(crate) from: i64,
     /// Its block extent.
-    pub extent: i64,
+    pub(crate) extent: i64,
     /// The distance of its baseline from its line-over edge, and the kind of that.
-    pub over: i64,
-    pub baseline: Baseline,
+    pub(crate) over: i64,
+    pub(crate) baseline: Baseline,
 }
 
 impl LastLine {

@@ -37,17 +37,17 @@ use wm_units::Steps;
 
 /// What stands in a box. Lengths are in units of 1/64 px.
 #[derive(Debug, Drop)]
-pub struct Filling {
-    pub parts: Fragments,
+pub(crate) struct Filling {
+    pub(crate) parts: Fragments,
     /// Its block extent.
-    pub extent: i64,
+    pub(crate) extent: i64,
     /// The margins of children that adjoin the box's start and its end.
-    pub start: Margins,
-    pub end: Margins,
+    pub(crate) start: Margins,
+    pub(crate) end: Margins,
     /// Whether there are lines.
-    pub lines: bool,
+    pub(crate) lines: bool,
     /// Whether all children collapse through.
-    pub through: bool,
+    pub(crate) through: bool,
 }
 
 /// Children as their container stacks them.

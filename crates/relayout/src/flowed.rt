@@ -4,7 +4,7 @@ use style_types::{Fragment, Style};
 
 /// A box inside another, laid out: its style, and its fragment.
 #[derive(Debug, Drop)]
-pub struct LaidBox {
-    pub style: Style,
-    pub fragment: Fragment,
+pub(crate) struct LaidBox {
+    pub(crate) style: Style,
+    pub(crate) fragment: Fragment,
 }

@@ -1,6 +1,6 @@
 //! The inline size of a box, and where its parent puts it (CSS 2, 10.3.3 and 10.3.9; CSS Writing Modes 4, 7.3).
 
-ghost use Rattle.std.specs.Prelude.{◌≡◌, ◌≤◌, ◌^◌, IfSome, Some, pos, unsigned_abs, ◌≤ℤ◌};
+ghost use Rattle.std.specs.Prelude.{◌≡◌, ◌≤◌, ◌^◌, IfSome, Some, pos, unwrap_or, unsigned_abs, ◌≤ℤ◌};
 ghost use Rattle.size_rules.specs.Equation.{length_of};
 ghost use Rattle.style_types.specs.Style.{IsBounded, IsLength};
 ghost use Rattle.relayout.specs.Inline as rule;
@@ -8,7 +8,7 @@ ghost use Rattle.relayout.specs.Reach as reach;
 ghost use Rattle.relayout.specs.Reach.{IsBase, IsContent, IsPageView};
 
 use crate::edges::{inner_edges_along, margin, margins_along};
-use crate::sizes::{Containing, inline_sizes, sizes_along};
+use crate::sizes::{Containing, inline_sizes, is_atom, sizes_along};
 use line_fill::Intrinsic;
 use ortho_flow::available;
 use size_rules::{Used, fit, inline_equation};
@@ -17,9 +17,9 @@ use wm_modes::{FlowSide, WritingMode, side_of};
 
 /// The view's sizes across and down the page, from 0 to 2^32 units of 1/64 px.
 #[derive(Clone, Copy, Debug, PartialEq, Eq)]
-pub struct PageView {
-    pub across: i64,
-    pub down: i64,
+pub(crate) struct PageView {
+    pub(crate) across: i64,
+    pub(crate) down: i64,
 }
 
 impl PageView {
@@ -95,6 +95,47 @@ fn around(style: &Style, c: Constraint) -> i64
     ensures near { unsigned_abs result ≤ 2 ^ 35 }
 {
     inner_edges_along(style, c.inline, style.mode) + margins_along(style, c.inline, style.mode)
+}
+
+/// The inline size that doesn't hang on the content: that of a box that fills its containing block, or one that is given.
+#[tactic(auto, unfolding(crate::specs::Inline::known_size))]
+pub(crate) fn known_size(containing: Containing, style: &Style, c: Constraint) -> Option<i64>
+    requires style { IsBounded style.now }
+    requires constraint { reach.IsBounded c }
+    ensures value { result ≡ rule.known_size containing style.now c }
+    ensures near { IsBase result }
+{
+    known_by(fills(containing, style), containing, style, c)
+}
+
+// Whether it fills its containing block's inline size.
+fn fills(containing: Containing, style: &Style) -> bool
+    ensures { result ≡ rule.fills containing style.now }
+{
+    containing.is_parallel(style) && !is_atom(style.display)
+}
+
+fn known_by(fills: bool, containing: Containing, style: &Style, c: Constraint) -> Option<i64>
+    requires style { IsBounded style.now }
+    requires constraint { reach.IsBounded c }
+    ensures value { result ≡ rule.known_by fills containing style.now c }
+    ensures near { IsBase result }
+{
+    if fills {
+        Some(filling_size(containing, style, c))
+    } else {
+        inline_sizes(containing, style, c).given()
+    }
+}
+
+// The inline size of a box that fills its containing block. One that isn't known counts as 0.
+fn filling_size(containing: Containing, style: &Style, c: Constraint) -> i64
+    requires style { IsBounded style.now }
+    requires constraint { reach.IsBounded c }
+    ensures value { result ≡ (rule.equation_of containing style.now (unwrap_or c.inline (pos 0))).size }
+    ensures near { IsBase (Some result) }
+{
+    equation_of(containing, style, c.inline.unwrap_or(0)).size
 }
 
 /// It shrinks to fit its content, which has these sizes.

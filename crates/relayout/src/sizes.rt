@@ -14,9 +14,9 @@ use wm_modes::{Direction, WritingMode};
 
 /// What a containing block is to the boxes in it: its mode and its used direction.
 #[derive(Clone, Copy, Debug, PartialEq, Eq)]
-pub struct Containing {
-    pub mode: WritingMode,
-    pub dir: Direction,
+pub(crate) struct Containing {
+    pub(crate) mode: WritingMode,
+    pub(crate) dir: Direction,
 }
 
 impl Containing {
@@ -40,10 +40,10 @@ impl Containing {
 
 /// A size, a minimum and a maximum, in units of 1/64 px. `None` is auto, or that there is no maximum.
 #[derive(Clone, Copy, Debug, PartialEq, Eq)]
-pub struct Sizes {
-    pub size: Option<i64>,
-    pub min: i64,
-    pub max: Option<i64>,
+pub(crate) struct Sizes {
+    pub(crate) size: Option<i64>,
+    pub(crate) min: i64,
+    pub(crate) max: Option<i64>,
 }
 
 impl Sizes {
