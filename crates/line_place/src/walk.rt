@@ -409,7 +409,7 @@ impl Walk {
         Ok(())
     }
 
-    // A fragment of the box begins.
+    // A fragment of the box begins. Most have one part.
     fn begin(
         &mut self,
         alloc: Global,
@@ -426,7 +426,8 @@ impl Walk {
     {
         let margin = left_margin(inline_box, edge);
         let advance = margin + left(inline_box, edge);
-        let before = mem::replace(&mut self.parts, Vec::new(alloc));
+        let parts = Vec::with_capacity(alloc, 1)?;
+        let before = mem::replace(&mut self.parts, parts);
         self.opened.push(Open {
             place,
             left: self.at + margin,
