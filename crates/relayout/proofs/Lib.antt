@@ -6,3 +6,4 @@ mod Examples
 pub mod FlowLaws
 pub mod InlineLaws
 pub mod LaidLaws
+pub mod TextLaws

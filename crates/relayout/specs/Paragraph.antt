@@ -1,10 +1,10 @@
 -- What a paragraph and its prepared text may have.
-use Rattle.std.specs.Prelude.{◌≤◌, ◌^◌, ⊤, List, All, length, Option, IfSome}
+use Rattle.std.specs.Prelude.{ℕ, ◌≤◌, ◌^◌, ⊤, List, All, length, Option, IfSome}
 use Rattle.style_types.specs.Item.{Entry}
 use Rattle.box_gen.specs.Tree.{Content, blocks, inline}
 use Rattle.para_lines.specs.Boxes.{HasBounds}
 use Rattle.para_prepare.specs.Limits.{HasFontSize, text_bytes}
-use Rattle.para_prepare.specs.Preparation.{AreFrom, Preparation, HasBounds as HasTextBounds}
+use Rattle.para_prepare.specs.Preparation.{AreFrom, Preparation, HasBounds as HasTextBounds, atoms_in, atoms_of}
 
 -- the items of a paragraph
 pub record IsParagraph (entries : List Entry) : Type 0 where
@@ -13,13 +13,19 @@ pub record IsParagraph (entries : List Entry) : Type 0 where
   pub sizes : All HasFontSize entries
   pub bounds : All HasBounds entries
 
+-- a box has the boxes of the inline-blocks that its paragraph names
+abbrev pub HasAtoms : Content → (count : ℕ) → Type 0
+HasAtoms blocks count = ⊤
+HasAtoms (inline entries) count = atoms_of entries ≤ count
+
 -- its prepared text
-pub record IsReady (entries : List Entry) (text : Preparation) : Type 0 where
-  pub few : length text.items ≤ 2 ^ 21
-  pub sources : AreFrom 0 (length entries) text.items
-  pub lengths : All (λ item. HasTextBounds item.what) text.items
+pub record IsReady (entries : List Entry) (ready : Preparation) : Type 0 where
+  pub few : length ready.items ≤ 2 ^ 21
+  pub sources : AreFrom 0 (length entries) ready.items
+  pub lengths : All (λ item. HasTextBounds item.what) ready.items
+  pub atoms : atoms_in ready.items ≤ atoms_of entries
 
 -- the same of a box that may hold a paragraph
 abbrev pub IsReadyIn : Content → Option Preparation → Type 0
-IsReadyIn blocks text = ⊤
-IsReadyIn (inline entries) text = IsParagraph entries × IfSome text (IsReady entries)
+IsReadyIn blocks ready = ⊤
+IsReadyIn (inline entries) ready = IsParagraph entries × IfSome ready (IsReady entries)

@@ -8,14 +8,14 @@ ghost use Rattle.style_types.specs.Style.{IsBounded};
 ghost use Rattle.box_gen.specs.Tree.{content_of};
 ghost use Rattle.para_lines.specs.Paragraph.{atom_of};
 ghost use Rattle.para_lines.specs.Reach.{IsNearLine, atom_reach};
-ghost use Rattle.para_prepare.specs.Preparation.{atoms_in};
+ghost use Rattle.para_prepare.specs.Preparation.{atoms_of};
 ghost use Rattle.relayout.specs.Atoms as atoms;
 ghost use Rattle.relayout.specs.Content as rule;
 ghost use Rattle.relayout.specs.Content.{AreStacked, IsFilled, child_box};
 ghost use Rattle.relayout.specs.Flowed.{AreLaid, Laid, as_laid};
 ghost use Rattle.relayout.specs.Near.{HasReach, IsNearLaid, line_reach};
 ghost use Rattle.relayout.specs.Intrinsic.{IsTextOf};
-ghost use Rattle.relayout.specs.Paragraph.{IsParagraph, IsReady, IsReadyIn};
+ghost use Rattle.relayout.specs.Paragraph.{HasAtoms, IsParagraph, IsReady, IsReadyIn};
 ghost use Rattle.relayout.specs.Reach.{IsBase};
 ghost use Rattle.relayout.specs.Sizes.{containing_of};
 
@@ -205,7 +205,7 @@ pub(crate) fn paragraph<L: Ledger>(
     requires ready { IsReady (entries_of items.now) text.now }
     requires near { All IsNearLaid laid.now }
     requires count { length laid.now ≤ 2 ^ 18 }
-    requires atoms { atoms_in text.now.items ≤ length laid.now }
+    requires atoms { atoms_of (entries_of items.now) ≤ length laid.now }
     ensures ticks { OnOk result (arranged.new ≡ arranged.old + 1) }
     ensures most { (arranged.old ≤ arranged.new) × (arranged.new ≤ arranged.old + 1) }
     ensures filled { IfOk result (λ made. (list : List Laid) → AreLaid laid.now list → IsFilled made (rule.lines_in (faces_of ⟦<dyn Face as Face>⟧ faces.now) container.now (entries_of items.now) text.now list)) }
@@ -240,7 +240,7 @@ pub(crate) fn filled<L: Ledger>(
     requires near { All IsNearLaid laid.now }
     requires count { length laid.now ≤ 2 ^ 18 }
     requires ready { IsReadyIn (content_of node.now.content) (option_copied text) }
-    requires atoms { IfSome (option_copied text) (λ text. atoms_in text.items ≤ length laid.now) }
+    requires atoms { HasAtoms (content_of node.now.content) (length laid.now) }
     ensures ticks { OnOk result (arranged.new ≡ arranged.old + 1) }
     ensures most { (arranged.old ≤ arranged.new) × (arranged.new ≤ arranged.old + 1) }
     ensures filled { IfOk result (λ made. (list : List Laid) → AreLaid laid.now list → IsTextOf (faces_of ⟦<dyn Face as Face>⟧ faces.now) node.now.style (content_of node.now.content) (option_copied text.entry) → IsFilled made (rule.filled (faces_of ⟦<dyn Face as Face>⟧ faces.now) node.now.name node.now.style joins size (content_of node.now.content) list)) }

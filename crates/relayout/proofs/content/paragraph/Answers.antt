@@ -17,6 +17,7 @@ paragraph_lines-requires-clause-atoms g c =
     let many = many_atoms _ c.in_ok-atoms.atoms.items c.args.laid.now c.in_ok-atoms.ensures.are in
     let same : length c.deref.result.now ≡ length c.in_ok-atoms.atoms.items = ap length c.deref.ensures.value in
     let few = c.requires.atoms in
+    let ready = c.requires.ready.atoms in
     omega arith
 
 pub paragraph_lines-requires-clause-reach : goal.paragraph_lines-requires-clause-reach
