@@ -3,8 +3,7 @@
 ghost use Rattle.std.specs.Prelude.{◌≡◌, ◌+◌, ◌≤◌, ◌^◌, ◌+ℤ◌, ◌-ℤ◌, IfOk, IfSome, Some, pos, unsigned_abs};
 ghost use Rattle.style_types.specs.declared.fragment.Fragment.{out-Fragment};
 ghost use Rattle.style_types.specs.Fragment.{kind_of, none, piece_of, pieces_of};
-ghost use Rattle.style_types.specs.Style.{IsBounded, baseline_of};
-ghost use Rattle.wm_modes.specs.Sides as sides;
+ghost use Rattle.style_types.specs.Style.{baseline_of};
 ghost use Rattle.para_lines.specs.Paragraph.{atom_of};
 ghost use Rattle.para_lines.specs.Reach.{atom_reach};
 ghost use Rattle.relayout.specs.Atoms as rule;

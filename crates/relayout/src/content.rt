@@ -1,6 +1,6 @@
 //! The content of a box: block-level children one under the other, or the lines of a paragraph (CSS 2, 8.3.1, 9.4.1 and 9.4.2).
 
-ghost use Rattle.std.specs.Prelude.{◌≡◌, ◌+◌, ◌*◌, ◌≤◌, ◌^◌, ℕ, List, All, IfOk, IfSome, OnOk, Some, length, map, option_copied, pos, ◌≤ℤ◌};
+ghost use Rattle.std.specs.Prelude.{◌≡◌, ◌+◌, ◌*◌, ◌≤◌, ◌^◌, ℕ, List, All, IfOk, OnOk, Some, length, map, option_copied, pos};
 ghost use Rattle.face_api.specs.Faces.{faces_of};
 ghost use Rattle.style_types.specs.Fragment.{Pieces, before, pieces_of};
 ghost use Rattle.style_types.specs.Item.{entries_of};

@@ -1,11 +1,11 @@
 //! The inline size of a box, and where its parent puts it (CSS 2, 10.3.3 and 10.3.9; CSS Writing Modes 4, 7.3).
 
-ghost use Rattle.std.specs.Prelude.{◌≡◌, ◌≤◌, ◌^◌, IfSome, Some, pos, unwrap_or, unsigned_abs, ◌≤ℤ◌};
+ghost use Rattle.std.specs.Prelude.{◌≡◌, ◌≤◌, ◌^◌, Some, pos, unwrap_or, unsigned_abs, ◌≤ℤ◌};
 ghost use Rattle.size_rules.specs.Equation.{length_of};
-ghost use Rattle.style_types.specs.Style.{IsBounded, IsLength};
+ghost use Rattle.style_types.specs.Style.{IsBounded};
 ghost use Rattle.relayout.specs.Inline as rule;
 ghost use Rattle.relayout.specs.Reach as reach;
-ghost use Rattle.relayout.specs.Reach.{IsBase, IsContent, IsPageView};
+ghost use Rattle.relayout.specs.Reach.{IsBase, IsPageView};
 
 use crate::edges::{inner_edges_along, margin, margins_along};
 use crate::sizes::{Containing, inline_sizes, is_atom, sizes_along};

@@ -1,7 +1,7 @@
 //! Intrinsic sizes: what a box asks of its containing block's inline axis, and what its content comes to at least and at most
 //! (CSS 2, 10.3.5; CSS Writing Modes 4, 7.3).
 
-ghost use Rattle.std.specs.Prelude.{◌≡◌, ◌+◌, ◌≤◌, ◌^◌, ℤ, List, Option, All, IfOk, IfSome, OnOk, length, map, option_copied, unsigned_abs};
+ghost use Rattle.std.specs.Prelude.{◌≡◌, ◌+◌, ◌≤◌, ◌^◌, List, Option, All, IfOk, IfSome, OnOk, length, map, option_copied, unsigned_abs};
 ghost use Rattle.face_api.specs.Faces.{faces_of};
 ghost use Rattle.face_api.specs.Table.{Table};
 ghost use Rattle.style_types.specs.declared.fragment.Fragment.{out-Fragment};
