@@ -27,23 +27,22 @@ pub fn character_unit(c: char, place: usize, style: &Style, face: &dyn Face) -> 
     ensures unit { result ≡ plain.character_unit style.now (table face.now) place c }
     ensures bounds { IfSome result (IsUnitIn place (place + 1)) }
 {
-    let class = break_class(c);
-    if is_control(class) {
-        return None;
-    }
     let cluster = Cluster {
         first: place,
         end: place + 1,
         head: c,
     };
-    let kind = kind_of(style, c, class);
-    Some(single(
-        cluster,
-        kind,
-        class.unwrap_or(BreakClass::Other),
-        style,
-        face,
-    ))
+    match break_class(c) {
+        Some(BreakClass::Control) => None,
+        Some(class) => {
+            let kind = kind_of(style, c, Some(class));
+            Some(single(cluster, kind, class, style, face))
+        }
+        None => {
+            let kind = kind_of(style, c, None);
+            Some(single(cluster, kind, BreakClass::Other, style, face))
+        }
+    }
 }
 
 /// Whether no units are combined in text of this style (CSS Writing Modes 4, 9.1).
