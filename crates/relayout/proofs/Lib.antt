@@ -5,5 +5,6 @@ pub mod ContentLaws
 mod Examples
 pub mod FlowLaws
 pub mod InlineLaws
+pub mod KeptLaws
 pub mod LaidLaws
 pub mod TextLaws

@@ -6,6 +6,8 @@ pub mod Flow
 pub mod Flowed
 pub mod Inline
 pub mod Intrinsic
+pub mod Kept
+pub mod Laws
 pub mod Near
 pub mod Paragraph
 pub mod Reach

@@ -8,4 +8,5 @@ mod edges;
 mod flowed;
 mod inline;
 mod intrinsic;
+pub mod laws;
 mod sizes;

@@ -1,0 +1,37 @@
+//! Laws of what is kept in an arena of boxes. These functions do nothing: their contracts are the laws.
+
+ghost use Rattle.relayout.specs.Laws.{AttachedIsRight, BareIsRight, DetachedIsRight, DroppedIsRight, ForgottenIsRight, KeptIsRight, KeptTextIsRight, MarkedIsRight, RestyledAlikeIsRight, RestyledIsRight};
+
+/// Where nothing is kept, all that is kept is right; so it is where all is forgotten.
+pub fn what_is_not_kept_is_right()
+    ensures bare { BareIsRight }
+    ensures forgotten { ForgottenIsRight }
+{}
+
+/// A result that is right is kept, or a text: then all that is kept is right if it was.
+pub fn what_is_kept_is_right()
+    ensures results { KeptIsRight }
+    ensures texts { KeptTextIsRight }
+{}
+
+/// A box is marked with all above it: what is kept is right if that of all others was.
+pub fn what_is_kept_is_right_after_a_mark()
+    ensures marked { MarkedIsRight }
+    ensures dropped { DroppedIsRight }
+{}
+
+/// A box is put anew: what is kept for those inside it is right where its mode and its direction are to them what they were.
+pub fn what_is_kept_is_right_after_a_restyle()
+    ensures each { RestyledIsRight }
+    ensures alike { RestyledAlikeIsRight }
+{}
+
+/// A box is attached: what is kept is right but for that box itself, where the mode or the direction around it changes.
+pub fn what_is_kept_is_right_after_an_attach()
+    ensures { AttachedIsRight }
+{}
+
+/// A box is detached: what is kept is right but for that box itself, where the mode or the direction around it changes.
+pub fn what_is_kept_is_right_after_a_detach()
+    ensures { DetachedIsRight }
+{}
