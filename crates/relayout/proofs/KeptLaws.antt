@@ -179,9 +179,9 @@ dropped_is_right outside old new key right drops k = record { results = results;
 -- ---- boxes are put anew, attached and detached
 
 pub restyled_is_right : RestyledIsRight
-restyled_is_right outside old new key node linked right restyles k same = record { results = results; text = texts } where
-  results : HasRightResults outside new.slots k
-  results = results_stay outside old.slots new.slots k (IsAbove old.slots k key) (restyles.marked.above k) (λ free. (survive_restyle old new key node linked restyles k free).back) (restyles.kept k)
+restyled_is_right outside old new key node linked right restyles k = (texts, results) where
+  results : SameContaining old.slots new.slots k → HasRightResults outside new.slots k
+  results same = results_stay outside old.slots new.slots k (IsAbove old.slots k key) (restyles.marked.above k) (λ free. (survive_restyle old new key node linked restyles k free).back) (restyles.kept k)
       (λ free. (right k).results) same
 
   texts : HasRightText outside new.slots k
@@ -191,7 +191,10 @@ restyled_is_right outside old new key node linked right restyles k same = record
   ]
 
 pub restyled_alike_is_right : RestyledAlikeIsRight
-restyled_alike_is_right outside old new key was node linked right here alike restyles k = restyled_is_right outside old new key node linked right restyles k same where
+restyled_alike_is_right outside old new key was node linked right here alike restyles k = record { results = all.1 same; text = all.0 } where
+  all : HasRightText outside new.slots k × (SameContaining old.slots new.slots k → HasRightResults outside new.slots k)
+  all = restyled_is_right outside old new key node linked right restyles k
+
   by : (parent : Option ℕ) (style : Style) → containing_by (option_and_then (node_at new.slots) parent) style ≡ containing_by (option_and_then (node_at old.slots) parent) style
   by None style = refl
   by (Some p) style = elim (cases_eq p key) [
@@ -207,13 +210,13 @@ restyled_alike_is_right outside old new key was node linked right here alike res
       ∙ by (parent_at old.slots k) style
 
 pub attached_is_right : AttachedIsRight
-attached_is_right outside old new parent before child linked right attaches k same = record {
-  results = results_stay outside old.slots new.slots k (IsAbove old.slots k parent) (attaches.marked.above k) (λ free. (survive_attach old new parent before child linked attaches k free).back) (attaches.kept k) (λ free. (right k).results) same;
-  text = text_stays outside old.slots new.slots k (attaches.texts k) (attaches.nodes k) (right k).text;
-}
+attached_is_right outside old new parent before child linked right attaches k = (
+  text_stays outside old.slots new.slots k (attaches.texts k) (attaches.nodes k) (right k).text,
+  λ same. results_stay outside old.slots new.slots k (IsAbove old.slots k parent) (attaches.marked.above k) (λ free. (survive_attach old new parent before child linked attaches k free).back) (attaches.kept k) (λ free. (right k).results) same,
+)
 
 pub detached_is_right : DetachedIsRight
-detached_is_right outside old new parent key linked right detaches k same = record {
-  results = results_stay outside old.slots new.slots k (IsAbove old.slots k parent) (detaches.marked.above k) (λ free. (survive_detach old new parent key linked detaches k free).back) (detaches.kept k) (λ free. (right k).results) same;
-  text = text_stays outside old.slots new.slots k (detaches.texts k) (detaches.nodes k) (right k).text;
-}
+detached_is_right outside old new parent key linked right detaches k = (
+  text_stays outside old.slots new.slots k (detaches.texts k) (detaches.nodes k) (right k).text,
+  λ same. results_stay outside old.slots new.slots k (IsAbove old.slots k parent) (detaches.marked.above k) (λ free. (survive_detach old new parent key linked detaches k free).back) (detaches.kept k) (λ free. (right k).results) same,
+)

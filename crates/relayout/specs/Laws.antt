@@ -46,10 +46,14 @@ MarkedIsRight = (outside : Outside) (old new : Arena) (key : ℕ) → Marks old 
 abbrev pub DroppedIsRight : Type 0
 DroppedIsRight = (outside : Outside) (old new : Arena) (key : ℕ) → AreRight outside old.slots → DropsText old new key → AreRight outside new.slots
 
+-- each text that is kept is right, and so are the results of each box to which its containing block is what it was
+abbrev pub AreRightWhereSame : Outside → (old new : Slots Preparation) → Type 0
+AreRightWhereSame outside old new = (k : ℕ) → HasRightText outside new k × (SameContaining old new k → HasRightResults outside new k)
+
 -- a box is put anew: what is kept for those inside it stays right where it is to them what it was
 abbrev pub RestyledIsRight : Type 0
 RestyledIsRight = (outside : Outside) (old new : Arena) (key : ℕ) (node : Node) → IsLinked (links_at old.slots) → AreRight outside old.slots → Restyles old new key node
-    → (k : ℕ) → SameContaining old.slots new.slots k → IsRightAt outside new.slots k
+    → AreRightWhereSame outside old.slots new.slots
 
 -- so all is right where its mode and its direction stay
 abbrev pub RestyledAlikeIsRight : Type 0
@@ -59,9 +63,9 @@ RestyledAlikeIsRight = (outside : Outside) (old new : Arena) (key : ℕ) (was no
 -- a box is attached: what is kept for it stays right where its parent is to it what it was to itself
 abbrev pub AttachedIsRight : Type 0
 AttachedIsRight = (outside : Outside) (old new : Arena) (parent : ℕ) (before : Option ℕ) (child : ℕ) → IsLinked (links_at old.slots) → AreRight outside old.slots
-    → Attaches old new parent before child → (k : ℕ) → SameContaining old.slots new.slots k → IsRightAt outside new.slots k
+    → Attaches old new parent before child → AreRightWhereSame outside old.slots new.slots
 
 -- a box is detached: what is kept for it stays right where it is to itself what its parent was to it
 abbrev pub DetachedIsRight : Type 0
 DetachedIsRight = (outside : Outside) (old new : Arena) (parent key : ℕ) → IsLinked (links_at old.slots) → AreRight outside old.slots
-    → Detaches old new parent key → (k : ℕ) → SameContaining old.slots new.slots k → IsRightAt outside new.slots k
+    → Detaches old new parent key → AreRightWhereSame outside old.slots new.slots
