@@ -76,7 +76,7 @@ module _ {T : Type 0} where
   abbrev pub node_in : Option (Held T) → Option Node
   node_in o = option_map (λ held. node_of held.node) o
 
-  abbrev kept_in : Constraint → Bool → Option (Held T) → Option Pieces
+  abbrev pub kept_in : Constraint → Bool → Option (Held T) → Option Pieces
   kept_in c marked o = if marked then None else option_and_then (λ held. option_map piece_of (result_for held.results c)) o
 
   -- a box that lives holds something

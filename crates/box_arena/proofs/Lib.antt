@@ -4,6 +4,7 @@ pub mod Chains
 pub mod Climbs
 pub mod Joined
 pub mod LinkSteps
+pub mod Planted
 pub mod Releasing
 pub mod Sizes
 pub mod Survival

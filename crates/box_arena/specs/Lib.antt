@@ -7,6 +7,7 @@ pub mod Joining
 pub mod Laws
 pub mod Links
 pub mod Marks
+pub mod Planting
 pub mod Results
 pub mod Weight
 pub mod Write

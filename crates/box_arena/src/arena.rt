@@ -70,7 +70,8 @@ impl<T> BoxArena<T> {
     /// memory.
     pub fn insert_reserved(&mut self, node: BoxNode) -> BoxKey
         requires { HasRoomFor self.old 1 }
-        ensures { Inserts self.old self.new result (node_of node) }
+        ensures inserts { Inserts self.old self.new result (node_of node) }
+        ensures linked { IsLinked (links_at self.old.slots) }
     {
         let entry = Entry::new(self.alloc, node);
         let index = self.boxes.insert_reserved(entry);
@@ -145,7 +146,8 @@ impl<T> BoxArena<T> {
         requires free { parent_at self.old.slots child ≡ None }
         requires apart { IsAbove self.old.slots child parent → ⊥ }
         requires before { IsIn (links_at self.old.slots) parent before }
-        ensures { Attaches self.old self.new parent before child }
+        ensures attaches { Attaches self.old self.new parent before child }
+        ensures linked { IsLinked (links_at self.old.slots) × IsLinked (links_at self.new.slots) }
     {
         mark_up(&mut self.boxes, parent.index);
         link(&mut self.boxes, parent.index, index_of(before), child.index);

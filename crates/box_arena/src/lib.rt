@@ -9,6 +9,7 @@ mod free;
 mod key;
 pub mod laws;
 mod links;
+mod planting;
 mod results;
 #[cfg(test)]
 mod tests;
@@ -16,4 +17,5 @@ mod write;
 
 pub use arena::BoxArena;
 pub use key::BoxKey;
+pub use planting::count;
 pub use style_types::Constraint;

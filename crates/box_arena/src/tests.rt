@@ -2,8 +2,8 @@
 
 ghost use Rattle.slab.specs.Slab.{ContainsKey};
 
-use crate::{BoxArena, BoxKey, Constraint};
-use box_gen::{BoxNode, Content};
+use crate::{BoxArena, BoxKey, Constraint, count};
+use box_gen::{BoxNode, BoxTree, Content};
 use std::alloc::{AllocError, Global};
 use std::rc::Rc;
 use std::test::*;
@@ -98,5 +98,21 @@ fn a_tree_is_edited(rt: HostRuntime) -> Result<(), Fail> {
     arena.stale(parent);
     arena.forget();
     arena.release(child);
+    Ok(())
+}
+
+#[test]
+fn a_tree_is_planted(rt: HostRuntime) -> Result<(), Fail> {
+    let mut arena: BoxArena<u32> = BoxArena::new(rt.alloc());
+    let tree = BoxTree {
+        node: node(1),
+        children: Vec::new(rt.alloc()),
+    };
+    let boxes = count(&tree);
+    assert_eq!(rt; boxes, 1);
+    arena.reserve(boxes)?;
+    let root = arena.plant(tree);
+    assert_eq!(rt; arena.node(root).name.node, 1);
+    assert_eq!(rt; arena.parent(root), None);
     Ok(())
 }

@@ -22,26 +22,26 @@ apart old mid new one other first second above = differ (sym (top_alone (links_a
     free = ap (λ (o : Option (Entry ℕ)). parent_of (option_map (λ entry. entry.links) o)) (second.others one differ) ∙ first.here.parent
 
 pub insert_reserved-child-requires : goal.insert_reserved-child-requires
-insert_reserved-child-requires g c = c.insert_reserved-parent.ensures.room 1 c.in_ok-reserve.ensures.room
+insert_reserved-child-requires g c = c.insert_reserved-parent.ensures.inserts.room 1 c.in_ok-reserve.ensures.room
 
 pub attach-requires-clause-apart : goal.attach-requires-clause-apart
-attach-requires-clause-apart g c = apart _ _ _ c.insert_reserved-parent.result c.insert_reserved-child.result c.insert_reserved-parent.ensures c.insert_reserved-child.ensures
+attach-requires-clause-apart g c = apart _ _ _ c.insert_reserved-parent.result c.insert_reserved-child.result c.insert_reserved-parent.ensures.inserts c.insert_reserved-child.ensures.inserts
 
 pub first-requires-2 : goal.first-requires-2
 first-requires-2 g c =
-    (c.detach.ensures c.insert_reserved-parent.result c.attach.ensures.inside).live _ (c.attach.ensures.live _ (c.insert_reserved-child.ensures.live _ c.insert_reserved-parent.ensures.alive))
+    (c.detach.ensures c.insert_reserved-parent.result c.attach.ensures.attaches.inside).live _ (c.attach.ensures.attaches.live _ (c.insert_reserved-child.ensures.inserts.live _ c.insert_reserved-parent.ensures.inserts.alive))
 
 pub stale-requires : goal.stale-requires
 stale-requires g c =
-    (c.detach.ensures c.insert_reserved-parent.result c.attach.ensures.inside).live _ (c.attach.ensures.live _ (c.insert_reserved-child.ensures.live _ c.insert_reserved-parent.ensures.alive))
+    (c.detach.ensures c.insert_reserved-parent.result c.attach.ensures.attaches.inside).live _ (c.attach.ensures.attaches.live _ (c.insert_reserved-child.ensures.inserts.live _ c.insert_reserved-parent.ensures.inserts.alive))
 
 pub release-requires-clause-live : goal.release-requires-clause-live
 release-requires-clause-live g c =
     c.forget.ensures.live _
     (c.stale.ensures.put.live _
-    ((c.detach.ensures c.insert_reserved-parent.result c.attach.ensures.inside).live _ (c.attach.ensures.live _ c.insert_reserved-child.ensures.alive)))
+    ((c.detach.ensures c.insert_reserved-parent.result c.attach.ensures.attaches.inside).live _ (c.attach.ensures.attaches.live _ c.insert_reserved-child.ensures.inserts.alive)))
 
 pub release-requires-clause-free : goal.release-requires-clause-free
 release-requires-clause-free g c =
-    let detaches = c.detach.ensures c.insert_reserved-parent.result c.attach.ensures.inside in
+    let detaches = c.detach.ensures c.insert_reserved-parent.result c.attach.ensures.attaches.inside in
     ap parent_of (c.forget.ensures.links _ ∙ c.stale.ensures.put.links _) ∙ detaches.free

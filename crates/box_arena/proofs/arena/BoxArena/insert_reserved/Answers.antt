@@ -9,8 +9,8 @@ invariant_of-self g c =
     let P : Entry _ → Type 0 = λ e. Updates c.self.inside.boxes c.insert_reserved-index.new.self c.insert_reserved-index.result (Some e) in
     sound_inserted c.self.inside.boxes c.insert_reserved-index.new.self c.insert_reserved-index.result c.args.node c.insert_reserved-index.ensures.was_vacant (subst P c.new-entry.ensures c.insert_reserved-index.ensures.updates) c.self.invariant
 
-pub returns : goal.returns
-returns g c =
+pub returns-clause-inserts : goal.returns-clause-inserts
+returns-clause-inserts g c =
     let P : Entry _ → Type 0 = λ e. Updates c.self.inside.boxes c.insert_reserved-index.new.self c.insert_reserved-index.result (Some e) in
     let updates = subst P c.new-entry.ensures c.insert_reserved-index.ensures.updates in
     rw (← c.self.view_is) (record {
@@ -21,3 +21,6 @@ returns g c =
       others = updates.others;
       room = λ n fits. omega (arith, c.insert_reserved-index.ensures.len, c.insert_reserved-index.ensures.capacity);
     })
+
+pub returns-clause-linked : goal.returns-clause-linked
+returns-clause-linked g c = rw (← c.self.view_is) c.self.invariant.linked
