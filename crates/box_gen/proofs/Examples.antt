@@ -13,6 +13,7 @@ use Rattle.style_types.specs.Tree as styled
 use Rattle.style_types.specs.Tree.{Nodes, node, element, line_break}
 use Rattle.box_gen.specs.Boxes.{root_boxes, root_caught, held, caught, stacked, join, is_blank}
 use Rattle.box_gen.specs.Building.{least}
+use Rattle.box_gen.specs.Orthogonal.{past, root_past}
 use Rattle.box_gen.specs.Tree.{box, none, blocks, inline}
 
 -- a text, and an inline box round a line break
@@ -162,3 +163,21 @@ the_least_of_three = refl
 the_least_of_three_is : least (root_caught the_least_of_three_tree) ≡ Some 3
 unfolding initial caught least the_least_of_three_tree
 the_least_of_three_is = refl
+
+-- six boxes that turn, one in the other
+six_turn_tree : Nodes
+six_turn_tree =
+    node 0 element (record initial { display = displays.FlowRoot }) (node 1 element (record initial { display = displays.Block; mode = modes.VerticalRl }) (node 2 element (record initial { display = displays.Block; mode = modes.HorizontalTb }) (node 3 element (record initial { display = displays.InlineBlock; mode = modes.VerticalRl }) (node 4 element (record initial { display = displays.Block; mode = modes.HorizontalTb }) (node 5 element (record initial { display = displays.Block; mode = modes.VerticalRl }) (node 6 element (record initial { display = displays.Block; mode = modes.HorizontalTb }) styled.none styled.none) styled.none) styled.none) styled.none) styled.none) styled.none) styled.none
+
+six_turn : root_past six_turn_tree ≡ []
+unfolding initial past six_turn_tree
+six_turn = refl
+
+-- seven boxes that turn, one in the other
+seven_turn_tree : Nodes
+seven_turn_tree =
+    node 0 element (record initial { display = displays.FlowRoot }) (node 1 element (record initial { display = displays.Block; mode = modes.VerticalRl }) (node 2 element (record initial { display = displays.Block; mode = modes.HorizontalTb }) (node 3 element (record initial { display = displays.InlineBlock; mode = modes.VerticalRl }) (node 4 element (record initial { display = displays.Block; mode = modes.HorizontalTb }) (node 5 element (record initial { display = displays.Block; mode = modes.VerticalRl }) (node 6 element (record initial { display = displays.Block; mode = modes.HorizontalTb }) (node 7 element (record initial { display = displays.Block; mode = modes.VerticalRl }) styled.none styled.none) styled.none) styled.none) styled.none) styled.none) styled.none) styled.none) styled.none
+
+seven_turn : root_past seven_turn_tree ≡ 7 ∷ []
+unfolding initial past seven_turn_tree
+seven_turn = refl

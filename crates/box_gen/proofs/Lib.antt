@@ -5,5 +5,6 @@ pub mod Examples
 pub mod Fillings
 pub mod Least
 pub mod NodeLines
+pub mod PastNodes
 pub mod Results
 pub mod Runs

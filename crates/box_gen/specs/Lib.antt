@@ -1,3 +1,4 @@
 pub mod Boxes
 pub mod Building
+pub mod Orthogonal
 pub mod Tree

@@ -36,7 +36,8 @@ fn least_caught_at(node: &StyledNode, inside: bool) -> Option<u32>
     }
 }
 
-fn lesser(one: Option<u32>, other: Option<u32>) -> Option<u32>
+/// The lesser of two numbers, where there are two.
+pub fn lesser(one: Option<u32>, other: Option<u32>) -> Option<u32>
     ensures { result ≡ lesser one other }
 {
     match (one, other) {
