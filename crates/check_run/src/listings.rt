@@ -1,9 +1,9 @@
 //! The listing of a page, and what a sink that fails holds of it.
 
 use early_flow::{Placed, Rects};
+use early_listing::write_listing;
 use early_tree::NodeNumbers;
 use io_edge::{MemorySink, SteadySink, WriteError};
-use listing::write_listing;
 use std::alloc::Global;
 use std::test::*;
 use wm_modes::{Direction, Rect, WritingMode};

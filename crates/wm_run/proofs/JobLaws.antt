@@ -19,7 +19,7 @@ use Rattle.early_tree.specs.Early.{IsEarly}
 use Rattle.early_tree.specs.declared.boxes.EarlyBox.{EarlyBox}
 use Rattle.early_flow.specs.Page.{page_of}
 use Rattle.early_flow.specs.declared.placed.Placed.{Placed}
-use Rattle.listing.specs.Listing.{listing}
+use Rattle.early_listing.specs.Listing.{listing}
 use Rattle.wm_run.specs.Command.{IsCommand, IsNoCommand}
 use Rattle.html_tokens.specs.Error.{kind_word}
 use Rattle.wm_run.specs.Due.{refusal, cause_word, status_of, bytes_of, IsOnly, IsDueAlone}

@@ -1,7 +1,7 @@
 -- What is due for an input, as a status and the bytes to be written.
 use Rattle.std.specs.Prelude.{◌≡◌, ℕ, List, ◌++◌, codes, decimal}
 use Rattle.html_tokens.specs.Error.{kind_word}
-use Rattle.listing.specs.Listing.{listing}
+use Rattle.early_listing.specs.Listing.{listing}
 use Rattle.wm_run.specs.declared.due.Due.{Due}
 use Rattle.wm_run.specs.declared.due.Due.TheVariants as dues
 use Rattle.wm_run.specs.declared.due.Cause.{Cause}

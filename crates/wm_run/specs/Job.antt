@@ -14,7 +14,7 @@ use Rattle.html_read.specs.Values.{Whole}
 use Rattle.early_tree.specs.Boxes.{Boxes}
 use Rattle.early_tree.specs.Early.{IsEarly}
 use Rattle.early_flow.specs.Page.{page_of}
-use Rattle.listing.specs.Listing.{listing}
+use Rattle.early_listing.specs.Listing.{listing}
 use Rattle.wm_run.specs.Command.{IsCommand, IsNoCommand}
 use Rattle.html_tokens.specs.Error.{kind_word}
 use Rattle.wm_run.specs.Due.{refusal}

@@ -10,7 +10,7 @@ use Rattle.std.specs.Io.KnownBytes.{Appends}
 use Rattle.io_edge.proofs.Growth.{front_of_longer, waits_on, put_more, put_front, put_whole, put_partly}
 use Rattle.io_edge.specs.Edge.{AppendsUpTo, AppendsFront}
 use Rattle.wm_modes.specs.declared.rects.Rect.{Rect}
-use Rattle.listing.specs.Listing.{box_line, box_lines}
+use Rattle.early_listing.specs.Listing.{box_line, box_lines}
 
 without_rects : (nodes : List ℕ) → box_lines nodes [] ≡ []
 without_rects [] = refl

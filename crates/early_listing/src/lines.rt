@@ -1,7 +1,7 @@
 //! The lines of a listing, each made in a buffer on the stack.
 
 ghost use Rattle.std.specs.Prelude.{◌≡◌, ◌+◌, ◌++◌, ◌^◌, ◌≤◌, ◌<◌, [], length};
-ghost use Rattle.listing.specs.Listing as listing;
+ghost use Rattle.early_listing.specs.Listing as listing;
 
 use arrayvec::ArrayString;
 use early_flow::Placed;

@@ -7,7 +7,7 @@ use Rattle.wm_modes.specs.declared.mode.WritingMode.TheVariants.{HorizontalTb, V
 use Rattle.wm_modes.specs.declared.mode.Direction.TheVariants.{Ltr}
 use Rattle.wm_modes.specs.declared.rects.Rect.{Rect}
 use Rattle.early_flow.specs.declared.placed.Placed.{Placed}
-use Rattle.listing.specs.Listing.{listing, page_line, page_words, box_line, box_start, word, end_line}
+use Rattle.early_listing.specs.Listing.{listing, page_line, page_words, box_line, box_start, word, end_line}
 
 abbrev rect : (x y w h : ℤ) → Rect
 rect x y w h = record { x = x; y = y; w = w; h = h }

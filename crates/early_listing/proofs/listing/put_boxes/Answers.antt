@@ -1,7 +1,7 @@
 use Rattle.std.proofs.Common.{◌∙◌, ◌++◌, arith, pos}
-use Rattle.listing.specs.Listing.{box_lines}
-use Rattle.listing.proofs.Written.{line_put, line_broken, none_left, no_rects, number_at}
-use Rattle.listing.proofs.listing.put_boxes.Goals as goal
+use Rattle.early_listing.specs.Listing.{box_lines}
+use Rattle.early_listing.proofs.Written.{line_put, line_broken, none_left, no_rects, number_at}
+use Rattle.early_listing.proofs.listing.put_boxes.Goals as goal
 
 pub returns-in_err-put-clause-front : goal.returns-in_err-put-clause-front
 returns-in_err-put-clause-front g c =

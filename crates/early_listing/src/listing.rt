@@ -3,7 +3,7 @@
 ghost use Rattle.std.specs.Prelude.{◌≡◌, ◌≤◌, ◌++◌, OnOk, IsErrOf};
 ghost use Rattle.std.specs.Io.KnownBytes.{Appends};
 ghost use Rattle.io_edge.specs.Edge.{Rose, AppendsFront, AppendsUpTo};
-ghost use Rattle.listing.specs.Listing.{listing, box_lines};
+ghost use Rattle.early_listing.specs.Listing.{listing, box_lines};
 
 use crate::lines::{box_line, page_line};
 use early_flow::Placed;

@@ -1,7 +1,7 @@
 use Rattle.std.proofs.Common.{◌≤◌, ◌++◌, drop}
 use Rattle.io_edge.specs.Edge.{AppendsUpTo}
-use Rattle.listing.specs.Listing.{box_lines}
-use Rattle.listing.proofs.listing.put_boxes.Given as goal
+use Rattle.early_listing.specs.Listing.{box_lines}
+use Rattle.early_listing.proofs.listing.put_boxes.Given as goal
 
 -- the lines so far are put, and those of the rest are left
 abbrev pub invariant-loop-place : goal.invariant-loop-place

@@ -1,8 +1,8 @@
 use Rattle.std.proofs.Common.{◌≡◌, ◌∙◌, ◌++◌, ap, subst, List, [], ℕ}
 use Rattle.io_edge.specs.Edge.{AppendsFront, AppendsUpTo}
-use Rattle.listing.specs.Listing.{page_line, box_lines, end_line, listing}
-use Rattle.listing.proofs.Written.{first_broken, second_broken, third_broken, last_broken, all_written, on_ok}
-use Rattle.listing.proofs.listing.write_listing.Goals as goal
+use Rattle.early_listing.specs.Listing.{page_line, box_lines, end_line, listing}
+use Rattle.early_listing.proofs.Written.{first_broken, second_broken, third_broken, last_broken, all_written, on_ok}
+use Rattle.early_listing.proofs.listing.write_listing.Goals as goal
 
 pub returns-in_err-put-clause-front : goal.returns-in_err-put-clause-front
 unfolding listing
