@@ -1,0 +1,8 @@
+mod Bounds
+mod Examples
+mod Hexadecimal
+mod Pushed
+mod Puts
+mod Told
+mod Trees
+mod Whole

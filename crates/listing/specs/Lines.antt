@@ -1,0 +1,51 @@
+-- The line of each kind of fragment. What was measured alone has none.
+use Rattle.std.specs.Prelude.{ℕ, List, [], ◌++◌, ℤ, codes}
+use Rattle.wm_modes.specs.Words.{mode_word, direction_word}
+use Rattle.wm_modes.specs.declared.mode.Direction.{Direction}
+use Rattle.wm_modes.specs.declared.mode.WritingMode.{WritingMode}
+use Rattle.wm_modes.specs.declared.rects.Rect.{Rect}
+use Rattle.style_types.specs.Fragment.{Kind, block, line, span, run, measure, kind_of}
+use Rattle.style_types.specs.declared.fragment.RunUnit.{RunUnit}
+use Rattle.style_types.specs.declared.item.BoxName.{BoxName}
+use Rattle.place_map.specs.declared.placed.PlacedPart.{PlacedPart, out-PlacedPart}
+use Rattle.listing.specs.Runs.{combined_width, end_of, first_of, form_word, space, units}
+use Rattle.listing.specs.Words.{count, name_words, pair, rect_words, word}
+
+-- the page: its size, and the mode and the used direction of the root
+unfoldable pub page_line : Rect → WritingMode → Direction → List ℕ
+page_line page mode direction =
+    codes "page" ++ pair page.w page.h ++ (codes " " ++ mode_word mode) ++ (codes " " ++ direction_word direction) ++ codes "\n"
+
+-- a border box
+unfoldable pub box_line : BoxName → Rect → List ℕ
+box_line name rect = codes "box" ++ name_words name ++ rect_words rect ++ codes "\n"
+
+-- a line of the paragraph that the box of this name holds: which one, and how far its baseline lies from line-over
+unfoldable pub line_line : BoxName → Rect → (index : ℕ) (base : ℤ) → List ℕ
+line_line name rect index base = codes "line" ++ name_words name ++ count index ++ rect_words rect ++ word base ++ codes "\n"
+
+-- a fragment of an inline box
+unfoldable pub span_line : BoxName → Rect → List ℕ
+span_line name rect = codes "span" ++ name_words name ++ rect_words rect ++ codes "\n"
+
+-- a run: its text node, its bounds there and its rectangle
+unfoldable pub run_place : (node : ℕ) → Rect → List RunUnit → List ℕ
+run_place node rect run_units = codes "run" ++ count node ++ count (first_of run_units) ++ count (end_of run_units) ++ rect_words rect
+
+-- how it stands, its level, and its characters
+unfoldable pub run_line : (node : ℕ) → Rect → (form : List ℕ) (level : ℕ) → List RunUnit → List ℕ
+run_line node rect form level run_units =
+    run_place node rect run_units ++ (codes " " ++ form) ++ count level ++ units space run_units ++ codes "\n"
+
+-- a fragment in text of this mode
+unfoldable pub line_of : WritingMode → BoxName → Rect → Kind → List ℕ
+line_of mode name rect (block own dir content definite start end_ through) = box_line name rect
+line_of mode name rect (line index base own baseline) = line_line name rect index base
+line_of mode name rect span = span_line name rect
+line_of mode name rect (run form level natural run_units) =
+    run_line name.node rect (form_word mode form (combined_width natural run_units)) level run_units
+line_of mode name rect (measure min max) = []
+
+-- the same of the code's own type
+abbrev pub line_at : WritingMode → PlacedPart → List ℕ
+line_at mode p = line_of mode (out-PlacedPart p).name (out-PlacedPart p).rect (kind_of (out-PlacedPart p).kind)

@@ -1,0 +1,132 @@
+//! How a run of text is told in a listing.
+
+ghost use Rattle.std.specs.Prelude.{◌≡◌, ◌+◌, ◌≤◌, ◌++◌, length, codes, OnOk, IsErrOf};
+ghost use Rattle.io_edge.specs.Edge.{Rose, AppendsFront, AppendsUpTo};
+ghost use Rattle.listing.specs.Runs as spec;
+
+use crate::words::{Line, character};
+use io_edge::{Sink, Waiting, WriteError};
+use itoa::Buffer;
+use style_types::{Glyphs, RunUnit, UnitKind};
+use wm_modes::WritingMode;
+
+/// The least place at which a unit begins.
+#[tactic(auto, unfolding(crate::specs::Runs::first_of))]
+pub(crate) fn first_of(units: &[RunUnit]) -> usize
+    ensures { result ≡ spec.first_of units.now }
+{
+    units.iter().map(|unit| unit.first).min().unwrap_or(0)
+}
+
+/// The greatest place at which one ends.
+#[tactic(auto, unfolding(crate::specs::Runs::end_of))]
+pub(crate) fn end_of(units: &[RunUnit]) -> usize
+    ensures { result ≡ spec.end_of units.now }
+{
+    units.iter().map(|unit| unit.end).max().unwrap_or(0)
+}
+
+/// How wide a combined run is.
+#[tactic(auto, unfolding(crate::specs::Runs::combined_width))]
+pub(crate) fn combined_width(natural: Option<i64>, units: &[RunUnit]) -> i64
+    ensures { result ≡ spec.combined_width natural units.now }
+{
+    let Some(unit) = units.first() else {
+        return 0;
+    };
+    match natural {
+        Some(natural) => natural.min(unit.extent),
+        None => unit.extent,
+    }
+}
+
+/// How the units stand.
+#[tactic(auto, unfolding(crate::specs::Runs::form_word))]
+pub(crate) fn push_form(line: &mut Line, mode: WritingMode, form: UnitKind, width: i64)
+    requires { length line.old.bytes ≤ 150 }
+    ensures bytes { line.new.bytes ≡ line.old.bytes ++ (codes " " ++ spec.form_word mode form width) }
+    ensures longer { length line.new.bytes ≤ length line.old.bytes + 22 }
+{
+    line.push_str(" ");
+    match form {
+        UnitKind::Along | UnitKind::Turned => line.push_str(turn_word(mode)),
+        UnitKind::Upright => line.push_str("u"),
+        UnitKind::Combined => {
+            line.push_str("c");
+            line.push_str(Buffer::new().format(width));
+        }
+    }
+}
+
+// How units along their line stand on the page.
+#[tactic(auto, unfolding(crate::specs::Runs::turn_word))]
+fn turn_word(mode: WritingMode) -> &'static str
+    ensures word { result.now ≡ spec.turn_word mode }
+    ensures short { length result.now ≤ 1 }
+{
+    match mode {
+        WritingMode::HorizontalTb => "h",
+        WritingMode::VerticalRl | WritingMode::VerticalLr | WritingMode::SidewaysRl => "s",
+        WritingMode::SidewaysLr => "l",
+    }
+}
+
+/// The characters of the units from line-left, the first behind this sign.
+pub(crate) fn put_units<K: Sink>(
+    first: u8,
+    units: &[RunUnit],
+    waiting: &mut Waiting,
+    sink: &mut K,
+) -> Result<(), WriteError>
+    ensures front { AppendsFront (K.held sink.old) (K.held sink.new) (waiting.old ++ spec.units first units.now) }
+    ensures waits { OnOk result (AppendsUpTo (K.held sink.old) (K.held sink.new) (waiting.old ++ spec.units first units.now) waiting.new) }
+    ensures later { K.faults sink.old ≤ K.faults sink.new }
+    ensures fault { IsErrOf result WriteError.WriteFault → Rose (K.faults sink.old) (K.faults sink.new) }
+{
+    let mut sign = first;
+    for unit in units {
+        put_glyphs(sign, &unit.glyphs, waiting, sink)?;
+        sign = b',';
+    }
+    Ok(())
+}
+
+// Those of units side by side.
+fn put_glyphs<K: Sink>(
+    first: u8,
+    glyphs: &Glyphs,
+    waiting: &mut Waiting,
+    sink: &mut K,
+) -> Result<(), WriteError>
+    ensures front { AppendsFront (K.held sink.old) (K.held sink.new) (waiting.old ++ spec.glyphs first glyphs.now) }
+    ensures waits { OnOk result (AppendsUpTo (K.held sink.old) (K.held sink.new) (waiting.old ++ spec.glyphs first glyphs.now) waiting.new) }
+    ensures later { K.faults sink.old ≤ K.faults sink.new }
+    ensures fault { IsErrOf result WriteError.WriteFault → Rose (K.faults sink.old) (K.faults sink.new) }
+{
+    let mut sign = first;
+    for place in 0..glyphs.len() {
+        put_characters(sign, glyphs.unit(place), waiting, sink)?;
+        sign = b',';
+    }
+    Ok(())
+}
+
+// Those of one unit.
+fn put_characters<K: Sink>(
+    first: u8,
+    characters: &[char],
+    waiting: &mut Waiting,
+    sink: &mut K,
+) -> Result<(), WriteError>
+    ensures front { AppendsFront (K.held sink.old) (K.held sink.new) (waiting.old ++ spec.characters first characters.now) }
+    ensures waits { OnOk result (AppendsUpTo (K.held sink.old) (K.held sink.new) (waiting.old ++ spec.characters first characters.now) waiting.new) }
+    ensures later { K.faults sink.old ≤ K.faults sink.new }
+    ensures fault { IsErrOf result WriteError.WriteFault → Rose (K.faults sink.old) (K.faults sink.new) }
+{
+    let mut sign = first;
+    for c in characters {
+        waiting.put(character(sign, *c).as_slice(), sink)?;
+        sign = b'+';
+    }
+    Ok(())
+}
