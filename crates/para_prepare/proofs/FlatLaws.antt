@@ -26,7 +26,7 @@ use Rattle.para_prepare.specs.declared.standing.Standing.{Standing}
 use Rattle.para_prepare.specs.BidiText.{after, before, bidi_texts, character, closing_all, closing_innermost, container_after, container_before, in_front, opening_all, texts_of, unit_characters, without_innermost}
 use Rattle.para_prepare.specs.Boxes.{kind_of, marked, takes_from, taking_part}
 use Rattle.para_prepare.specs.Breaks.{break_class_of}
-use Rattle.para_prepare.specs.Flat.{Flat, are_flat, flat_item, flat_standing, grown, is_flat, is_normal, puts_nothing}
+use Rattle.para_prepare.specs.Flat.{Flat, are_flat, flat_item, flat_standing, grown, is_bare, is_flat, is_normal, puts_nothing}
 use Rattle.para_prepare.specs.Glyph.{class_of}
 use Rattle.para_prepare.specs.Items.{items_by}
 use Rattle.para_prepare.specs.Parts.{Part, opens, closes, control, control_of, item, Raw, of_unit, of_combined, of_atom, of_break, class_in, raws}
@@ -62,7 +62,7 @@ even_append (c ∷ text) more h m =
     let parts = and_parts (is_even c) (list_all is_even text) h in
     rw parts.0 (even_append text more parts.1 m)
 
-none_apart : (begun : Bool) (apart : Option ℕ) → cond begun apart apart ≡ apart
+pub none_apart : (begun : Bool) (apart : Option ℕ) → cond begun apart apart ≡ apart
 none_apart true apart = refl
 none_apart false apart = refl
 
@@ -91,7 +91,7 @@ classes_even (c ∷ text) h =
 
 -- ---- what puts nothing
 
-nothing_before : (bidi : UnicodeBidi) (dir : Direction) → puts_nothing bidi ≡ true → container_before bidi dir ≡ []
+pub nothing_before : (bidi : UnicodeBidi) (dir : Direction) → puts_nothing bidi ≡ true → container_before bidi dir ≡ []
 nothing_before Normal dir h = refl
 nothing_before Embed dir h = refl
 nothing_before Isolate dir h = refl
@@ -99,7 +99,7 @@ nothing_before BidiOverride dir h = absurd (cc)
 nothing_before IsolateOverride dir h = absurd (cc)
 nothing_before Plaintext dir h = refl
 
-nothing_behind : (bidi : UnicodeBidi) → puts_nothing bidi ≡ true → container_after bidi ≡ []
+pub nothing_behind : (bidi : UnicodeBidi) → puts_nothing bidi ≡ true → container_after bidi ≡ []
 nothing_behind Normal h = refl
 nothing_behind Embed h = refl
 nothing_behind Isolate h = refl
@@ -209,12 +209,12 @@ bounds_flat (raw ∷ raws) = All-cons IsStanding flat_standing (standing_so raws
 
 -- ---- part by part
 
-abbrev pub flat_with : List PreparedItem → List BidiClass → List (Option BreakClass) → Bool → Flat
-flat_with items classes breaks flat = record { items = items; classes = classes; breaks = breaks; flat = flat }
+abbrev pub flat_with : List PreparedItem → List BidiClass → List (Option BreakClass) → (flat bare : Bool) → Flat
+flat_with items classes breaks flat bare = record { items = items; classes = classes; breaks = breaks; flat = flat; bare = bare }
 
-pub same_flat : (i j : List PreparedItem) (c d : List BidiClass) (b e : List (Option BreakClass)) (f g : Bool) → i ≡ j → c ≡ d → b ≡ e → f ≡ g
-    → flat_with i c b f ≡ flat_with j d e g
-same_flat i j c d b e f g is cs bs fs = rw is (rw cs (rw bs (rw fs refl)))
+pub same_flat : (i j : List PreparedItem) (c d : List BidiClass) (b e : List (Option BreakClass)) (f g h k : Bool) → i ≡ j → c ≡ d → b ≡ e → f ≡ g → h ≡ k
+    → flat_with i c b f h ≡ flat_with j d e g k
+same_flat i j c d b e f g h k is cs bs fs hs = rw is (rw cs (rw bs (rw fs (rw hs refl))))
 
 map_more : {X : Type 0} (f : Raw → X) (xs : List X) (parts more : List Part) → (xs ++ map f (raws parts)) ++ map f (raws more) ≡ xs ++ map f (raws (parts ++ more))
 map_more f xs parts more =
@@ -223,12 +223,21 @@ map_more f xs parts more =
 
 pub grown_append : (made : Flat) (parts more : List Part) → grown (grown made parts) more ≡ grown made (parts ++ more)
 grown_append made parts more =
-    same_flat _ _ _ _ _ _ _ _ (map_more flat_item made.items parts more) (map_more class_of made.classes parts more) (map_more break_class_of made.breaks parts more)
+    same_flat _ _ _ _ _ _ _ _ _ _ (map_more flat_item made.items parts more) (map_more class_of made.classes parts more) (map_more break_class_of made.breaks parts more)
     (and_assoc made.flat (list_all is_flat parts) (list_all is_flat more) ∙ ap (λ b. made.flat && b) (sym (list_all-append is_flat parts more)))
+    (and_assoc made.bare (list_all is_bare parts) (list_all is_bare more) ∙ ap (λ b. made.bare && b) (sym (list_all-append is_bare parts more)))
 
 pub grown_none : (made : Flat) → grown made [] ≡ made
 grown_none made =
-    same_flat _ _ _ _ _ _ _ _ (append-nil made.items) (append-nil made.classes) (append-nil made.breaks) (and-true made.flat)
+    same_flat _ _ _ _ _ _ _ _ _ _ (append-nil made.items) (append-nil made.classes) (append-nil made.breaks) (and-true made.flat) (and-true made.bare)
+
+pub bare_stays : (bare : Bool) → (bare && true) ≡ bare
+bare_stays true = refl
+bare_stays false = refl
+
+pub bare_ends : (bare : Bool) → (bare && false) ≡ false
+bare_ends true = refl
+bare_ends false = refl
 
 no_raws : (upright : Bool) (controls : List Letter) → raws (map (control_of upright) controls) ≡ []
 no_raws upright [] = refl
@@ -238,14 +247,19 @@ pub controls_ask : (upright : Bool) (controls : List Letter) → (length control
 controls_ask upright [] = refl
 controls_ask upright (l ∷ controls) = let some : (length (l ∷ controls) == 0) ≡ false = grind arith in some
 
-pub controls_pass : (made : Flat) (upright : Bool) (controls : List Letter) (flat : Bool) → flat ≡ (made.flat && list_all is_flat (map (control_of upright) controls))
-    → flat_with made.items made.classes made.breaks flat ≡ grown made (map (control_of upright) controls)
-controls_pass made upright controls flat is =
-    same_flat _ _ _ _ _ _ _ _
+controls_stand : (upright : Bool) (controls : List Letter) → list_all is_flat (map (control_of upright) controls) ≡ list_all is_bare (map (control_of upright) controls)
+controls_stand upright [] = refl
+controls_stand upright (l ∷ controls) = refl
+
+pub controls_pass : (made : Flat) (upright : Bool) (controls : List Letter) (none : Bool) → none ≡ list_all is_flat (map (control_of upright) controls)
+    → flat_with made.items made.classes made.breaks (made.flat && none) (made.bare && none) ≡ grown made (map (control_of upright) controls)
+controls_pass made upright controls none is =
+    same_flat _ _ _ _ _ _ _ _ _ _
     (sym (ap (λ raws. made.items ++ map flat_item raws) (no_raws upright controls) ∙ append-nil made.items))
     (sym (ap (λ raws. made.classes ++ map class_of raws) (no_raws upright controls) ∙ append-nil made.classes))
     (sym (ap (λ raws. made.breaks ++ map break_class_of raws) (no_raws upright controls) ∙ append-nil made.breaks))
-    is
+    (ap (λ b. made.flat && b) is)
+    (ap (λ b. made.bare && b) (is ∙ controls_stand upright controls))
 
 pub some_flat : (upright : Bool) (letters : List Letter) → (length letters == 0) ≡ false → are_flat upright letters ≡ list_all (λ l. is_left_to_right (class_in upright l.char)) letters
 some_flat upright [] h = absurd (cc)

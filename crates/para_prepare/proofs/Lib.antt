@@ -19,6 +19,7 @@ pub mod PartsLaws
 pub mod PlacedLaws
 pub mod PreparationLaws
 pub mod RawsLaws
+pub mod SinglesLaws
 pub mod SourceLaws
 pub mod Standings
 pub mod TextLaws

@@ -80,7 +80,7 @@ items_count [] standings h = refl
 items_count (raw ∷ raws) [] h = absurd (omega arith)
 items_count (raw ∷ raws) (standing ∷ standings) h = ap suc (items_count raws standings (omega arith))
 
-breaks_count : (classes : List (Option BreakClass)) → length (breaks_of classes) ≡ length classes
+pub breaks_count : (classes : List (Option BreakClass)) → length (breaks_of classes) ≡ length classes
 breaks_count [] = refl
 breaks_count (a ∷ []) = refl
 breaks_count (a ∷ (b ∷ classes)) = ap suc (breaks_count (b ∷ classes))

@@ -1,11 +1,11 @@
 -- Parts that ask for no level but 0 (UAX 9), and what is made of their items at that level.
-use Rattle.std.specs.Prelude.{◌≡◌, ℕ, ◌==◌, ◌+◌, ◌-◌, ◌≤◌, ◌≤ℤ◌, pos, ⊤, Bool, true, false, ◌&&◌, ◌||◌, nat_le, nat_lt, if◌then◌else◌, List, [], ◌∷◌, ◌++◌, map, Option, Some, None}
+use Rattle.std.specs.Prelude.{◌≡◌, ℕ, ◌==◌, ◌+◌, ◌-◌, ◌≤◌, ◌≤ℤ◌, pos, ⊤, Bool, true, false, not, length, ◌&&◌, ◌||◌, nat_le, nat_lt, if◌then◌else◌, List, [], ◌∷◌, ◌++◌, map, Option, Some, None}
 use Rattle.std.specs.List.{list_all}
 use Rattle.wm_chars.specs.declared.classes.BidiClass.{BidiClass}
 use Rattle.wm_chars.specs.declared.classes.BreakClass.{BreakClass}
 use Rattle.style_types.specs.declared.style.UnicodeBidi.{UnicodeBidi}
 use Rattle.style_types.specs.declared.style.UnicodeBidi.TheVariants.{Normal, BidiOverride, IsolateOverride}
-use Rattle.style_types.specs.Item.{Entry, begins}
+use Rattle.style_types.specs.Item.{Entry, text, begins, ends, atom, line_break}
 use Rattle.bidi_resolve.specs.Paragraph.{is_left_to_right}
 use Rattle.para_prepare.specs.declared.flat.FlatLists.{FlatLists}
 use Rattle.para_prepare.specs.declared.item.PreparedItem.{PreparedItem}
@@ -14,6 +14,8 @@ use Rattle.para_prepare.specs.declared.standing.Standing.{Standing}
 use Rattle.para_prepare.specs.Breaks.{break_class_of}
 use Rattle.para_prepare.specs.Glyph.{class_of}
 use Rattle.para_prepare.specs.Items.{first_place, item_of, place_behind}
+use Rattle.para_prepare.specs.Marker.{is_bidi_control}
+use Rattle.cluster_units.specs.Plain.{is_plain}
 use Rattle.cluster_units.specs.Text.{is_combined}
 use Rattle.cluster_units.specs.declared.unit.Unit.{Unit}
 use Rattle.para_prepare.specs.Preparation.{HasBounds}
@@ -41,6 +43,24 @@ is_flat closes = true
 is_flat (control c class) = false
 is_flat (item raw) = is_flat_raw raw
 
+abbrev pub is_single : List Letter → Bool
+is_single [] = false
+is_single (l ∷ []) = true
+is_single (l ∷ (m ∷ letters)) = false
+
+-- an item that is one character of its bidi paragraph
+abbrev pub is_one : Raw → Bool
+is_one (of_unit source node upright unit letters) = is_single letters
+is_one (of_combined source node unit letters inside) = true
+is_one (of_atom source name) = true
+is_one (of_break source node) = false
+
+abbrev pub is_bare : Part → Bool
+is_bare (opens bidi dir) = false
+is_bare closes = false
+is_bare (control c class) = false
+is_bare (item raw) = is_one raw
+
 -- a block container that puts nothing round its bidi paragraphs, whose base level is 0
 abbrev pub puts_nothing : UnicodeBidi → Bool
 puts_nothing BidiOverride = false
@@ -64,12 +84,13 @@ pub record Flat : Type 0 where
   pub classes : List BidiClass
   pub breaks : List (Option BreakClass)
   pub flat : Bool
+  pub bare : Bool
 
 abbrev pub flat_of : FlatLists → Flat
-flat_of made = record { items = made.items.items; classes = made.classes.items; breaks = made.breaks.items; flat = made.flat }
+flat_of made = record { items = made.items.items; classes = made.classes.items; breaks = made.breaks.items; flat = made.flat; bare = made.bare }
 
 abbrev pub nothing : Flat
-nothing = record { items = []; classes = []; breaks = []; flat = true }
+nothing = record { items = []; classes = []; breaks = []; flat = true; bare = true }
 
 abbrev pub grown : Flat → List Part → Flat
 grown made parts =
@@ -78,7 +99,13 @@ grown made parts =
       classes = made.classes ++ map class_of (raws parts);
       breaks = made.breaks ++ map break_class_of (raws parts);
       flat = made.flat && list_all is_flat parts;
+      bare = made.bare && list_all is_bare parts;
     }
+
+-- there is one of each for every item
+pub record AreAlike (made : Flat) : Type 0 where
+  pub classes_count : length made.classes ≡ length made.items
+  pub breaks_count : length made.breaks ≡ length made.items
 
 -- the bounds of an item's lengths
 abbrev pub HasBoundsIn : PreparedItem → Type 0
@@ -101,6 +128,18 @@ reads_left_to_right c =
     if nat_lt c 0x590
     then true
     else (if nat_lt c 0x2E80 then nat_le 0x2010 c && nat_le c 0x2027 else (nat_le c 0xD7FF || (nat_le 0xFF00 c && nat_le c 0xFFEF)))
+
+-- content that may be one character for each item
+abbrev pub stands_bare : Entry → Bool
+stands_bare (text node bytes style) = true
+stands_bare (begins node style edges) = false
+stands_bare (ends node edges) = false
+stands_bare (atom name) = true
+stands_bare (line_break node) = false
+
+-- a character that is a unit by itself
+abbrev pub reads_alone : ℕ → Bool
+reads_alone c = is_plain c && not (is_bidi_control c)
 
 -- an inline box that puts no control round its content, or what is no beginning of one
 abbrev pub puts_none : Entry → Bool

@@ -13,6 +13,7 @@ pub mod Marker
 pub mod Parts
 pub mod Preparation
 pub mod Reach
+pub mod Singles
 pub mod Standing
 pub mod Text
 pub mod Views

@@ -31,13 +31,14 @@ use crate::item::{PreparedContent, PreparedItem, PreparedItems};
 use crate::items::{combined_content, push_unit};
 use crate::kept::text_of;
 use crate::letter::Letter;
+use crate::marker::is_bidi_control;
 use crate::parts::{Span, class_in};
 use crate::standing::Standing;
 use crate::text::{Text, sets_upright, stand_alone};
 use bidi_explicit::ClassList;
 use bumpalo::Bump;
 use cluster_units::laws::plain_units_are_of_characters;
-use cluster_units::{Unit, character_unit, units};
+use cluster_units::{Unit, character_unit, is_plain_character, units};
 use face_api::{Face, Faces};
 use std::alloc::{AllocError, Global};
 use std::slice;
@@ -53,6 +54,8 @@ pub(crate) struct FlatLists<'a> {
     pub(crate) classes: ClassList,
     pub(crate) breaks: BreakClasses<'a>,
     pub(crate) flat: bool,
+    /// Whether each part so far is an item that is one character of the bidi paragraph.
+    pub(crate) bare: bool,
 }
 
 /// The items of a paragraph that has these, whose kept characters are these and end at these places.
@@ -80,6 +83,7 @@ pub(crate) fn flat_lists<'a>(
         classes: Vec::with_capacity(alloc, room)?,
         breaks: Vec::with_capacity(arena, room)?,
         flat: true,
+        bare: true,
     };
     let mut from = 0;
     for i in 0..items.len() {
@@ -99,6 +103,50 @@ pub(crate) fn looks_flat(items: &[Item], letters: &[Letter]) -> bool
     ensures { result ≡ (list_all (λ own. spec.puts_none (entry_of own)) items.now && list_all (λ l. spec.reads_left_to_right l.char) letters.now) }
 {
     put_none(items) && read_left_to_right(letters)
+}
+
+/// Whether these items and their characters look as if each item was one character of a bidi paragraph that they are: so it is
+/// tried. Nothing else rests on it.
+pub(crate) fn looks_bare(items: &[Item], letters: &[Letter]) -> bool
+    ensures { result ≡ (list_all (λ own. spec.stands_bare (entry_of own)) items.now && list_all (λ l. spec.reads_alone l.char) letters.now) }
+{
+    stand_bare(items) && read_alone(letters)
+}
+
+fn stand_bare(items: &[Item]) -> bool
+    ensures { result ≡ list_all (λ own. spec.stands_bare (entry_of own)) items.now }
+{
+    items.iter().all(
+        |item| -> bool
+            ensures { result ≡ spec.stands_bare (entry_of item.now) }
+        { stands_bare(item) },
+    )
+}
+
+fn stands_bare(item: &Item) -> bool
+    ensures { result ≡ spec.stands_bare (entry_of item.now) }
+{
+    match item {
+        Item::Text { .. } | Item::Atom { .. } => true,
+        Item::Open { .. } | Item::Close { .. } | Item::Break { .. } => false,
+    }
+}
+
+fn read_alone(letters: &[Letter]) -> bool
+    ensures { result ≡ list_all (λ l. spec.reads_alone l.char) letters.now }
+{
+    letters.iter().all(
+        |letter| -> bool
+            ensures { result ≡ spec.reads_alone letter.now.char }
+        { reads_alone(letter.char) },
+    )
+}
+
+// A character that is a unit by itself.
+fn reads_alone(c: char) -> bool
+    ensures { result ≡ spec.reads_alone c }
+{
+    is_plain_character(c) && !is_bidi_control(c)
 }
 
 // Whether no inline box puts a control round its content.
@@ -146,6 +194,7 @@ fn reads_left_to_right(c: char) -> bool
 
 impl FlatLists<'_> {
     // Adds what an item of the paragraph gives.
+    #[tactic(auto, using(crate::proofs::FlatLaws::bare_stays, crate::proofs::FlatLaws::bare_ends))]
     fn add_item(
         &mut self,
         alloc: Global,
@@ -186,19 +235,25 @@ impl FlatLists<'_> {
                 self.open(style.bidi);
                 Ok(())
             }
-            Item::Close { .. } => Ok(()),
+            Item::Close { .. } => {
+                self.bare = false;
+                Ok(())
+            }
             Item::Atom { name } => self.add(
                 place.source,
                 BidiClass::ON,
                 Some(BreakClass::Ideographic),
                 PreparedContent::Atom { name: *name },
             ),
-            Item::Break { node } => self.add(
-                place.source,
-                BidiClass::B,
-                None,
-                PreparedContent::Break { node: *node },
-            ),
+            Item::Break { node } => {
+                self.bare = false;
+                self.add(
+                    place.source,
+                    BidiClass::B,
+                    None,
+                    PreparedContent::Break { node: *node },
+                )
+            }
         }
     }
 
@@ -208,6 +263,7 @@ impl FlatLists<'_> {
         ensures items { self.new.items.items ≡ self.old.items.items }
     {
         self.flat &= bidi == UnicodeBidi::Normal;
+        self.bare = false;
     }
 
     // Adds the units and combined runs of a text that has these kept characters.
@@ -285,6 +341,7 @@ impl FlatLists<'_> {
 
     // Adds a unit of this one character.
     #[inline(always)]
+    #[tactic(auto, using(crate::proofs::FlatLaws::bare_stays, crate::proofs::FlatLaws::bare_ends))]
     fn add_single(&mut self, text: Text, letter: Letter, unit: Unit) -> Result<(), AllocError>
         requires placed { IsPlaced letter }
         requires unit { IsSize unit }
@@ -379,10 +436,13 @@ impl FlatLists<'_> {
         ensures grown { (upright : Bool) → flat_of self.new ≡ grown (flat_of self.old) (map (control_of upright) controls.now) }
         ensures items { self.new.items.items ≡ self.old.items.items }
     {
-        self.flat &= are_none(controls);
+        let none = are_none(controls);
+        self.flat &= none;
+        self.bare &= none;
     }
 
     // Adds a unit or a combined run of these characters.
+    #[tactic(auto, using(crate::proofs::FlatLaws::bare_stays, crate::proofs::FlatLaws::bare_ends))]
     fn add_run(
         &mut self,
         alloc: Global,
@@ -410,6 +470,7 @@ impl FlatLists<'_> {
     }
 
     // Adds a unit.
+    #[tactic(auto, using(crate::proofs::FlatLaws::bare_stays, crate::proofs::FlatLaws::bare_ends))]
     fn add_unit(
         &mut self,
         alloc: Global,
@@ -426,6 +487,7 @@ impl FlatLists<'_> {
         let upright = sets_upright(text.style);
         let class = last_class(upright, letters);
         self.flat &= are_flat(upright, letters, class);
+        self.bare &= letters.len() == 1;
         let standing = Standing {
             level: 0,
             base: 0,
@@ -459,6 +521,7 @@ impl FlatLists<'_> {
         ensures classes { OnOk result (self.new.classes.items ≡ self.old.classes.items ++ class ∷ []) }
         ensures breaks { OnOk result (self.new.breaks.items ≡ self.old.breaks.items ++ break_class ∷ []) }
         ensures flat { OnOk result (self.new.flat ≡ self.old.flat) }
+        ensures bare { OnOk result (self.new.bare ≡ self.old.bare) }
         ensures bounds { OnOk result (All HasBoundsIn self.new.items.items) }
     {
         self.items.push(PreparedItem {
@@ -477,6 +540,7 @@ impl FlatLists<'_> {
         ensures classes { OnOk result (self.new.classes.items ≡ self.old.classes.items ++ class ∷ []) }
         ensures breaks { OnOk result (self.new.breaks.items ≡ self.old.breaks.items ++ break_class ∷ []) }
         ensures flat { OnOk result (self.new.flat ≡ self.old.flat) }
+        ensures bare { OnOk result (self.new.bare ≡ self.old.bare) }
     {
         self.classes.push(class)?;
         self.breaks.push(break_class)?;

@@ -245,8 +245,9 @@ fn mirrored(level: u8, c: char) -> char
     if level % 2 == 1 { mirror_or(c) } else { c }
 }
 
+/// The mirror of a character, or itself.
 #[inline(never)]
-fn mirror_or(c: char) -> char
+pub(crate) fn mirror_or(c: char) -> char
     ensures { result ≡ unwrap_or (mirror c) c }
 {
     mirror(c).unwrap_or(c)

@@ -17,6 +17,7 @@ mod letter;
 mod marker;
 mod parts;
 mod preparation;
+mod singles;
 mod standing;
 mod text;
 mod white;

@@ -106,8 +106,8 @@ pub(crate) fn is_white(c: char) -> bool
     c <= ' ' && matches!(c, ' ' | '\n' | '\t' | '\u{C}' | '\r')
 }
 
-// The bidi controls of the repertoire. One comparison tells them from Latin letters.
-fn is_bidi_control(c: char) -> bool
+/// The bidi controls of the repertoire. One comparison tells them from Latin letters.
+pub(crate) fn is_bidi_control(c: char) -> bool
     ensures { result ≡ is_bidi_control c }
 {
     c >= '\u{61C}'

@@ -1,15 +1,18 @@
 //! A paragraph that is prepared for its lines: all of it that hangs on no width.
 
-ghost use Rattle.std.specs.Prelude.{◌≡◌, ◌+◌, ◌≤◌, ◌&&◌, length, replicate, All, IfOk, IfSome};
+ghost use Rattle.std.specs.Prelude.{◌≡◌, ◌+◌, ◌≤◌, true, List, length, replicate, All, IfOk, IfSome};
 ghost use Rattle.face_api.specs.Faces.{faces_of};
 ghost use Rattle.style_types.specs.Item.{entries_of};
 ghost use Rattle.para_prepare.specs.Boxes.{taking_part};
-ghost use Rattle.para_prepare.specs.Flat.{is_zero, puts_nothing};
+ghost use Rattle.para_prepare.specs.Flat.{AreAlike, HasBoundsIn, flat_of, grown, is_zero, nothing, puts_nothing};
 ghost use Rattle.para_prepare.specs.Kept.{kept as kept_of, joined, ends_from};
 ghost use Rattle.para_prepare.specs.Limits.{HasFontSize, text_bytes};
+ghost use Rattle.para_prepare.specs.Parts as parts;
 ghost use Rattle.para_prepare.specs.Parts.{raws};
+ghost use Rattle.style_types.specs.declared.style.Style.{Style};
 ghost use Rattle.para_prepare.specs.Preparation as spec;
 ghost use Rattle.para_prepare.specs.Preparation.{AreFrom, HasBounds, atoms_in, atoms_of, preparation};
+ghost use Rattle.para_prepare.specs.Singles.{own_preparation, zero_preparation};
 ghost use Rattle.para_prepare.specs.Standing.{IsStanding};
 ghost use Rattle.para_prepare.specs.Views.{HasSize, IsCovered, IsPart, IsPlaced, parts_of};
 
@@ -19,15 +22,17 @@ use crate::boxes::taking;
 use crate::breaks::{BreakList, breaks, breaks_of};
 use crate::classes::classes;
 use crate::content::{Content, content_of};
-use crate::flat::{flat_lists, looks_flat};
+use crate::flat::{FlatLists, flat_lists, looks_bare, looks_flat};
 use crate::item::{PreparedItem, PreparedItems};
 use crate::items::prepared_items;
 use crate::kept::{Kept, kept_letters};
 use crate::letter::Letter;
 use crate::parts::Part;
+use crate::singles::{at_levels, characters_in};
 use crate::standing::{Standing, Standings, bases_of, levels_of};
-use bidi_explicit::{ClassList, LevelList};
+use bidi_explicit::{ClassList, LevelList, base_of};
 use bidi_resolve::laws::left_to_right_has_level_zero;
+use bidi_resolve::paragraph_levels;
 use bumpalo::Bump;
 use face_api::{Face, Faces};
 use std::alloc::{AllocError, Global};
@@ -154,20 +159,22 @@ fn scratch(
     ensures lengths { IfOk result (λ p. All (λ item. HasBounds item.what) p.items) }
 {
     let kept = kept_letters(arena, &paragraph.items)?;
-    match at_level_zero(alloc, arena, paragraph, &kept, faces)? {
+    match by_lists(alloc, arena, paragraph, &kept, faces)? {
         Some(prepared) => Ok(prepared),
         None => by_all_rules(alloc, arena, paragraph, kept, faces),
     }
 }
 
-// The same with these kept characters, where nothing in the paragraph asks for a level but 0.
-fn at_level_zero(
+// The same with these kept characters, where nothing in the paragraph asks for a level but 0, or where each item is one
+// character of the one bidi paragraph that it is.
+fn by_lists(
     alloc: Global,
     arena: &Bump,
     paragraph: &Paragraph,
     kept: &Kept,
     faces: &Faces,
 ) -> Result<Option<Prepared>, AllocError>
+    requires base { IfSome paragraph.now.base (λ base. base ≤ 1) }
     requires bytes { text_bytes (entries_of paragraph.now.items.items) ≤ 1048576 }
     requires sizes { All HasFontSize (entries_of paragraph.now.items.items) }
     requires letters { kept.now.letters.items ≡ joined (kept_of (entries_of paragraph.now.items.items)) }
@@ -178,9 +185,7 @@ fn at_level_zero(
     ensures atoms { IfOk result (λ made. IfSome made (λ p. atoms_in p.items ≤ atoms_of (entries_of paragraph.now.items.items))) }
     ensures lengths { IfOk result (λ made. IfSome made (λ p. All (λ item. HasBounds item.what) p.items)) }
 {
-    if !starts_at_zero(paragraph.base, paragraph.style.bidi)
-        || !looks_flat(&paragraph.items, &kept.letters)
-    {
+    if !is_tried(paragraph, &kept.letters) {
         return Ok(None);
     }
     let made = flat_lists(
@@ -191,39 +196,116 @@ fn at_level_zero(
         &kept.ends,
         faces,
     )?;
-    if !made.flat {
-        return Ok(None);
+    of_lists(alloc, paragraph.base, made)
+}
+
+// What is prepared of the lists of a paragraph whose block container puts nothing round its bidi paragraphs, if its levels are
+// told by them.
+#[tactic(auto, using(crate::proofs::SinglesLaws::zero_prepared, crate::proofs::SinglesLaws::own_prepared, crate::proofs::SinglesLaws::at_levels_count, crate::proofs::SinglesLaws::bounds_at_levels))]
+fn of_lists(
+    alloc: Global,
+    given: Option<u8>,
+    made: FlatLists<'_>,
+) -> Result<Option<Prepared>, AllocError>
+    requires base { IfSome given (λ base. base ≤ 1) }
+    requires alike { AreAlike (flat_of made) }
+    ensures prepared { (style : Style) → (all : List parts.Part) → puts_nothing style.bidi ≡ true → flat_of made.entry ≡ grown nothing all → IfOk result (λ own. IfSome own (λ p. p ≡ spec.prepared_by (raws all) (spec.standings_of given style all))) }
+    ensures count { IfOk result (λ own. IfSome own (λ p. length p.items ≡ length made.entry.items.items)) }
+    ensures bounds { All HasBoundsIn made.entry.items.items → IfOk result (λ own. IfSome own (λ p. All HasBoundsIn p.items)) }
+{
+    if is_zero(given) && made.flat {
+        left_to_right_has_level_zero();
+        let prepared = at_level_zero(alloc, made)?;
+        Ok(Some(prepared))
+    } else if made.bare {
+        let prepared = at_own_levels(alloc, given, made)?;
+        Ok(Some(prepared))
+    } else {
+        Ok(None)
     }
-    left_to_right_has_level_zero();
-    let levels = zeros(alloc, made.items.len())?;
-    let bases = zeros(alloc, made.items.len())?;
+}
+
+fn is_zero(base: Option<u8>) -> bool
+    ensures { result ≡ is_zero base }
+{
+    base == Some(0)
+}
+
+// Whether a paragraph with these kept characters looks so.
+fn is_tried(paragraph: &Paragraph, letters: &[Letter]) -> bool
+    ensures { result ≡ true → puts_nothing paragraph.now.style.bidi ≡ true }
+{
+    puts_nothing(paragraph.style.bidi)
+        && ((is_zero(paragraph.base) && looks_flat(&paragraph.items, letters))
+            || looks_bare(&paragraph.items, letters))
+}
+
+// Whether a block container with this `unicode-bidi` puts nothing round its bidi paragraphs.
+fn puts_nothing(bidi: UnicodeBidi) -> bool
+    ensures { result ≡ puts_nothing bidi }
+{
+    !matches!(
+        bidi,
+        UnicodeBidi::BidiOverride | UnicodeBidi::IsolateOverride
+    )
+}
+
+// What is prepared of these lists, where each item stands at level 0.
+fn at_level_zero(alloc: Global, made: FlatLists<'_>) -> Result<Prepared, AllocError>
+    requires { AreAlike (flat_of made) }
+    ensures { IfOk result (λ p. p ≡ zero_preparation (flat_of made.entry)) }
+{
+    let levels = same_levels(alloc, 0, made.items.len())?;
+    let bases = same_levels(alloc, 0, made.items.len())?;
     let breaks = breaks_of(alloc, &made.breaks)?;
-    Ok(Some(Prepared {
+    Ok(Prepared {
         items: made.items,
         levels,
         classes: made.classes,
         bases,
         breaks,
-    }))
+    })
 }
 
-// So many levels of 0.
-fn zeros(alloc: Global, count: usize) -> Result<LevelList, AllocError>
-    ensures { IfOk result (λ levels. levels.items ≡ replicate count 0) }
+// What is prepared of these lists, where each item is a character of a bidi paragraph with this base level or none.
+#[tactic(auto, using(crate::proofs::SinglesLaws::at_levels_count))]
+fn at_own_levels(
+    alloc: Global,
+    given: Option<u8>,
+    made: FlatLists<'_>,
+) -> Result<Prepared, AllocError>
+    requires base { IfSome given (λ base. base ≤ 1) }
+    requires alike { AreAlike (flat_of made) }
+    ensures prepared { IfOk result (λ p. p ≡ own_preparation given (flat_of made.entry)) }
+    ensures count { IfOk result (λ p. length p.levels ≡ length made.entry.items.items) }
 {
-    let levels = Vec::from_elem(alloc, 0, count)?;
+    let FlatLists {
+        items,
+        classes,
+        breaks,
+        ..
+    } = made;
+    let chars = characters_in(alloc, &items)?;
+    let base = base_of(given, &classes);
+    let levels = paragraph_levels(alloc, &chars, &classes, base)?;
+    let items = at_levels(items, &levels);
+    let bases = same_levels(alloc, base, items.len())?;
+    let breaks = breaks_of(alloc, &breaks)?;
+    Ok(Prepared {
+        items,
+        levels,
+        classes,
+        bases,
+        breaks,
+    })
+}
+
+// So many times this level.
+fn same_levels(alloc: Global, level: u8, count: usize) -> Result<LevelList, AllocError>
+    ensures { IfOk result (λ levels. levels.items ≡ replicate count level) }
+{
+    let levels = Vec::from_elem(alloc, level, count)?;
     Ok(levels)
-}
-
-// Whether bidi paragraphs begin at level 0 and a block container with this `unicode-bidi` puts nothing round them.
-fn starts_at_zero(base: Option<u8>, bidi: UnicodeBidi) -> bool
-    ensures { result ≡ (is_zero base && puts_nothing bidi) }
-{
-    base == Some(0)
-        && !matches!(
-            bidi,
-            UnicodeBidi::BidiOverride | UnicodeBidi::IsolateOverride
-        )
 }
 
 // The same, by all rules of bidi.

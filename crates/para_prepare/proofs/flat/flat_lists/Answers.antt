@@ -12,7 +12,7 @@ loop-i-init g c =
     let none = c.in_ok-with_capacity.ensures.items in
     let few : length c.in_ok-with_capacity.field-0.items ≡ 0 = ap length none in (
       laid_none _ (entries_of c.args.items.now) c.args.letters.now c.args.ends.now _ c.requires.letters c.requires.ends
-          (same_flat _ _ _ _ _ _ _ _ none c.in_ok-with_capacity-2.ensures.items c.in_ok-with_capacity-3.ensures.items refl),
+          (same_flat _ _ _ _ _ _ _ _ _ _ none c.in_ok-with_capacity-2.ensures.items c.in_ok-with_capacity-3.ensures.items refl refl),
       subst (All HasBoundsIn) (sym none) (λ k d lt. absurd (omega arith)),
       omega arith,
     )
