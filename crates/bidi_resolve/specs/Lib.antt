@@ -7,4 +7,5 @@ pub mod Passes
 pub mod Places
 pub mod Sequence
 pub mod Sides
+pub mod Single
 pub mod Weak

@@ -10,6 +10,7 @@ mod paragraph;
 mod places;
 mod sequence;
 mod sides;
+mod single;
 mod weak;
 
 pub use paragraph::{paragraph_levels, text_classes, text_levels};

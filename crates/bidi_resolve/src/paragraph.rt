@@ -12,6 +12,7 @@ ghost use Rattle.std.specs.Prelude.{ℕ, ◌≡◌, ◌<◌, ◌≤◌, All, IfO
 
 use crate::places::{level_of, write_levels};
 use crate::sequence::{Scratch, resolve_classes};
+use crate::single::{are_plain, single_levels};
 use bidi_explicit::{ClassList, LevelList, Levels, Run, base_of, levels, runs};
 use std::alloc::{AllocError, Global};
 use wm_chars::BidiClass::{B, CS, EN, ES, ET, L, NSM, ON, S, WS};
@@ -59,6 +60,9 @@ pub fn paragraph_levels(
     if base == 0 && are_left_to_right(classes) {
         let zeros = Vec::from_elem(alloc, 0, classes.len())?;
         return Ok(zeros);
+    }
+    if are_plain(classes) {
+        return single_levels(alloc, chars, classes, base);
     }
     by_all_rules(alloc, chars, classes, base)
 }

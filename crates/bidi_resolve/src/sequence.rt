@@ -96,9 +96,9 @@ pub(crate) fn resolve_classes(
     )
 }
 
-// All rules for classes, each over the whole sequence before the next.
+/// All rules for classes, each over the whole sequence before the next.
 #[tactic(auto, unfolding(crate::specs::Sequence::resolved))]
-fn rules(
+pub(crate) fn rules(
     pairing: &mut Pairing,
     classes: &mut [BidiClass],
     originals: &[BidiClass],

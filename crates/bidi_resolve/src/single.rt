@@ -1,0 +1,90 @@
+//! A paragraph in which nothing embeds, overrides or isolates: it is one isolating run sequence on its base level (UAX 9, X10).
+
+ghost use Rattle.bidi_resolve.specs.Neutral.{i1_i2};
+ghost use Rattle.bidi_resolve.specs.Paragraph.{IsResolvedLevel};
+ghost use Rattle.bidi_resolve.specs.Single as single;
+ghost use Rattle.std.specs.List.{list_all, range_with_len};
+ghost use Rattle.std.specs.Prelude.{◌≡◌, ◌<◌, ◌≤◌, All, IfOk, length};
+
+use crate::neutral::{direction, raised};
+use crate::pairing::Pairing;
+use crate::sequence::rules;
+use bidi_explicit::{LevelList, PlaceList, Run};
+use std::alloc::{AllocError, Global};
+use wm_chars::BidiClass;
+use wm_chars::BidiClass::{AL, AN, B, CS, EN, ES, ET, L, NSM, ON, R, S, WS};
+
+/// Whether none of these classes embeds, overrides or isolates.
+pub(crate) fn are_plain(classes: &[BidiClass]) -> bool
+    ensures { result ≡ list_all single.is_plain classes.now }
+{
+    for class in classes {
+        if !is_plain(*class) {
+            return false;
+        }
+    }
+    true
+}
+
+fn is_plain(class: BidiClass) -> bool
+    ensures { result ≡ single.is_plain class }
+{
+    matches!(
+        class,
+        L | R | AL | EN | ES | ET | AN | CS | NSM | B | S | WS | ON
+    )
+}
+
+/// The levels of such a paragraph with this base level.
+#[tactic(auto, unfolding(crate::specs::Single::single_levels), using(crate::proofs::LengthLaws::length_resolved))]
+pub(crate) fn single_levels(
+    alloc: Global,
+    chars: &[char],
+    classes: &[BidiClass],
+    base: u8,
+) -> Result<LevelList, AllocError>
+    requires base { base ≤ 1 }
+    requires chars { length chars.now ≡ length classes.now }
+    ensures levels { IfOk result (λ levels. levels.items ≡ single.single_levels chars.now classes.now base) }
+    ensures length { IfOk result (λ levels. length levels.items ≡ length classes.now) }
+    ensures between { IfOk result (λ levels. All (IsResolvedLevel base) levels.items) }
+{
+    let run = Run {
+        places: all_places(alloc, classes.len())?,
+        sos: direction(base),
+        eos: direction(base),
+    };
+    let mut pairing = Pairing::new(alloc);
+    let mut own = Vec::from_slice(alloc, classes)?;
+    rules(&mut pairing, &mut own, classes, chars, base, &run)?;
+    raised_levels(alloc, base, &own)
+}
+
+// So many places in their order.
+#[tactic(auto, using(crate::proofs::OneSequence::range_more, crate::proofs::OneSequence::range_long, crate::proofs::OneSequence::range_below))]
+fn all_places(alloc: Global, count: usize) -> Result<PlaceList, AllocError>
+    ensures are { IfOk result (λ places. places.items ≡ range_with_len 0 count) }
+    ensures many { IfOk result (λ places. length places.items ≡ count) }
+    ensures within { IfOk result (λ places. All (λ place. place < count) places.items) }
+{
+    let mut places = Vec::with_capacity(alloc, count)?;
+    for place in 0..count {
+        places.push(place)?;
+    }
+    Ok(places)
+}
+
+// I1 and I2.
+#[tactic(auto, using(crate::proofs::OneSequence::all_between))]
+fn raised_levels(alloc: Global, level: u8, classes: &[BidiClass]) -> Result<LevelList, AllocError>
+    requires { level ≤ 1 }
+    ensures are { IfOk result (λ levels. levels.items ≡ i1_i2 level classes.now) }
+    ensures length { IfOk result (λ levels. length levels.items ≡ length classes.now) }
+    ensures between { IfOk result (λ levels. All (IsResolvedLevel level) levels.items) }
+{
+    let mut levels = Vec::with_capacity(alloc, classes.len())?;
+    for class in classes {
+        levels.push(raised(level, *class))?;
+    }
+    Ok(levels)
+}
