@@ -6,4 +6,5 @@ pub mod LevelZero
 pub mod LineLaws
 pub mod Resets
 pub mod Runs
+pub mod Together
 pub mod VisualLaws

@@ -1,5 +1,5 @@
 -- The visual order of a line's items, where what X9 leaves in the line between two of them parts them (UAX 9, X9 and L2).
-use Rattle.std.specs.Prelude.{ℕ, ◌+◌, List, [], ◌∷◌, map, Option, Some, None, slice_index_or}
+use Rattle.std.specs.Prelude.{ℕ, ◌+◌, Bool, true, false, List, [], ◌∷◌, map, Option, Some, None, slice_index_or}
 use Rattle.std.specs.List.{filter_map}
 use Rattle.bidi_order.specs.Reversals.{order}
 use Rattle.bidi_order.specs.declared.visual.Seat.{Seat}
@@ -17,6 +17,10 @@ abbrev pub seats_from : (item : ℕ) → (levels : List ℕ) → (aparts : List 
 seats_from item [] aparts = []
 seats_from item (level ∷ levels) [] = []
 seats_from item (level ∷ levels) (apart ∷ aparts) = parting apart (seat level (Some item) ∷ seats_from (item + 1) levels aparts)
+
+abbrev pub parts_nothing : (apart : Option ℕ) → Bool
+parts_nothing None = true
+parts_nothing (Some apart) = false
 
 -- what parts a line's first item from the one before it stands on another line
 abbrev pub within_line : List (Option ℕ) → List (Option ℕ)

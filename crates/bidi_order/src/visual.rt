@@ -2,8 +2,8 @@
 //! L2).
 
 ghost use Rattle.std.specs.Prelude.{◌≡◌, ◌<◌, ◌++◌, [], ◌∷◌, Some, None, length, map, slice_index_or, All, IfOk, IsPermutation, OnOk};
-ghost use Rattle.std.specs.List.{filter_map, range_with_len};
-ghost use Rattle.bidi_order.specs.Visual.{parting, seat, seats, visual_order, within_line};
+ghost use Rattle.std.specs.List.{filter_map, list_all, range_with_len};
+ghost use Rattle.bidi_order.specs.Visual.{parting, parts_nothing, seat, seats, visual_order, within_line};
 
 use crate::places::Order;
 use crate::reversals::{all_places, greatest, order};
@@ -34,9 +34,41 @@ pub fn visual_order(
     if greatest(levels) == 0 {
         let places = all_places(alloc, levels.len())?;
         Ok(places)
+    } else if are_together(aparts) {
+        let places = order(alloc, levels)?;
+        Ok(places)
     } else {
         let places = seated_order(alloc, levels, aparts)?;
         Ok(places)
+    }
+}
+
+// Whether nothing parts two items of the line.
+fn are_together(aparts: &[Option<u8>]) -> bool
+    ensures { result ≡ list_all parts_nothing (within_line aparts.now) }
+{
+    match aparts.split_first() {
+        Some((_, others)) => part_nothing(others),
+        None => true,
+    }
+}
+
+fn part_nothing(aparts: &[Option<u8>]) -> bool
+    ensures { result ≡ list_all parts_nothing aparts.now }
+{
+    aparts.iter().all(
+        |apart| -> bool
+            ensures { result ≡ parts_nothing apart.now }
+        { parts_nothing(*apart) },
+    )
+}
+
+fn parts_nothing(apart: Option<u8>) -> bool
+    ensures { result ≡ parts_nothing apart }
+{
+    match apart {
+        None => true,
+        Some(_) => false,
     }
 }
 
