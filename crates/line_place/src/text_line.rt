@@ -62,6 +62,7 @@ fn run_of(alloc: Global, text: TextLine) -> Result<Fragment, AllocError>
         natural: None,
         units: Rc::new(alloc, text.units)?,
     };
-    let made = without_inner(alloc, unnumbered(text.node), rect, kind)?;
+    let empty = Rc::new(alloc, Vec::new(alloc))?;
+    let made = without_inner(&empty, unnumbered(text.node), rect, kind)?;
     Ok(made)
 }

@@ -204,6 +204,7 @@ fn span(alloc: Global, node: u32, rect: FlowRect, parts: Fragments) -> Result<Fr
 // Units of text side by side, from `left` on, which have this extent.
 fn text(
     alloc: Global,
+    empty: &Rc<Fragments>,
     line: &LineInput,
     over: i64,
     left: i64,
@@ -211,6 +212,7 @@ fn text(
     extent: i64,
     named: &TextName,
 ) -> Result<Fragment, AllocError>
+    requires empty { empty.now.value.items ≡ [] }
     requires some { 0 < length run.now }
     requires inside { IsBefore (length line.now.boxes.items) (inside_of (map leaf_of run.now)) }
     requires extent { extent ≡ rule.extent_of (map leaf_of run.now) }
@@ -223,7 +225,7 @@ fn text(
     let kind = run_kind(alloc, named, level, units)?;
     let extents = extents_in(line, inside);
     let rect = text_rect(extents, over, left, extent);
-    let made = without_inner(alloc, unnumbered(named.node), rect, kind)?;
+    let made = without_inner(empty, unnumbered(named.node), rect, kind)?;
     Ok(made)
 }
 
@@ -243,20 +245,21 @@ fn run_kind(
     })
 }
 
-/// A fragment with none inside it.
+/// A fragment with none inside it, which shares this empty list.
 pub(crate) fn without_inner(
-    alloc: Global,
+    empty: &Rc<Fragments>,
     name: BoxName,
     rect: FlowRect,
     kind: FragmentKind,
 ) -> Result<Fragment, AllocError>
+    requires { empty.now.value.items ≡ [] }
     ensures { IfOk result (λ made. (next : Pieces) → before made next ≡ piece name rect (kind_of kind) none next) }
 {
     Ok(Fragment {
         name,
         rect,
         kind,
-        children: Rc::new(alloc, Vec::new(alloc))?,
+        children: empty.clone()?,
     })
 }
 
@@ -287,12 +290,14 @@ fn atom(
 // What a run of leaves with this extent shows, from `left` on.
 fn shown(
     alloc: Global,
+    empty: &Rc<Fragments>,
     line: &LineInput,
     over: i64,
     left: i64,
     run: &[Leaf],
     extent: i64,
 ) -> Result<Option<Fragment>, AllocError>
+    requires empty { empty.now.value.items ≡ [] }
     requires some { 0 < length run.now }
     requires inside { IsBefore (length line.now.boxes.items) (inside_of (map leaf_of run.now)) }
     requires run { total leaf_reach (map leaf_of run.now) ≤ 2 ^ 60 }
@@ -309,7 +314,7 @@ fn shown(
                 form: *form,
                 natural: None,
             };
-            let made = text(alloc, line, over, left, run, extent, &named)?;
+            let made = text(alloc, empty, line, over, left, run, extent, &named)?;
             Ok(Some(made))
         }
         Some(LineContent::Combined { node, natural, .. }) => {
@@ -318,7 +323,7 @@ fn shown(
                 form: UnitKind::Combined,
                 natural: Some(*natural),
             };
-            let made = text(alloc, line, over, left, run, extent, &named)?;
+            let made = text(alloc, empty, line, over, left, run, extent, &named)?;
             Ok(Some(made))
         }
         Some(
@@ -365,8 +370,9 @@ pub(crate) fn walked(
         opened: Vec::new(alloc),
         parts: Vec::new(alloc),
     };
+    let empty = Rc::new(alloc, Vec::new(alloc))?;
     for mark in marks {
-        walk.step(alloc, line, over, mark)?;
+        walk.step(alloc, &empty, line, over, mark)?;
     }
     let Walk { parts, .. } = walk;
     Ok(parts)
@@ -377,10 +383,12 @@ impl Walk {
     fn step(
         &mut self,
         alloc: Global,
+        empty: &Rc<Fragments>,
         line: &LineInput,
         over: i64,
         mark: &Mark,
     ) -> Result<(), AllocError>
+        requires empty { empty.now.value.items ≡ [] }
         requires of_box { IsOfBox (length line.now.boxes.items) (mark_of mark.now) }
         requires in_box { IsInBox (length line.now.boxes.items) (mark_of mark.now) }
         requires stands { CanStand (length self.old.opened.items) (mark_of mark.now) }
@@ -403,7 +411,7 @@ impl Walk {
                 self.end(alloc, line, over, *place, *edge)?;
             }
             Mark::Shows(run) => {
-                self.show(alloc, line, over, run)?;
+                self.show(alloc, empty, line, over, run)?;
             }
         }
         Ok(())
@@ -494,10 +502,12 @@ impl Walk {
     fn show(
         &mut self,
         alloc: Global,
+        empty: &Rc<Fragments>,
         line: &LineInput,
         over: i64,
         run: &[Leaf],
     ) -> Result<(), AllocError>
+        requires empty { empty.now.value.items ≡ [] }
         requires some { 0 < length run.now }
         requires inside { IsBefore (length line.now.boxes.items) (inside_of (map leaf_of run.now)) }
         requires run { total leaf_reach (map leaf_of run.now) ≤ 2 ^ 60 }
@@ -509,7 +519,7 @@ impl Walk {
         ensures parts { OnOk result ((next : Pieces) → followed self.new.parts.items next ≡ followed self.old.parts.items (rule.run_piece (line_of line.now) over self.old.at (map leaf_of run.now) next)) }
     {
         let extent = extent_of(run);
-        let made = shown(alloc, line, over, self.at, run, extent)?;
+        let made = shown(alloc, empty, line, over, self.at, run, extent)?;
         add_shown(&mut self.parts, made)?;
         self.at += extent;
         Ok(())
