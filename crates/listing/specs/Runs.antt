@@ -32,7 +32,7 @@ turn_word VerticalLr = codes "s"
 turn_word SidewaysRl = codes "s"
 turn_word SidewaysLr = codes "l"
 
--- how wide a combined run is: its one entry has one font size at most
+-- the width of a combined run: its natural width, but at most one font size, which is what its one entry takes on the line
 unfoldable pub combined_width : (natural : Option ℤ) → List RunUnit → ℤ
 combined_width natural [] = pos 0
 combined_width None (unit ∷ units) = unit.extent

@@ -82,7 +82,6 @@ pub(crate) fn push_pair(line: &mut Line, first: i64, second: i64)
 }
 
 /// A code point behind a sign: hexadecimal in upper case, by four digits at least.
-#[tactic(auto, using(crate::proofs::Hexadecimal::all_pushed))]
 pub(crate) fn character(sign: u8, c: char) -> Character
     ensures { result.items ≡ sign ∷ spec.code_point c }
 {
