@@ -7,21 +7,19 @@ use Rattle.std.proofs.lemmas.Bool.{cases_eq}
 use Rattle.std.proofs.lemmas.Bool.Decides.{Decides-int_eq}
 use Rattle.std.proofs.lemmas.Option.{none-some, same_Some}
 use Rattle.style_types.specs.declared.constraint.Constraint.{Constraint}
-use Rattle.style_types.specs.declared.item.BoxName.{BoxName}
 use Rattle.style_types.specs.declared.style.Style.{Style}
 use Rattle.style_types.specs.Fragment.{Pieces}
-use Rattle.box_gen.specs.Tree.{Boxes, Content, box, none}
+use Rattle.box_gen.specs.Tree.{Boxes, box, none}
 use Rattle.box_arena.specs.Arena.{SameLinks, SameNodes}
-use Rattle.box_arena.specs.At.{IsAbove, Node, Slots, first_at, kept_at, links_at, marked_at, next_at, node_at, parent_at, result_at, text_at}
+use Rattle.box_arena.specs.At.{IsAbove, Node, Slots, first_at, kept_at, marked_at, next_at, node_at, parent_at, result_at, text_at}
 use Rattle.box_arena.specs.Boxes.{StandFrom, Stands}
 use Rattle.box_arena.specs.Links.{first_of, next_of, parent_of}
 use Rattle.box_arena.proofs.Survival.{survive_attach, survive_detach, survive_restyle}
 use Rattle.para_prepare.specs.Preparation.{Preparation}
 use Rattle.relayout.specs.declared.sizes.Containing.{Containing}
 use Rattle.relayout.specs.Inline.{Outside}
-use Rattle.relayout.specs.Kept.{AreRight, HasRightResults, HasRightText, IsResultAt, IsRightAt, IsTextAt, SameContaining, containing_at, containing_by, result_of}
-use Rattle.relayout.specs.Laws.{AttachedIsRight, BareIsRight, DetachedIsRight, DroppedIsRight, ForgottenIsRight, IsBare, KeptIsRight, KeptTextIsRight, MarkedIsRight, RestyledAlikeIsRight, RestyledIsRight}
-use Rattle.relayout.specs.Sizes.{containing_of}
+use Rattle.relayout.specs.Kept.{HasRightResults, HasRightText, IsResultAt, IsResultOf, IsTextAt, SameContaining, containing_by}
+use Rattle.relayout.specs.Laws.{AttachedIsRight, BareIsRight, DetachedIsRight, DroppedIsRight, ForgottenIsRight, KeptIsRight, KeptTextIsRight, MarkedIsRight, RestyledAlikeIsRight, RestyledIsRight}
 
 -- ---- where links and nodes stay
 
@@ -60,8 +58,8 @@ module _ (old new : Slots Preparation) (links : SameLinks old new) (nodes : Same
 pub result_stays : (outside : Outside) (old new : Slots Preparation) (k : ℕ) (c : Constraint) (result : Pieces) → ((tree : Boxes) → Stands new k tree → Stands old k tree) → SameContaining old new k
     → IsResultAt outside old k c result → IsResultAt outside new k c result
 result_stays outside old new k c result back same is name style content inner stands =
-    is name style content inner (back (box name style content inner none) stands)
-    ∙ ap (λ (containing : Containing). result_of outside containing name style content inner c) (sym (same style))
+    let P : Containing → Type 0 = λ containing. IsResultOf outside containing name style content inner c result in
+    subst P (sym (same style)) (is name style content inner (back (box name style content inner none) stands))
 
 none_kept : (slots : Slots Preparation) (k : ℕ) (c : Constraint) → marked_at slots k ≡ true → kept_at slots k c ≡ None
 none_kept slots k c is = ap (λ (marked : Bool). if marked then None else result_at slots k c) is

@@ -1,6 +1,6 @@
 -- What is kept in an arena stays right through the arena's calls. What a box comes to depends on its parent's mode and direction too, and no
 -- call marks a box where these change around it: the last laws speak of boxes to which their containing block is what it was.
-use Rattle.std.specs.Prelude.{◌≡◌, ℕ, List, Option, None, Some}
+use Rattle.std.specs.Prelude.{◌≡◌, ℕ, Option, None, Some}
 use Rattle.slab.specs.Slab.{Slab}
 use Rattle.style_types.specs.declared.constraint.Constraint.{Constraint}
 use Rattle.style_types.specs.Fragment.{Pieces}

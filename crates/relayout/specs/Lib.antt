@@ -2,6 +2,7 @@ pub mod Atoms
 pub mod Boxed
 pub mod Content
 pub mod Edges
+pub mod Fit
 pub mod Flow
 pub mod Flowed
 pub mod Inline

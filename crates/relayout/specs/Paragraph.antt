@@ -1,5 +1,5 @@
 -- What a paragraph and its prepared text may have.
-use Rattle.std.specs.Prelude.{ℕ, ◌≤◌, ◌^◌, ⊤, List, All, length, Option, IfSome}
+use Rattle.std.specs.Prelude.{ℕ, ◌≤◌, ◌^◌, ⊤, List, All, length, Option, IfSome, IsSome}
 use Rattle.style_types.specs.Item.{Entry}
 use Rattle.box_gen.specs.Tree.{Content, blocks, inline}
 use Rattle.para_lines.specs.Boxes.{HasBounds}
@@ -24,6 +24,21 @@ pub record IsReady (entries : List Entry) (ready : Preparation) : Type 0 where
   pub sources : AreFrom 0 (length entries) ready.items
   pub lengths : All (λ item. HasTextBounds item.what) ready.items
   pub atoms : atoms_in ready.items ≤ atoms_of entries
+
+-- a box holds no paragraph, or one that can be prepared
+abbrev pub IsParagraphIn : Content → Type 0
+IsParagraphIn blocks = ⊤
+IsParagraphIn (inline entries) = IsParagraph entries
+
+-- what was prepared of a box's text is of these items
+abbrev pub IsReadyFor : Content → Preparation → Type 0
+IsReadyFor blocks ready = ⊤
+IsReadyFor (inline entries) ready = IsReady entries ready
+
+-- the text of a box that holds a paragraph is there
+abbrev pub HasText : Content → Option Preparation → Type 0
+HasText blocks text = ⊤
+HasText (inline entries) text = IsSome text
 
 -- the same of a box that may hold a paragraph
 abbrev pub IsReadyIn : Content → Option Preparation → Type 0
