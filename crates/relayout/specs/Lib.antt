@@ -12,4 +12,7 @@ pub mod Laws
 pub mod Near
 pub mod Paragraph
 pub mod Reach
+pub mod Relayout
+pub mod Row
 pub mod Sizes
+pub mod Step

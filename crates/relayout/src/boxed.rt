@@ -314,7 +314,8 @@ pub(crate) fn boxed(
     requires style { IsBounded node.now.style }
     requires constraint { reach.IsBounded c }
     requires size { IsBase (Some size) }
-    ensures { IfOk result (λ made. (filled : contents.Filled) → IsFilled content filled → part_of made ≡ (rule.boxed containing (node_of node.now) c size filled).part) }
+    ensures part { IfOk result (λ made. (filled : contents.Filled) → IsFilled content filled → part_of made ≡ (rule.boxed containing (node_of node.now) c size filled).part) }
+    ensures inner { IfOk result (λ made. (part_of made).inner ≡ pieces_of content.parts.items) }
 {
     let style = &node.style;
     let extent = block_size(containing, style, c, content.extent);

@@ -8,3 +8,6 @@ pub(crate) struct LaidBox {
     pub(crate) style: Style,
     pub(crate) fragment: Fragment,
 }
+
+/// Boxes that stand side by side, laid out.
+pub(crate) type LaidBoxes = Vec<LaidBox>;

@@ -6,7 +6,13 @@ mod boxed;
 mod content;
 mod edges;
 mod flowed;
+mod flowing;
+mod in_arena;
 mod inline;
 mod intrinsic;
 pub mod laws;
 mod sizes;
+mod step;
+mod whole;
+
+pub use whole::relayout;

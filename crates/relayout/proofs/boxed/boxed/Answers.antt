@@ -5,8 +5,8 @@ use Rattle.relayout.specs.Boxed.{block_size, border_box, content_area}
 use Rattle.relayout.proofs.BoxedLaws.{boxed_is, same_sizes}
 use Rattle.relayout.proofs.boxed.boxed.Goals as goal
 
-pub returns : goal.returns
-returns c = λ filled is.
+pub returns-clause-part : goal.returns-clause-part
+returns-clause-part c = λ filled is.
     let fits : FitsSigned w64 c.args.content.extent = search rules in
     let content : to_z w64 (of_z w64 c.args.content.extent) ≡ c.args.content.extent = to_z-of_z w64 c.args.content.extent fits in
     let size : to_z w64 (of_z w64 c.args.size) ≡ c.args.size = to_z-of_z w64 c.args.size c.ranges.size in

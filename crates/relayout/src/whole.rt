@@ -1,0 +1,110 @@
+//! The layout of a document whose boxes lie in an arena (CSS 2, 9.4 and 10.1).
+
+ghost use Rattle.std.specs.Prelude.{◌≡◌, List, IfOk, None, Option, Some};
+ghost use Rattle.face_api.specs.Faces.{faces_of};
+ghost use Rattle.face_api.specs.Table.{Table};
+ghost use Rattle.slab.specs.Slab.{ContainsKey};
+ghost use Rattle.style_types.specs.Fragment.{piece_of};
+ghost use Rattle.wm_modes.specs.Mode.{is_horizontal};
+ghost use Rattle.box_arena.specs.At.{parent_at};
+ghost use Rattle.relayout.specs.Flow.{on_page};
+ghost use Rattle.relayout.specs.Flowed.{part_of};
+ghost use Rattle.relayout.specs.Near.{IsNearLaid};
+ghost use Rattle.relayout.specs.Reach.{IsPageView};
+ghost use Rattle.relayout.specs.Relayout as rule;
+ghost use Rattle.relayout.specs.Relayout.{AreRightUnder, HasTree, IsLayout, IsSteadyUnder, IsView};
+ghost use Rattle.relayout.specs.Row.{from_outside};
+
+use crate::edges::{margin_or_zero, side_in};
+use crate::flowed::LaidBox;
+use crate::flowing::flow;
+use crate::inline::{PageView, inline_place};
+use crate::sizes::Containing;
+use box_arena::{BoxArena, BoxKey};
+use bumpalo::Bump;
+use face_api::{Face, Faces};
+use para_prepare::Prepared;
+use std::alloc::{AllocError, Global};
+use std::sync::ledger::Ledger;
+use style_types::{Constraint, Fragment};
+use wm_modes::{FlowRect, FlowSide, WritingMode};
+use wm_units::{Steps, View};
+
+/// How many boxes stand one inside the other at most.
+const MOST_DEEP: u32 = 130;
+
+// The view of a page whose root has this mode.
+fn page_of(mode: WritingMode, view: View) -> PageView
+    requires { IsView view }
+    ensures value { (faces : List (Option Table)) → from_outside faces result ≡ on_page (is_horizontal mode) faces view.inline view.block }
+    ensures near { IsPageView result }
+{
+    if mode.is_horizontal() {
+        PageView {
+            across: view.inline,
+            down: view.block,
+        }
+    } else {
+        PageView {
+            across: view.block,
+            down: view.inline,
+        }
+    }
+}
+
+// The root in the view, which has its mode and its direction.
+fn in_view(root: &LaidBox, view: View) -> Result<Fragment, AllocError>
+    requires view { IsView view }
+    requires near { IsNearLaid root.now }
+    ensures { IfOk result (λ made. piece_of made ≡ rule.in_view root.now.style view (part_of root.now.fragment)) }
+{
+    let style = &root.style;
+    let rect = root.fragment.rect;
+    let start = side_in(style.mode, FlowSide::BlockStart);
+    let made = root.fragment.moved_to(FlowRect {
+        i: inline_place(Containing::of(style), view.inline, style, rect.inline),
+        b: margin_or_zero(style, Some(view.inline), start),
+        ..rect
+    })?;
+    Ok(made)
+}
+
+/// The layout of the tree of boxes under a root, in a view of these sizes, which are told in the root's mode. What is kept in the arena
+/// is used, and all that is laid out is kept, also where memory runs out before the end.
+pub fn relayout<L: Ledger, M: Ledger>(
+    alloc: Global,
+    arena: &mut BoxArena<Prepared>,
+    root: BoxKey,
+    view: View,
+    faces: &Faces,
+    prepared: &mut Steps<L>,
+    arranged: &mut Steps<M>,
+) -> Result<Fragment, AllocError>
+    requires tree { HasTree arena.old.slots root }
+    requires free { parent_at arena.old.slots root ≡ None }
+    requires view { IsView view }
+    requires right { AreRightUnder (faces_of ⟦<dyn Face as Face>⟧ faces.now) view arena.old.slots root }
+    ensures steady { IsSteadyUnder (faces_of ⟦<dyn Face as Face>⟧ faces.now) view arena.old arena.new root }
+    ensures layout { IfOk result (λ made. IsLayout (faces_of ⟦<dyn Face as Face>⟧ faces.now) view arena.old.slots root (piece_of made)) }
+{
+    let style = arena.node(root).style;
+    let mut scratch = Bump::new(alloc);
+    let laid = flow(
+        alloc,
+        page_of(style.mode, view),
+        faces,
+        arena,
+        &mut scratch,
+        prepared,
+        arranged,
+        Some(root),
+        Containing::of(&style),
+        Constraint {
+            inline: Some(view.inline),
+            block: Some(view.block),
+        },
+        MOST_DEEP,
+    )?;
+    let made = in_view(&laid[0], view)?;
+    Ok(made)
+}
