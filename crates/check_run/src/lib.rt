@@ -4,6 +4,8 @@
 #[cfg(test)]
 mod listings;
 #[cfg(test)]
+mod pages;
+#[cfg(test)]
 mod runs;
 #[cfg(test)]
 mod streams;
