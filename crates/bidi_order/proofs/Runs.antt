@@ -1,5 +1,5 @@
 -- Runs of a list, reversed one after the other.
-use Rattle.std.proofs.Common.{◌≡◌, ◌∙◌, sym, refl, ap, ℕ, ◌+◌, ◌-◌, ◌<◌, ◌≤◌, Bool, true, false, List, [], ◌∷◌, ◌++◌, length, get_or, take, drop, reverse, append_assoc, append-nil, subst, arith}
+use Rattle.std.proofs.Common.{◌≡◌, ◌∙◌, sym, refl, ap, ℕ, zero, suc, ◌+◌, ◌-◌, ◌<◌, ◌≤◌, Bool, true, false, List, [], ◌∷◌, ◌++◌, length, get_or, take, drop, reverse, append_assoc, append-nil, subst, arith}
 use Rattle.std.specs.List.{All, range_with_len}
 use Rattle.std.specs.List.Sorted.{IsPermutation}
 use Rattle.std.proofs.lemmas.List.{drop_more, drop_all, take_more, take_at, drop_at, length-take-le, length-drop, length-append, length-reverse, reverse-append, take-append-drop, drop-drop, get_or-drop, map-id}
@@ -120,3 +120,23 @@ all_there n places perm = length_permutation (range_with_len 0 n) places perm �
 pub reversals_more : (levels : List ℕ) (least m n : ℕ) (places places' : List ℕ) → m + 1 ≡ n → places' ≡ reverse_runs (λ p. leb (least + m) (slice_index levels p)) [] places
     → reversals levels least m places' ≡ reversals levels least n places
 reversals_more levels least m n places places' e f = rw (← e, add-one, f) refl
+
+-- ---- a part of one place at most
+
+short_reverse : (n : ℕ) (xs : List ℕ) → n ≤ 1 → reverse (take n xs) ≡ take n xs
+short_reverse zero xs short = refl
+short_reverse (suc zero) [] short = refl
+short_reverse (suc zero) (x ∷ xs) short = refl
+short_reverse (suc (suc n)) xs short = absurd (omega arith)
+
+pub short_part : (xs : List ℕ) (start end_ : ℕ) → start ≤ end_ → end_ ≤ length xs → end_ - start ≤ 1
+    → xs ≡ take start xs ++ reverse (take (end_ - start) (drop start xs)) ++ drop end_ xs
+short_part xs start end_ order within short =
+    let n = end_ - start in
+    let whole : start + (end_ - start) ≡ end_ = omega arith in
+    let rest : drop end_ xs ≡ drop (end_ - start) (drop start xs) = sym (drop-drop (end_ - start) start xs ∙ ap (λ (k : ℕ). drop k xs) whole) in
+    sym (ap (λ part. take start xs ++ part ++ drop end_ xs) (short_reverse n (drop start xs) short)
+    ∙ append_assoc (take start xs) (take n (drop start xs)) (drop end_ xs)
+    ∙ ap (λ own. take start xs ++ (take n (drop start xs) ++ own)) rest
+    ∙ ap (λ own. take start xs ++ own) (take-append-drop n (drop start xs))
+    ∙ take-append-drop start xs)

@@ -4,6 +4,9 @@ ghost use Rattle.std.specs.Prelude.{◌≡◌, ◌||◌, ◌&&◌, cond, length}
 ghost use Rattle.bidi_order.specs.Blanks.{separates, is_blank, reset};
 
 use wm_chars::BidiClass;
+use wm_chars::BidiClass::{
+    AL, AN, B, CS, EN, ES, ET, FSI, L, LRE, LRI, LRO, NSM, ON, PDF, PDI, R, RLE, RLI, RLO, S, WS,
+};
 
 /// Gives the base level to separators, and to blanks before a separator or before the line's end (UAX 9, L1).
 /// The levels and the classes are those of one line, one of each for a character; the classes are those that the
@@ -26,26 +29,15 @@ pub fn reset(levels: &mut [u8], classes: &[BidiClass], base: u8)
 fn leads_out_before(class: BidiClass, behind: bool) -> bool
     ensures { result ≡ (separates class || (is_blank class && behind)) }
 {
-    separates(class) || is_blank(class) && behind
+    match class {
+        B | S => true,
+        WS | LRE | RLE | LRO | RLO | PDF | LRI | RLI | FSI | PDI => behind,
+        L | R | AL | EN | ES | ET | AN | CS | NSM | ON => false,
+    }
 }
 
 fn reset_level(leads_out: bool, base: u8, level: u8) -> u8
     ensures { result ≡ cond leads_out base level }
 {
     if leads_out { base } else { level }
-}
-
-fn separates(class: BidiClass) -> bool
-    ensures { result ≡ separates class }
-{
-    match class {
-        BidiClass::B | BidiClass::S => true,
-        _ => false,
-    }
-}
-
-fn is_blank(class: BidiClass) -> bool
-    ensures { result ≡ is_blank class }
-{
-    class == BidiClass::WS || class.is_isolate_formatting() || class.is_removed()
 }

@@ -119,10 +119,15 @@ fn reaches(levels: &[u8], place: usize, level: u32) -> bool
     level <= u32::from(levels[place])
 }
 
+// Most parts have no place or one.
+#[inline(always)]
+#[tactic(auto, using(crate::proofs::Runs::short_part))]
 fn reverse_part(places: &mut [usize], start: usize, end: usize)
     requires start { start ≤ end }
     requires end { end ≤ length places.old }
     ensures { places.new ≡ take start places.old ++ reverse (take (end - start) (drop start places.old)) ++ drop end places.old }
 {
-    places[start..end].reverse();
+    if end - start > 1 {
+        places[start..end].reverse();
+    }
 }
