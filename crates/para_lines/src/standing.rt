@@ -157,6 +157,36 @@ pub(crate) fn content<'a>(
             form: *form,
             glyphs,
         },
+        PreparedContent::Combined { .. }
+        | PreparedContent::Atom { .. }
+        | PreparedContent::Break { .. } => other_content(what, shifts, atoms),
+    }
+}
+
+// The same of what is no unit.
+#[inline(never)]
+fn other_content<'a>(what: &'a PreparedContent, shifts: i64, atoms: &'a [Atom]) -> LineContent<'a>
+    requires shifts { unsigned_abs shifts ≤ 2 ^ 53 }
+    requires atom { HasAtom what.now atoms.now }
+    requires near { All IsNearAtom atoms.now }
+    ensures { content_of result ≡ content_in shifts what.now (first_atom atoms.now) }
+{
+    match what {
+        PreparedContent::Unit {
+            node,
+            first,
+            end,
+            form,
+            advance: _,
+            space: _,
+            glyphs,
+        } => LineContent::Unit {
+            node: *node,
+            first: *first,
+            end: *end,
+            form: *form,
+            glyphs,
+        },
         PreparedContent::Combined {
             node,
             first,
