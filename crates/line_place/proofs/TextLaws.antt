@@ -47,6 +47,11 @@ marks_shown line bare =
     ∙ ap (leftmost []) (right_are (runs (leaves line)))
     ∙ left_are [] (runs (leaves line))
 
+pub bare_alone : (boxes : List LineBox) (ls : List Leaf) → (length boxes == 0) ≡ true → marks_after boxes None (runs ls) ≡ marks_of boxes ls
+bare_alone [] ls is_none =
+    sym (ap (λ (ms : List Mark). leftmost [] (rightmost ms)) (after_are None (runs ls)) ∙ ap (leftmost []) (right_are (runs ls)) ∙ left_are [] (runs ls) ∙ sym (after_are None (runs ls)))
+bare_alone (box ∷ boxes) ls is_none = let some : (length (box ∷ boxes) == 0) ≡ false = grind arith in absurd (cc)
+
 -- ---- what hangs
 
 abbrev single : Leaf → List Leaf

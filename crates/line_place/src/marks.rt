@@ -29,6 +29,7 @@ type Places = Vec<usize>;
 type Flags = Vec<bool>;
 
 /// The marks of leaves that stand in these boxes.
+#[tactic(auto, using(crate::proofs::TextLaws::bare_alone))]
 pub(crate) fn marks<'a>(
     alloc: Global,
     boxes: &[LineBox],
@@ -39,6 +40,9 @@ pub(crate) fn marks<'a>(
     ensures { IfOk result (λ made. map mark_of made.items ≡ marks_of boxes.now (map leaf_of leaves.now)) }
 {
     let bare = bare_marks(alloc, boxes, leaves)?;
+    if boxes.is_empty() {
+        return Ok(bare);
+    }
     let from_right = with_rightmost(alloc, &bare, boxes.len())?;
     let marks = with_leftmost(alloc, &from_right, boxes.len())?;
     Ok(marks)
