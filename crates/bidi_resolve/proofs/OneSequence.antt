@@ -1,6 +1,6 @@
 -- A paragraph in which nothing embeds, overrides or isolates is one sequence on its base level.
-use Rattle.std.proofs.Common.{◌≡◌, ◌∙◌, refl, sym, ap, ap₂, arith, append-nil, append_assoc, ℕ, zero, suc, ◌+◌, ◌<◌, ◌≤◌, Bool, true, false, cond, eqb, ltb, List, [], ◌∷◌, ◌++◌, length, get_or, take, drop, set, map, replicate, Option, Some, None}
-use Rattle.std.specs.Prelude.{⊤, All, max, slice_index_or}
+use Rattle.std.proofs.Common.{◌≡◌, ◌∙◌, refl, sym, ap, ap₂, arith, append-nil, append_assoc, ℕ, zero, suc, ◌+◌, ◌<◌, ◌≤◌, Bool, true, false, cond, eqb, ltb, List, [], ◌∷◌, ◌++◌, length, get_or, take, drop, set, map, replicate, None}
+use Rattle.std.specs.Prelude.{All, max, slice_index_or}
 use Rattle.std.specs.List.{list_all, range_with_len}
 use Rattle.std.proofs.lemmas.Bool.{and_parts}
 use Rattle.std.proofs.lemmas.List.{drop_all, drop_more, length-map, length-replicate, length-set, take_all, take_more_set}
@@ -12,7 +12,7 @@ use Rattle.wm_chars.specs.declared.classes.BidiClass.TheVariants.{L, R, AL, EN, 
 use Rattle.bidi_explicit.specs.Explicit.{begin, entries, levels_by, classes_by, explicit_levels, explicit_classes, removed_marks}
 use Rattle.bidi_explicit.specs.Isolates.{kind_of}
 use Rattle.bidi_explicit.specs.Sequences as explicit
-use Rattle.bidi_explicit.specs.Sequences.{Sequence, distance, isolating_runs, is_unmatched, kept_from, last_of, level_at_end, level_behind, level_in, level_runs, match_at, with_sides}
+use Rattle.bidi_explicit.specs.Sequences.{Sequence, distance, isolating_runs, is_unmatched, kept_from, last_of, level_at_end, level_behind, level_in, level_runs, with_sides}
 use Rattle.bidi_resolve.specs.Neutral.{direction, i1_i2, raised}
 use Rattle.bidi_resolve.specs.Paragraph.{IsResolvedLevel, paragraph_levels, resolved_from}
 use Rattle.bidi_resolve.specs.Places.{gathered, scattered}

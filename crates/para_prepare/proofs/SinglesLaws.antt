@@ -18,9 +18,8 @@ use Rattle.para_prepare.specs.declared.bidi_text.Role.TheVariants.{Begins}
 use Rattle.para_prepare.specs.declared.item.PreparedContent as content
 use Rattle.para_prepare.specs.declared.item.PreparedContent.TheVariants as contents
 use Rattle.para_prepare.specs.declared.item.PreparedItem.{PreparedItem}
-use Rattle.para_prepare.specs.declared.letter.Letter.{Letter}
 use Rattle.para_prepare.specs.declared.standing.Standing.{Standing}
-use Rattle.para_prepare.specs.BidiText.{bidi_texts, character, characters, container_after, in_front, texts_of}
+use Rattle.para_prepare.specs.BidiText.{bidi_texts, character, characters, in_front, texts_of}
 use Rattle.para_prepare.specs.Boxes.{kind_of, marked, takes_from, taking_part}
 use Rattle.para_prepare.specs.Breaks.{break_class_of, breaks_of}
 use Rattle.para_prepare.specs.Flat.{AreAlike, Flat, HasBoundsIn, flat_item, grown, is_bare, is_flat, is_one, is_zero, nothing, puts_nothing}
