@@ -1,0 +1,5 @@
+use Rattle.session.proofs.Holding.{boxes_fit}
+use Rattle.session.proofs.laws.boxes_within_limits_fit.Goals as goal
+
+pub returns : goal.returns
+returns c = boxes_fit

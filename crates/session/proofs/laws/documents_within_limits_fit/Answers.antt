@@ -1,0 +1,5 @@
+use Rattle.session.proofs.Styled.{documents_fit}
+use Rattle.session.proofs.laws.documents_within_limits_fit.Goals as goal
+
+pub returns : goal.returns
+returns c = documents_fit

@@ -1,0 +1,59 @@
+-- How much a styled tree may have, and that its boxes can be laid out then.
+use Rattle.std.specs.Prelude.{◌≡◌, ℕ, suc, ◌+◌, ◌≤◌, ◌^◌, max, List, length, None}
+use Rattle.style_types.specs.Tree as styled
+use Rattle.style_types.specs.Tree.{NodeKind, Nodes}
+use Rattle.style_types.specs.declared.value.Declaration.{Declaration}
+use Rattle.style_types.specs.Rule.{Ruling}
+use Rattle.html_read.specs.Shape.{text_bytes}
+use Rattle.html_read.specs.Values.{Node}
+use Rattle.dom_store.specs.Opening.{greatest_count}
+use Rattle.dom_store.specs.State.{State, tree_of}
+use Rattle.dom_store.specs.Whole.{listed, numbered}
+use Rattle.style_tree.specs.Styling.{AreBounded, styled_document}
+use Rattle.box_gen.specs.Tree.{Boxes}
+use Rattle.box_gen.specs.Boxes.{root_boxes}
+use Rattle.relayout.specs.Fit.{AreFit, count, height}
+
+-- how many nodes there are
+abbrev pub nodes_in : Nodes → ℕ
+nodes_in styled.none = 0
+nodes_in (styled.node number kind style inner next) = suc (nodes_in inner + nodes_in next)
+
+-- the bytes of a text
+abbrev pub bytes_of : NodeKind → ℕ
+bytes_of styled.element = 0
+bytes_of styled.line_break = 0
+bytes_of (styled.text letters) = length letters
+
+-- the bytes of all texts together
+abbrev pub bytes_in : Nodes → ℕ
+bytes_in styled.none = 0
+bytes_in (styled.node number kind style inner next) = bytes_of kind + (bytes_in inner + bytes_in next)
+
+-- how many nodes stand one inside the other, at most
+abbrev pub depth : Nodes → ℕ
+depth styled.none = 0
+depth (styled.node number kind style inner next) = max (suc (depth inner)) (depth next)
+
+-- a styled tree is within the limits of a document
+pub record IsWithin (nodes : Nodes) : Type 0 where
+  pub few : nodes_in nodes ≤ 65536
+  pub short : bytes_in nodes ≤ 1048576
+  pub low : depth nodes ≤ 64
+  pub bounded : AreBounded nodes
+
+-- boxes can be laid out
+pub record CanBeLaidOut (boxes : Boxes) : Type 0 where
+  pub low : height boxes ≤ 130
+  pub few : count boxes ≤ 2 ^ 18
+  pub fit : AreFit boxes
+
+abbrev pub BoxesFit : Type 0
+BoxesFit = (nodes : Nodes) → IsWithin nodes → CanBeLaidOut (root_boxes nodes)
+
+-- ---- a document that was read
+
+-- a document whose tree has the nodes that were read is within the limits where these are
+abbrev pub DocumentsFit : Type 0
+DocumentsFit = (nodes : List Node) (own : List (List Declaration)) (rules : List Ruling) (state : State) → listed None (tree_of state) ≡ numbered nodes own → length nodes ≤ greatest_count
+    → text_bytes nodes ≤ 1048576 → AreBounded (styled_document rules state) → IsWithin (styled_document rules state)
