@@ -10,11 +10,13 @@ pub mod Lengths
 pub mod LevelZero
 pub mod Lists
 pub mod MarkLaws
+pub mod OrderLaws
 pub mod PairLaws
 pub mod PlaceLaws
 pub mod ReachLaws
 pub mod RunLaws
 pub mod ShownLaws
+pub mod SpreadLaws
 pub mod SumLaws
 pub mod TextLaws
 pub mod WalkLaws

@@ -1,3 +1,4 @@
+pub mod Laws
 pub mod Leading
 pub mod Leaves
 pub mod Line
@@ -5,5 +6,6 @@ pub mod Marks
 pub mod Placing
 pub mod Reach
 pub mod Runs
+pub mod Spread
 pub mod TextLine
 pub mod Walk

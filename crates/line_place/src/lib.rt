@@ -2,6 +2,7 @@
 //! and under the baseline (CSS 2, 9.4.2 and 10.8; CSS Writing Modes 4, 4.2; UAX 9, 3.4).
 #![tactic(auto)]
 
+pub mod laws;
 mod leading;
 mod leaves;
 mod line;
