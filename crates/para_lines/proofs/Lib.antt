@@ -8,6 +8,7 @@ pub mod OnLine
 pub mod PreparedLaws
 pub mod RoomLaws
 pub mod SettingLaws
+pub mod SpreadLaws
 pub mod Spreading
 pub mod StackLaws
 pub mod StandLaws

@@ -50,7 +50,7 @@ count_from entries from (s ∷ standings) le able rise =
 
 -- ---- one box
 
-extents_near : (e : Extents) → AreNear e → extents_reach e ≤ 2 ^ 36
+pub extents_near : (e : Extents) → AreNear e → extents_reach e ≤ 2 ^ 36
 extents_near e h =
     let a = h.ascent in
     let b = h.descent in
@@ -101,7 +101,7 @@ content_near entries chain atom (Atom name) =
     let u = under_near atom.under raised near in
     omega arith
 
-items_near : (entries : List Entry) (boxes : List ℕ) (standings : List rule.Standing) → total item_reach (map (rule.line_item entries boxes) standings) ≤ total standing_reach standings
+pub items_near : (entries : List Entry) (boxes : List ℕ) (standings : List rule.Standing) → total item_reach (map (rule.line_item entries boxes) standings) ≤ total standing_reach standings
 items_near entries boxes [] = omega arith
 items_near entries boxes (s ∷ standings) =
     let own = content_near entries s.chain s.atom s.item.what in
@@ -110,18 +110,20 @@ items_near entries boxes (s ∷ standings) =
 
 -- ---- a whole line
 
-size_near : (z : ℤ) → pos 0 ≤ℤ z → z ≤ℤ pos (2 ^ 32) → unsigned_abs z ≤ 2 ^ 32
+pub size_near : (z : ℤ) → pos 0 ≤ℤ z → z ≤ℤ pos (2 ^ 32) → unsigned_abs z ≤ 2 ^ 32
 size_near z low high = omega (arith, ints)
 
-pub line_near : (tables : List (Option Table)) (container : Container) (entries : List Entry) (before after : List ℕ) (standings : List code.Standing) (line : Line)
-    → line ≡ rule.line tables container entries before after (map (standing_of entries) standings) → All HasBounds entries → length entries ≤ 2 ^ 20
-    → pos 0 ≤ℤ container.size → container.size ≤ℤ pos (2 ^ 32) → All (IsAble (length entries)) standings → RiseIn 0 standings → total standing_reach (map (standing_of entries) standings) ≤ 2 ^ 58
-    → AreNear line.strut × All (λ b. AreNear b.extents) line.boxes → line_reach line ≤ 2 ^ 60
-line_near tables container entries before after standings line is all few low high able rise reach near_line =
+-- a line reaches no further than its lengths and the boxes of the paragraph
+pub line_far : (tables : List (Option Table)) (container : Container) (entries : List Entry) (before after : List ℕ) (standings : List code.Standing) (line : Line)
+    → line ≡ rule.line tables container entries before after (map (standing_of entries) standings) → All HasBounds entries
+    → pos 0 ≤ℤ container.size → container.size ≤ℤ pos (2 ^ 32) → All (IsAble (length entries)) standings → RiseIn 0 standings
+    → AreNear line.strut × All (λ b. AreNear b.extents) line.boxes
+    → line_reach line ≤ 2 ^ 32 + 2 ^ 36 + total standing_reach (map (standing_of entries) standings) + length entries * 2 ^ 37
+line_far tables container entries before after standings line is all low high able rise near_line =
     let places : List ℕ = on_line entries [] standings in
     let make : ℕ → LineBox = rule.line_box tables container entries places before after in
     let N : Line → Type 0 = λ l. AreNear l.strut × All (λ b. AreNear b.extents) l.boxes in
-    let L : Line → Type 0 = λ l. line_reach l ≤ 2 ^ 60 in
+    let L : Line → Type 0 = λ l. line_reach l ≤ 2 ^ 32 + 2 ^ 36 + total standing_reach (map (standing_of entries) standings) + length entries * 2 ^ 37 in
     let near = subst N is near_line in
     let size = size_near container.size low high in
     let s = extents_near (rule.extents_in tables container container.style (pos 0)) near.0 in
@@ -136,3 +138,10 @@ line_near tables container entries before after standings line is all few low hi
     (subst P (get_or-map make places k d (make d) lt) (near.1 k (make d) (omega arith)))) in
     let boxes : total box_reach (map make places) ≤ length (map make places) * 2 ^ 37 = total_most (2 ^ 37) (map make places) each in
     subst L (sym is) (omega arith)
+
+pub line_near : (tables : List (Option Table)) (container : Container) (entries : List Entry) (before after : List ℕ) (standings : List code.Standing) (line : Line)
+    → line ≡ rule.line tables container entries before after (map (standing_of entries) standings) → All HasBounds entries → length entries ≤ 2 ^ 20
+    → pos 0 ≤ℤ container.size → container.size ≤ℤ pos (2 ^ 32) → All (IsAble (length entries)) standings → RiseIn 0 standings → total standing_reach (map (standing_of entries) standings) ≤ 2 ^ 58
+    → AreNear line.strut × All (λ b. AreNear b.extents) line.boxes → line_reach line ≤ 2 ^ 60
+line_near tables container entries before after standings line is all few low high able rise reach near_line =
+    let far = line_far tables container entries before after standings line is all low high able rise near_line in omega (arith, few, reach, far)

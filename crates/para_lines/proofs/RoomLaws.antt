@@ -91,7 +91,7 @@ one_reach (Break node) atoms h = omega (arith, ints)
 one_reach (Atom name) [] h = omega (arith, ints)
 one_reach (Atom name) (atom ∷ atoms) h = omega arith
 
-past_extents : (what : PreparedContent) (atoms : List rule.Atom) → past what (atom_extents atoms) ≡ atom_extents (past what atoms)
+pub past_extents : (what : PreparedContent) (atoms : List rule.Atom) → past what (atom_extents atoms) ≡ atom_extents (past what atoms)
 past_extents (Unit node first end_ form advance space glyphs) atoms = refl
 past_extents (Combined node first end_ advance natural glyphs) atoms = refl
 past_extents (Break node) atoms = refl

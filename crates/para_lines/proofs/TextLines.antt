@@ -79,7 +79,7 @@ items_bare entries boxes [] none = refl
 items_bare entries boxes (s ∷ standings) none =
     rw (item_bare entries boxes s (none 0 s (omega arith)), items_bare entries boxes standings (λ k d lt. none (suc k) d (omega arith))) refl
 
-no_boxes : (entries : List Entry) (standings : List code.Standing) → All (λ standing. chain_at entries standing.item.now.source ≡ []) standings → boxes_on [] (map (standing_of entries) standings) ≡ []
+pub no_boxes : (entries : List Entry) (standings : List code.Standing) → All (λ standing. chain_at entries standing.item.now.source ≡ []) standings → boxes_on [] (map (standing_of entries) standings) ≡ []
 no_boxes entries [] none = refl
 no_boxes entries (s ∷ standings) none =
     ap (λ (chain : List ℕ). fresh chain [] ++ boxes_on chain (map (standing_of entries) standings)) (none 0 s (omega arith))

@@ -2,7 +2,10 @@
 use Rattle.std.specs.Prelude.{◌≤◌, ◌+◌, ◌^◌, ℕ, ⊤, List, [], ◌∷◌, All, length, Option, IfSome, ℤ, pos, ◌≤ℤ◌, unsigned_abs}
 use Rattle.std.specs.List.{sum_by}
 use Rattle.style_types.specs.declared.fragment.Fragment.{Fragment, out-Fragment}
-use Rattle.line_place.specs.Reach.{piece_reach}
+use Rattle.style_types.specs.Fragment.{Pieces, block, none, piece, piece_of}
+use Rattle.line_place.specs.Line as place
+use Rattle.line_place.specs.Reach.{IsAtomic, piece_reach}
+use Rattle.line_place.specs.Spread.{inside, spread}
 use Rattle.para_prepare.specs.declared.item.PreparedItem.{PreparedItem}
 use Rattle.para_prepare.specs.declared.item.PreparedContent.{PreparedContent}
 use Rattle.para_prepare.specs.declared.item.PreparedContent.TheVariants.{Unit, Combined, Atom, Break}
@@ -56,3 +59,31 @@ standing_reach s = unsigned_abs s.extent + atom_part s.item.what s.atom
 -- a line begins and ends near the container's block-start edge
 abbrev pub IsNearLine : Fragment → Type 0
 IsNearLine fragment = unsigned_abs (out-Fragment fragment).rect.b + unsigned_abs (out-Fragment fragment).rect.block ≤ 2 ^ 60
+
+-- ---- how far lines reach with all inside them
+
+-- an inline-block's fragment is that of a box
+abbrev pub IsBoxed : Pieces → Type 0
+IsBoxed (piece name rect (block mode dir content definite start end_ through) inner none) = ⊤
+IsBoxed _ = ⊥
+
+-- an inline-block of a box, whose lengths come to no more than `each`, with nothing further inside it than `most`
+pub record IsInReach (each most : ℕ) (atom : rule.Atom) : Type 0 where
+  pub boxed : IsBoxed atom.fragment
+  pub lengths : atom_reach atom ≤ each
+  pub inner : inside atom.fragment ≤ most
+
+-- an atom on a line is no piece of an inline box, and nothing inside it is further than `most`
+abbrev pub IsAtomWithin : (most : ℕ) → PreparedContent → rule.Atom → Type 0
+IsAtomWithin most (Atom name) atom =
+    ((left_margin over_margin over under : ℤ) → IsAtomic (place.atom atom.fragment left_margin over_margin over under)) × (inside atom.fragment ≤ most)
+IsAtomWithin most (Unit node first end_ form advance space glyphs) atom = ⊤
+IsAtomWithin most (Combined node first end_ advance natural glyphs) atom = ⊤
+IsAtomWithin most (Break node) atom = ⊤
+
+abbrev pub HoldsWithin : (most : ℕ) → rule.Standing → Type 0
+HoldsWithin most s = IsAtomWithin most s.item.what s.atom
+
+-- a line, with all inside it, reaches no further
+abbrev pub IsLineWithin : (bound : ℕ) → Fragment → Type 0
+IsLineWithin bound fragment = spread (piece_of fragment) ≤ bound

@@ -1,5 +1,5 @@
 -- What the lines of a paragraph are made from, and the line of some of its items (CSS 2, 9.4.2).
-use Rattle.std.specs.Prelude.{ℕ, ◌≤◌, ◌^◌, List, [], drop, take, length, map, All, Option, pos, ◌≤ℤ◌}
+use Rattle.std.specs.Prelude.{ℕ, ◌+◌, ◌*◌, ◌≤◌, ◌^◌, List, [], drop, take, length, map, All, Option, pos, ◌≤ℤ◌}
 use Rattle.std.specs.List.{slice_range}
 use Rattle.face_api.specs.Table.{Table}
 use Rattle.style_types.specs.Item.{Entry, entries_of}
@@ -27,6 +27,14 @@ line_between faces container entries standings from end_ =
 -- how far the items from one place up to another reach
 abbrev pub room_between : List Standing → (from end_ : ℕ) → ℕ
 room_between standings from end_ = total standing_reach (slice_range standings from end_)
+
+-- how far the line of the items from one place up to another reaches at most, in a paragraph with so many entries
+abbrev pub reach_between : (count : ℕ) → List Standing → (from end_ : ℕ) → ℕ
+reach_between count standings from end_ = 2 ^ 32 + 2 ^ 36 + room_between standings from end_ + count * 2 ^ 37
+
+-- how far any of its lines does with all inside it, but for what stands inside atoms
+abbrev pub lines_reach : (count : ℕ) → List Standing → ℕ
+lines_reach count standings = count * (5 * 2 ^ 39) + length standings * 2 ^ 35 + 16 * total standing_reach standings
 
 -- lines can be made from it: few items, in order, each with its atom, and lengths within bounds
 pub record IsSetting (setting : code.Setting) : Type 0 where

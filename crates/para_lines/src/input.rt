@@ -1,6 +1,6 @@
 //! A line of a paragraph, as it is placed (CSS 2, 9.4.2 and 10.8.1).
 
-ghost use Rattle.std.specs.Prelude.{◌≡◌, ◌<◌, ◌≤◌, ◌^◌, ◌≤ℤ◌, [], All, IfOk, IfSome, List, length, map, pos};
+ghost use Rattle.std.specs.Prelude.{◌≡◌, ◌+◌, ◌*◌, ◌<◌, ◌≤◌, ◌^◌, ◌≤ℤ◌, [], All, IfOk, IfSome, List, length, map, pos};
 ghost use Rattle.face_api.specs.Faces.{faces_of};
 ghost use Rattle.style_types.specs.Item.{Entry, entries_of};
 ghost use Rattle.style_types.specs.Style.{IsBounded};
@@ -44,6 +44,7 @@ pub(crate) fn line_input<'a>(
     ensures nested { IfOk result (λ made. AreNested made.boxes.items) }
     ensures inside { IfOk result (λ made. All (λ item. IsBefore (length made.boxes.items) item.inside) (line_of made).items) }
     ensures reach { IfOk result (λ made. line_reach (line_of made) ≤ 2 ^ 60) }
+    ensures far { IfOk result (λ made. line_reach (line_of made) ≤ 2 ^ 32 + 2 ^ 36 + total standing_reach (map (standing_of (entries_of boxes.now.items.now)) standings.now) + length boxes.now.items.now * 2 ^ 37) }
     ensures extents { IfOk result (λ made. AreNear made.strut × All (λ b. AreNear b.extents) made.boxes.items) }
 {
     let places = boxes_on(alloc, boxes, standings)?;

@@ -8,6 +8,7 @@ ghost use Rattle.style_types.specs.Item.{entries_of};
 ghost use Rattle.style_types.specs.Style.{IsBounded};
 ghost use Rattle.line_fill.specs.Filling.{Divide};
 ghost use Rattle.line_place.specs.Reach.{total};
+ghost use Rattle.line_place.specs.Spread.{spread};
 ghost use Rattle.line_place.specs.Walk.{followed};
 ghost use Rattle.para_prepare.specs.Preparation.{AreFrom, HasBounds as prepared_bounds, atoms_in};
 ghost use Rattle.para_lines.specs.Boxes.{AreBoxes, HasBounds};
@@ -16,8 +17,8 @@ ghost use Rattle.para_lines.specs.Lines as rule;
 ghost use Rattle.para_lines.specs.Lines.{atom_extents, extent_of, line_piece, lines_from};
 ghost use Rattle.para_lines.specs.Paragraph.{atom_of};
 ghost use Rattle.para_lines.specs.Prepared.{AreSources, IsWhole, preparation_of};
-ghost use Rattle.para_lines.specs.Reach.{AreNear, IsNearLine, atom_reach};
-ghost use Rattle.para_lines.specs.Setting.{IsSetting, entries_in, line_between, room_between, standings_in};
+ghost use Rattle.para_lines.specs.Reach.{AreNear, HoldsWithin, IsInReach, IsLineWithin, IsNearLine, atom_reach};
+ghost use Rattle.para_lines.specs.Setting.{IsSetting, entries_in, line_between, lines_reach, room_between, standings_in};
 
 use crate::boxes::{Boxes, Places, inline_boxes};
 use crate::filling::{FillItems, fill_items};
@@ -63,6 +64,7 @@ pub fn paragraph_lines<L: Ledger>(
     ensures most { (arranged.old ≤ arranged.new) × (arranged.new ≤ arranged.old + 1) }
     ensures lines { IfOk result (λ made. pieces_of made.items ≡ rule.paragraph_lines (faces_of ⟦<dyn Face as Face>⟧ faces.now) container.now (entries_of items.now) prepared.now (map atom_of atoms.now)) }
     ensures near { IfOk result (λ made. All IsNearLine made.items) }
+    ensures spread { IfOk result (λ made. (each most : ℕ) → All (IsInReach each most) (map atom_of atoms.now) → spread (pieces_of made.items) ≤ length items.now * (5 * 2 ^ 39) + length prepared.now.items * 2 ^ 36 + atoms_in prepared.now.items * (16 * each + 2 ^ 38) + most) }
 {
     let boxes = inline_boxes(alloc, items)?;
     let lists = lists_of(prepared);
@@ -94,6 +96,7 @@ fn lines_of<L: Ledger>(
     ensures most { (arranged.old ≤ arranged.new) × (arranged.new ≤ arranged.old + 1) }
     ensures lines { IfOk result (λ made. pieces_of made.items ≡ rule.paragraph_lines (faces_of ⟦<dyn Face as Face>⟧ faces.now) container.now (entries_of boxes.now.items.now) (preparation_of lists.now) (map atom_of atoms.now)) }
     ensures near { IfOk result (λ made. All IsNearLine made.items) }
+    ensures spread { IfOk result (λ made. (each most : ℕ) → All (IsInReach each most) (map atom_of atoms.now) → spread (pieces_of made.items) ≤ length boxes.now.items.now * (5 * 2 ^ 39) + length lists.now.items.now * 2 ^ 36 + atoms_in lists.now.items.now * (16 * each + 2 ^ 38) + most) }
 {
     let fills = fills_of(alloc, boxes, lists, container.size, atoms)?;
     let lines = fill(alloc, &fills, container.size, arranged)?;
@@ -141,6 +144,7 @@ fn stacked(
     requires divide { Divide 0 (length setting.now.standings.now) ends.now }
     ensures lines { IfOk result (λ made. pieces_of made.items ≡ lines_from (faces_of ⟦<dyn Face as Face>⟧ faces.now) setting.now.container.now (entries_in setting.now) 0 0 (pos 0) [] (standings_in setting.now) ends.now) }
     ensures near { IfOk result (λ made. All IsNearLine made.items) }
+    ensures spread { IfOk result (λ made. (most : ℕ) → All (HoldsWithin most) (standings_in setting.now) → spread (pieces_of made.items) ≤ lines_reach (length setting.now.boxes.now.items.now) (standings_in setting.now) + most) }
 {
     let mut stack = LineStack {
         seats: vec![in alloc; 0; setting.boxes.items.len()]?,
@@ -188,6 +192,7 @@ impl LineStack {
         ensures count { OnOk result (length self.new.made.items ≡ length self.old.made.items + 1) }
         ensures made { OnOk result ((next : Pieces) → followed self.new.made.items next ≡ followed self.old.made.items (line_piece setting.now.container.now (length self.old.made.items) self.old.block (line_between (faces_of ⟦<dyn Face as Face>⟧ faces.now) setting.now.container.now (entries_in setting.now) (standings_in setting.now) self.old.from end) next)) }
         ensures near { OnOk result (All IsNearLine self.old.made.items → All IsNearLine self.new.made.items) }
+        ensures spread { OnOk result ((bound most : ℕ) → All (HoldsWithin most) (standings_in setting.now) → unsigned_abs self.old.block + 14 * 2 ^ 36 + 16 * room_between (standings_in setting.now) self.old.from end + length setting.now.boxes.now.items.now * (3 * 2 ^ 39) + most ≤ bound → All (IsLineWithin bound) self.old.made.items → All (IsLineWithin bound) self.new.made.items) }
     {
         let line = setting.line(alloc, faces, &mut self.seats, self.from, end)?;
         let extent = line.over + line.under;

@@ -6,7 +6,7 @@ ghost use Rattle.style_types.specs.Fragment.{pieces_of};
 ghost use Rattle.style_types.specs.Item.{Entry, entries_of};
 ghost use Rattle.style_types.specs.Style.{IsBounded};
 ghost use Rattle.line_place.specs.Placing.{line_over, line_under, parts};
-ghost use Rattle.line_place.specs.Reach.{item_reach, total};
+ghost use Rattle.line_place.specs.Reach.{AreNear, item_reach, total};
 ghost use Rattle.line_place.specs.TextLine.{IsUnit, extent_in, unit_in};
 ghost use Rattle.para_lines.specs.Boxes.{AreBoxes, chain_at};
 ghost use Rattle.para_lines.specs.Line.{IsAble, content_in, first_atom, standing_of};
@@ -149,6 +149,7 @@ pub(crate) fn text_line(
     ensures under { IfOk result (λ made. (entries : List Entry) (before after : List ℕ) → IsText entries standings.now text → made.under ≡ line_under (rule.line (faces_of ⟦<dyn Face as Face>⟧ faces.now) container.now entries before after (map (standing_of entries) standings.now))) }
     ensures parts { IfOk result (λ made. (entries : List Entry) (before after : List ℕ) → IsText entries standings.now text → pieces_of made.parts.items ≡ parts (rule.line (faces_of ⟦<dyn Face as Face>⟧ faces.now) container.now entries before after (map (standing_of entries) standings.now))) }
     ensures near { IfOk result (λ made. (unsigned_abs made.over ≤ 2 ^ 34) × (unsigned_abs made.under ≤ 2 ^ 34)) }
+    ensures strut { IfOk result (λ made. AreNear (rule.extents_in (faces_of ⟦<dyn Face as Face>⟧ faces.now) container.now container.now.style (pos 0))) }
 {
     let solid = &standings[..text.count];
     let strut = extents_in(faces, container, &container.style, 0);

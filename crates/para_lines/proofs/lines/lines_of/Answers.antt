@@ -7,11 +7,13 @@ use Rattle.line_fill.specs.Item.{spread}
 use Rattle.line_fill.specs.Filling.{Divide, lines}
 use Rattle.para_prepare.specs.Preparation.{Preparation}
 use Rattle.para_lines.specs.Line.{standing_of}
+use Rattle.para_lines.specs.Lines as rule
 use Rattle.para_lines.specs.Lines.{atom_extents}
 use Rattle.para_lines.specs.Paragraph.{atom_of}
 use Rattle.para_lines.specs.Prepared.{preparation_of}
 use Rattle.para_lines.proofs.RoomLaws.{atoms_near, count_of, extents_reach, fills_count, lines_all, setting_ready}
 use Rattle.para_lines.proofs.Spreading.{fill_spread}
+use Rattle.para_lines.proofs.SpreadLaws.{lines_within}
 use Rattle.para_lines.proofs.lines.lines_of.Goals as goal
 
 pub fill-requires : goal.fill-requires
@@ -60,3 +62,17 @@ returns-clause-lines g c =
     c.in_ok-made.ensures.lines (ap (map (standing_of entries)) c.deref-3.ensures.value ∙ c.in_ok-standings.ensures.are entries)
     (c.ends.ensures ∙ c.in_ok-lines.ensures.lines ∙ ap (lines (to_z w64 (of_z w64 c.args.container.now.size))) (c.deref.ensures.value ∙ sym c.deref-2.ensures.value)) size
     (c.deref-2.ensures.value ∙ c.in_ok-fills.ensures) size
+
+pub returns-clause-spread : goal.returns-clause-spread
+returns-clause-spread g c each most h =
+    let entries : List Entry = entries_of c.args.boxes.now.items.now in
+    let atoms : List rule.Atom = map atom_of c.args.atoms.now in
+    let filled : List FillItem → List ℤ = map (λ (item : FillItem). item.advance) in
+    let k = lines_within each most (length c.args.boxes.now.items.now) _ entries (preparation_of c.args.lists.now) atoms (map (standing_of entries) c.deref-3.result.now)
+    (record { levels = c.requires.whole.levels; classes = c.requires.whole.classes; bases = c.requires.whole.bases; breaks = c.requires.whole.breaks })
+    c.requires.near.advances h
+    (ap (map (standing_of entries)) c.deref-3.ensures.value ∙ c.in_ok-standings.ensures.are entries
+    ∙ ap (λ (fills : List FillItem). rule.standings entries (preparation_of c.args.lists.now) atoms (filled fills)) (c.deref-2.ensures.value ∙ c.in_ok-fills.ensures)) in
+    let s = c.in_ok-made.ensures.spread most k.0 in
+    let n = k.1 in
+    omega (arith, s, n)

@@ -1,6 +1,6 @@
-use Rattle.std.proofs.Common.{◌≡◌, ◌∙◌, refl, arith, map, take, to_z, of_z, w64}
+use Rattle.std.proofs.Common.{◌≡◌, ◌∙◌, refl, arith, subst, map, take, to_z, of_z, w64}
 use Rattle.std.proofs.lemmas.Int.{ints}
-use Rattle.line_place.specs.Reach.{item_reach, total}
+use Rattle.line_place.specs.Reach.{AreNear, item_reach, total}
 use Rattle.para_lines.specs.Text.{HasOwnAtom, bare}
 use Rattle.para_lines.proofs.TextLines.{all_take, take_reach, text_is, text_near}
 use Rattle.para_lines.proofs.text.text_line.Goals as goal
@@ -49,3 +49,6 @@ returns-clause-parts g c entries before after is =
     let own : to_z w64 (of_z w64 c.extent_of-extent.result) ≡ c.extent_of-extent.result = omega (arith, ints, take_reach c.args.standings.now c.args.text.count, c.requires.reach) in
     c.in_ok-made.ensures.parts _
     (text_is _ c.args.container.now entries before after c.args.standings.now c.args.text _ is refl size c.extents_in-strut.ensures.are refl refl (own ∙ c.extent_of-extent.ensures.is) c.in_ok-units.ensures)
+
+pub returns-clause-strut : goal.returns-clause-strut
+returns-clause-strut g c = subst AreNear c.extents_in-strut.ensures.are c.extents_in-strut.ensures.near

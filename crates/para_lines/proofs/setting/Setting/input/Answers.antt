@@ -29,6 +29,12 @@ returns-clause-line g c =
     line_is _ c.args.self.now.container.now (entries_in c.args.self.now) c.args.self.now.standings.now c.sides_of-sides.result.before c.sides_of-sides.result.after c.args.from c.args.end _
     c.in_ok-made.ensures.line (c.sides_of-sides.ensures.before (entries_in c.args.self.now)) (c.sides_of-sides.ensures.after (entries_in c.args.self.now))
 
+pub returns-clause-far : goal.returns-clause-far
+returns-clause-far g c =
+    let e = ap (total standing_reach) (range_map (standing_of (entries_in c.args.self.now)) c.args.self.now.standings.now c.args.from c.args.end) in
+    let far = c.in_ok-made.ensures.far in
+    omega (arith, e, far)
+
 pub returns-clause-limit : goal.returns-clause-limit
 returns-clause-limit g c =
     limit_of _ c.args.self.now.container.now (entries_in c.args.self.now) _ _ (slice_range (standings_in c.args.self.now) c.args.from c.args.end) c.in_ok-made.made
