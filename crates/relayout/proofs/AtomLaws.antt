@@ -1,5 +1,5 @@
 -- Last lines, fragment by fragment.
-use Rattle.std.proofs.Common.{◌≡◌, ◌∙◌, refl, sym, ap, subst, arith, ℕ, zero, suc, ◌+◌, ◌-◌, ◌<◌, ◌≤◌, ◌^◌, List, [], ◌∷◌, ◌++◌, length, get_or, take, Option, Some, None, Bool, true, ℤ, pos, negsuc, ◌+ℤ◌, unsigned_abs, w64}
+use Rattle.std.proofs.Common.{◌≡◌, ◌∙◌, refl, sym, ap, subst, arith, ℕ, zero, suc, ◌+◌, ◌-◌, ◌*◌, ◌<◌, ◌≤◌, ◌^◌, List, [], ◌∷◌, ◌++◌, length, get_or, take, Option, Some, None, Bool, true, ℤ, pos, negsuc, ◌+ℤ◌, unsigned_abs, w64}
 use Rattle.std.specs.Prelude.{max}
 use Rattle.std.specs.Int.{saturate_signed}
 use Rattle.std.proofs.lemmas.Int.{clamps, ints}
@@ -9,8 +9,9 @@ use Rattle.wm_modes.specs.declared.mode.WritingMode.{WritingMode}
 use Rattle.wm_modes.specs.declared.rects.FlowRect.{FlowRect}
 use Rattle.margin_collapse.specs.declared.margins.Margins.{Margins}
 use Rattle.style_types.specs.declared.fragment.Fragment.{Fragment}
-use Rattle.style_types.specs.Fragment.{Kind, Pieces, before, block, none, pieces_of}
+use Rattle.style_types.specs.Fragment.{Kind, Pieces, before, block, line, measure, none, piece, pieces_of, run, span}
 use Rattle.line_place.specs.Reach.{piece_reach}
+use Rattle.line_place.specs.Spread.{spread, spread_in}
 use Rattle.line_place.proofs.Fragments.{as_piece}
 use Rattle.para_lines.specs.Lines.{Atom}
 use Rattle.para_lines.specs.Reach.{atom_reach}
@@ -92,6 +93,21 @@ none_back mode fs k f lt is here =
     ∙ sym (ap (λ m. last_line mode (pieces_of (take m fs))) n
     ∙ line_not_there mode fs (length fs - 1 - k) f (omega arith) (ap (λ x. own_line mode (part_of x)) (sym is) ∙ here))
 
+in_spread : (rect : FlowRect) (kind : Kind) (lines inner : ℕ) → lines ≤ inner → reach_in rect kind lines ≤ spread_in rect kind inner
+in_spread rect (block mode dir content definite start end_ through) lines inner less = omega arith
+in_spread rect (line index base mode baseline) lines inner less = omega arith
+in_spread rect span lines inner less = omega arith
+in_spread rect (run form level natural units) lines inner less = omega arith
+in_spread rect (measure min max) lines inner less = omega arith
+
+-- lines reach no further than fragments do
+pub lines_in_spread : (pieces : Pieces) → line_reach pieces ≤ spread pieces
+lines_in_spread none = omega arith
+lines_in_spread (piece name rect kind inner next) =
+    let first = in_spread rect kind (line_reach inner) (spread inner) (lines_in_spread inner) in
+    let others = lines_in_spread next in
+    omega arith
+
 -- ---- a block child in exactly this mode
 
 pub block_line : (mode m : WritingMode) (dir : Direction) (content : FlowRect) (definite : Option ℤ) (start finish : Margins) (through : Bool) (part : Part) (distance : ℤ) (found far : LastLine)
@@ -133,7 +149,7 @@ far_is distance d found far p is near =
 
 pub atom_near : (atom : Atom) (part : Part) → atom.fragment ≡ at (pos 0) (pos 0) part none → unsigned_abs part.rect.inline ≤ 2 ^ 36 → unsigned_abs part.rect.block ≤ 2 ^ 36
     → unsigned_abs atom.extent ≤ 2 ^ 36 + 2 ^ 33 → unsigned_abs atom.left_margin ≤ 2 ^ 32 → unsigned_abs atom.over_margin ≤ 2 ^ 32 → unsigned_abs atom.over ≤ 2 ^ 33
-    → unsigned_abs atom.under ≤ 2 ^ 36 + 2 ^ 34 → unsigned_abs atom.shift ≤ 2 ^ 32 → atom_reach atom ≤ 2 ^ 39
+    → unsigned_abs atom.under ≤ 2 ^ 36 + 2 ^ 34 → unsigned_abs atom.shift ≤ 2 ^ 32 → atom_reach atom ≤ 5 * 2 ^ 36
 atom_near atom part is inline across extent left over_margin over under shift =
     let whole : piece_reach atom.fragment ≡ unsigned_abs part.rect.inline + unsigned_abs part.rect.block = ap piece_reach is in
     omega arith

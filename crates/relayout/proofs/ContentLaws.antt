@@ -1,11 +1,11 @@
 -- Lines one under the other, and what fills a box.
-use Rattle.std.proofs.Common.{◌≡◌, ◌∙◌, refl, sym, ap, subst, arith, ℕ, suc, ◌+◌, ◌-◌, ◌*◌, ◌<◌, ◌≤◌, ◌^◌, ◌==◌, true, false, Bool, not, List, [], ◌∷◌, ◌++◌, length, map, take, get_or, Option, Some, None, unsigned_abs, ℤ, pos, ◌+ℤ◌}
-use Rattle.std.specs.Prelude.{⊤, All, max, slice_get}
+use Rattle.std.proofs.Common.{◌≡◌, ◌∙◌, refl, sym, ap, subst, arith, ℕ, suc, ◌+◌, ◌-◌, ◌*◌, ◌<◌, ◌≤◌, ◌^◌, ◌==◌, true, false, Bool, not, List, [], ◌∷◌, ◌++◌, length, map, take, get_or, Option, Some, None, ℤ, pos, ◌+ℤ◌}
+use Rattle.std.specs.Prelude.{All, slice_get}
 use Rattle.std.specs.Global.{Vec}
 use Rattle.std.proofs.Math.Dec.{eqb-suc-zero}
 use Rattle.std.proofs.lemmas.Int.{ints}
 use Rattle.std.proofs.lemmas.List.{length-map, map-append}
-use Rattle.std.proofs.lemmas.List.Elements.{All-tail}
+use Rattle.std.proofs.lemmas.List.Elements.{All-cons, All-map, All-nil, All-tail}
 use Rattle.margin_collapse.specs.declared.margins.Margins.{Margins}
 use Rattle.margin_collapse.specs.Pairs.{IsPairOf}
 use Rattle.std.proofs.lemmas.Option.{same_Some, slice_get-get_or}
@@ -19,21 +19,24 @@ use Rattle.style_types.specs.Item.{Entry}
 use Rattle.block_flow.specs.declared.boxes.ParentEdges.{ParentEdges}
 use Rattle.box_gen.specs.Tree.{Content, blocks, inline}
 use Rattle.line_place.specs.Reach.{total}
+use Rattle.line_place.specs.Spread.{inside_in, spread}
 use Rattle.line_place.proofs.Fragments.{as_piece}
 use Rattle.para_lines.specs.declared.paragraph.Atom as code
 use Rattle.para_lines.specs.declared.paragraph.Container.{Container}
 use Rattle.para_lines.specs.Lines.{Atom, Standing, lines_from, paragraph_lines}
 use Rattle.para_lines.specs.Paragraph.{atom_of}
-use Rattle.para_lines.specs.Reach.{IsNearLine, atom_reach}
-use Rattle.para_prepare.specs.Preparation.{Preparation}
+use Rattle.para_lines.specs.Reach.{IsBoxed, IsInReach, atom_reach}
+use Rattle.para_prepare.specs.Preparation.{Preparation, atoms_in}
 use Rattle.relayout.specs.declared.flowed.LaidBox.{LaidBox}
 use Rattle.relayout.specs.declared.content.Filling as code_filled
 use Rattle.relayout.specs.Atoms.{atom_in}
 use Rattle.relayout.specs.Content.{AreStacked, IsFilled, are_some, block_extent, filled, lines_in, paragraph, stack}
 use Rattle.relayout.specs.Intrinsic.{IsTextOf, prepared}
 use Rattle.relayout.specs.Sizes.{containing_of}
-use Rattle.relayout.specs.Flowed.{AreLaid, Laid, as_laid, part_of}
-use Rattle.relayout.specs.Near.{line_reach, reach_in}
+use Rattle.relayout.specs.Fit.{room_in}
+use Rattle.relayout.specs.Flowed.{AreLaid, HasMargins, IsLaid, Laid, Part, as_laid, part_of}
+use Rattle.relayout.specs.Near.{HasReach, IsNearKind, IsNearLaid}
+use Rattle.relayout.specs.Paragraph.{IsReady}
 use Rattle.relayout.proofs.AtomLaws.{take_next}
 use Rattle.relayout.proofs.LaidLaws.{atoms_are}
 
@@ -88,11 +91,11 @@ some_lines (x ∷ fs) empty is =
 
 -- ---- the lengths of atoms together
 
-pub atoms_near : (atoms : List code.Atom) → All (λ atom. atom_reach (atom_of atom) ≤ 2 ^ 39) atoms → total atom_reach (map atom_of atoms) ≤ length atoms * 2 ^ 39
+pub atoms_near : (atoms : List code.Atom) → All (λ atom. atom_reach (atom_of atom) ≤ 5 * 2 ^ 36) atoms → total atom_reach (map atom_of atoms) ≤ length atoms * (5 * 2 ^ 36)
 atoms_near [] near = omega arith
 atoms_near (atom ∷ atoms) near =
-    let P : code.Atom → Type 0 = λ a. atom_reach (atom_of a) ≤ 2 ^ 39 in
-    let first : atom_reach (atom_of atom) ≤ 2 ^ 39 = near 0 atom (omega arith) in
+    let P : code.Atom → Type 0 = λ a. atom_reach (atom_of a) ≤ 5 * 2 ^ 36 in
+    let first : atom_reach (atom_of atom) ≤ 5 * 2 ^ 36 = near 0 atom (omega arith) in
     let others = atoms_near atoms (All-tail P atom atoms near) in
     omega arith
 
@@ -130,50 +133,59 @@ paragraph_is tables container entries text boxes laid atoms parts extent start f
       through = refl;
     }
 
--- ---- how far lines reach
+-- ---- how far its lines reach
 
-abbrev IsLineKind : Kind → Type 0
-IsLineKind (line index base mode baseline) = ⊤
-IsLineKind (block mode dir content definite start end_ through) = ⊥
-IsLineKind span = ⊥
-IsLineKind (run form level natural units) = ⊥
-IsLineKind (measure min max) = ⊥
+boxed_kind : (name : BoxName) (rect : FlowRect) (kind : Kind) (inner : Pieces) (starts ends : List ℤ) (through : Bool) → HasMargins kind starts ends through → IsBoxed (piece name rect kind inner none)
+boxed_kind name rect (block mode dir content definite start end_ own) inner starts ends through has = tt
+boxed_kind name rect (line index base mode baseline) inner starts ends through has = absurd has
+boxed_kind name rect span inner starts ends through has = absurd has
+boxed_kind name rect (run form level natural units) inner starts ends through has = absurd has
+boxed_kind name rect (measure min max) inner starts ends through has = absurd has
 
-abbrev AreLines : Pieces → Type 0
-AreLines none = ⊤
-AreLines (piece name rect kind inner next) = IsLineKind kind × AreLines next
+inside_near : (kind : Kind) (inner reach : ℕ) → IsNearKind kind → inner ≤ reach → inside_in kind inner ≤ 3 * 2 ^ 36 + reach
+inside_near (block mode dir content definite start end_ through) inner reach near deep =
+    let x = near.0.i in let y = near.0.b in let w = near.0.inline in let h = near.0.block in omega arith
+inside_near (line index base mode baseline) inner reach near deep = omega arith
+inside_near span inner reach near deep = omega arith
+inside_near (run form level natural units) inner reach near deep = omega arith
+inside_near (measure min max) inner reach near deep = omega arith
 
-lines_from_are : (tables : List (Option Table)) (container : Container) (entries : List Entry) (ends : List ℕ) (index from : ℕ) (y : ℤ) (first : List ℕ) (standings : List Standing)
-    → AreLines (lines_from tables container entries index from y first standings ends)
-lines_from_are tables container entries [] index from y first standings = tt
-lines_from_are tables container entries (end_ ∷ ends) index from y first standings = (tt, lines_from_are tables container entries ends _ _ _ _ _)
+-- the inline-block of a box that has been laid out
+atom_in_reach : (paragraph : Style) (size : ℤ) (own : LaidBox) (laid : Laid) (reach : ℕ) → IsLaid own laid → IsNearLaid own → HasReach reach own → atom_reach (atom_in paragraph size (as_laid own)) ≤ 5 * 2 ^ 36
+    → IsInReach (5 * 2 ^ 36) (3 * 2 ^ 36 + reach) (atom_in paragraph size (as_laid own))
+atom_in_reach paragraph size own laid reach is near deep lengths =
+    let part : Part = part_of own.fragment in
+    let flowed = laid.flowed in
+    let P : Part → Type 0 = λ p. HasMargins p.kind flowed.starts flowed.ends flowed.through in
+    let inner = inside_near part.kind (spread part.inner) reach near.part.kind deep in
+    let rect : FlowRect = record { i = pos 0; b = pos 0; inline = part.rect.inline; block = part.rect.block } in
+    record { boxed = boxed_kind part.name rect part.kind part.inner flowed.starts flowed.ends flowed.through (subst P (sym is.part) is.margins); lengths = lengths; inner = omega arith }
 
-lines_are : (tables : List (Option Table)) (container : Container) (entries : List Entry) (text : Preparation) (atoms : List Atom) → AreLines (paragraph_lines tables container entries text atoms)
-unfolding paragraph_lines
-lines_are tables container entries text atoms = lines_from_are tables container entries _ _ _ _ _ _
+atoms_in_reach : (paragraph : Style) (size : ℤ) (boxes : List LaidBox) (list : List Laid) (reach : ℕ) → AreLaid boxes list → All IsNearLaid boxes → All (HasReach reach) boxes
+    → All (λ atom. atom_reach atom ≤ 5 * 2 ^ 36) (map (λ own. atom_in paragraph size (as_laid own)) boxes)
+    → All (IsInReach (5 * 2 ^ 36) (3 * 2 ^ 36 + reach)) (map (λ own. atom_in paragraph size (as_laid own)) boxes)
+atoms_in_reach paragraph size [] [] reach are near deep lengths = All-nil (IsInReach (5 * 2 ^ 36) (3 * 2 ^ 36 + reach))
+atoms_in_reach paragraph size [] (l ∷ list) reach are near deep lengths = absurd are
+atoms_in_reach paragraph size (b ∷ boxes) [] reach are near deep lengths = absurd are
+atoms_in_reach paragraph size (b ∷ boxes) (l ∷ list) reach are near deep lengths =
+    let own : Atom = atom_in paragraph size (as_laid b) in
+    let atoms : List Atom = map (λ own. atom_in paragraph size (as_laid own)) boxes in
+    All-cons (IsInReach (5 * 2 ^ 36) (3 * 2 ^ 36 + reach)) own atoms (atom_in_reach paragraph size b l reach are.0 (near 0 b (omega arith)) (deep 0 b (omega arith)) (lengths 0 own (omega arith)))
+    (atoms_in_reach paragraph size boxes list reach are.1 (All-tail IsNearLaid b boxes near) (All-tail (HasReach reach) b boxes deep) (All-tail (λ (atom : Atom). atom_reach atom ≤ 5 * 2 ^ 36) own atoms lengths))
 
-line_in_reach : (rect : FlowRect) (kind : Kind) (inner : ℕ) → IsLineKind kind → unsigned_abs rect.b + unsigned_abs rect.block ≤ 2 ^ 60 → reach_in rect kind inner ≤ 2 ^ 60
-line_in_reach rect (line index base mode baseline) inner is near = near
-line_in_reach rect (block mode dir content definite start end_ through) inner is near = absurd is
-line_in_reach rect span inner is near = absurd is
-line_in_reach rect (run form level natural units) inner is near = absurd is
-line_in_reach rect (measure min max) inner is near = absurd is
-
-all_in_reach : (fs : List Fragment) → AreLines (pieces_of fs) → All IsNearLine fs → line_reach (pieces_of fs) ≤ 2 ^ 60
-all_in_reach [] are near = omega arith
-all_in_reach (x ∷ fs) are near =
-    let P : Pieces → Type 0 = λ ps. AreLines ps in
-    let h : IsLineKind (part_of x).kind × AreLines (pieces_of fs) = subst P (as_piece x (pieces_of fs)) are in
-    let first = line_in_reach (part_of x).rect (part_of x).kind (line_reach (part_of x).inner) h.0 (near 0 x (omega arith)) in
-    let others = all_in_reach fs h.1 (All-tail IsNearLine x fs near) in
-    let e : line_reach (pieces_of (x ∷ fs)) ≡ max (reach_in (part_of x).rect (part_of x).kind (line_reach (part_of x).inner)) (line_reach (pieces_of fs)) = ap line_reach (as_piece x (pieces_of fs)) in
+pub paragraph_reach : (style : Style) (size : ℤ) (boxes : List LaidBox) (list : List Laid) (made_atoms atoms : List code.Atom) (entries : List Entry) (ready : Preparation) (count far reach : ℕ) → count ≡ length entries
+    → IsReady entries ready → atoms ≡ made_atoms → map atom_of made_atoms ≡ map (λ own. atom_in style size (as_laid own)) boxes → All (λ atom. atom_reach (atom_of atom) ≤ 5 * 2 ^ 36) made_atoms
+    → ((each most : ℕ) → All (IsInReach each most) (map atom_of atoms)
+    → far ≤ count * (5 * 2 ^ 39) + length ready.items * 2 ^ 36 + atoms_in ready.items * (16 * each + 2 ^ 38) + most)
+    → AreLaid boxes list → All IsNearLaid boxes → All (HasReach reach) boxes → far ≤ reach + room_in (inline entries) + 2 ^ 38
+paragraph_reach style size boxes list made_atoms atoms entries ready count far reach many has same made lengths by are near deep =
+    let P : List Atom → Type 0 = λ xs. All (λ atom. atom_reach atom ≤ 5 * 2 ^ 36) xs in
+    let Q : List Atom → Type 0 = λ xs. All (IsInReach (5 * 2 ^ 36) (3 * 2 ^ 36 + reach)) xs in
+    let all = atoms_in_reach style size boxes list reach are near deep (subst P made (All-map (λ (atom : Atom). atom_reach atom ≤ 5 * 2 ^ 36) atom_of made_atoms lengths)) in
+    let within = by (5 * 2 ^ 36) (3 * 2 ^ 36 + reach) (subst Q (sym (ap (map atom_of) same ∙ made)) all) in
+    let items = has.count in
+    let few = has.atoms in
     omega arith
-
-pub paragraph_reach : (fs : List Fragment) (tables : List (Option Table)) (container : Container) (entries : List Entry) (text : Preparation) (atoms : List Atom)
-    → pieces_of fs ≡ paragraph_lines tables container entries text atoms → All IsNearLine fs → line_reach (pieces_of fs) ≤ 2 ^ 60
-paragraph_reach fs tables container entries text atoms is near =
-    let P : Pieces → Type 0 = λ ps. AreLines ps in
-    all_in_reach fs (subst P (sym is) (lines_are tables container entries text atoms)) near
 
 -- ---- what fills a box
 

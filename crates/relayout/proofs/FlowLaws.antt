@@ -84,7 +84,7 @@ edge_near style inline side bounded =
     let p = resolved_near (size_on style.padding side) inline (padding_is_margin (size_on style.padding side) (on_side IsPadding style.padding side bounded.padding)) in
     omega (arith, ints)
 
-along_near : (style : Style) (inline : Option ℤ) (mode : WritingMode) → IsBounded style → unsigned_abs (inner_edges_along style inline mode) ≤ 2 ^ 34
+pub along_near : (style : Style) (inline : Option ℤ) (mode : WritingMode) → IsBounded style → unsigned_abs (inner_edges_along style inline mode) ≤ 2 ^ 34
 along_near style inline mode bounded =
     let a = edge_near style inline (line_left mode) bounded in let b = edge_near style inline (opposite (line_left mode)) bounded in omega (arith, ints)
 
@@ -116,7 +116,7 @@ given_near own z = by own.size where
   by None = size_near (held z own.min own.max)
   by (Some size) = size_near (held size own.min own.max)
 
-equation_near : (containing : Containing) (style : Style) (inline : ℤ) → unsigned_abs (equation_of containing style inline).size ≤ 2 ^ 32
+pub equation_near : (containing : Containing) (style : Style) (inline : ℤ) → unsigned_abs (equation_of containing style inline).size ≤ 2 ^ 32
 unfolding equation_of
 equation_near containing style inline =
     let own = sizes_along containing.mode style (Some inline) in

@@ -1,5 +1,5 @@
 -- The boxes of a row, laid out one by one.
-use Rattle.std.proofs.Common.{◌≡◌, ◌∙◌, refl, sym, ap, subst, arith, ℕ, suc, ◌+◌, ◌*◌, ◌-◌, ◌≤◌, ◌^◌, Bool, true, false, List, [], ◌∷◌, ◌++◌, length, Option, Some, None, ℤ, pos}
+use Rattle.std.proofs.Common.{◌≡◌, ◌∙◌, refl, sym, ap, subst, arith, ℕ, suc, ◌+◌, ◌*◌, ◌-◌, ◌≤◌, ◌^◌, Bool, true, false, List, [], ◌∷◌, ◌++◌, length, map, Option, Some, None, ℤ, pos}
 use Rattle.std.specs.Prelude.{All}
 use Rattle.std.proofs.lemmas.List.Elements.{All-nil}
 use Rattle.std.proofs.lemmas.Option.{none-some, same_Some}
@@ -8,6 +8,7 @@ use Rattle.style_types.specs.declared.fragment.Fragment.{Fragment}
 use Rattle.style_types.specs.declared.item.BoxName.{BoxName}
 use Rattle.style_types.specs.declared.style.Style.{Style}
 use Rattle.style_types.specs.Fragment.{Pieces, none, piece, piece_of}
+use Rattle.line_place.specs.Spread.{spread}
 use Rattle.line_place.proofs.Fragments.{as_piece}
 use Rattle.box_arena.specs.At.{Node, Slots, first_at, kept_at, links_at, next_at, node_at, text_at}
 use Rattle.box_arena.specs.Boxes.{StandFrom}
@@ -21,19 +22,19 @@ use Rattle.relayout.specs.declared.step.Extent.TheVariants as extents
 use Rattle.relayout.specs.declared.step.Step.{Step}
 use Rattle.relayout.specs.Boxed.{block_size, border_across, border_along, border_box, boxed, handed_on, measured, turned}
 use Rattle.relayout.specs.Content.{Filled}
-use Rattle.relayout.specs.Fit.{AreFit, IsFit, count, height, reach_of, siblings}
-use Rattle.relayout.specs.Flow.{flow_step, members}
-use Rattle.relayout.specs.Flowed.{Flowed, Member, Part, at, part_of}
+use Rattle.relayout.specs.Fit.{AreFit, IsFit, count, height, reach_of, room_in, siblings, weight}
+use Rattle.relayout.specs.Flow.{flow_step, laid_under, members}
+use Rattle.relayout.specs.Flowed.{AreLaid, Flowed, Laid, Member, Part, at, part_of}
 use Rattle.relayout.specs.Inline.{Outside}
 use Rattle.relayout.specs.Intrinsic.{IsTextOf}
 use Rattle.relayout.specs.Kept.{AreRight, IsResultAt, IsResultOf, containing_at, inside as inside_of, result_of}
-use Rattle.relayout.specs.Near.{HasReach, IsNearLaid, line_reach}
+use Rattle.relayout.specs.Near.{HasReach, IsNearLaid}
 use Rattle.relayout.specs.Paragraph.{HasAtoms, HasText, IsParagraphIn, IsReadyFor, IsReadyIn}
 use Rattle.relayout.specs.Row.{AreFlowed, HasBox, HasRow, IsFlowed, IsSteady, Lead, StandsIn}
 use Rattle.relayout.specs.Sizes.{containing_of, is_parallel}
 use Rattle.relayout.specs.Step.{AreSetDown, AreUnder, HasChildren, extent_of, finished, size_of, step_of, to_ask, to_set_down, under}
 use Rattle.relayout.proofs.KeptLaws.{same_containing}
-use Rattle.relayout.proofs.RowLaws.{Arena, few_siblings, inside_first, inside_next, inside_on, lead_count, lead_laid, lead_more, lead_near, lead_reach, lead_under, stands_on, steady_itself, steady_then, stood_from}
+use Rattle.relayout.proofs.RowLaws.{Arena, few_siblings, inside_first, inside_next, inside_on, lead_count, lead_laid, lead_more, lead_near, lead_reach, lead_under, stands_on, steady_itself, steady_then, stood_from, weighty_siblings}
 use Rattle.relayout.proofs.StepLaws.{step_is}
 
 -- ---- the first box of a row
@@ -48,15 +49,17 @@ pub record Head (slots : Slots Preparation) (key depth i : ℕ) (containing : Co
   pub low : suc (height inner) ≤ depth
   pub low_behind : height others ≤ depth
   pub few : suc (count inner + count others) + i ≤ 2 ^ 18
+  pub light : weight inner ≤ 2 ^ 60 - 2 ^ 38
+  pub light_behind : weight others ≤ 2 ^ 60 - 2 ^ 38
   pub fit : IsFit node.style node.content inner
   pub fit_within : AreFit inner
   pub fit_behind : AreFit others
   pub place : containing_at slots key node.style ≡ containing
 
 pub head_of : (slots : Slots Preparation) (key depth i : ℕ) (containing : Containing) (next : Option ℕ) (rest : Boxes) → next ≡ Some key → StandFrom slots next rest → height rest ≤ depth → count rest + i ≤ 2 ^ 18
-    → AreFit rest → StandsIn slots next containing → Head slots key depth i containing
-head_of slots key depth i containing next no_boxes is stand low few fit inside = absurd (none-some key (sym stand ∙ is))
-head_of slots key depth i containing next (box name style content inner others) is (k, at, node, within, behind) low few fit inside =
+    → weight rest ≤ 2 ^ 60 - 2 ^ 38 → AreFit rest → StandsIn slots next containing → Head slots key depth i containing
+head_of slots key depth i containing next no_boxes is stand low few light fit inside = absurd (none-some key (sym stand ∙ is))
+head_of slots key depth i containing next (box name style content inner others) is (k, at, node, within, behind) low few light fit inside =
     let same : k ≡ key = same_Some k key (sym at ∙ is) in
     let A : ℕ → Type 0 = λ n. node_at slots n ≡ Some (record { name = name; style = style; content = content }) in
     let B : ℕ → Type 0 = λ n. StandFrom slots (first_at slots n) inner in
@@ -72,6 +75,8 @@ head_of slots key depth i containing next (box name style content inner others) 
       low = omega (arith, low);
       low_behind = omega (arith, low);
       few = few;
+      light = omega (arith, light);
+      light_behind = omega (arith, light);
       fit = fit.0;
       fit_within = fit.1;
       fit_behind = fit.2;
@@ -92,6 +97,8 @@ head_on outside old new key depth i containing steady head =
       low = head.low;
       low_behind = head.low_behind;
       few = head.few;
+      light = head.light;
+      light_behind = head.light_behind;
       fit = head.fit;
       fit_within = head.fit_within;
       fit_behind = head.fit_behind;
@@ -109,10 +116,10 @@ module _ (slots : Slots Preparation) (key depth i : ℕ) (containing : Containin
   head_paragraph node is = let P : Node → Type 0 = λ n. IsParagraphIn n.content in subst P (head_node node is) head.fit.paragraph
 
   row_within : (d : ℕ) → d + 1 ≡ depth → HasRow slots (first_at slots key) d
-  row_within d less = let few = head.few in let low = head.low in record { tree = head.inner; stand = head.within; low = omega arith; few = omega arith; fit = head.fit_within }
+  row_within d less = let few = head.few in let low = head.low in record { tree = head.inner; stand = head.within; low = omega arith; few = omega arith; light = head.light; fit = head.fit_within }
 
   no_row : (d : ℕ) → HasRow slots None d
-  no_row d = record { tree = no_boxes; stand = refl; low = omega arith; few = omega arith; fit = tt }
+  no_row d = record { tree = no_boxes; stand = refl; low = omega arith; few = omega arith; light = omega arith; fit = tt }
 
   inside_within : (own : Containing) → IsLinked (links_at slots) → own ≡ containing_of head.node.style → StandsIn slots (first_at slots key) own
   inside_within own linked is = let P : Containing → Type 0 = λ x. StandsIn slots (first_at slots key) x in subst P (sym is) (inside_first slots key head.node linked head.is)
@@ -154,7 +161,7 @@ module _ (slots : Slots Preparation) (key depth i : ℕ) (containing : Containin
       let few = head.few in
       let many = lead_count outside own c laid head.inner no_boxes lead in
       let some = few_siblings head.inner in
-      (lead_near outside own c laid head.inner lead head.fit_within (omega arith), omega arith)
+      (lead_near outside own c laid head.inner lead head.fit_within head.light, omega arith)
 
   pub asked_near : (outside : Outside) (c : Constraint) (own : Containing) (known : Option ℤ) (o : Option ℕ) (laid : List LaidBox) → o ≡ to_ask known (first_at slots key) → AreFlowed outside slots o own c laid
       → All IsNearLaid laid × (length laid ≤ 2 ^ 18)
@@ -281,7 +288,7 @@ done_result outside slots key containing c style fragment inside done name own c
     let same : containing_at slots key own ≡ containing = inside node is in
     let made : piece_of fragment ≡ whole (part_of fragment) = as_piece fragment none in
     let P : Containing → Type 0 = λ x. IsResultOf outside x name own content inner c (piece_of fragment) in
-    let Q : Pieces → Type 0 = λ p. line_reach (inside_of p) ≤ reach_of inner in
+    let Q : Pieces → Type 0 = λ p. spread (inside_of p) ≤ reach_of content inner in
     subst P (sym same) (record {
       value = made ∙ ap whole flowed.part ∙ sym (result_is outside containing name own content inner c);
       reach = subst Q (sym made) flowed.reach;
@@ -294,7 +301,7 @@ kept_done outside slots key containing c node style fragment inside right there 
     let P : Containing → Type 0 = λ x. IsResultOf outside x name own content inner c (piece_of fragment) in
     let here = subst P (inside (record { name = name; style = own; content = content }) is) result in
     let made : piece_of fragment ≡ whole (part_of fragment) = as_piece fragment none in
-    let Q : Pieces → Type 0 = λ p. line_reach (inside_of p) ≤ reach_of inner in
+    let Q : Pieces → Type 0 = λ p. spread (inside_of p) ≤ reach_of content inner in
     record {
       same = same ∙ ap (λ (n : Node). n.style) (same_Some node (record { name = name; style = own; content = content }) (sym there ∙ is));
       part = ap (front (part_of fragment)) (sym made ∙ here.value ∙ result_is outside containing name own content inner c);
@@ -311,19 +318,20 @@ step_handed : (containing : Containing) (node : Node) (c : Constraint) (step : S
 unfolding step_of
 step_handed containing node c step is = ap (λ (s : Step). s.handed) is
 
-abbrev Reaches : (r : ℕ) → List LaidBox → Type 0
-Reaches r laid = (reach : ℕ) → 2 ^ 60 ≤ reach → All (HasReach reach) laid → r ≤ reach + (length laid + 1) * 2 ^ 37
+abbrev Reaches : (r : ℕ) → Content → List LaidBox → Type 0
+Reaches r content laid = (list : List Laid) (reach : ℕ) → AreLaid laid list → All (HasReach reach) laid → r ≤ reach + room_in content + (length laid + 1) * 2 ^ 38
 
-none_reach : (inner : Boxes) (r : ℕ) → Reaches r [] → r ≤ reach_of inner
-none_reach inner r reaches = let near : r ≤ 2 ^ 60 + (0 + 1) * 2 ^ 37 = reaches (2 ^ 60) (omega arith) (All-nil (HasReach (2 ^ 60))) in omega arith
+none_reach : (content : Content) (inner : Boxes) (r : ℕ) → Reaches r content [] → r ≤ reach_of content inner
+none_reach content inner r reaches = let near : r ≤ 0 + room_in content + (0 + 1) * 2 ^ 38 = reaches [] 0 tt (All-nil (HasReach 0)) in omega arith
 
-done_reach : (outside : Outside) (own : Containing) (c : Constraint) (laid : List LaidBox) (inner : Boxes) (r : ℕ) → Lead outside own c laid inner no_boxes → Reaches r laid → r ≤ reach_of inner
-done_reach outside own c [] inner r lead reaches = none_reach inner r reaches
-done_reach outside own c (b ∷ laid) inner r lead reaches =
-    let n : ℕ = count inner - length (b ∷ laid) in
+done_reach : (outside : Outside) (own : Containing) (c : Constraint) (laid : List LaidBox) (list : List Laid) (content : Content) (inner : Boxes) (r : ℕ) → Lead outside own c laid inner no_boxes → AreLaid laid list
+    → Reaches r content laid → r ≤ reach_of content inner
+done_reach outside own c [] list content inner r lead are reaches = none_reach content inner r reaches
+done_reach outside own c (b ∷ laid) list content inner r lead are reaches =
+    let n : ℕ = weight inner + 2 ^ 38 - length (b ∷ laid) * 2 ^ 39 in
     let many = lead_count outside own c (b ∷ laid) inner no_boxes lead in
-    let some = few_siblings inner in
-    let near = reaches (2 ^ 60 + (2 * n + 1) * 2 ^ 37) (omega arith) (lead_reach outside own c (b ∷ laid) inner n lead (omega arith)) in
+    let heavy = weighty_siblings inner in
+    let near = reaches list n are (lead_reach outside own c (b ∷ laid) inner n lead (omega arith)) in
     omega arith
 
 pub new_done : (outside : Outside) (slots : Slots Preparation) (key : ℕ) (containing : Containing) (c : Constraint) (step : Step) (extent : Extent) (asking below : List LaidBox) (fragment : Fragment) (style : Style) (here : Node)
@@ -333,13 +341,13 @@ pub new_done : (outside : Outside) (slots : Slots Preparation) (key : ℕ) (cont
     → ((node : Node) (ms : List Member) → node_at slots key ≡ Some node → (step.known ≡ None → AreUnder (under None step.handed) asking ms) → extent ≡ extent_of outside containing node c ms)
     → AreFlowed outside slots (to_set_down extent (first_at slots key)) step.own (under (size_of extent) step.handed) below
     → ((node : Node) (ms : List Member) → node_at slots key ≡ Some node → AreSetDown containing node c extent below ms → part_of fragment ≡ (finished outside containing node c extent ms).part)
-    → Reaches (line_reach (part_of fragment).inner) below
+    → ((node : Node) → node_at slots key ≡ Some node → Reaches (spread (part_of fragment).inner) node.content below)
     → IsDone outside slots key containing c (own_of style fragment)
 new_done outside slots key containing c step extent asking below fragment style here there same steps asked extends set finishes reaches name own content inner is within =
     record {
       same = same ∙ ap (λ (n : Node). n.style) (same_Some here node (sym there ∙ is));
       part = finishes node ms is (set_down extent set) ∙ ap (λ (e : Extent). (finished outside containing node c e ms).part) (extends node ms is asked_under) ∙ sym (ap (λ (f : Flowed). f.part) (step_is outside containing node ms c));
-      reach = reach extent set;
+      reach = reach extent set (reaches node is);
     } where
       node : Node
       node = record { name = name; style = own; content = content }
@@ -368,13 +376,16 @@ new_done outside slots key containing c step extent asking below fragment style 
           let P : Option ℤ → Type 0 = λ h. Lead outside (containing_of own) (under (Some size) h) below inner no_boxes in
           lead_laid outside (containing_of own) size (handed_on containing node c) below inner (subst P handed_is (lead_own (under (Some size) step.handed) below (flowed inner within)))
 
-      no_below : (laid : List LaidBox) (d : Constraint) → AreFlowed outside slots None step.own d laid → Reaches (line_reach (part_of fragment).inner) laid → line_reach (part_of fragment).inner ≤ reach_of inner
-      no_below [] d flowed reaches = none_reach inner (line_reach (part_of fragment).inner) reaches
+      no_below : (laid : List LaidBox) (d : Constraint) → AreFlowed outside slots None step.own d laid → Reaches (spread (part_of fragment).inner) content laid → spread (part_of fragment).inner ≤ reach_of content inner
+      no_below [] d flowed reaches = none_reach content inner (spread (part_of fragment).inner) reaches
       no_below (b ∷ laid) d flowed reaches = absurd (flowed no_boxes refl)
 
-      reach : (e : Extent) → AreFlowed outside slots (to_set_down e (first_at slots key)) step.own (under (size_of e) step.handed) below → line_reach (part_of fragment).inner ≤ reach_of inner
-      reach (extents.Asked sizes) flowed = no_below below (under None step.handed) flowed reaches
-      reach (extents.Size size) flowed = done_reach outside step.own (under (Some size) step.handed) below inner (line_reach (part_of fragment).inner) (flowed inner within) reaches
+      reach : (e : Extent) → AreFlowed outside slots (to_set_down e (first_at slots key)) step.own (under (size_of e) step.handed) below → Reaches (spread (part_of fragment).inner) content below
+          → spread (part_of fragment).inner ≤ reach_of content inner
+      reach (extents.Asked sizes) flowed reaches = no_below below (under None step.handed) flowed reaches
+      reach (extents.Size size) flowed reaches =
+          done_reach outside step.own (under (Some size) step.handed) below (map (laid_under (under (Some size) (handed_on containing node c))) ms) content inner (spread (part_of fragment).inner) (flowed inner within)
+          (set_down (extents.Size size) flowed) reaches
 
 -- where the same trees stand
 pub flowed_on : (outside : Outside) (old new : Arena) (o : Option ℕ) (own : Containing) (c : Constraint) (laid : List LaidBox) → IsSteady outside old new → AreFlowed outside old.slots o own c laid → AreFlowed outside new.slots o own c laid
@@ -397,7 +408,7 @@ pub done_at_last : (outside : Outside) (a b z : Arena) (key : ℕ) (containing :
     → ((node : Node) (ms : List Member) → node_at b.slots key ≡ Some node → (step.known ≡ None → AreUnder (under None step.handed) asking ms) → extent ≡ extent_of outside containing node c ms)
     → second ≡ to_set_down extent (first_at b.slots key) → other ≡ under (size_of extent) step.handed → AreFlowed outside b.slots second step.own other below
     → ((node : Node) (ms : List Member) → node_at z.slots key ≡ Some node → AreSetDown containing node c extent below ms → part_of fragment ≡ (finished outside containing node c extent ms).part)
-    → Reaches (line_reach (part_of fragment).inner) below
+    → ((node : Node) → node_at z.slots key ≡ Some node → Reaches (spread (part_of fragment).inner) node.content below)
     → IsDone outside z.slots key containing c (own_of style fragment)
 done_at_last outside a b z key containing c step extent asking below fragment style here first second one other to_b to_z there same steps first_is one_is asked extends second_is other_is set finishes reaches =
     let whole = steady_then outside a b z to_b to_z in
@@ -421,6 +432,7 @@ pub record Going (outside : Outside) (old now : Arena) (from next : Option ℕ) 
   pub stand : StandFrom now.slots next rest
   pub low : height rest ≤ depth
   pub few : count rest + i ≤ 2 ^ 18
+  pub light : weight rest ≤ 2 ^ 60 - 2 ^ 38
   pub fit : AreFit rest
   pub inside : StandsIn now.slots next containing
   pub flowed : (tree : Boxes) → StandFrom old.slots from tree → (left : Boxes) × StandFrom old.slots next left × Lead outside containing c laid tree left
@@ -433,6 +445,7 @@ going_first outside old from depth containing c right row inside = record {
   stand = row.stand;
   low = row.low;
   few = let few = row.few in omega arith;
+  light = row.light;
   fit = row.fit;
   inside = inside;
   flowed = λ tree stand. (tree, stand, refl);
@@ -440,7 +453,7 @@ going_first outside old from depth containing c right row inside = record {
 
 pub going_head : (outside : Outside) (old now : Arena) (from next : Option ℕ) (key depth i : ℕ) (containing : Containing) (c : Constraint) (laid : List LaidBox) → Going outside old now from next depth i containing c laid
     → next ≡ Some key → Head now.slots key depth i containing
-going_head outside old now from next key depth i containing c laid going is = head_of now.slots key depth i containing next going.rest is going.stand going.low going.few going.fit going.inside
+going_head outside old now from next key depth i containing c laid going is = head_of now.slots key depth i containing next going.rest is going.stand going.low going.few going.light going.fit going.inside
 
 pub going_inside : (outside : Outside) (old now : Arena) (from next : Option ℕ) (key depth i : ℕ) (containing : Containing) (c : Constraint) (laid : List LaidBox) → Going outside old now from next depth i containing c laid
     → next ≡ Some key → StandsIn now.slots (Some key) containing
@@ -456,6 +469,7 @@ going_next outside old now new from next after key depth i containing c laid own
   stand = let P : Option ℕ → Type 0 = λ o. StandFrom new.slots o head.others in subst P (sym follows) (stands_on outside now new steady (next_at now.slots key) head.others head.behind);
   low = head.low_behind;
   few = let few = head.few in omega arith;
+  light = head.light_behind;
   fit = head.fit_behind;
   inside = let P : Option ℕ → Type 0 = λ o. StandsIn new.slots o containing in subst P (sym follows) (inside_on outside now new steady (next_at now.slots key) containing (inside_next now.slots key head.node containing linked head.is inside));
   flowed = λ tree stand. more tree (going.flowed tree stand);

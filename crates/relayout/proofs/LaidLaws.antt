@@ -1,5 +1,5 @@
 -- Children that have been laid out, one by one.
-use Rattle.std.proofs.Common.{◌≡◌, ◌∙◌, refl, sym, ap, subst, arith, ℕ, suc, zero, ◌+◌, ◌*◌, ◌<◌, ◌≤◌, ◌^◌, Bool, false, List, [], ◌∷◌, length, map, drop, get_or, ℤ, unsigned_abs}
+use Rattle.std.proofs.Common.{◌≡◌, ◌∙◌, refl, sym, ap, subst, arith, ℕ, suc, zero, ◌+◌, ◌*◌, ◌<◌, ◌≤◌, ◌^◌, Bool, false, List, [], ◌∷◌, length, map, drop, get_or, Some, ℤ, unsigned_abs}
 use Rattle.std.specs.Prelude.{All, sum_by}
 use Rattle.std.specs.Global.{Vec}
 use Rattle.std.proofs.lemmas.List.{drop_all, length-map}
@@ -17,6 +17,7 @@ use Rattle.block_flow.specs.Stacking as stacking
 use Rattle.block_flow.specs.Stacked.{IsStackOf, IsWithin, Stacked}
 use Rattle.block_flow.specs.Children.{AreChildren, Child, StandsFor, lengths_of}
 use Rattle.line_place.specs.Placing.{atom_at}
+use Rattle.line_place.specs.Spread.{spread, spread_in}
 use Rattle.line_place.proofs.Fragments.{as_piece, atom_moved}
 use Rattle.para_lines.specs.Lines.{Atom}
 use Rattle.relayout.specs.declared.content.Filling as code
@@ -26,7 +27,9 @@ use Rattle.relayout.specs.Atoms.{atom_in}
 use Rattle.relayout.specs.Content.{IsFilled, child_box, child_in, child_of, put, set_down, stack}
 use Rattle.relayout.specs.Inline.{inline_place}
 use Rattle.relayout.specs.Flowed.{AreLaid, HasMargins, IsLaid, Laid, Part, as_laid, at, pair_of, part_of}
-use Rattle.relayout.specs.Near.{HasReach, IsNearKind, IsNearLaid, line_reach, reach_in}
+use Rattle.relayout.specs.Near.{HasReach, IsNearKind, IsNearLaid}
+use Rattle.relayout.specs.Reach.{IsBase}
+use Rattle.relayout.proofs.InlineLaws.{place_near}
 
 -- ---- as their container stacks them
 
@@ -56,7 +59,7 @@ children_stand (b ∷ boxes) (l ∷ laid) are = (child_stands b l are.0, childre
 
 -- ---- their lengths
 
-lengths_in : (size : ℤ) (kind : Kind) → unsigned_abs size ≤ 2 ^ 36 → IsNearKind kind → lengths_of (child_in size kind) ≤ 2 ^ 37
+lengths_in : (size : ℤ) (kind : Kind) → unsigned_abs size ≤ 2 ^ 36 → IsNearKind kind → lengths_of (child_in size kind) ≤ 5 * 2 ^ 34
 lengths_in size (block mode dir content definite start end_ through) s h =
     let a = h.1.positive in let b = h.1.negative in let c = h.2.positive in let d = h.2.negative in omega arith
 lengths_in size (line index base mode baseline) s h = omega arith
@@ -64,12 +67,12 @@ lengths_in size span s h = omega arith
 lengths_in size (run form level natural units) s h = omega arith
 lengths_in size (measure min max) s h = omega arith
 
-children_near : (boxes : List LaidBox) → All IsNearLaid boxes → sum_by lengths_of (map child_box boxes) ≤ length boxes * 2 ^ 37
+children_near : (boxes : List LaidBox) → All IsNearLaid boxes → sum_by lengths_of (map child_box boxes) ≤ length boxes * (5 * 2 ^ 34)
 children_near boxes near =
     let many = length-map boxes child_box in
-    let each : All (λ child. lengths_of child ≤ 2 ^ 37) (map child_box boxes) =
-    All-map (λ child. lengths_of child ≤ 2 ^ 37) child_box boxes (λ k d lt. let n = (near k d lt).part in lengths_in _ _ n.block n.kind) in
-    let sum = sum_by-le lengths_of (2 ^ 37) (map child_box boxes) each in
+    let each : All (λ child. lengths_of child ≤ 5 * 2 ^ 34) (map child_box boxes) =
+    All-map (λ child. lengths_of child ≤ 5 * 2 ^ 34) child_box boxes (λ k d lt. let n = (near k d lt).part in lengths_in _ _ n.block n.kind) in
+    let sum = sum_by-le lengths_of (5 * 2 ^ 34) (map child_box boxes) each in
     omega arith
 
 -- ---- where they are set down
@@ -114,40 +117,48 @@ set_all own size boxes places k past =
 pub same_down : (one own : Containing) (held size : ℤ) (laid : List Laid) (places : List ℤ) → one ≡ own → held ≡ size → set_down one held laid places ≡ set_down own size laid places
 same_down one own held size laid places p q = ap (λ (o : Containing). set_down o held laid places) p ∙ ap (λ z. set_down own z laid places) q
 
--- ---- how far their lines reach
+-- ---- how far they reach, with all inside them
 
-placed_reach : (i b along across : ℤ) (kind : Kind) (total inner : ℕ) → IsNearKind kind → unsigned_abs b ≤ total → unsigned_abs across ≤ 2 ^ 36 → reach_in (rect_with i b along across) kind inner ≤ total + 2 ^ 36 + inner
-placed_reach i b along across (block mode dir content definite start end_ through) total inner near there high = let c = near.0.b in omega arith
-placed_reach i b along across (line index base mode baseline) total inner near there high = omega arith
-placed_reach i b along across span total inner near there high = omega arith
-placed_reach i b along across (run form level natural units) total inner near there high = omega arith
-placed_reach i b along across (measure min max) total inner near there high = omega arith
+pub placed_spread : (i b along across : ℤ) (kind : Kind) (far inner : ℕ) → IsNearKind kind → unsigned_abs i ≤ far → unsigned_abs b ≤ far → unsigned_abs along ≤ 2 ^ 36 → unsigned_abs across ≤ 2 ^ 36
+    → spread_in (rect_with i b along across) kind inner ≤ far + 5 * 2 ^ 36 + inner
+placed_spread i b along across (block mode dir content definite start end_ through) far inner near there down wide high =
+    let x = near.0.i in let y = near.0.b in let w = near.0.inline in let h = near.0.block in omega arith
+placed_spread i b along across (line index base mode baseline) far inner near there down wide high = omega arith
+placed_spread i b along across span far inner near there down wide high = omega arith
+placed_spread i b along across (run form level natural units) far inner near there down wide high = omega arith
+placed_spread i b along across (measure min max) far inner near there down wide high = omega arith
 
-pub set_reach : (own : Containing) (size : ℤ) (boxes : List LaidBox) (places : List ℤ) (total reach : ℕ) → All IsNearLaid boxes → All (HasReach reach) boxes → All (λ place. unsigned_abs place ≤ total) places
-    → line_reach (set_down own size (map as_laid boxes) places) ≤ total + 2 ^ 36 + reach
-set_reach own size [] places total reach near deep there = omega arith
-set_reach own size (b ∷ boxes) [] total reach near deep there = omega arith
-set_reach own size (b ∷ boxes) (p ∷ places) total reach near deep there =
+set_spread : (own : Containing) (size : ℤ) (boxes : List LaidBox) (places : List ℤ) (far reach : ℕ) → IsBase (Some size) → 2 ^ 36 + 2 ^ 34 ≤ far → All IsNearLaid boxes → All (HasReach reach) boxes
+    → All (λ place. unsigned_abs place ≤ far) places → spread (set_down own size (map as_laid boxes) places) ≤ far + 5 * 2 ^ 36 + reach
+set_spread own size [] places far reach base room near deep there = omega arith
+set_spread own size (b ∷ boxes) [] far reach base room near deep there = omega arith
+set_spread own size (b ∷ boxes) (p ∷ places) far reach base room near deep there =
     let n : IsNearLaid b = near 0 b (omega arith) in
     let d : HasReach reach b = deep 0 b (omega arith) in
-    let t : unsigned_abs p ≤ total = there 0 p (omega arith) in
+    let t : unsigned_abs p ≤ far = there 0 p (omega arith) in
     let part : Part = part_of b.fragment in
-    let first = placed_reach (inline_place own size b.style part.rect.inline) p part.rect.inline part.rect.block part.kind total (line_reach part.inner) n.part.kind t n.part.block in
-    let others = set_reach own size boxes places total reach (All-tail IsNearLaid b boxes near) (All-tail (HasReach reach) b boxes deep) (All-tail (λ place. unsigned_abs place ≤ total) p places there) in
+    let i = place_near own size b.style part.rect.inline n.style base n.part.inline in
+    let first = placed_spread (inline_place own size b.style part.rect.inline) p part.rect.inline part.rect.block part.kind far (spread part.inner) n.part.kind (omega arith) t n.part.inline n.part.block in
+    let others = set_spread own size boxes places far reach base room (All-tail IsNearLaid b boxes near) (All-tail (HasReach reach) b boxes deep) (All-tail (λ place. unsigned_abs place ≤ far) p places there) in
     omega arith
 
-pub stack_reach : (own : Containing) (size : ℤ) (boxes : List LaidBox) (children : List ChildBox) (places : List ℤ) (parts : Pieces) (stacked : Stacked) (reach : ℕ) → children ≡ map child_box boxes
-    → All IsNearLaid boxes → All (HasReach reach) boxes → IsWithin (sum_by lengths_of children) stacked → places ≡ stacked.places → parts ≡ set_down own size (map as_laid boxes) places
-    → line_reach parts ≤ reach + (length boxes + 1) * 2 ^ 37
-stack_reach own size boxes children places parts stacked reach made near deep within at down =
-    let total = sum_by lengths_of (map child_box boxes) in
-    let few = children_near boxes near in
-    let P : List ℤ → Type 0 = λ ps. All (λ place. unsigned_abs place ≤ total) ps in
-    let Q : List ChildBox → Type 0 = λ cs. All (λ place. unsigned_abs place ≤ sum_by lengths_of cs) stacked.places in
-    let there : All (λ place. unsigned_abs place ≤ total) places = subst P (sym at) (subst Q made within.places) in
-    let all = set_reach own size boxes places total reach near deep there in
-    let e : line_reach parts ≡ line_reach (set_down own size (map as_laid boxes) places) = ap line_reach down in
+stacked_spread : (own : Containing) (size : ℤ) (boxes : List LaidBox) (places : List ℤ) (reach : ℕ) → IsBase (Some size) → All IsNearLaid boxes → All (HasReach reach) boxes
+    → All (λ place. unsigned_abs place ≤ length boxes * (5 * 2 ^ 34)) places → spread (set_down own size (map as_laid boxes) places) ≤ reach + (length boxes + 1) * 2 ^ 38
+stacked_spread own size [] places reach base near deep there = omega arith
+stacked_spread own size (b ∷ boxes) places reach base near deep there =
+    let all = set_spread own size (b ∷ boxes) places (length (b ∷ boxes) * (5 * 2 ^ 34)) reach base (omega arith) near deep there in
     omega arith
+
+pub stack_reach : (own : Containing) (held size : ℤ) (boxes : List LaidBox) (children : List ChildBox) (places : List ℤ) (parts : Pieces) (stacked : Stacked) (reach : ℕ) → held ≡ size → IsBase (Some size)
+    → children ≡ map child_box boxes → All IsNearLaid boxes → All (HasReach reach) boxes → IsWithin (sum_by lengths_of children) stacked → places ≡ stacked.places
+    → parts ≡ set_down own held (map as_laid boxes) places → spread parts ≤ reach + (length boxes + 1) * 2 ^ 38
+stack_reach own held size boxes children places parts stacked reach same base made near deep within at down =
+    let few = children_near boxes near in
+    let far : sum_by lengths_of children ≤ length boxes * (5 * 2 ^ 34) = (let P : List ChildBox → Type 0 = λ cs. sum_by lengths_of cs ≤ length boxes * (5 * 2 ^ 34) in subst P (sym made) few) in
+    let P : List ℤ → Type 0 = λ ps. All (λ place. unsigned_abs place ≤ length boxes * (5 * 2 ^ 34)) ps in
+    let there : P places = subst P (sym at) (λ k d lt. let place = within.places k d lt in omega arith) in
+    let Q : Pieces → Type 0 = λ ps. spread ps ≤ reach + (length boxes + 1) * 2 ^ 38 in
+    subst Q (sym (down ∙ ap (λ (z : ℤ). set_down own z (map as_laid boxes) places) same)) (stacked_spread own size boxes places reach base near deep there)
 
 -- ---- a stack of them
 

@@ -1,5 +1,5 @@
 -- Boxes in an arena that stand side by side, one by one.
-use Rattle.std.proofs.Common.{◌≡◌, ◌∙◌, refl, sym, ap, subst, arith, ℕ, suc, ◌+◌, ◌*◌, ◌≤◌, ◌^◌, List, [], ◌∷◌, ◌++◌, length, map, Option, Some, None, ℤ, inl, inr}
+use Rattle.std.proofs.Common.{◌≡◌, ◌∙◌, refl, sym, ap, subst, arith, ℕ, suc, ◌+◌, ◌-◌, ◌*◌, ◌≤◌, ◌^◌, List, [], ◌∷◌, ◌++◌, length, map, Option, Some, None, ℤ, inl, inr}
 use Rattle.std.specs.Prelude.{All, IsSome, option_and_then, option_map, slice_index_or}
 use Rattle.std.proofs.lemmas.List.Elements.{All-cons, All-nil}
 use Rattle.std.proofs.lemmas.Bool.{cases_eq}
@@ -23,7 +23,7 @@ use Rattle.box_gen.specs.Tree.{Boxes, Content, blocks, box, inline, none as no_b
 use Rattle.para_prepare.specs.Preparation.{Preparation}
 use Rattle.relayout.specs.declared.flowed.LaidBox.{LaidBox}
 use Rattle.relayout.specs.declared.sizes.Containing.{Containing}
-use Rattle.relayout.specs.Fit.{AreFit, count, reach_of, siblings}
+use Rattle.relayout.specs.Fit.{AreFit, count, reach_of, room_in, siblings, weight}
 use Rattle.relayout.specs.Flow.{flow_step, laid_under, members}
 use Rattle.relayout.specs.Flowed.{AreLaid, Member, Part, at, part_of}
 use Rattle.relayout.specs.Inline.{Outside}
@@ -180,6 +180,10 @@ pub few_siblings : (tree : Boxes) → siblings tree ≤ count tree
 few_siblings no_boxes = omega arith
 few_siblings (box name style content inner next) = let few = few_siblings next in omega arith
 
+pub weighty_siblings : (tree : Boxes) → siblings tree * 2 ^ 39 ≤ weight tree
+weighty_siblings no_boxes = omega arith
+weighty_siblings (box name style content inner next) = let many = weighty_siblings next in omega arith
+
 -- ---- what has been laid out
 
 abbrev member_first : Outside → Containing → BoxName → Style → Content → (inner : Boxes) → Member
@@ -208,36 +212,38 @@ module _ (outside : Outside) (containing : Containing) (c : Constraint) where
   lead_under (own ∷ laid) no_boxes lead = absurd lead
   lead_under (own ∷ laid) (box name style content inner next) lead = (record { style = lead.0.same; part = lead.0.part }, lead_under laid next lead.1)
 
-  -- how far their lines reach
-  pub lead_reach : (laid : List LaidBox) (tree : Boxes) (n : ℕ) → Lead outside containing c laid tree no_boxes → count tree ≤ n + length laid → All (HasReach (2 ^ 60 + (2 * n + 1) * 2 ^ 37)) laid
-  lead_reach [] tree n lead few = All-nil (HasReach (2 ^ 60 + (2 * n + 1) * 2 ^ 37))
-  lead_reach (own ∷ laid) no_boxes n lead few = absurd lead
-  lead_reach (own ∷ laid) (box name style content inner next) n lead few =
+  -- how far what stands in them reaches
+  pub lead_reach : (laid : List LaidBox) (tree : Boxes) (n : ℕ) → Lead outside containing c laid tree no_boxes → weight tree + 2 ^ 38 ≤ n + length laid * 2 ^ 39 → All (HasReach n) laid
+  lead_reach [] tree n lead light = All-nil (HasReach n)
+  lead_reach (own ∷ laid) no_boxes n lead light = absurd lead
+  lead_reach (own ∷ laid) (box name style content inner next) n lead light =
       let many = lead_count laid next no_boxes lead.1 in
-      let some = few_siblings next in
+      let heavy = weighty_siblings next in
       let near = lead.0.reach in
-      let fewer : suc (count inner + count next) ≤ n + suc (length laid) = few in
-      All-cons (HasReach (2 ^ 60 + (2 * n + 1) * 2 ^ 37)) own laid (omega arith) (lead_reach laid next n lead.1 (omega arith))
+      let lighter : 2 ^ 39 + room_in content + weight inner + weight next + 2 ^ 38 ≤ n + suc (length laid) * 2 ^ 39 = light in
+      All-cons (HasReach n) own laid (omega arith) (lead_reach laid next n lead.1 (omega arith))
 
-  pub lead_near : (laid : List LaidBox) (tree : Boxes) → Lead outside containing c laid tree no_boxes → AreFit tree → count tree ≤ 2 ^ 18 → All IsNearLaid laid
-  lead_near [] tree lead fit few = All-nil IsNearLaid
-  lead_near (own ∷ laid) no_boxes lead fit few = absurd lead
-  lead_near (own ∷ laid) (box name style content inner next) lead fit few = All-cons IsNearLaid own laid near (lead_near laid next lead.1 fit.2 (omega arith)) where
+  pub lead_near : (laid : List LaidBox) (tree : Boxes) → Lead outside containing c laid tree no_boxes → AreFit tree → weight tree ≤ 2 ^ 60 - 2 ^ 38 → All IsNearLaid laid
+  lead_near [] tree lead fit light = All-nil IsNearLaid
+  lead_near (own ∷ laid) no_boxes lead fit light = absurd lead
+  lead_near (own ∷ laid) (box name style content inner next) lead fit light = All-cons IsNearLaid own laid near (lead_near laid next lead.1 fit.2 (omega (arith, lighter))) where
+    lighter : 2 ^ 39 + room_in content + weight inner + weight next ≤ 2 ^ 60 - 2 ^ 38
+    lighter = light
+
     members_near : All IsNearMember (members outside containing (box name style content inner next))
     members_near = flows_near outside containing (box name style content inner next) (bounded_fit (box name style content inner next) fit)
 
-    reach : HasReach (reach_of inner) own
+    reach : HasReach (reach_of content inner) own
     reach = lead.0.reach
 
     near : IsNearLaid own
     near =
         let P : Style → Type 0 = λ s. IsBounded s in
         let Q : Part → Type 0 = λ p. IsNearPart p in
-        let fewer : suc (count inner + count next) ≤ 2 ^ 18 = few in
         record {
           style = subst P (sym lead.0.same) fit.0.bounded;
           part = subst Q (sym lead.0.part) (members_near 0 (member_first outside containing name style content inner) (omega arith) c).part;
-          lines = omega (arith, reach);
+          inner = omega (arith, reach, lighter);
         }
 
 -- where their inline size is known, they are boxes with the definition's margins

@@ -12,6 +12,7 @@ use Rattle.block_flow.specs.Adjoining.{edges}
 use Rattle.box_arena.specs.At.{Node}
 use Rattle.box_gen.specs.Tree.{Content}
 use Rattle.line_fill.specs.declared.item.Intrinsic.{Intrinsic}
+use Rattle.line_place.specs.Spread.{spread}
 use Rattle.relayout.specs.declared.content.Filling as code
 use Rattle.relayout.specs.declared.flowed.LaidBox.{LaidBox}
 use Rattle.relayout.specs.declared.inline.PageView.{PageView}
@@ -25,7 +26,6 @@ use Rattle.relayout.specs.Flow.{answered, asked, asked_by, flow_step, laid_out, 
 use Rattle.relayout.specs.Flowed.{AreLaid, Laid, Member, Part, part_of}
 use Rattle.relayout.specs.Inline.{Outside, inline_size, known_or_shrunk, shrunk}
 use Rattle.relayout.specs.Intrinsic.{contributed, contribution, inner, inner_by}
-use Rattle.relayout.specs.Near.{line_reach}
 use Rattle.relayout.specs.Sizes.{containing_of, hold_both, is_parallel, sizes_along}
 use Rattle.relayout.specs.Step.{AreLaidUnder, AreUnder, extent_by, extent_of, finished, given_extent, held_extent, known_under, of_size, step_of, under}
 use Rattle.relayout.proofs.AtomLaws.{take_next}
@@ -136,8 +136,8 @@ pub finished_asked : (outside : Outside) (containing : Containing) (node : Node)
 unfolding finished
 finished_asked outside containing node c extent asks ms is = ap (λ (e : Extent). (finished outside containing node c e ms).part) (sym is)
 
-pub asked_reach : (containing : Containing) (node : Node) (asks : Intrinsic) (part : Part) (n : ℕ) → part ≡ (measured containing node asks).part → line_reach part.inner ≤ n
+pub asked_reach : (containing : Containing) (node : Node) (asks : Intrinsic) (part : Part) (n : ℕ) → part ≡ (measured containing node asks).part → spread part.inner ≤ n
 unfolding measured
 asked_reach containing node asks part n is =
-    let P : Pieces → Type 0 = λ ps. line_reach ps ≤ n in
+    let P : Pieces → Type 0 = λ ps. spread ps ≤ n in
     subst P (sym (ap (λ (p : Part). p.inner) is)) (omega arith)

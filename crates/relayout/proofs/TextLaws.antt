@@ -19,4 +19,4 @@ ready_from items entries ready same paragraph few from atoms lengths =
     let b = paragraph.bytes in
     let P : ℕ → Type 0 = λ n. AreFrom 0 n ready.items in
     let Q : List Entry → Type 0 = λ es. atoms_in ready.items ≤ atoms_of es in
-    record { few = omega arith; sources = subst P (sym many ∙ count) from; lengths = lengths; atoms = subst Q same atoms }
+    record { few = omega arith; count = omega arith; sources = subst P (sym many ∙ count) from; lengths = lengths; atoms = subst Q same atoms }

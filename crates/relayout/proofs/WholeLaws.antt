@@ -1,13 +1,18 @@
 -- The whole layout from that of the root's row.
-use Rattle.std.proofs.Common.{◌≡◌, ◌∙◌, refl, sym, ap, subst, arith, ℕ, List, [], ◌∷◌, length, get_or, Option, Some, None}
+use Rattle.std.proofs.Common.{◌≡◌, ◌∙◌, ◌+◌, ◌-◌, ◌*◌, ◌≤◌, ◌^◌, refl, sym, ap, subst, arith, unsigned_abs, ℕ, Bool, true, false, List, [], ◌∷◌, length, get_or, Option, Some, None}
 use Rattle.std.specs.Prelude.{All, option_and_then}
 use Rattle.std.proofs.lemmas.Option.{same_Some}
 use Rattle.slab.specs.Slab.{ContainsKey}
 use Rattle.face_api.specs.Table.{Table}
-use Rattle.wm_modes.specs.Mode.{is_horizontal}
+use Rattle.wm_modes.specs.declared.mode.WritingMode.{WritingMode}
+use Rattle.wm_modes.specs.declared.mode.WritingMode.TheVariants.{HorizontalTb, VerticalRl, VerticalLr, SidewaysRl, SidewaysLr}
+use Rattle.wm_modes.specs.Mode.{are_parallel, is_horizontal}
 use Rattle.wm_units.specs.declared.view.View.{View}
 use Rattle.style_types.specs.declared.style.Style.{Style}
-use Rattle.style_types.specs.Fragment.{Pieces}
+use Rattle.style_types.specs.Fragment.{Pieces, none}
+use Rattle.style_types.specs.Style.{IsBounded}
+use Rattle.line_place.specs.Spread.{spread}
+use Rattle.wm_modes.specs.Sides.{block_start}
 use Rattle.box_arena.specs.At.{Node, Slots, links_at, next_at, node_at, parent_at}
 use Rattle.box_arena.specs.Boxes.{StandFrom, Stands}
 use Rattle.box_arena.specs.Links.{IsLinked}
@@ -16,16 +21,20 @@ use Rattle.para_prepare.specs.Preparation.{Preparation}
 use Rattle.relayout.specs.declared.flowed.LaidBox.{LaidBox}
 use Rattle.relayout.specs.declared.inline.PageView.{PageView}
 use Rattle.relayout.specs.declared.sizes.Containing.{Containing}
-use Rattle.relayout.specs.Fit.{siblings}
+use Rattle.relayout.specs.Edges.{margin_or_zero}
+use Rattle.relayout.specs.Fit.{reach_of, room_in, siblings, weight}
 use Rattle.relayout.specs.Flow.{layout, on_page}
-use Rattle.relayout.specs.Flowed.{part_of}
-use Rattle.relayout.specs.Inline.{Outside}
+use Rattle.relayout.specs.Flowed.{Part, at, part_of}
+use Rattle.relayout.specs.Inline.{Outside, equation_of, inline_place, inline_place_by}
 use Rattle.relayout.specs.Kept.{AreRight, containing_by}
-use Rattle.relayout.specs.Near.{IsNearLaid}
-use Rattle.relayout.specs.Relayout.{AreRightUnder, HasTree, IsLayout, in_view}
+use Rattle.relayout.specs.Near.{HasReach, IsNearLaid, IsNearPart}
+use Rattle.relayout.specs.Relayout.{AreRightUnder, HasTree, IsLayout, IsView, in_view}
 use Rattle.relayout.specs.Row.{AreFlowed, HasRow, Lead, StandsIn, from_outside}
-use Rattle.relayout.specs.Sizes.{containing_of}
+use Rattle.relayout.specs.Sizes.{containing_of, is_parallel}
 use Rattle.relayout.specs.Step.{under}
+use Rattle.relayout.proofs.FlowLaws.{margin_near}
+use Rattle.relayout.proofs.InlineLaws.{along_place_near}
+use Rattle.relayout.proofs.LaidLaws.{placed_spread}
 use Rattle.relayout.proofs.RowLaws.{Arena, lead_count, lead_near, lives_there}
 
 tree_node : (slots : Slots Preparation) (root : ℕ) (tree : Boxes) → Stands slots root tree → (node : Node) × (node_at slots root ≡ Some node)
@@ -34,6 +43,29 @@ tree_node slots root (box name style content inner next) stands = (record { name
 
 pub root_lives : (boxes : Arena) (root : ℕ) → HasTree boxes.slots root → ContainsKey boxes root
 root_lives boxes root there = let node = tree_node boxes.slots root there.tree there.stands in lives_there boxes root node.0 node.1
+
+parallel_itself : (mode : WritingMode) → are_parallel mode mode ≡ true
+parallel_itself HorizontalTb = refl
+parallel_itself VerticalRl = refl
+parallel_itself VerticalLr = refl
+parallel_itself SidewaysRl = refl
+parallel_itself SidewaysLr = refl
+
+-- the root where it is put in its view
+root_spread : (style : Style) (view : View) (part : Part) (reach : ℕ) → IsView view → IsBounded style → IsNearPart part → spread part.inner ≤ reach → spread (in_view style view part) ≤ 2 ^ 35 + 5 * 2 ^ 36 + reach
+unfolding inline_place
+root_spread style view part reach sizes bounded near deep = by (is_parallel (containing_of style) style) (parallel_itself style.mode) where
+  down : unsigned_abs (margin_or_zero style (Some view.inline) (block_start style.mode)) ≤ 2 ^ 32
+  down = margin_near style (Some view.inline) (block_start style.mode) bounded
+
+  by : (parallel : Bool) → parallel ≡ true
+      → spread (at (inline_place_by parallel (containing_of style) view.inline style part.rect.inline) (margin_or_zero style (Some view.inline) (block_start style.mode)) part none) ≤ 2 ^ 35 + 5 * 2 ^ 36 + reach
+  by true is =
+      let along = along_place_near (containing_of style) view.inline style bounded sizes.along in
+      let whole = placed_spread (equation_of (containing_of style) style view.inline).start (margin_or_zero style (Some view.inline) (block_start style.mode)) part.rect.inline part.rect.block part.kind (2 ^ 35) (spread part.inner)
+      near.kind along (omega (arith, down)) near.inline near.block in
+      omega (arith, deep)
+  by false is = absurd (cc)
 
 -- the row of a root is the root alone
 stands_alone : (slots : Slots Preparation) (root : ℕ) (tree : Boxes) → next_at slots root ≡ None → Stands slots root tree → StandFrom slots (Some root) tree
@@ -44,7 +76,7 @@ stands_alone slots root (box name style content inner next) alone (node, within,
 
 pub root_row : (slots : Slots Preparation) (root : ℕ) → IsLinked (links_at slots) → parent_at slots root ≡ None → HasTree slots root → HasRow slots (Some root) 130
 root_row slots root linked free there =
-    record { tree = there.tree; stand = stands_alone slots root there.tree (linked.alone root free).0 there.stands; low = there.low; few = there.few; fit = there.fit }
+    record { tree = there.tree; stand = stands_alone slots root there.tree (linked.alone root free).0 there.stands; low = there.low; few = there.few; light = there.light; fit = there.fit }
 
 pub root_inside : (slots : Slots Preparation) (root : ℕ) (own : Node) (containing : Containing) → parent_at slots root ≡ None → node_at slots root ≡ Some own → containing ≡ containing_of own.style → StandsIn slots (Some root) containing
 root_inside slots root own containing free there is node at =
@@ -59,7 +91,7 @@ module _ (faces : List (Option Table)) (view : View) (page : PageView) (slots : 
   pub root_alone : (laid : List LaidBox) → AreFlowed (from_outside faces page) slots (Some root) (containing_of own.style) (under (Some view.inline) (Some view.block)) laid → next_at slots root ≡ None → HasTree slots root
       → (length laid ≡ 1) × All IsNearLaid laid
   root_alone laid flowed alone has = by has.tree has.stands (lead_near (from_outside faces page) (containing_of own.style) (under (Some view.inline) (Some view.block)) laid has.tree
-      (flowed has.tree (stands_alone slots root has.tree alone has.stands)) has.fit has.few) (flowed has.tree (stands_alone slots root has.tree alone has.stands)) where
+      (flowed has.tree (stands_alone slots root has.tree alone has.stands)) has.fit has.light) (flowed has.tree (stands_alone slots root has.tree alone has.stands)) where
         by : (tree : Boxes) → Stands slots root tree → All IsNearLaid laid → Lead (from_outside faces page) (containing_of own.style) (under (Some view.inline) (Some view.block)) laid tree no_boxes
             → (length laid ≡ 1) × All IsNearLaid laid
         by no_boxes stands near lead = absurd stands
@@ -87,3 +119,18 @@ module _ (faces : List (Option Table)) (view : View) (page : PageView) (slots : 
             let here = subst Q page_is (subst P same lead) in
             shown ∙ ap (λ (x : LaidBox). in_view x.style view (part_of x.fragment)) at
             ∙ ap (λ (s : Style). in_view s view (part_of b.fragment)) here.0.same ∙ ap (in_view style view) here.0.part
+
+  pub root_near : (laid : List LaidBox) (first : LaidBox) (made : Pieces) → IsView view → AreFlowed (from_outside faces page) slots (Some root) (containing_of own.style) (under (Some view.inline) (Some view.block)) laid
+      → next_at slots root ≡ None → HasTree slots root → first ≡ get_or laid 0 first → made ≡ in_view first.style view (part_of first.fragment) → spread made ≤ 2 ^ 60 - 2 ^ 37
+  root_near laid first made sizes flowed alone has at shown = by has.tree laid has.stands has.light at (flowed has.tree (stands_alone slots root has.tree alone has.stands)) (root_alone laid flowed alone has).1 where
+    by : (tree : Boxes) (boxes : List LaidBox) → Stands slots root tree → weight tree ≤ 2 ^ 60 - 2 ^ 38 → first ≡ get_or boxes 0 first
+        → Lead (from_outside faces page) (containing_of own.style) (under (Some view.inline) (Some view.block)) boxes tree no_boxes → All IsNearLaid boxes → spread made ≤ 2 ^ 60 - 2 ^ 37
+    by no_boxes boxes stands light at lead near = absurd stands
+    by (box name style content inner next) [] stands light at lead near = absurd (cc)
+    by (box name style content inner next) (b ∷ boxes) stands light at lead near =
+        let n : IsNearLaid b = near 0 b (omega arith) in
+        let deep : HasReach (reach_of content inner) b = lead.0.reach in
+        let whole = root_spread b.style view (part_of b.fragment) (reach_of content inner) sizes n.style n.part deep in
+        let lighter : 2 ^ 39 + room_in content + weight inner + weight next ≤ 2 ^ 60 - 2 ^ 38 = light in
+        let P : Pieces → Type 0 = λ ps. spread ps ≤ 2 ^ 60 - 2 ^ 37 in
+        subst P (sym (shown ∙ ap (λ (x : LaidBox). in_view x.style view (part_of x.fragment)) at)) (omega (arith, whole, lighter))

@@ -1,8 +1,10 @@
 -- Trees of boxes that can be laid out.
-use Rattle.std.specs.Prelude.{ℕ, suc, ◌+◌, ◌*◌, ◌^◌, max, ⊤}
-use Rattle.box_gen.specs.Tree.{Boxes, Content, none, box}
+use Rattle.std.specs.Prelude.{ℕ, suc, ◌+◌, ◌*◌, ◌^◌, max, ⊤, length}
+use Rattle.box_gen.specs.Tree.{Boxes, Content, none, box, blocks, inline}
 use Rattle.style_types.specs.declared.style.Style.{Style}
 use Rattle.style_types.specs.Style.{IsBounded}
+use Rattle.para_prepare.specs.Limits.{text_bytes}
+use Rattle.para_prepare.specs.Preparation.{atoms_of}
 use Rattle.relayout.specs.Paragraph.{HasAtoms, IsParagraphIn}
 
 -- how many boxes there are, with all inside them
@@ -30,6 +32,16 @@ abbrev pub AreFit : Boxes → Type 0
 AreFit none = ⊤
 AreFit (box name style content inner next) = IsFit style content inner × AreFit inner × AreFit next
 
--- how far the lines of a box reach from its content's block-start at most, by the boxes inside it
-abbrev pub reach_of : (inner : Boxes) → ℕ
-reach_of inner = 2 ^ 60 + (2 * count inner + 1) * 2 ^ 37
+-- how far what stands in a paragraph takes its lines at most: by its items, its inline-blocks and the bytes of its text
+abbrev pub room_in : Content → ℕ
+room_in blocks = 0
+room_in (inline entries) = length entries * (3 * 2 ^ 40) + atoms_of entries * (3 * 2 ^ 41) + text_bytes entries * 2 ^ 36
+
+-- how far boxes reach together at most
+abbrev pub weight : Boxes → ℕ
+weight none = 0
+weight (box name style content inner next) = 2 ^ 39 + room_in content + weight inner + weight next
+
+-- how far what stands in a box reaches from its content area at most
+abbrev pub reach_of : Content → (inner : Boxes) → ℕ
+reach_of content inner = room_in content + 2 ^ 38 + weight inner

@@ -7,6 +7,7 @@ use Rattle.style_types.specs.Fragment.{Pieces, none, piece}
 use Rattle.box_gen.specs.Tree.{Boxes, Content, box, none as no_boxes}
 use Rattle.box_arena.specs.At.{Node, Slots, kept_at, node_at, parent_at, text_at}
 use Rattle.box_arena.specs.Boxes.{Stands}
+use Rattle.line_place.specs.Spread.{spread}
 use Rattle.para_prepare.specs.Preparation.{Preparation}
 use Rattle.relayout.specs.declared.sizes.Containing.{Containing}
 use Rattle.relayout.specs.Fit.{reach_of}
@@ -14,7 +15,6 @@ use Rattle.relayout.specs.Flow.{flow_step, members}
 use Rattle.relayout.specs.Flowed.{at}
 use Rattle.relayout.specs.Inline.{Outside}
 use Rattle.relayout.specs.Intrinsic.{IsTextOf}
-use Rattle.relayout.specs.Near.{line_reach}
 use Rattle.relayout.specs.Paragraph.{IsReadyFor}
 use Rattle.relayout.specs.Sizes.{containing_of}
 
@@ -38,10 +38,10 @@ abbrev pub inside : Pieces → Pieces
 inside none = none
 inside (piece name rect kind inner next) = inner
 
--- that fragment, whose lines reach no further than so many boxes can
+-- that fragment, with nothing in it further out than the box's paragraph and the boxes inside it can bring it
 pub record IsResultOf (outside : Outside) (containing : Containing) (name : BoxName) (style : Style) (content : Content) (inner : Boxes) (c : Constraint) (result : Pieces) : Type 0 where
   pub value : result ≡ result_of outside containing name style content inner c
-  pub reach : line_reach (inside result) ≤ reach_of inner
+  pub reach : spread (inside result) ≤ reach_of content inner
 
 -- it is what the box under a key comes to under a constraint, whatever tree stands there
 abbrev pub IsResultAt : Outside → Slots Preparation → (key : ℕ) → Constraint → Pieces → Type 0

@@ -7,6 +7,7 @@ use Rattle.style_types.specs.Fragment.{Kind, block, line, span, run, measure, Pi
 use Rattle.style_types.specs.declared.constraint.Constraint.{Constraint}
 use Rattle.style_types.specs.Style.{IsBounded, IsLength}
 use Rattle.box_gen.specs.Tree.{Boxes, none as no_boxes, box}
+use Rattle.line_place.specs.Spread.{spread}
 use Rattle.relayout.specs.declared.atoms.LastLine.{LastLine}
 use Rattle.relayout.specs.declared.flowed.LaidBox.{LaidBox}
 use Rattle.relayout.specs.Flowed.{Flowed, Member, Part, part_of}
@@ -56,15 +57,15 @@ own_reach fragment = reach_in (part_of fragment).rect (part_of fragment).kind (l
 abbrev pub IsNearLine : (reach : ℕ) → LastLine → Type 0
 IsNearLine reach found = unsigned_abs found.from + unsigned_abs found.extent ≤ reach
 
--- the lines inside what has been laid out
+-- what stands inside what has been laid out reaches no further
 abbrev pub HasReach : (reach : ℕ) → LaidBox → Type 0
-HasReach reach laid = line_reach (part_of laid.fragment).inner ≤ reach
+HasReach reach laid = spread (part_of laid.fragment).inner ≤ reach
 
 -- a box that has been laid out
 pub record IsNearLaid (laid : LaidBox) : Type 0 where
   pub style : IsBounded laid.style
   pub part : IsNearPart (part_of laid.fragment)
-  pub lines : HasReach (2 ^ 61) laid
+  pub inner : HasReach (2 ^ 60) laid
 
 -- ---- what boxes come to
 

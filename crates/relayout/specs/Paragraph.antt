@@ -1,5 +1,5 @@
 -- What a paragraph and its prepared text may have.
-use Rattle.std.specs.Prelude.{ℕ, ◌≤◌, ◌^◌, ⊤, List, All, length, Option, IfSome, IsSome}
+use Rattle.std.specs.Prelude.{ℕ, ◌+◌, ◌≤◌, ◌^◌, ⊤, List, All, length, Option, IfSome, IsSome}
 use Rattle.style_types.specs.Item.{Entry}
 use Rattle.box_gen.specs.Tree.{Content, blocks, inline}
 use Rattle.para_lines.specs.Boxes.{HasBounds}
@@ -21,6 +21,7 @@ HasAtoms (inline entries) count = atoms_of entries ≤ count
 -- its prepared text
 pub record IsReady (entries : List Entry) (ready : Preparation) : Type 0 where
   pub few : length ready.items ≤ 2 ^ 21
+  pub count : length ready.items ≤ text_bytes entries + length entries
   pub sources : AreFrom 0 (length entries) ready.items
   pub lengths : All (λ item. HasTextBounds item.what) ready.items
   pub atoms : atoms_in ready.items ≤ atoms_of entries

@@ -1,5 +1,5 @@
 -- The layout of a document whose boxes lie in an arena.
-use Rattle.std.specs.Prelude.{◌≡◌, ℕ, ◌≤◌, ◌^◌, List, Option, Some}
+use Rattle.std.specs.Prelude.{◌≡◌, ℕ, ◌≤◌, ◌-◌, ◌^◌, List, Option, Some}
 use Rattle.slab.specs.Slab.{Slab}
 use Rattle.face_api.specs.Table.{Table}
 use Rattle.wm_modes.specs.Mode.{is_horizontal}
@@ -13,7 +13,7 @@ use Rattle.box_arena.specs.Boxes.{Stands}
 use Rattle.box_gen.specs.Tree.{Boxes}
 use Rattle.para_prepare.specs.Preparation.{Preparation}
 use Rattle.relayout.specs.Edges.{margin_or_zero}
-use Rattle.relayout.specs.Fit.{AreFit, count, height}
+use Rattle.relayout.specs.Fit.{AreFit, count, height, weight}
 use Rattle.relayout.specs.Flow.{layout, on_page}
 use Rattle.relayout.specs.Flowed.{Part, at}
 use Rattle.relayout.specs.Inline.{inline_place}
@@ -37,6 +37,7 @@ pub record HasTree (slots : Slots Preparation) (root : ℕ) : Type 0 where
   pub stands : Stands slots root tree
   pub low : height tree ≤ most_deep
   pub few : count tree ≤ 2 ^ 18
+  pub light : weight tree ≤ 2 ^ 60 - 2 ^ 38
   pub fit : AreFit tree
 
 -- the root in the view, which has its mode and its direction

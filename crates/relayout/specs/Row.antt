@@ -1,5 +1,5 @@
 -- Boxes in an arena that stand side by side, and what has been laid out of them.
-use Rattle.std.specs.Prelude.{◌≡◌, ℕ, ◌≤◌, ◌^◌, List, [], ◌∷◌, Option, Some, IfSome, IsSome}
+use Rattle.std.specs.Prelude.{◌≡◌, ℕ, ◌≤◌, ◌-◌, ◌^◌, List, [], ◌∷◌, Option, Some, IfSome, IsSome}
 use Rattle.slab.specs.Slab.{Slab}
 use Rattle.face_api.specs.Table.{Table}
 use Rattle.style_types.specs.declared.constraint.Constraint.{Constraint}
@@ -15,7 +15,7 @@ use Rattle.para_prepare.specs.Preparation.{Preparation}
 use Rattle.relayout.specs.declared.flowed.LaidBox.{LaidBox}
 use Rattle.relayout.specs.declared.inline.PageView.{PageView}
 use Rattle.relayout.specs.declared.sizes.Containing.{Containing}
-use Rattle.relayout.specs.Fit.{AreFit, count, height, reach_of}
+use Rattle.relayout.specs.Fit.{AreFit, count, height, reach_of, weight}
 use Rattle.relayout.specs.Flow.{flow_step, members}
 use Rattle.relayout.specs.Flowed.{part_of}
 use Rattle.relayout.specs.Inline.{Outside}
@@ -32,6 +32,7 @@ pub record HasRow (slots : Slots Preparation) (from : Option ℕ) (depth : ℕ) 
   pub stand : StandFrom slots from tree
   pub low : height tree ≤ depth
   pub few : count tree ≤ 2 ^ 18
+  pub light : weight tree ≤ 2 ^ 60 - 2 ^ 38
   pub fit : AreFit tree
 
 -- the box under a key, where one is meant, stands in such a containing block
@@ -57,7 +58,7 @@ pub record IsSteady (outside : Outside) (old new : Slab (Entry Preparation)) : T
 pub record IsFlowed (outside : Outside) (containing : Containing) (c : Constraint) (own : LaidBox) (name : BoxName) (style : Style) (content : Content) (inner : Boxes) : Type 0 where
   pub same : own.style ≡ style
   pub part : part_of own.fragment ≡ (flow_step outside containing (record { name = name; style = style; content = content }) (members outside (containing_of style) inner) c).part
-  pub reach : HasReach (reach_of inner) own
+  pub reach : HasReach (reach_of content inner) own
 
 -- the first of these boxes are laid out, and the others are left
 abbrev pub Lead : Outside → Containing → Constraint → List LaidBox → (all left : Boxes) → Type 0

@@ -1,6 +1,6 @@
 //! Inline-blocks in a paragraph: their margin boxes on a line, and their baselines (CSS 2, 10.8.1).
 
-ghost use Rattle.std.specs.Prelude.{◌≡◌, ◌+◌, ◌≤◌, ◌^◌, ◌+ℤ◌, ◌-ℤ◌, IfOk, IfSome, Some, pos, unsigned_abs};
+ghost use Rattle.std.specs.Prelude.{◌≡◌, ◌+◌, ◌*◌, ◌≤◌, ◌^◌, ◌+ℤ◌, ◌-ℤ◌, IfOk, IfSome, Some, pos, unsigned_abs};
 ghost use Rattle.style_types.specs.declared.fragment.Fragment.{out-Fragment};
 ghost use Rattle.style_types.specs.Fragment.{kind_of, none, piece_of, pieces_of};
 ghost use Rattle.style_types.specs.Style.{baseline_of};
@@ -305,7 +305,7 @@ pub(crate) fn atom_in(paragraph: &Style, size: i64, laid: &LaidBox) -> Result<At
     requires size { IsBase (Some size) }
     requires near { IsNearLaid laid.now }
     ensures value { IfOk result (λ atom. atom_of atom ≡ rule.atom_in paragraph.now size (as_laid laid.now)) }
-    ensures near { IfOk result (λ atom. atom_reach (atom_of atom) ≤ 2 ^ 39) }
+    ensures near { IfOk result (λ atom. atom_reach (atom_of atom) ≤ 5 * 2 ^ 36) }
 {
     let mode = paragraph.mode;
     let fragment = at_zero(&laid.fragment)?;

@@ -5,7 +5,8 @@ ghost use Rattle.face_api.specs.Faces.{faces_of};
 ghost use Rattle.style_types.specs.Fragment.{Pieces, before, pieces_of};
 ghost use Rattle.style_types.specs.Item.{entries_of};
 ghost use Rattle.style_types.specs.Style.{IsBounded};
-ghost use Rattle.box_gen.specs.Tree.{content_of};
+ghost use Rattle.box_gen.specs.Tree.{content_of, inline};
+ghost use Rattle.line_place.specs.Spread.{spread};
 ghost use Rattle.para_lines.specs.Paragraph.{atom_of};
 ghost use Rattle.para_lines.specs.Reach.{IsNearLine, atom_reach};
 ghost use Rattle.para_prepare.specs.Preparation.{atoms_of};
@@ -13,7 +14,8 @@ ghost use Rattle.relayout.specs.Atoms as atoms;
 ghost use Rattle.relayout.specs.Content as rule;
 ghost use Rattle.relayout.specs.Content.{AreStacked, IsFilled, child_box};
 ghost use Rattle.relayout.specs.Flowed.{AreLaid, Laid, as_laid};
-ghost use Rattle.relayout.specs.Near.{HasReach, IsNearLaid, line_reach};
+ghost use Rattle.relayout.specs.Fit.{room_in};
+ghost use Rattle.relayout.specs.Near.{HasReach, IsNearLaid};
 ghost use Rattle.relayout.specs.Intrinsic.{IsTextOf};
 ghost use Rattle.relayout.specs.Paragraph.{HasAtoms, IsParagraph, IsReady, IsReadyIn};
 ghost use Rattle.relayout.specs.Reach.{IsBase};
@@ -146,7 +148,7 @@ pub(crate) fn stack<L: Ledger>(
     ensures ticks { OnOk result (arranged.new ≡ arranged.old + 1) }
     ensures most { (arranged.old ≤ arranged.new) × (arranged.new ≤ arranged.old + 1) }
     ensures filled { IfOk result (λ made. (list : List Laid) → AreLaid laid.now list → IsFilled made (rule.stack (containing_of style.now) joins size list)) }
-    ensures reach { IfOk result (λ made. (reach : ℕ) → All (HasReach reach) laid.now → line_reach (pieces_of made.parts.items) ≤ reach + (length laid.now + 1) * 2 ^ 37) }
+    ensures reach { IfOk result (λ made. (reach : ℕ) → All (HasReach reach) laid.now → spread (pieces_of made.parts.items) ≤ reach + (length laid.now + 1) * 2 ^ 38) }
 {
     let children = children_of(alloc, laid)?;
     let stacked = stack_of(alloc, joins, &children, arranged)?;
@@ -168,7 +170,7 @@ fn atoms_of(alloc: Global, style: &Style, size: i64, laid: &[LaidBox]) -> Result
     requires size { IsBase (Some size) }
     requires near { All IsNearLaid laid.now }
     ensures are { IfOk result (λ made. map atom_of made.items ≡ map (λ child. atoms.atom_in style.now size (as_laid child)) laid.now) }
-    ensures near { IfOk result (λ made. All (λ atom. atom_reach (atom_of atom) ≤ 2 ^ 39) made.items) }
+    ensures near { IfOk result (λ made. All (λ atom. atom_reach (atom_of atom) ≤ 5 * 2 ^ 36) made.items) }
 {
     let mut made = Vec::with_capacity(alloc, laid.len())?;
     for child in laid {
@@ -209,7 +211,7 @@ pub(crate) fn paragraph<L: Ledger>(
     ensures ticks { OnOk result (arranged.new ≡ arranged.old + 1) }
     ensures most { (arranged.old ≤ arranged.new) × (arranged.new ≤ arranged.old + 1) }
     ensures filled { IfOk result (λ made. (list : List Laid) → AreLaid laid.now list → IsFilled made (rule.lines_in (faces_of ⟦<dyn Face as Face>⟧ faces.now) container.now (entries_of items.now) text.now list)) }
-    ensures reach { IfOk result (λ made. line_reach (pieces_of made.parts.items) ≤ 2 ^ 60) }
+    ensures reach { IfOk result (λ made. (list : List Laid) (reach : ℕ) → AreLaid laid.now list → All (HasReach reach) laid.now → spread (pieces_of made.parts.items) ≤ reach + room_in (inline (entries_of items.now)) + 2 ^ 38) }
 {
     let atoms = atoms_of(alloc, &container.style, container.size, laid)?;
     let parts = paragraph_lines(alloc, items, text, container, &atoms, faces, arranged)?;
@@ -244,7 +246,7 @@ pub(crate) fn filled<L: Ledger>(
     ensures ticks { OnOk result (arranged.new ≡ arranged.old + 1) }
     ensures most { (arranged.old ≤ arranged.new) × (arranged.new ≤ arranged.old + 1) }
     ensures filled { IfOk result (λ made. (list : List Laid) → AreLaid laid.now list → IsTextOf (faces_of ⟦<dyn Face as Face>⟧ faces.now) node.now.style (content_of node.now.content) (option_copied text.entry) → IsFilled made (rule.filled (faces_of ⟦<dyn Face as Face>⟧ faces.now) node.now.name node.now.style joins size (content_of node.now.content) list)) }
-    ensures reach { IfOk result (λ made. (reach : ℕ) → 2 ^ 60 ≤ reach → All (HasReach reach) laid.now → line_reach (pieces_of made.parts.items) ≤ reach + (length laid.now + 1) * 2 ^ 37) }
+    ensures reach { IfOk result (λ made. (list : List Laid) (reach : ℕ) → AreLaid laid.now list → All (HasReach reach) laid.now → spread (pieces_of made.parts.items) ≤ reach + room_in (content_of node.now.content) + (length laid.now + 1) * 2 ^ 38) }
 {
     match (&node.content, text) {
         (Content::Inline(items), Some(text)) => {

@@ -7,11 +7,13 @@ ghost use Rattle.style_types.specs.Fragment.{piece_of};
 ghost use Rattle.box_arena.specs.Arena.{Keeps};
 ghost use Rattle.box_arena.specs.At.{Node, first_at, kept_at, node_at, text_at};
 ghost use Rattle.box_gen.specs.Tree.{content_of};
-ghost use Rattle.relayout.specs.Flowed.{Member, part_of};
+ghost use Rattle.line_place.specs.Spread.{spread};
+ghost use Rattle.relayout.specs.Fit.{room_in};
+ghost use Rattle.relayout.specs.Flowed.{AreLaid, Laid, Member, part_of};
 ghost use Rattle.relayout.specs.Inline.{Outside};
 ghost use Rattle.relayout.specs.Intrinsic.{IsTextOf};
 ghost use Rattle.relayout.specs.Kept.{AreRight};
-ghost use Rattle.relayout.specs.Near.{HasReach, IsNearLaid, line_reach};
+ghost use Rattle.relayout.specs.Near.{HasReach, IsNearLaid};
 ghost use Rattle.relayout.specs.Paragraph.{HasText, IsParagraphIn, IsReadyIn};
 ghost use Rattle.relayout.specs.Reach as reach;
 ghost use Rattle.relayout.specs.Reach.{IsBase, IsPageView};
@@ -212,7 +214,7 @@ pub(crate) fn finished_at<L: Ledger>(
     requires count { length children.now ≤ 2 ^ 18 }
     requires children { (node : Node) → node_at arena.now.slots key ≡ Some node → HasChildren extent node.content (length children.now) }
     ensures part { IfOk result (λ made. (outside : Outside) (node : Node) (members : List Member) → node_at arena.now.slots key ≡ Some node → outside.faces ≡ faces_of ⟦<dyn Face as Face>⟧ faces.now → IsTextOf outside.faces node.style node.content (text_at arena.now.slots key) → rule.AreSetDown containing node c extent children.now members → part_of made ≡ (rule.finished outside containing node c extent members).part) }
-    ensures reach { IfOk result (λ made. (reach : ℕ) → 2 ^ 60 ≤ reach → All (HasReach reach) children.now → line_reach (part_of made).inner ≤ reach + (length children.now + 1) * 2 ^ 37) }
+    ensures reach { IfOk result (λ made. (node : Node) (list : List Laid) (reach : ℕ) → node_at arena.now.slots key ≡ Some node → AreLaid children.now list → All (HasReach reach) children.now → spread (part_of made).inner ≤ reach + room_in node.content + (length children.now + 1) * 2 ^ 38) }
 {
     let made = finished(
         alloc,

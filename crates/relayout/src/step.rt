@@ -6,12 +6,14 @@ ghost use Rattle.face_api.specs.Table.{Table};
 ghost use Rattle.style_types.specs.Style.{IsBounded};
 ghost use Rattle.box_arena.specs.At.{node_of};
 ghost use Rattle.box_gen.specs.Tree.{content_of};
+ghost use Rattle.line_place.specs.Spread.{spread};
+ghost use Rattle.relayout.specs.Fit.{room_in};
 ghost use Rattle.relayout.specs.Flow.{laid_under};
-ghost use Rattle.relayout.specs.Flowed.{AreLaid, Member, part_of};
+ghost use Rattle.relayout.specs.Flowed.{AreLaid, Laid, Member, part_of};
 ghost use Rattle.relayout.specs.Inline.{Outside};
 ghost use Rattle.relayout.specs.Intrinsic as asks;
 ghost use Rattle.relayout.specs.Intrinsic.{IsTextOf};
-ghost use Rattle.relayout.specs.Near.{HasReach, IsNearLaid, IsNearPart, line_reach};
+ghost use Rattle.relayout.specs.Near.{HasReach, IsNearLaid, IsNearPart};
 ghost use Rattle.relayout.specs.Paragraph.{HasAtoms, IsReadyIn};
 ghost use Rattle.relayout.specs.Reach as reach;
 ghost use Rattle.relayout.specs.Reach.{IsAsked, IsBase, IsContent, IsPageView};
@@ -244,7 +246,7 @@ pub(crate) fn finished<L: Ledger>(
     requires children { HasChildren extent (content_of node.now.content) (length children.now) }
     ensures most { (arranged.old ≤ arranged.new) × (arranged.new ≤ arranged.old + 1) }
     ensures part { IfOk result (λ made. (outside : Outside) (members : List Member) → outside.faces ≡ faces_of ⟦<dyn Face as Face>⟧ faces.now → IsTextOf outside.faces node.now.style (content_of node.now.content) (option_copied text.entry) → rule.AreSetDown containing (node_of node.now) c extent children.now members → part_of made ≡ (rule.finished outside containing (node_of node.now) c extent members).part) }
-    ensures reach { IfOk result (λ made. (reach : ℕ) → 2 ^ 60 ≤ reach → All (HasReach reach) children.now → line_reach (part_of made).inner ≤ reach + (length children.now + 1) * 2 ^ 37) }
+    ensures reach { IfOk result (λ made. (list : List Laid) (reach : ℕ) → AreLaid children.now list → All (HasReach reach) children.now → spread (part_of made).inner ≤ reach + room_in (content_of node.now.content) + (length children.now + 1) * 2 ^ 38) }
 {
     match extent {
         Extent::Asked(asked) => {
@@ -281,7 +283,7 @@ fn laid_out<L: Ledger>(
     requires atoms { HasAtoms (content_of node.now.content) (length children.now) }
     ensures most { (arranged.old ≤ arranged.new) × (arranged.new ≤ arranged.old + 1) }
     ensures part { IfOk result (λ made. (outside : Outside) (members : List Member) → outside.faces ≡ faces_of ⟦<dyn Face as Face>⟧ faces.now → IsTextOf outside.faces node.now.style (content_of node.now.content) (option_copied text.entry) → rule.AreLaidUnder containing (node_of node.now) c size children.now members → part_of made ≡ (rule.finished outside containing (node_of node.now) c (rule.of_size size) members).part) }
-    ensures reach { IfOk result (λ made. (reach : ℕ) → 2 ^ 60 ≤ reach → All (HasReach reach) children.now → line_reach (part_of made).inner ≤ reach + (length children.now + 1) * 2 ^ 37) }
+    ensures reach { IfOk result (λ made. (list : List Laid) (reach : ℕ) → AreLaid children.now list → All (HasReach reach) children.now → spread (part_of made).inner ≤ reach + room_in (content_of node.now.content) + (length children.now + 1) * 2 ^ 38) }
 {
     let joins = block_box(containing, &node.style, c, false).edges();
     let content = filled(alloc, node, text, joins, size, children, faces, arranged)?;

@@ -1,12 +1,13 @@
 //! The layout of a document whose boxes lie in an arena (CSS 2, 9.4 and 10.1).
 
-ghost use Rattle.std.specs.Prelude.{◌≡◌, List, IfOk, None, Option, Some};
+ghost use Rattle.std.specs.Prelude.{◌≡◌, ◌≤◌, ◌-◌, ◌^◌, List, IfOk, None, Option, Some};
 ghost use Rattle.face_api.specs.Faces.{faces_of};
 ghost use Rattle.face_api.specs.Table.{Table};
 ghost use Rattle.slab.specs.Slab.{ContainsKey};
 ghost use Rattle.style_types.specs.Fragment.{piece_of};
 ghost use Rattle.wm_modes.specs.Mode.{is_horizontal};
 ghost use Rattle.box_arena.specs.At.{parent_at};
+ghost use Rattle.line_place.specs.Spread.{spread};
 ghost use Rattle.relayout.specs.Flow.{on_page};
 ghost use Rattle.relayout.specs.Flowed.{part_of};
 ghost use Rattle.relayout.specs.Near.{IsNearLaid};
@@ -70,7 +71,8 @@ fn in_view(root: &LaidBox, view: View) -> Result<Fragment, AllocError>
 }
 
 /// The layout of the tree of boxes under a root, in a view of these sizes, which are told in the root's mode. What is kept in the arena
-/// is used, and all that is laid out is kept, also where memory runs out before the end.
+/// is used, and all that is laid out is kept, also where memory runs out before the end. The fragment reaches, with all that stands
+/// inside it and whichever edges that is measured from, at most 2^60 - 2^37 units of 1/64 px.
 pub fn relayout<L: Ledger, M: Ledger>(
     alloc: Global,
     arena: &mut BoxArena<Prepared>,
@@ -85,6 +87,7 @@ pub fn relayout<L: Ledger, M: Ledger>(
     requires view { IsView view }
     requires right { AreRightUnder (faces_of ⟦<dyn Face as Face>⟧ faces.now) view arena.old.slots root }
     ensures steady { IsSteadyUnder (faces_of ⟦<dyn Face as Face>⟧ faces.now) view arena.old arena.new root }
+    ensures near { IfOk result (λ made. spread (piece_of made) ≤ 2 ^ 60 - 2 ^ 37) }
     ensures layout { IfOk result (λ made. IsLayout (faces_of ⟦<dyn Face as Face>⟧ faces.now) view arena.old.slots root (piece_of made)) }
 {
     let style = arena.node(root).style;

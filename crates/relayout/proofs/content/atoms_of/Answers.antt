@@ -1,4 +1,4 @@
-use Rattle.std.proofs.Common.{◌≤◌, ◌^◌, ◌∙◌, ap, sym, subst, arith, List, map, w64, to_z, of_z}
+use Rattle.std.proofs.Common.{◌≤◌, ◌*◌, ◌^◌, ◌∙◌, ap, sym, subst, arith, List, map, w64, to_z, of_z}
 use Rattle.std.specs.Prelude.{All}
 use Rattle.std.proofs.lemmas.Int.{to_z-of_z}
 use Rattle.std.proofs.lemmas.List.{take_all}
@@ -13,7 +13,7 @@ use Rattle.relayout.proofs.content.atoms_of.Goals as goal
 
 pub loop-child-preserved : goal.loop-child-preserved
 loop-child-preserved c =
-    let near : code.Atom → Type 0 = λ a. atom_reach (atom_of a) ≤ 2 ^ 39 in
+    let near : code.Atom → Type 0 = λ a. atom_reach (atom_of a) ≤ 5 * 2 ^ 36 in
     let P : List code.Atom → Type 0 = λ atoms. All near atoms in
     record {
       are = ap (map atom_of) c.in_ok-push.ensures.items

@@ -1,4 +1,4 @@
-use Rattle.std.proofs.Common.{◌≡◌, ◌≤◌, ◌^◌, map, take}
+use Rattle.std.proofs.Common.{◌≡◌, ◌≤◌, ◌*◌, ◌^◌, map, take}
 use Rattle.std.specs.Prelude.{All}
 use Rattle.para_lines.specs.Paragraph.{atom_of}
 use Rattle.para_lines.specs.Reach.{atom_reach}
@@ -9,5 +9,5 @@ use Rattle.relayout.proofs.content.atoms_of.Given as goal
 abbrev pub invariant-loop-child : goal.invariant-loop-child
 invariant-loop-child l = record {
   are : map atom_of l.made.items ≡ map (λ child. atom_in l.style l.size (as_laid child)) (take l.child-index l.laid);
-  near : All (λ atom. atom_reach (atom_of atom) ≤ 2 ^ 39) l.made.items;
+  near : All (λ atom. atom_reach (atom_of atom) ≤ 5 * 2 ^ 36) l.made.items;
 }

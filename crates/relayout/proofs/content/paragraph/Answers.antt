@@ -1,7 +1,8 @@
 use Rattle.std.proofs.Common.{rules, ◌≡◌, ◌≤◌, ◌^◌, ◌∙◌, ap, sym, subst, arith, List, length, map, w64, FitsSigned}
 use Rattle.std.proofs.lemmas.Int.{to_z-of_z}
 use Rattle.style_types.specs.Fragment.{pieces_of}
-use Rattle.style_types.specs.Item.{entries_of}
+use Rattle.std.proofs.lemmas.List.{length-map}
+use Rattle.style_types.specs.Item.{entries_of, entry_of}
 use Rattle.line_place.specs.Reach.{total}
 use Rattle.para_lines.specs.declared.paragraph.Atom as code
 use Rattle.para_lines.specs.Paragraph.{atom_of}
@@ -43,4 +44,6 @@ returns-clause-filled g c = λ list are.
     c.none.ensures c.none-2.ensures (search rules)
 
 pub returns-clause-reach : goal.returns-clause-reach
-returns-clause-reach g c = paragraph_reach c.in_ok-parts.parts.items _ _ _ _ _ c.in_ok-parts.ensures.lines c.in_ok-parts.ensures.near
+returns-clause-reach g c = λ list reach are deep.
+    paragraph_reach c.args.container.now.style _ c.args.laid.now list c.in_ok-atoms.atoms.items c.deref.result.now (entries_of c.args.items.now) c.args.text.now (length c.args.items.now) _ reach
+    (sym (length-map c.args.items.now entry_of)) c.requires.ready c.deref.ensures.value c.in_ok-atoms.ensures.are c.in_ok-atoms.ensures.near c.in_ok-parts.ensures.spread are c.requires.near deep

@@ -16,5 +16,5 @@ returns-clause-filled g c = λ list are.
 
 pub returns-clause-reach : goal.returns-clause-reach
 returns-clause-reach g c = λ reach deep.
-    stack_reach c.of-own.result _ c.args.laid.now c.deref.result.now c.places.result.now _ c.in_ok-stacked.stacked reach (c.deref.ensures.value ∙ c.in_ok-children.ensures)
-    c.requires.near deep c.in_ok-stacked.ensures.within c.places.ensures c.in_ok-parts.ensures
+    stack_reach c.of-own.result _ c.args.size c.args.laid.now c.deref.result.now c.places.result.now _ c.in_ok-stacked.stacked reach (to_z-of_z w64 c.args.size c.ranges.size) c.requires.size
+    (c.deref.ensures.value ∙ c.in_ok-children.ensures) c.requires.near deep c.in_ok-stacked.ensures.within c.places.ensures c.in_ok-parts.ensures

@@ -411,7 +411,7 @@ returns-in_err-push-2-clause-steady g t c =
     (λ node ms is unders. c.in_ok-extent.ensures.value outside node ms is refl (text_there outside c.flow.new.arena.slots c.in-Some.key c.args.depth c.loop.counter c.args.containing head_asked asked.right has_asked node is).0 unders)
     c.to_set_down.ensures (c.under-in-loop.ensures ∙ ap (λ (size : Option ℤ). under size c.step_at-step.result.handed) c.size.ensures.size) sets
     (λ node ms is sets_down. c.in_ok-fragment-2.ensures.part outside node ms is refl (text_there outside c.flow-in-loop.new.arena.slots c.in-Some.key c.args.depth c.loop.counter c.args.containing head_set set.right has_set node is).0 sets_down)
-    c.in_ok-fragment-2.ensures.reach in
+    (λ node is list reach. c.in_ok-fragment-2.ensures.reach node list reach is) in
     let inside : StandsIn c.flow-in-loop.new.arena.slots (Some c.in-Some.key) c.args.containing =
     inside_on outside c.flow.new.arena c.flow-in-loop.new.arena set (Some c.in-Some.key) c.args.containing (inside_on outside c.see_text.new.arena c.flow.new.arena asked (Some c.in-Some.key) c.args.containing (inside_on outside c.loop.arena c.see_text.new.arena seen (Some c.in-Some.key) c.args.containing
     (going_inside outside c.args.arena.now c.loop.arena c.args.from c.loop.next c.in-Some.key c.args.depth c.loop.counter c.args.containing c.args.c c.loop.laid.items c.loop.invariant c.in-Some.is))) in
@@ -446,7 +446,7 @@ loop-preserved g t c =
     (λ node ms is unders. c.in_ok-extent.ensures.value outside node ms is refl (text_there outside c.flow.new.arena.slots c.in-Some.key c.args.depth c.loop.counter c.args.containing head_asked asked.right has_asked node is).0 unders)
     c.to_set_down.ensures (c.under-in-loop.ensures ∙ ap (λ (size : Option ℤ). under size c.step_at-step.result.handed) c.size.ensures.size) sets
     (λ node ms is sets_down. c.in_ok-fragment-2.ensures.part outside node ms is refl (text_there outside c.flow-in-loop.new.arena.slots c.in-Some.key c.args.depth c.loop.counter c.args.containing head_set set.right has_set node is).0 sets_down)
-    c.in_ok-fragment-2.ensures.reach in
+    (λ node is list reach. c.in_ok-fragment-2.ensures.reach node list reach is) in
     let inside : StandsIn c.flow-in-loop.new.arena.slots (Some c.in-Some.key) c.args.containing =
     inside_on outside c.flow.new.arena c.flow-in-loop.new.arena set (Some c.in-Some.key) c.args.containing (inside_on outside c.see_text.new.arena c.flow.new.arena asked (Some c.in-Some.key) c.args.containing (inside_on outside c.loop.arena c.see_text.new.arena seen (Some c.in-Some.key) c.args.containing
     (going_inside outside c.args.arena.now c.loop.arena c.args.from c.loop.next c.in-Some.key c.args.depth c.loop.counter c.args.containing c.args.c c.loop.laid.items c.loop.invariant c.in-Some.is))) in

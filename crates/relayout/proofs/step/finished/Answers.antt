@@ -8,5 +8,5 @@ returns-in_ok-made-in-Asked-clause-part g c = λ outside members same ready set.
     c.in_ok-made-in-Asked.ensures ∙ finished_asked outside c.args.containing (node_of c.args.node.now) c.args.c c.args.extent c.in-Asked.asked members c.in-Asked.is
 
 pub returns-in_ok-made-in-Asked-clause-reach : goal.returns-in_ok-made-in-Asked-clause-reach
-returns-in_ok-made-in-Asked-clause-reach g c = λ reach low deep.
+returns-in_ok-made-in-Asked-clause-reach g c = λ list reach are deep.
     asked_reach c.args.containing (node_of c.args.node.now) c.in-Asked.asked _ _ c.in_ok-made-in-Asked.ensures

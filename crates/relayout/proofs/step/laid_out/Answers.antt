@@ -8,7 +8,8 @@ use Rattle.style_types.specs.Fragment.{Pieces}
 use Rattle.block_flow.specs.declared.adjoining.BlockBox.{BlockBox}
 use Rattle.block_flow.specs.Adjoining.{edges}
 use Rattle.box_arena.specs.At.{node_of}
-use Rattle.relayout.specs.Near.{line_reach}
+use Rattle.line_place.specs.Spread.{spread}
+use Rattle.relayout.specs.Fit.{room_in}
 use Rattle.relayout.proofs.StepLaws.{laid_out_is}
 use Rattle.relayout.proofs.step.laid_out.Goals as goal
 
@@ -21,6 +22,6 @@ returns-clause-part g c = λ outside members same ready laid.
     (λ list is. c.in_ok-content.ensures.filled list is (subst P same ready)) c.in_ok-made.ensures.part laid
 
 pub returns-clause-reach : goal.returns-clause-reach
-returns-clause-reach g c = λ reach low deep.
-    let P : Pieces → Type 0 = λ ps. line_reach ps ≤ reach + (length c.args.children.now + 1) * 2 ^ 37 in
-    subst P (sym c.in_ok-made.ensures.inner) (c.in_ok-content.ensures.reach reach low deep)
+returns-clause-reach g c = λ list reach are deep.
+    let P : Pieces → Type 0 = λ ps. spread ps ≤ reach + room_in (content_of c.args.node.now.content) + (length c.args.children.now + 1) * 2 ^ 38 in
+    subst P (sym c.in_ok-made.ensures.inner) (c.in_ok-content.ensures.reach list reach are deep)
