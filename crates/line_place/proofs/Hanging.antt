@@ -28,14 +28,14 @@ none_behind zero = refl
 none_behind (suc k) = refl
 
 -- behind a place from which on there are Spaces alone, and before a place with something else behind it
-behind : (items : List Item) (n k : ℕ) → n ≤ k → are_spaces (drop n items) ≡ true → are_spaces (drop k items) ≡ true
+pub behind : (items : List Item) (n k : ℕ) → n ≤ k → are_spaces (drop n items) ≡ true → are_spaces (drop k items) ≡ true
 behind [] n k le h = none_behind k
 behind (item ∷ items) zero zero le h = h
 behind (item ∷ items) zero (suc k) le h = behind items zero k (omega arith) (tail_spaces item.space (are_spaces items) h)
 behind (item ∷ items) (suc n) zero le h = absurd (omega arith)
 behind (item ∷ items) (suc n) (suc k) le h = behind items n k (omega arith) h
 
-and_false : (a b : Bool) → b ≡ false → (a && b) ≡ false
+pub and_false : (a b : Bool) → b ≡ false → (a && b) ≡ false
 and_false true b h = h
 and_false false b h = refl
 

@@ -19,4 +19,5 @@ pub mod ShownLaws
 pub mod SpreadLaws
 pub mod SumLaws
 pub mod TextLaws
+pub mod UnitLaws
 pub mod WalkLaws

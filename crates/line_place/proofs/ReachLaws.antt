@@ -24,7 +24,7 @@ pub same_total : {X : Type 0} (f g : X → ℕ) (xs : List X) → ((x : X) → f
 same_total f g [] is = refl
 same_total f g (x ∷ xs) is = let e = is x in let h = same_total f g xs is in omega (arith, e, h)
 
-rearranged_total : {X : Type 0} (reach : X → ℕ) (xs ys : List X) → IsPermutation xs ys → total reach ys ≡ total reach xs
+pub rearranged_total : {X : Type 0} (reach : X → ℕ) (xs ys : List X) → IsPermutation xs ys → total reach ys ≡ total reach xs
 rearranged_total reach xs ys h = total_sum reach ys ∙ sum_by-IsPermutation reach xs ys h ∙ sym (total_sum reach xs)
 
 pub shifted : (f : ℕ → ℕ) (a n : ℕ) → total f (range_with_len (a + 1) n) ≡ total (λ p. f (p + 1)) (range_with_len a n)

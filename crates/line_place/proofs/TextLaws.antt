@@ -22,7 +22,7 @@ use Rattle.line_place.specs.Marks.{Mark, shows, inside_of, leftmost, marks, mark
 use Rattle.line_place.specs.Placing as rule
 use Rattle.line_place.specs.Placing.{Row, extent_of, level_of, line_over, line_under, offset, outermost, over_of, parts, put_first, rows, run_as, run_piece, under_of, unit_of, width}
 use Rattle.line_place.specs.TextLine as text
-use Rattle.line_place.specs.TextLine.{AreSolid, IsText, IsTextItem, IsUnit, Text, extent_in, unit_in}
+use Rattle.line_place.specs.TextLine.{AreSolid, IsText, IsTextItem, IsUnit, Text, extent_in, shown, unit_in}
 use Rattle.line_place.proofs.LevelZero.{in_order_of}
 
 -- ---- a line without boxes is a row of what it shows
@@ -39,7 +39,7 @@ left_are : (before : List Mark) (rs : List (List Leaf)) → leftmost before (map
 left_are before [] = refl
 left_are before (run ∷ rs) = ap (λ (ms : List Mark). shows run ∷ ms) (left_are (before ++ shows run ∷ []) rs)
 
-marks_shown : (line : Line) → line.boxes ≡ [] → marks line ≡ map shows (runs (leaves line))
+pub marks_shown : (line : Line) → line.boxes ≡ [] → marks line ≡ map shows (runs (leaves line))
 unfolding marks
 marks_shown line bare =
     ap (λ (bs : List LineBox). marks_of bs (leaves line)) bare
@@ -101,19 +101,15 @@ none_under : (boxes : List LineBox) (ls : List Leaf) → AreNone ls → flat_map
 none_under boxes [] h = refl
 none_under boxes (l ∷ ls) h = rw (h.0.what, none_under boxes ls h.1) refl
 
--- what a row of runs comes to, and where it ends
-abbrev shown : Line → (over left : ℤ) → List (List Leaf) → Pieces
-shown line over left [] = none
-shown line over left (run ∷ rs) = run_piece line over left run (shown line over (left +ℤ extent_of run) rs)
-
-abbrev right_of : (left : ℤ) → List (List Leaf) → ℤ
+-- where a row of runs ends
+abbrev pub right_of : (left : ℤ) → List (List Leaf) → ℤ
 right_of left [] = left
 right_of left (run ∷ rs) = right_of (left +ℤ extent_of run) rs
 
-abbrev row_with : Pieces → ℤ → Row
+abbrev pub row_with : Pieces → ℤ → Row
 row_with pieces right = record { pieces = pieces; right = right }
 
-rows_shown : (line : Line) (over left : ℤ) (rs : List (List Leaf)) → rows line over left (map shows rs) ≡ row_with (shown line over left rs) (right_of left rs) ∷ []
+pub rows_shown : (line : Line) (over left : ℤ) (rs : List (List Leaf)) → rows line over left (map shows rs) ≡ row_with (shown line over left rs) (right_of left rs) ∷ []
 rows_shown line over left [] = refl
 rows_shown line over left (run ∷ rs) = ap (put_first (run_piece line over left run)) (rows_shown line over (left +ℤ extent_of run) rs)
 

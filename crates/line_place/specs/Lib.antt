@@ -8,4 +8,5 @@ pub mod Reach
 pub mod Runs
 pub mod Spread
 pub mod TextLine
+pub mod UnitLine
 pub mod Walk

@@ -7,9 +7,9 @@ use Rattle.style_types.specs.Fragment as fragments
 use Rattle.style_types.specs.Fragment.{Pieces, none, piece}
 use Rattle.line_place.specs.declared.line.Extents.{Extents}
 use Rattle.line_place.specs.declared.text_line.TextLine as code
-use Rattle.line_place.specs.Leaves.{are_spaces}
 use Rattle.line_place.specs.Line.{Content, unit, combined, atom, nothing, Item, Line}
-use Rattle.line_place.specs.Placing.{offset, text_rect, unit_with, unnumbered}
+use Rattle.line_place.specs.Leaves.{Leaf, are_spaces}
+use Rattle.line_place.specs.Placing.{extent_of, offset, run_piece, text_rect, unit_with, unnumbered}
 
 -- units of one text node and one form, without where they lie in memory
 pub record Text : Type 0 where
@@ -76,3 +76,8 @@ abbrev pub text_piece : Text → (next : Pieces) → Pieces
 text_piece text next =
     piece (unnumbered text.node) (text_rect text.strut text.strut.over (offset text.align 0 (text.available -ℤ text.extent)) text.extent)
     (fragments.run text.form 0 None text.units) none next
+
+-- runs side by side from `left` on
+abbrev pub shown : Line → (over left : ℤ) → List (List Leaf) → Pieces
+shown line over left [] = none
+shown line over left (run ∷ runs) = run_piece line over left run (shown line over (left +ℤ extent_of run) runs)

@@ -11,10 +11,12 @@ mod measure;
 mod place;
 mod runs;
 mod text_line;
+mod unit_line;
 mod walk;
 
 pub use leading::extents;
 pub use line::{Extents, LineBox, LineBoxes, LineContent, LineInput, LineItem, LineItems};
 pub use place::place_line;
 pub use text_line::{TextLine, place_text};
+pub use unit_line::{TextUnit, TextUnits, UnitLine, place_units};
 pub use walk::run_unit;
