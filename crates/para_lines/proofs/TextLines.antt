@@ -73,7 +73,7 @@ content_bare entries (Break node) atom = refl
 item_bare : (entries : List Entry) (boxes : List ℕ) (s : code.Standing) → chain_at entries s.item.now.source ≡ [] → line_item entries boxes (standing_of entries s) ≡ bare s
 item_bare entries boxes s none = rw (none, content_bare entries s.item.now.what (first_atom s.atoms.now)) refl
 
-items_bare : (entries : List Entry) (boxes : List ℕ) (standings : List code.Standing) → All (λ standing. chain_at entries standing.item.now.source ≡ []) standings
+pub items_bare : (entries : List Entry) (boxes : List ℕ) (standings : List code.Standing) → All (λ standing. chain_at entries standing.item.now.source ≡ []) standings
     → map (line_item entries boxes) (map (standing_of entries) standings) ≡ map bare standings
 items_bare entries boxes [] none = refl
 items_bare entries boxes (s ∷ standings) none =
@@ -118,19 +118,20 @@ text_is tables container entries before after standings t own is align size stru
 
 -- ---- lengths
 
+pub none_inside : (node : ℕ) (form : UnitKind) (what : place.Content) → IsUnit node form what → content_reach what ≡ 0
+none_inside node form (place.unit own first end_ kind glyphs) h = refl
+none_inside node form (place.combined own first end_ natural glyphs) h = absurd h
+none_inside node form (place.atom fragment left_margin over_margin over under) h = absurd h
+none_inside node form place.nothing h = absurd h
+
 -- the extents of units, without their signs
 pub bare_reach : (entries : List Entry) (node : ℕ) (form : UnitKind) (standings : List code.Standing) → All (IsTextItem node form) (map bare standings)
     → total item_reach (map bare standings) ≤ total standing_reach (map (standing_of entries) standings)
 bare_reach entries node form [] are = omega arith
 bare_reach entries node form (s ∷ standings) are =
-    let own = content_reach_is node form (bare s).what (are 0 (bare s) (omega arith)).what in
+    let own = none_inside node form (bare s).what (are 0 (bare s) (omega arith)).what in
     let rest = bare_reach entries node form standings (λ k d lt. are (suc k) d (omega arith)) in
-    omega arith where
-      content_reach_is : (node : ℕ) (form : UnitKind) (what : place.Content) → IsUnit node form what → content_reach what ≡ 0
-      content_reach_is node form (place.unit own first end_ kind glyphs) h = refl
-      content_reach_is node form (place.combined own first end_ natural glyphs) h = absurd h
-      content_reach_is node form (place.atom fragment left_margin over_margin over under) h = absurd h
-      content_reach_is node form place.nothing h = absurd h
+    omega arith
 
 pub take_reach : (standings : List code.Standing) (n : ℕ) → total item_reach (map bare (take n standings)) ≤ total item_reach (map bare standings)
 take_reach standings n = let e = ap (total item_reach) (take-map bare n standings) in let t = total_part item_reach (map bare standings) n in omega arith

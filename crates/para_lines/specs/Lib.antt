@@ -9,3 +9,4 @@ pub mod Prepared
 pub mod Reach
 pub mod Setting
 pub mod Text
+pub mod Units

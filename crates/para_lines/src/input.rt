@@ -91,7 +91,7 @@ fn seated_line<'a>(
 }
 
 // The base level of the bidi paragraph of the first of these items.
-fn first_base(standings: &[Standing]) -> u8
+pub(crate) fn first_base(standings: &[Standing]) -> u8
     ensures { (entries : List Entry) → result ≡ rule.first_base (map (standing_of entries) standings.now) }
 {
     match standings.first() {

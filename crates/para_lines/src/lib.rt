@@ -13,6 +13,7 @@ mod setting;
 mod sizes;
 mod standing;
 mod text;
+mod units;
 
 pub use lines::paragraph_lines;
 pub use paragraph::{Atom, Container};

@@ -20,6 +20,7 @@ use crate::line::Sides;
 use crate::paragraph::Container;
 use crate::standing::Standing;
 use crate::text::{text_in, text_line};
+use crate::units::{unit_line, units_in};
 use face_api::{Face, Faces};
 use line_place::{LineInput, place_line};
 use std::alloc::{AllocError, Global};
@@ -58,6 +59,39 @@ impl<'a> Setting<'a> {
         match text_in(self.boxes, standings) {
             Some(text) => {
                 let made = text_line(alloc, self.container, faces, standings, text)?;
+                Ok(made)
+            }
+            None => {
+                let made = self.other_line(alloc, faces, seats, from, end)?;
+                Ok(made)
+            }
+        }
+    }
+
+    // The same where it is no single run: units of one text, or any items.
+    fn other_line(
+        &self,
+        alloc: Global,
+        faces: &Faces,
+        seats: &mut Places,
+        from: usize,
+        end: usize,
+    ) -> Result<LineFragment, AllocError>
+        requires set { IsSetting self.now }
+        requires seats { length seats.old.items ≡ length self.now.boxes.now.items.now }
+        requires from { from ≤ end }
+        requires end { end ≤ length self.now.standings.now }
+        ensures same { length seats.new.items ≡ length seats.old.items }
+        ensures over { IfOk result (λ made. made.over ≡ line_over (line_between (faces_of ⟦<dyn Face as Face>⟧ faces.now) self.now.container.now (entries_in self.now) (standings_in self.now) from end)) }
+        ensures under { IfOk result (λ made. made.under ≡ line_under (line_between (faces_of ⟦<dyn Face as Face>⟧ faces.now) self.now.container.now (entries_in self.now) (standings_in self.now) from end)) }
+        ensures parts { IfOk result (λ made. pieces_of made.parts.items ≡ parts (line_between (faces_of ⟦<dyn Face as Face>⟧ faces.now) self.now.container.now (entries_in self.now) (standings_in self.now) from end)) }
+        ensures within { IfOk result (λ made. (unsigned_abs made.over ≤ 2 ^ 34 + room_between (standings_in self.now) from end) × (unsigned_abs made.under ≤ 2 ^ 34 + room_between (standings_in self.now) from end)) }
+        ensures spread { IfOk result (λ made. (most : ℕ) → All (HoldsWithin most) (standings_in self.now) → spread (pieces_of made.parts.items) ≤ 12 * reach_between (length self.now.boxes.now.items.now) (standings_in self.now) from end + most) }
+    {
+        let standings = &self.standings[from..end];
+        match units_in(self.boxes, standings) {
+            Some(name) => {
+                let made = unit_line(alloc, self.container, faces, standings, name)?;
                 Ok(made)
             }
             None => {

@@ -71,7 +71,7 @@ fn stands_outside(boxes: &Boxes, standing: &Standing) -> bool
 }
 
 // How many items stand before the Spaces at the end.
-fn without_spaces(standings: &[Standing]) -> usize
+pub(crate) fn without_spaces(standings: &[Standing]) -> usize
     ensures { AreSpacesFrom standings.now result }
 {
     let mut count = standings.len();
@@ -88,7 +88,7 @@ fn is_space_here(standing: &Standing) -> bool
 }
 
 // The node and the form of a unit.
-fn name_of(what: &PreparedContent) -> Option<TextName>
+pub(crate) fn name_of(what: &PreparedContent) -> Option<TextName>
     ensures { IfSome result (λ name. (atom : rule.Atom) → IsUnit name.node name.form (content_in (pos 0) what.now atom)) }
 {
     match what {
@@ -120,7 +120,7 @@ fn is_of(standing: &Standing, source: usize, name: TextName) -> bool
     standing.level == 0 && standing.item.source == source && is_unit(&standing.item.what, name)
 }
 
-fn is_unit(what: &PreparedContent, name: TextName) -> bool
+pub(crate) fn is_unit(what: &PreparedContent, name: TextName) -> bool
     ensures { result ≡ true → (atom : rule.Atom) → IsUnit name.node name.form (content_in (pos 0) what.now atom) }
 {
     match what {

@@ -1,13 +1,12 @@
-use Rattle.std.proofs.Common.{◌∙◌, ℕ, ◌+◌, ◌≤◌, ◌^◌, arith, ap, subst, List, [], length, drop, take}
+use Rattle.std.proofs.Common.{◌∙◌, ℕ, arith, ap, List, [], length, drop, take}
 use Rattle.std.specs.List.{slice_range}
 use Rattle.style_types.specs.Item.{Entry}
-use Rattle.line_place.specs.Line.{Line}
 use Rattle.line_place.specs.Placing.{line_over, line_under, parts}
-use Rattle.line_place.specs.Reach.{line_reach, total}
+use Rattle.line_place.specs.Reach.{total}
 use Rattle.para_lines.specs.Line.{standing_of}
 use Rattle.para_lines.specs.Lines.{Standing, chain_of_first, chain_of_last}
 use Rattle.para_lines.specs.Reach.{standing_reach}
-use Rattle.para_lines.specs.Setting.{entries_in, reach_between, room_between, standings_in}
+use Rattle.para_lines.specs.Setting.{entries_in, reach_between, standings_in}
 use Rattle.para_lines.proofs.SettingLaws.{total_range}
 use Rattle.para_lines.proofs.SpreadLaws.{between_spread, text_far}
 use Rattle.para_lines.proofs.StackLaws.{range_map}
@@ -44,18 +43,6 @@ returns-in_ok-made-in-Some-clause-parts g c =
     c.in_ok-made-in-Some.ensures.parts entries (chain_of_last [] (take c.args.from all)) (chain_of_first (drop c.args.end all)) c.in-Some.ensures
     ∙ ap parts (between_is _ c.args.self.now.container.now entries c.args.self.now.standings.now c.args.from c.args.end)
 
-pub returns-in_ok-made-in-None-clause-over : goal.returns-in_ok-made-in-None-clause-over
-returns-in_ok-made-in-None-clause-over g c = c.in_ok-made-in-None.ensures.over ∙ ap line_over c.in_ok-input-in-None.ensures.line
-
-pub returns-in_ok-made-in-None-clause-under : goal.returns-in_ok-made-in-None-clause-under
-returns-in_ok-made-in-None-clause-under g c = c.in_ok-made-in-None.ensures.under ∙ ap line_under c.in_ok-input-in-None.ensures.line
-
-pub returns-in_ok-made-in-None-clause-parts : goal.returns-in_ok-made-in-None-clause-parts
-returns-in_ok-made-in-None-clause-parts g c = c.in_ok-made-in-None.ensures.parts ∙ ap parts c.in_ok-input-in-None.ensures.line
-
-pub returns-in_ok-made-in-None-clause-within : goal.returns-in_ok-made-in-None-clause-within
-returns-in_ok-made-in-None-clause-within g c = c.in_ok-made-in-None.ensures.within (2 ^ 34 + room_between (standings_in c.args.self.now) c.args.from c.args.end) c.in_ok-input-in-None.ensures.limit
-
 pub returns-in_ok-made-in-Some-clause-spread : goal.returns-in_ok-made-in-Some-clause-spread
 returns-in_ok-made-in-Some-clause-spread g c most held =
     let entries : List Entry = entries_in c.args.self.now in
@@ -64,11 +51,3 @@ returns-in_ok-made-in-Some-clause-spread g c most held =
     c.in_ok-made-in-Some.ensures.strut in
     between_spread _ c.args.self.now.container.now entries c.args.self.now.standings.now c.args.from c.args.end (reach_between count (standings_in c.args.self.now) c.args.from c.args.end) most _
     c.requires.from c.requires.end (returns-in_ok-made-in-Some-clause-parts g c) far held
-
-pub returns-in_ok-made-in-None-clause-spread : goal.returns-in_ok-made-in-None-clause-spread
-returns-in_ok-made-in-None-clause-spread g c most held =
-    let entries : List Entry = entries_in c.args.self.now in
-    let reach : ℕ = reach_between (length c.args.self.now.boxes.now.items.now) (standings_in c.args.self.now) c.args.from c.args.end in
-    let L : Line → Type 0 = λ l. line_reach l ≤ reach in
-    between_spread _ c.args.self.now.container.now entries c.args.self.now.standings.now c.args.from c.args.end reach most _
-    c.requires.from c.requires.end (returns-in_ok-made-in-None-clause-parts g c) (subst L c.in_ok-input-in-None.ensures.line c.in_ok-input-in-None.ensures.far) held
