@@ -1,17 +1,15 @@
 //! Words, what the limits do, and streams that fail. Whole runs are compared with outside listings by
 //! tools/document-cases.
 
-use face_api::{Face, MonoFace, TableFace, WideFace};
-use io_edge::{MemorySink, MemorySource, Sink, Source, SteadySink, SteadySource};
+use crate::running::{check, run_with_faces, words};
+use io_edge::{MemorySink, MemorySource, SteadySink, SteadySource};
 use std::process::Abort;
 use std::str;
 use std::test::Fail;
-use wm_run::{Status, Words, run};
+use wm_run::Status;
 
 const USAGE: &str =
     "usage: wm_layout layout|edit|modes|gen [--view-inline N] [--view-block N] [--count N]\n";
-
-const NOT_YET: &str = "refused NotYet 0\n";
 
 const TOO_LONG: &str = "refused TooLong 1048576\n";
 
@@ -68,81 +66,46 @@ const VIEWS: [(&str, &str, &str); 3] = [
     ),
 ];
 
-fn words(rt: &(impl Abort + AllocGlobal), texts: &[&str]) -> Result<Words, Fail> {
-    let mut words = Words::new(rt.alloc());
-    for text in texts {
-        words.push(text)?;
-    }
-    Ok(words)
-}
-
-/// A run with the three faces of the program.
-fn run_with_faces<S: Source, K: Sink>(
-    rt: &(impl Abort + AllocGlobal),
-    words: &Words,
-    source: &mut S,
-    sink: &mut K,
-) -> Result<Status, Fail> {
-    let alloc = rt.alloc();
-    let mut faces: Vec<Box<dyn Face>> = Vec::new(alloc);
-    faces.push(Box::new(alloc, MonoFace::new())?)?;
-    faces.push(Box::new(alloc, WideFace::new())?)?;
-    faces.push(Box::new(alloc, TableFace::new(alloc)?)?)?;
-    Ok(run(alloc, words, faces, source, sink))
-}
-
-/// Runs over streams that don't fail, and holds the status and all that is written to what is expected.
-fn check(
-    rt: &(impl Abort + AllocGlobal),
-    texts: &[&str],
-    input: &[u8],
-    status: Status,
-    output: &str,
-) -> Result<(), Fail> {
-    let words = words(rt, texts)?;
-    let mut sink = SteadySink::new(rt.alloc());
-    let ended = run_with_faces(rt, &words, &mut SteadySource::new(input), &mut sink)?;
-    assert_eq!(rt; str::from_utf8(sink.bytes())?, output, "{texts:?}");
-    assert_eq!(rt; ended, status, "{texts:?}");
-    Ok(())
-}
-
 #[test]
 fn commands(rt: HostRuntime) -> Result<(), Fail> {
     for texts in &NO_COMMANDS {
-        check(&rt, texts, EMPTY_BODY, Status::Usage, USAGE)?;
+        check(&rt, "no command", texts, EMPTY_BODY, USAGE)?;
     }
     for (inline, block, listing) in &VIEWS {
         let texts = ["layout", "--view-inline", *inline, "--view-block", *block];
-        check(&rt, &texts, EMPTY_BODY, Status::Done, listing)?;
+        check(&rt, "a view", &texts, EMPTY_BODY, listing)?;
     }
     Ok(())
 }
 
+/// Whole inputs that are refused before any document is read.
+const REFUSED: [(&[u8], &str); 2] = [
+    (b"\xFF", "refused Utf8 0\n"),
+    (b"<html><body>\xFF</body></html>", "refused Utf8 12\n"),
+];
+
 #[test]
-fn an_input_that_breaks_off_is_refused(rt: HostRuntime) -> Result<(), Fail> {
+fn an_input_that_is_no_document_is_refused(rt: HostRuntime) -> Result<(), Fail> {
+    for (input, line) in &REFUSED {
+        check(&rt, "no text", LAYOUT, input, line)?;
+    }
     for len in 0..EMPTY_BODY.len() {
         let line = format!(in rt.alloc(); "refused Syntax {len}\n")?;
-        check(&rt, LAYOUT, &EMPTY_BODY[..len], Status::Refused, &line)?;
+        let input = &EMPTY_BODY[..len];
+        check(&rt, "it breaks off", LAYOUT, input, &line)?;
     }
     Ok(())
 }
 
 #[test]
 fn the_longest_input(rt: HostRuntime) -> Result<(), Fail> {
-    let mut input = Vec::new(rt.alloc());
-    for _ in 0..1_048_576 {
+    let mut input = Vec::from_slice(rt.alloc(), EMPTY_BODY)?;
+    for _ in EMPTY_BODY.len()..1_048_576 {
         input.push(b' ')?;
     }
-    check(
-        &rt,
-        LAYOUT,
-        &input,
-        Status::Refused,
-        "refused Syntax 1048576\n",
-    )?;
+    check(&rt, "at the limit", LAYOUT, &input, EMPTY_BODY_LISTING)?;
     input.push(b' ')?;
-    check(&rt, LAYOUT, &input, Status::Refused, TOO_LONG)
+    check(&rt, "past it", LAYOUT, &input, TOO_LONG)
 }
 
 /// So many groups of divs without sizes, each div inside the one before it.
@@ -175,26 +138,38 @@ fn listing(rt: &(impl Abort + AllocGlobal), nodes: usize) -> Result<String, Fail
     Ok(text)
 }
 
-/// Groups of divs and their depth, with the number of nodes where the document is within the limits.
-const LARGE: [(usize, usize, Option<usize>); 6] = [
-    (1, 62, Some(64)),
-    (1, 63, None),
-    (3_000, 1, Some(3_002)),
-    (1_000, 62, Some(62_002)),
-    (65_534, 1, Some(65_536)),
-    (65_535, 1, None),
+/// Groups of divs and their depth, with the number of nodes.
+const LARGE: [(usize, usize, usize); 3] = [(1, 62, 64), (3_000, 1, 3_002), (100, 62, 6_202)];
+
+/// The same past a limit, with the line that is due.
+const TOO_LARGE: [(usize, usize, &str); 3] = [
+    (1, 63, "refused TooDeep 64\n"),
+    (65_535, 1, "refused TooManyNodes 65536\n"),
+    (1_041, 63, "refused TooManyNodes 65536\n"),
 ];
 
 #[test]
 fn large_documents(rt: HostRuntime) -> Result<(), Fail> {
     for (groups, deep, nodes) in &LARGE {
         let input = document(&rt, *groups, *deep)?;
-        match nodes {
-            Some(nodes) => check(&rt, LAYOUT, &input, Status::Done, &listing(&rt, *nodes)?)?,
-            None => check(&rt, LAYOUT, &input, Status::Refused, NOT_YET)?,
-        }
+        let due = listing(&rt, *nodes)?;
+        check(&rt, "large", LAYOUT, &input, &due)?;
+    }
+    for (groups, deep, line) in &TOO_LARGE {
+        let input = document(&rt, *groups, *deep)?;
+        check(&rt, "too large", LAYOUT, &input, line)?;
     }
     Ok(())
+}
+
+#[test]
+fn the_most_nodes(rt: HostRuntime) -> Result<(), Fail> {
+    let mut input = Vec::from_slice(rt.alloc(), b"<html><body><div style=\"display:none\">")?;
+    for _ in 0..65_533 {
+        input.extend_from_slice(b"<br>")?;
+    }
+    input.extend_from_slice(b"</div></body></html>")?;
+    check(&rt, "65,536 nodes", LAYOUT, &input, EMPTY_BODY_LISTING)
 }
 
 /// A source that fails at one call, with how many bytes each call gives.

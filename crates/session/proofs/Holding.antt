@@ -15,10 +15,10 @@ use Rattle.para_prepare.specs.Limits.{HasFontSize, IsFontSize, text_bytes}
 use Rattle.style_types.specs.Initial.{initial}
 use Rattle.style_types.specs.declared.style.Display.{Display}
 use Rattle.para_prepare.specs.Preparation.{atoms_of}
-use Rattle.box_gen.specs.Boxes.{Blocks, Held, Role, Run, anonymous, atom, block_level, container, element_role, held, inline_before, inline_box, is_blank, join, line_break, made, no_more, nothing, own_name, placed, role_by, role_of, stacked, then, words, wrapped}
+use Rattle.box_gen.specs.Boxes.{Blocks, Held, Role, Run, anonymous, atom, block_level, container, element_role, held, inline_before, inline_box, is_blank, join, line_break, made, no_more, nothing, own_name, placed, role_by, role_of, root_boxes, stacked, then, words, wrapped}
 use Rattle.box_gen.specs.Tree.{Boxes, box, none}
 use Rattle.relayout.specs.Fit.{AreFit, count, height, siblings}
-use Rattle.session.specs.Limits.{BoxesFit, bytes_in, bytes_of, depth, nodes_in}
+use Rattle.session.specs.Limits.{IsWithin, bytes_in, bytes_of, depth, nodes_in}
 
 -- ---- boxes side by side
 
@@ -44,11 +44,11 @@ fit_join (box name style content inner next) b (here, inside, more) also = (here
 
 -- ---- items one after the other
 
-bytes_on : (one other : List Entry) → text_bytes (one ++ other) ≡ text_bytes one + text_bytes other
+pub bytes_on : (one other : List Entry) → text_bytes (one ++ other) ≡ text_bytes one + text_bytes other
 bytes_on [] other = omega arith
 bytes_on (entry ∷ one) other = let more = bytes_on one other in omega (arith, more)
 
-atoms_on : (one other : List Entry) → atoms_of (one ++ other) ≡ atoms_of one + atoms_of other
+pub atoms_on : (one other : List Entry) → atoms_of (one ++ other) ≡ atoms_of one + atoms_of other
 atoms_on [] other = omega arith
 atoms_on (item.text node letters style ∷ one) other = atoms_on one other
 atoms_on (item.begins node style edges ∷ one) other = atoms_on one other
@@ -56,7 +56,7 @@ atoms_on (item.ends node edges ∷ one) other = atoms_on one other
 atoms_on (item.atom name ∷ one) other = let more = atoms_on one other in omega (arith, more)
 atoms_on (item.line_break node ∷ one) other = atoms_on one other
 
-length_on : (one other : List Entry) → length (one ++ other) ≡ length one + length other
+pub length_on : (one other : List Entry) → length (one ++ other) ≡ length one + length other
 length_on [] other = omega arith
 length_on (entry ∷ one) other = let more = length_on one other in omega (arith, more)
 
@@ -257,7 +257,7 @@ bytes_in_role inline_box = 0
 bytes_in_role atom = 0
 bytes_in_role block_level = 0
 
-role_bytes : (kind : NodeKind) (style : Style) → bytes_in_role (role_of kind style) ≤ bytes_of kind
+pub role_bytes : (kind : NodeKind) (style : Style) → bytes_in_role (role_of kind style) ≤ bytes_of kind
 role_bytes styled.element style = by_display style.display
   where
     by_display : (d : Display) → bytes_in_role (element_role d) ≤ 0
@@ -330,10 +330,10 @@ held_within (styled.node number kind style inner next) (own, inside, behind) few
     let all = placed_held (role_of kind style) number style (held inner) (held next) _ _ _ _ _ _ _ _ (2 * depth (styled.node number kind style inner next)) own (omega (arith, few)) (omega (arith, short)) (omega arith) (omega arith) low more in
     weaker _ _ _ _ _ _ _ _ _ (omega arith) (omega (arith, role)) (omega arith) (omega arith) all
 
-pub boxes_fit : BoxesFit
+pub boxes_held : (nodes : Nodes) → IsWithin nodes → (height (root_boxes nodes) ≤ 130) × (count (root_boxes nodes) ≤ 2 ^ 18) × AreFit (root_boxes nodes)
 unfolding AreBounded
-boxes_fit styled.none within = record { low = omega arith; few = omega arith; fit = tt }
-boxes_fit (styled.node number kind style inner next) within =
+boxes_held styled.none within = (omega arith, omega arith, tt)
+boxes_held (styled.node number kind style inner next) within =
     let few = within.few in
     let short = within.short in
     let low = within.low in
@@ -341,8 +341,4 @@ boxes_fit (styled.node number kind style inner next) within =
     let h = held inner in
     let size = container_count number style h.first h.others (3 * nodes_in inner) is.many in
     let tall = container_height number style h.first h.others (2 * depth inner) is.low is.below in
-    record {
-      low = omega (arith, tall, low);
-      few = omega (arith, size, few);
-      fit = container_fit number style h.first h.others within.bounded.0 is.good is.others (omega (arith, is.some, few)) (omega (arith, is.letters, short));
-    }
+    (omega (arith, tall, low), omega (arith, size, few), container_fit number style h.first h.others within.bounded.0 is.good is.others (omega (arith, is.some, few)) (omega (arith, is.letters, short)))

@@ -1,1 +1,4 @@
 pub mod Limits
+pub mod Opening
+pub mod Spread
+pub mod State

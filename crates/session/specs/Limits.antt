@@ -1,5 +1,5 @@
 -- How much a styled tree may have, and that its boxes can be laid out then.
-use Rattle.std.specs.Prelude.{◌≡◌, ℕ, suc, ◌+◌, ◌≤◌, ◌^◌, max, List, length, None}
+use Rattle.std.specs.Prelude.{◌≡◌, ℕ, suc, ◌+◌, ◌-◌, ◌≤◌, ◌^◌, max, List, length, None}
 use Rattle.style_types.specs.Tree as styled
 use Rattle.style_types.specs.Tree.{NodeKind, Nodes}
 use Rattle.style_types.specs.declared.value.Declaration.{Declaration}
@@ -12,7 +12,7 @@ use Rattle.dom_store.specs.Whole.{listed, numbered}
 use Rattle.style_tree.specs.Styling.{AreBounded, styled_document}
 use Rattle.box_gen.specs.Tree.{Boxes}
 use Rattle.box_gen.specs.Boxes.{root_boxes}
-use Rattle.relayout.specs.Fit.{AreFit, count, height}
+use Rattle.relayout.specs.Fit.{AreFit, count, height, weight}
 
 -- how many nodes there are
 abbrev pub nodes_in : Nodes → ℕ
@@ -46,6 +46,7 @@ pub record IsWithin (nodes : Nodes) : Type 0 where
 pub record CanBeLaidOut (boxes : Boxes) : Type 0 where
   pub low : height boxes ≤ 130
   pub few : count boxes ≤ 2 ^ 18
+  pub light : weight boxes ≤ 2 ^ 60 - 2 ^ 38
   pub fit : AreFit boxes
 
 abbrev pub BoxesFit : Type 0

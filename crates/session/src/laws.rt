@@ -1,6 +1,8 @@
-//! Laws of the boxes of a document. These functions do nothing: their contracts are the laws.
+//! Laws of documents within the limits. These functions do nothing: their contracts are the laws.
 
 ghost use Rattle.session.specs.Limits.{BoxesFit, DocumentsFit};
+ghost use Rattle.session.specs.Opening.{HasOneAnswer};
+ghost use Rattle.session.specs.Spread.{SpreadIsNear};
 
 /// The boxes of a document within the limits can be laid out.
 pub fn boxes_within_limits_fit()
@@ -10,4 +12,14 @@ pub fn boxes_within_limits_fit()
 /// A document is within the limits where the nodes that were read are.
 pub fn documents_within_limits_fit()
     ensures { DocumentsFit }
+{}
+
+/// No coordinate is too far out of fragments that don't spread too far, in the flow and on the page.
+pub fn what_does_not_spread_is_near()
+    ensures { SpreadIsNear }
+{}
+
+/// A document is refused for one reason alone, and not where it can be opened.
+pub fn one_answer()
+    ensures { HasOneAnswer }
 {}

@@ -1,29 +1,33 @@
 -- What stands after each step, from what the steps below it give.
-use Rattle.std.proofs.Common.{◌≡◌, refl, sym, ap, ◌∙◌, subst, arith, inl, inr, ℕ, ◌<◌, ◌≤◌, List, ◌++◌, append-nil, length, length-append, Option, Some, None, Ok, Err}
+use Rattle.std.proofs.Common.{◌≡◌, refl, sym, ap, ◌∙◌, subst, arith, ◌⊎◌, inl, inr, ℕ, ◌<◌, ◌≤◌, List, ◌++◌, append-nil, length, length-append, Option, Some, None, Ok, Err}
 use Rattle.std.specs.Prelude.{codes, ⊤}
 use Rattle.std.specs.Io.KnownBytes.{Appends, Consumes, IsAtEnd}
 use Rattle.std.proofs.KnownBytes.{Keeps-refl}
+use Rattle.std.proofs.lemmas.Option.{same_Some}
 use Rattle.io_edge.specs.Edge.{AppendsFront}
 use Rattle.io_edge.proofs.Growth.{front_of_kept}
 use Rattle.wm_units.specs.declared.view.View.{View}
-use Rattle.wm_modes.specs.declared.mode.WritingMode.{WritingMode}
+use Rattle.css_values.specs.declared.error.Refusal as css
+use Rattle.css_sheet.specs.Styled.{Placed, styling}
+use Rattle.face_api.specs.Table.{Table}
+use Rattle.style_types.specs.Rule.{Styling}
 use Rattle.reading.specs.Readers.{Read, ReadOr}
 use Rattle.html_tokens.specs.declared.error.Refusal.{Refusal}
 use Rattle.html_tokens.specs.declared.error.Refusal.TheVariants.{Syntax}
 use Rattle.html_tokens.specs.Error.{Fault}
 use Rattle.html_read.specs.Error.{place_in}
 use Rattle.html_read.specs.Reading as reading
-use Rattle.html_read.specs.Values.{Whole}
-use Rattle.early_tree.specs.Boxes.{Boxes, in_order}
-use Rattle.early_tree.specs.Early.{IsEarly}
-use Rattle.early_tree.specs.declared.boxes.EarlyBox.{EarlyBox}
-use Rattle.early_flow.specs.Page.{page_of}
-use Rattle.early_flow.specs.declared.placed.Placed.{Placed}
-use Rattle.early_listing.specs.Listing.{listing}
+use Rattle.html_read.specs.Values.{Node, Whole}
+use Rattle.listing.specs.Listing.{listing}
+use Rattle.place_map.specs.Placed.{Page}
+use Rattle.session.specs.Opening.{CanOpen, HasOneAnswer, IsRefused, styled_as_read}
+use Rattle.session.specs.State.{page_of}
+use Rattle.session.specs.declared.error.OpenError.{OpenError}
+use Rattle.session.specs.declared.error.OpenError.TheVariants as open_errors
 use Rattle.wm_run.specs.Command.{IsCommand, IsNoCommand}
 use Rattle.html_tokens.specs.Error.{kind_word}
-use Rattle.wm_run.specs.Due.{refusal, cause_word, status_of, bytes_of, IsOnly, IsDueAlone}
-use Rattle.wm_run.specs.Job.{usage_line, longest_input, IsDueOfFault, IsDueOfWhole, IsDueOfTail, IsDueOfRead, IsDueOfDocument, IsDueOfInput, IsDue, Stands, IsBroken, Gives}
+use Rattle.wm_run.specs.Due.{refusal, cause_word, node_of, not_opened, open_word, style_word, status_of, bytes_of, IsOnly, IsDueAlone}
+use Rattle.wm_run.specs.Job.{usage_line, longest_input, IsDueOfFault, IsDueOfStyles, IsDueOfStyling, IsDueOfWhole, IsDueOfTail, IsDueOfRead, IsDueOfDocument, IsDueOfInput, IsDue, Stands, IsBroken, Gives}
 use Rattle.wm_run.specs.declared.due.Due.{Due}
 use Rattle.wm_run.specs.declared.due.Due.TheVariants as dues
 use Rattle.wm_run.specs.declared.due.Cause.TheVariants as causes
@@ -86,41 +90,63 @@ no_read_fault (dues.Refused cause place) e = absurd (cc)
 
 -- ---- a document
 
--- an early document, and no other
-pub record IsOne (document : Whole) (mode : WritingMode) (nodes : List ℕ) (list : List EarlyBox) (boxes : Boxes) : Type 0 where
-  pub early : IsEarly document mode boxes nodes
-  pub is : list ≡ in_order boxes 1 2
-  pub only : (m : WritingMode) (bs : Boxes) (ns : List ℕ) → IsEarly document m bs ns → (m ≡ mode) × (in_order bs 1 2 ≡ list) × (ns ≡ nodes)
-
--- an early document gives its listing, and nothing else is due for it
-pub only_page : (view : View) (document : Whole) (mode : WritingMode) (nodes : List ℕ) (list : List EarlyBox) (boxes : Boxes) (placed : Placed)
-    → IsOne document mode nodes list boxes → ((bs : Boxes) → in_order bs 1 2 ≡ list → placed ≡ page_of view mode nodes bs)
-    → IsOnly (IsDueOfWhole view document) Done (listing placed)
-only_page view document mode nodes list boxes placed one is = record { is = (mode, boxes, nodes, one.early, ap listing (is boxes (sym one.is))); only = only } where
-  only : (s : Status) (d : List ℕ) → IsDueOfWhole view document s d → d ≡ listing placed
-  only Done d q =
-      let same = one.only q.0 q.1 q.2 q.3 in
-      q.4
-      ∙ ap (λ (m : WritingMode). listing (page_of view m q.2 q.1)) same.0
-      ∙ ap (λ (ns : List ℕ). listing (page_of view mode ns q.1)) same.2
-      ∙ ap listing (sym (is q.1 same.1))
-  only Refused d q = absurd (q.0 mode boxes nodes one.early)
+-- a document that can be opened gives the listing of its page, and nothing else is due for it
+pub only_page : (faces : List (Option Table)) (view : View) (nodes : List Node) (styles : Styling) (page : Page) → CanOpen nodes styles.own styles.rules → HasOneAnswer
+    → page ≡ page_of faces view (styled_as_read nodes styles.own styles.rules) → IsOnly (IsDueOfStyles faces view nodes styles) Done (listing page)
+only_page faces view nodes styles page can one is = record { is = (can, ap listing is); only = only } where
+  only : (s : Status) (d : List ℕ) → IsDueOfStyles faces view nodes styles s d → d ≡ listing page
+  only Done d q = q.1 ∙ ap listing (sym is)
+  only Refused d q = absurd ((one nodes styles.own styles.rules q.0 q.1).0 can)
   only Usage d q = absurd q
   only Memory d q = absurd q
   only ReadFault d q = absurd q
   only WriteFault d q = absurd q
 
--- a document that is no early one is refused
-pub only_not_yet : (view : View) (document : Whole) → ((m : WritingMode) (bs : Boxes) (ns : List ℕ) → IsEarly document m bs ns → ⊥) → IsOnly (IsDueOfWhole view document) Refused (refusal (cause_word causes.NotYet) 0)
+-- a document that is refused gives its line
+pub only_not_opened : (faces : List (Option Table)) (view : View) (nodes : List Node) (styles : Styling) (error : OpenError) → IsRefused nodes styles.own styles.rules error → HasOneAnswer
+    → IsOnly (IsDueOfStyles faces view nodes styles) Refused (refusal (cause_word (causes.Opening error)) (node_of error))
 unfolding cause_word
-only_not_yet view document never = record { is = (never, refl); only = only } where
-  only : (s : Status) (d : List ℕ) → IsDueOfWhole view document s d → d ≡ refusal (codes "NotYet") 0
-  only Done d q = absurd (never q.0 q.1 q.2 q.3)
-  only Refused d q = q.1
+only_not_opened faces view nodes styles error refused one = record { is = (error, refused, refl); only = only } where
+  only : (s : Status) (d : List ℕ) → IsDueOfStyles faces view nodes styles s d → d ≡ refusal (open_word error) (node_of error)
+  only Done d q = absurd ((one nodes styles.own styles.rules error refused).0 q.0)
+  only Refused d q = q.2 ∙ ap (λ (e : OpenError). refusal (open_word e) (node_of e)) ((one nodes styles.own styles.rules error refused).1 q.0 q.1)
   only Usage d q = absurd q
   only Memory d q = absurd q
   only ReadFault d q = absurd q
   only WriteFault d q = absurd q
+
+-- what is told of a document that can't be opened is due for it
+pub due_of_error : (faces : List (Option Table)) (view : View) (nodes : List Node) (styles : Styling) (error : OpenError) (due : Due) → not_opened error ≡ Some due
+    → (error ≡ open_errors.Memory) ⊎ IsRefused nodes styles.own styles.rules error → HasOneAnswer → IsDueAlone (IsDueOfStyles faces view nodes styles) due
+due_of_error faces view nodes styles error due is opens one = by error is opens
+  where
+    told : (e : OpenError) → dues.Refused (causes.Opening e) (node_of e) ≡ due → IsRefused nodes styles.own styles.rules e → IsDueAlone (IsDueOfStyles faces view nodes styles) due
+    told e same refused = subst (λ (d : Due). IsDueAlone (IsDueOfStyles faces view nodes styles) d) same (only_not_opened faces view nodes styles e refused one)
+
+    by : (e : OpenError) → not_opened e ≡ Some due → (e ≡ open_errors.Memory) ⊎ IsRefused nodes styles.own styles.rules e → IsDueAlone (IsDueOfStyles faces view nodes styles) due
+    by open_errors.Memory is' opens' = absurd cc
+    by (open_errors.TooManyNodes n) is' (inl memory) = absurd cc
+    by (open_errors.TooManyNodes n) is' (inr refused) = told (open_errors.TooManyNodes n) (same_Some _ due is') refused
+    by (open_errors.TooDeep n) is' (inl memory) = absurd cc
+    by (open_errors.TooDeep n) is' (inr refused) = told (open_errors.TooDeep n) (same_Some _ due is') refused
+    by (open_errors.TooManyOrthogonal n) is' (inl memory) = absurd cc
+    by (open_errors.TooManyOrthogonal n) is' (inr refused) = told (open_errors.TooManyOrthogonal n) (same_Some _ due is') refused
+    by (open_errors.BlockInInline n) is' (inl memory) = absurd cc
+    by (open_errors.BlockInInline n) is' (inr refused) = told (open_errors.BlockInInline n) (same_Some _ due is') refused
+
+-- ---- its styles
+
+pub only_no_styles : (faces : List (Option Table)) (view : View) (document : Whole) (kind k : css.Refusal) (place p : ℕ) → styling document ≡ Err (k, p) → kind ≡ k → place ≡ p
+    → IsOnly (IsDueOfWhole faces view document) Refused (refusal (cause_word (causes.Style kind)) place)
+unfolding cause_word
+only_no_styles faces view document kind k place p e is at =
+    subst (λ (r : Placed Styling). IsOnly (IsDueOfStyling faces view document.nodes r) Refused (refusal (style_word kind) place))
+    (sym (e ∙ ap (λ (r : css.Refusal). Err (r, p)) (sym is) ∙ ap (λ (n : ℕ). Err (kind, n)) (sym at)))
+    (record { is = (refl, refl); only = λ s d q. q.1 })
+
+pub styles_read : (faces : List (Option Table)) (view : View) (document : Whole) (styles : Styling) (due : Due) → styling document ≡ Ok styles → IsDueAlone (IsDueOfStyles faces view document.nodes styles) due
+    → IsDueAlone (IsDueOfWhole faces view document) due
+styles_read faces view document styles due e o = subst (λ (p : Placed Styling). IsDueAlone (IsDueOfStyling faces view document.nodes p) due) (sym e) o
 
 -- a fault gives its line
 only_fault : (size : ℕ) (kind : Refusal) (left : List ℕ) (place : ℕ) → place ≡ place_in size left → IsOnly (IsDueOfFault size (kind, left)) Refused (refusal (cause_word (causes.Document kind)) place)
@@ -131,38 +157,38 @@ only_fault size kind left place e = record {
 }
 
 -- what is read behind a document, and of an input
-pub only_tail : (view : View) (size : ℕ) (document : Whole) (read : Read ⊤) (kind : Refusal) (left : List ℕ) (place : ℕ) → kind ≡ Syntax → read ≡ Err left → place ≡ place_in size left
-    → IsOnly (IsDueOfTail view size document read) Refused (refusal (cause_word (causes.Document kind)) place)
-only_tail view size document read kind left place is e at =
-    subst (λ (k : Refusal). IsOnly (IsDueOfTail view size document read) Refused (refusal (cause_word (causes.Document k)) place)) (sym is)
-    (subst (λ (r : Read ⊤). IsOnly (IsDueOfTail view size document r) Refused (refusal (cause_word (causes.Document Syntax)) place)) (sym e)
+pub only_tail : (faces : List (Option Table)) (view : View) (size : ℕ) (document : Whole) (read : Read ⊤) (kind : Refusal) (left : List ℕ) (place : ℕ) → kind ≡ Syntax → read ≡ Err left → place ≡ place_in size left
+    → IsOnly (IsDueOfTail faces view size document read) Refused (refusal (cause_word (causes.Document kind)) place)
+only_tail faces view size document read kind left place is e at =
+    subst (λ (k : Refusal). IsOnly (IsDueOfTail faces view size document read) Refused (refusal (cause_word (causes.Document k)) place)) (sym is)
+    (subst (λ (r : Read ⊤). IsOnly (IsDueOfTail faces view size document r) Refused (refusal (cause_word (causes.Document Syntax)) place)) (sym e)
     (only_fault size Syntax left place at))
 
-pub tail_read : (view : View) (size : ℕ) (document : Whole) (read : Read ⊤) (rest : List ℕ) (due : Due) → read ≡ Ok (tt, rest) → IsDueAlone (IsDueOfWhole view document) due → IsDueAlone (IsDueOfTail view size document read) due
-tail_read view size document read rest due e o = subst (λ (r : Read ⊤). IsDueAlone (IsDueOfTail view size document r) due) (sym e) o
+pub tail_read : (faces : List (Option Table)) (view : View) (size : ℕ) (document : Whole) (read : Read ⊤) (rest : List ℕ) (due : Due) → read ≡ Ok (tt, rest) → IsDueAlone (IsDueOfWhole faces view document) due → IsDueAlone (IsDueOfTail faces view size document read) due
+tail_read faces view size document read rest due e o = subst (λ (r : Read ⊤). IsDueAlone (IsDueOfTail faces view size document r) due) (sym e) o
 
-pub only_refused : (view : View) (bytes : List ℕ) (kind : Refusal) (left : List ℕ) (place : ℕ) → reading.input bytes ≡ Err (kind, left) → place ≡ place_in (length bytes) left
-    → IsOnly (IsDueOfDocument view bytes) Refused (refusal (cause_word (causes.Document kind)) place)
-only_refused view bytes kind left place e at =
-    subst (λ (r : ReadOr Fault Whole). IsOnly (IsDueOfRead view bytes r) Refused (refusal (cause_word (causes.Document kind)) place)) (sym e) (only_fault (length bytes) kind left place at)
+pub only_refused : (faces : List (Option Table)) (view : View) (bytes : List ℕ) (kind : Refusal) (left : List ℕ) (place : ℕ) → reading.input bytes ≡ Err (kind, left) → place ≡ place_in (length bytes) left
+    → IsOnly (IsDueOfDocument faces view bytes) Refused (refusal (cause_word (causes.Document kind)) place)
+only_refused faces view bytes kind left place e at =
+    subst (λ (r : ReadOr Fault Whole). IsOnly (IsDueOfRead faces view bytes r) Refused (refusal (cause_word (causes.Document kind)) place)) (sym e) (only_fault (length bytes) kind left place at)
 
-pub document_read : (view : View) (bytes : List ℕ) (read : Whole × List ℕ) (due : Due) → reading.input bytes ≡ Ok read → IsDueAlone (IsDueOfRead view bytes (Ok read)) due → IsDueAlone (IsDueOfDocument view bytes) due
-document_read view bytes read due e o = subst (λ (r : ReadOr Fault Whole). IsDueAlone (IsDueOfRead view bytes r) due) (sym e) o
+pub document_read : (faces : List (Option Table)) (view : View) (bytes : List ℕ) (read : Whole × List ℕ) (due : Due) → reading.input bytes ≡ Ok read → IsDueAlone (IsDueOfRead faces view bytes (Ok read)) due → IsDueAlone (IsDueOfDocument faces view bytes) due
+document_read faces view bytes read due e o = subst (λ (r : ReadOr Fault Whole). IsDueAlone (IsDueOfRead faces view bytes r) due) (sym e) o
 
 -- ---- an input
 
 -- an input that is too long is refused
-pub only_too_long : (view : View) (input : List ℕ) → longest_input < length input → IsOnly (IsDueOfInput view input) Refused (refusal (cause_word causes.TooLong) longest_input)
+pub only_too_long : (faces : List (Option Table)) (view : View) (input : List ℕ) → longest_input < length input → IsOnly (IsDueOfInput faces view input) Refused (refusal (cause_word causes.TooLong) longest_input)
 unfolding cause_word
-only_too_long view input long = record { is = inl (long, refl, refl); only = only } where
-  only : (s : Status) (d : List ℕ) → IsDueOfInput view input s d → d ≡ refusal (codes "TooLong") longest_input
+only_too_long faces view input long = record { is = inl (long, refl, refl); only = only } where
+  only : (s : Status) (d : List ℕ) → IsDueOfInput faces view input s d → d ≡ refusal (codes "TooLong") longest_input
   only s d (inl q) = q.2
   only s d (inr q) = absurd (let short = q.0 in omega arith)
 
 -- for an input that isn't too long what is due is what is due for the document
-pub only_short : (view : View) (input : List ℕ) (due : Due) → length input ≤ longest_input → IsDueAlone (IsDueOfDocument view input) due → IsDueAlone (IsDueOfInput view input) due
-only_short view input due short o = record { is = inr (short, o.is); only = only } where
-  only : (s : Status) (d : List ℕ) → IsDueOfInput view input s d → d ≡ bytes_of due
+pub only_short : (faces : List (Option Table)) (view : View) (input : List ℕ) (due : Due) → length input ≤ longest_input → IsDueAlone (IsDueOfDocument faces view input) due → IsDueAlone (IsDueOfInput faces view input) due
+only_short faces view input due short o = record { is = inr (short, o.is); only = only } where
+  only : (s : Status) (d : List ℕ) → IsDueOfInput faces view input s d → d ≡ bytes_of due
   only s d (inl q) = absurd (let long = q.0 in omega arith)
   only s d (inr q) = o.only s d q.1
 
@@ -178,20 +204,20 @@ taken_all input taken (Some rest) c e = c ∙ ap (λ (l : List ℕ). taken ++ l)
 -- ---- the words
 
 -- words that are no command give the usage line
-pub only_usage : (words : List (List ℕ)) (input : List ℕ) → IsNoCommand words → IsOnly (IsDue words input) Usage usage_line
-only_usage words input never = record { is = inl (never, refl, refl); only = only } where
-  only : (s : Status) (d : List ℕ) → IsDue words input s d → d ≡ usage_line
+pub only_usage : (faces : List (Option Table)) (words : List (List ℕ)) (input : List ℕ) → IsNoCommand words → IsOnly (IsDue faces words input) Usage usage_line
+only_usage faces words input never = record { is = inl (never, refl, refl); only = only } where
+  only : (s : Status) (d : List ℕ) → IsDue faces words input s d → d ≡ usage_line
   only s d (inl q) = q.2
   only s d (inr q) = absurd (never q.0 q.1)
 
 -- for a command what is due is what is due for the input
-pub only_command : (words : List (List ℕ)) (view : View) (input : List ℕ) (due : Due)
+pub only_command : (faces : List (Option Table)) (words : List (List ℕ)) (view : View) (input : List ℕ) (due : Due)
     → IsCommand words view → ((other : View) → IsCommand words other → other ≡ view)
-    → IsDueAlone (IsDueOfInput view input) due → IsDueAlone (IsDue words input) due
-only_command words view input due is one o = record { is = inr (view, is, o.is); only = only } where
-  only : (s : Status) (d : List ℕ) → IsDue words input s d → d ≡ bytes_of due
+    → IsDueAlone (IsDueOfInput faces view input) due → IsDueAlone (IsDue faces words input) due
+only_command faces words view input due is one o = record { is = inr (view, is, o.is); only = only } where
+  only : (s : Status) (d : List ℕ) → IsDue faces words input s d → d ≡ bytes_of due
   only s d (inl q) = absurd (q.0 view is)
-  only s d (inr q) = o.only s d (subst (λ (v : View). IsDueOfInput v input s d) (one q.0 q.1) q.2)
+  only s d (inr q) = o.only s d (subst (λ (v : View). IsDueOfInput faces v input s d) (one q.0 q.1) q.2)
 
 -- a run that ends with Usage wrote the whole usage line
 pub usage_given : (old new : Option (List ℕ)) (result : Status) → result ≡ Usage → Gives Usage usage_line old new result → Appends old new usage_line

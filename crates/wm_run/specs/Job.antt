@@ -5,19 +5,21 @@ use Rattle.io_edge.specs.Edge.{AppendsFront}
 use Rattle.io_edge.specs.declared.error.WriteError.{WriteError}
 use Rattle.io_edge.specs.declared.error.WriteError.TheVariants as write_errors
 use Rattle.wm_units.specs.declared.view.View.{View}
-use Rattle.wm_modes.specs.declared.mode.WritingMode.{WritingMode}
 use Rattle.reading.specs.Readers.{Read, ReadOr}
 use Rattle.html_tokens.specs.Error.{Fault, syntax}
 use Rattle.html_read.specs.Error.{place_in}
 use Rattle.html_read.specs.Reading as reading
-use Rattle.html_read.specs.Values.{Whole}
-use Rattle.early_tree.specs.Boxes.{Boxes}
-use Rattle.early_tree.specs.Early.{IsEarly}
-use Rattle.early_flow.specs.Page.{page_of}
-use Rattle.early_listing.specs.Listing.{listing}
+use Rattle.html_read.specs.Values.{Node, Whole}
+use Rattle.css_sheet.specs.Styled.{Placed, styling}
+use Rattle.style_types.specs.Rule.{Styling}
+use Rattle.face_api.specs.Table.{Table}
+use Rattle.listing.specs.Listing.{listing}
+use Rattle.session.specs.Opening.{CanOpen, IsRefused, styled_as_read}
+use Rattle.session.specs.State.{page_of}
+use Rattle.session.specs.declared.error.OpenError.{OpenError}
 use Rattle.wm_run.specs.Command.{IsCommand, IsNoCommand}
 use Rattle.html_tokens.specs.Error.{kind_word}
-use Rattle.wm_run.specs.Due.{refusal}
+use Rattle.wm_run.specs.Due.{node_of, open_word, refusal, style_word}
 use Rattle.wm_run.specs.declared.status.Status.{Status}
 use Rattle.wm_run.specs.declared.status.Status.TheVariants.{Done, Usage, Refused, Memory, ReadFault, WriteFault}
 
@@ -33,38 +35,48 @@ longest_input = 1048576
 abbrev pub IsDueOfFault : (size : ℕ) → Fault → Status → List ℕ → Type 0
 IsDueOfFault size fault status due = (status ≡ Refused) × (due ≡ refusal (kind_word fault.0) (place_in size fault.1))
 
--- for a document: the listing of its page where it is an early one, else a refusal
-abbrev pub IsDueOfWhole : View → Whole → Status → List ℕ → Type 0
-IsDueOfWhole view document Done due = (mode : WritingMode) × (boxes : Boxes) × (nodes : List ℕ) × IsEarly document mode boxes nodes × (due ≡ listing (page_of view mode nodes boxes))
-IsDueOfWhole view document Refused due = ((mode : WritingMode) (boxes : Boxes) (nodes : List ℕ) → IsEarly document mode boxes nodes → ⊥) × (due ≡ refusal (codes "NotYet") 0)
-IsDueOfWhole view document Usage due = ⊥
-IsDueOfWhole view document Memory due = ⊥
-IsDueOfWhole view document ReadFault due = ⊥
-IsDueOfWhole view document WriteFault due = ⊥
+-- for a document with its styles: the listing of its page where it can be opened, else a refusal with the number of a node
+abbrev pub IsDueOfStyles : (faces : List (Option Table)) → View → List Node → Styling → Status → List ℕ → Type 0
+IsDueOfStyles faces view nodes styles Done due = CanOpen nodes styles.own styles.rules × (due ≡ listing (page_of faces view (styled_as_read nodes styles.own styles.rules)))
+IsDueOfStyles faces view nodes styles Refused due =
+    (error : OpenError) × IsRefused nodes styles.own styles.rules error × (due ≡ refusal (open_word error) (node_of error))
+IsDueOfStyles faces view nodes styles Usage due = ⊥
+IsDueOfStyles faces view nodes styles Memory due = ⊥
+IsDueOfStyles faces view nodes styles ReadFault due = ⊥
+IsDueOfStyles faces view nodes styles WriteFault due = ⊥
+
+-- for a document by what was read of its sheets and style attributes: a fault, or its styles
+abbrev pub IsDueOfStyling : (faces : List (Option Table)) → View → List Node → Placed Styling → Status → List ℕ → Type 0
+IsDueOfStyling faces view nodes (Ok styles) status due = IsDueOfStyles faces view nodes styles status due
+IsDueOfStyling faces view nodes (Err refused) status due = (status ≡ Refused) × (due ≡ refusal (style_word refused.0) refused.1)
+
+-- for a document
+abbrev pub IsDueOfWhole : (faces : List (Option Table)) → View → Whole → Status → List ℕ → Type 0
+IsDueOfWhole faces view document = IsDueOfStyling faces view document.nodes (styling document)
 
 -- for a document that stands in an input of this size, by what was read behind it
-abbrev pub IsDueOfTail : View → (size : ℕ) → Whole → Read ⊤ → Status → List ℕ → Type 0
-IsDueOfTail view size document (Ok behind) status due = IsDueOfWhole view document status due
-IsDueOfTail view size document (Err left) status due = IsDueOfFault size (syntax left) status due
+abbrev pub IsDueOfTail : (faces : List (Option Table)) → View → (size : ℕ) → Whole → Read ⊤ → Status → List ℕ → Type 0
+IsDueOfTail faces view size document (Ok behind) status due = IsDueOfWhole faces view document status due
+IsDueOfTail faces view size document (Err left) status due = IsDueOfFault size (syntax left) status due
 
 -- for an input, by what was read of it: a fault, or a document, with nothing but white space and comments behind it
-abbrev pub IsDueOfRead : View → List ℕ → ReadOr Fault Whole → Status → List ℕ → Type 0
-IsDueOfRead view bytes (Ok read) status due = IsDueOfTail view (length bytes) read.0 (reading.tail false (drop read.0.length bytes)) status due
-IsDueOfRead view bytes (Err fault) status due = IsDueOfFault (length bytes) fault status due
+abbrev pub IsDueOfRead : (faces : List (Option Table)) → View → List ℕ → ReadOr Fault Whole → Status → List ℕ → Type 0
+IsDueOfRead faces view bytes (Ok read) status due = IsDueOfTail faces view (length bytes) read.0 (reading.tail false (drop read.0.length bytes)) status due
+IsDueOfRead faces view bytes (Err fault) status due = IsDueOfFault (length bytes) fault status due
 
 -- for an input that isn't too long
-abbrev pub IsDueOfDocument : View → List ℕ → Status → List ℕ → Type 0
-IsDueOfDocument view bytes = IsDueOfRead view bytes (reading.input bytes)
+abbrev pub IsDueOfDocument : (faces : List (Option Table)) → View → List ℕ → Status → List ℕ → Type 0
+IsDueOfDocument faces view bytes = IsDueOfRead faces view bytes (reading.input bytes)
 
 -- for an input: that it is too long is refused first
-abbrev pub IsDueOfInput : View → List ℕ → Status → List ℕ → Type 0
-IsDueOfInput view input status due = ((longest_input < length input) × (status ≡ Refused) × (due ≡ refusal (codes "TooLong") longest_input))
-    ⊎ ((length input ≤ longest_input) × IsDueOfDocument view input status due)
+abbrev pub IsDueOfInput : (faces : List (Option Table)) → View → List ℕ → Status → List ℕ → Type 0
+IsDueOfInput faces view input status due = ((longest_input < length input) × (status ≡ Refused) × (due ≡ refusal (codes "TooLong") longest_input))
+    ⊎ ((length input ≤ longest_input) × IsDueOfDocument faces view input status due)
 
 -- for words and an input: words that are no command give the usage line
-abbrev pub IsDue : (words : List (List ℕ)) → (input : List ℕ) → Status → List ℕ → Type 0
-IsDue words input status due = (IsNoCommand words × (status ≡ Usage) × (due ≡ usage_line))
-    ⊎ ((view : View) × IsCommand words view × IsDueOfInput view input status due)
+abbrev pub IsDue : (faces : List (Option Table)) → (words : List (List ℕ)) → (input : List ℕ) → Status → List ℕ → Type 0
+IsDue faces words input status due = (IsNoCommand words × (status ≡ Usage) × (due ≡ usage_line))
+    ⊎ ((view : View) × IsCommand words view × IsDueOfInput faces view input status due)
 
 -- What a run has written when it ends with a status, where this says which bytes are due with which status: all of
 -- them, or nothing after a read fault, or else a front of whatever is due.

@@ -1,4 +1,5 @@
 pub mod Command
 pub mod Due
 pub mod Job
+pub mod Layout
 pub mod Reading

@@ -1,31 +1,53 @@
 //! What is due for an input: the page of its document, or its refusal.
 
 ghost use Rattle.std.specs.Prelude.{◌≡◌, ◌≤◌, length};
-ghost use Rattle.wm_run.specs.Due.{cause_word};
+ghost use Rattle.wm_run.specs.Due.{cause_word, not_opened, open_word, style_word, told_node};
 ghost use Rattle.wm_run.specs.declared.due.Cause.TheVariants as Causes;
 ghost use Rattle.wm_run.specs.declared.due.Due.TheVariants as Dues;
 
-use early_flow::Placed;
 use html_read::Refusal;
+use place_map::Placed;
+use session::OpenError;
 
 /// What is due for an input. It holds the page and never its listing, so nothing is written before all is found out.
 #[derive(Drop)]
 pub(crate) enum Due {
     /// The listing of a page.
     Page(Placed),
-    /// A line of refusal, with its cause and its place in bytes.
+    /// A line of refusal, with its cause, and its place in bytes or the number of its node.
     Refused { cause: Cause, place: usize },
 }
 
 impl Due {
     /// The refusal of what is no document.
-    pub(crate) fn refused(kind: Refusal, place: usize) -> Due
+    pub(crate) fn no_document(kind: Refusal, place: usize) -> Due
         ensures { result ≡ Dues.Refused (Causes.Document kind) place }
     {
         Due::Refused {
             cause: Cause::Document(kind),
             place,
         }
+    }
+
+    /// The refusal of styles.
+    pub(crate) fn no_styles(kind: css_values::Refusal, place: usize) -> Due
+        ensures { result ≡ Dues.Refused (Causes.Style kind) place }
+    {
+        Due::Refused {
+            cause: Cause::Style(kind),
+            place,
+        }
+    }
+
+    /// The refusal of a document that can't be opened; none where memory ran out.
+    pub(crate) fn not_opened(error: OpenError) -> Option<Due>
+        ensures { result ≡ not_opened error }
+    {
+        let node = told_node(error)?;
+        Some(Due::Refused {
+            cause: Cause::Opening(error),
+            place: node as usize,
+        })
     }
 }
 
@@ -36,8 +58,10 @@ pub(crate) enum Cause {
     TooLong,
     /// It is no document.
     Document(Refusal),
-    /// It is a document that is not laid out yet.
-    NotYet,
+    /// Its style sheets or its style attributes are refused.
+    Style(css_values::Refusal),
+    /// Its document can't be opened.
+    Opening(OpenError),
 }
 
 impl Cause {
@@ -45,12 +69,52 @@ impl Cause {
     #[tactic(auto, unfolding(crate::specs::Due::cause_word))]
     pub(crate) fn word(self) -> &'static str
         ensures word { result.now ≡ cause_word self }
-        ensures short { length result.now ≤ 16 }
+        ensures short { length result.now ≤ 17 }
     {
         match self {
             Cause::TooLong => "TooLong",
             Cause::Document(kind) => kind.word(),
-            Cause::NotYet => "NotYet",
+            Cause::Style(kind) => style_word(kind),
+            Cause::Opening(error) => open_word(error),
         }
+    }
+}
+
+#[tactic(auto, unfolding(crate::specs::Due::style_word))]
+fn style_word(kind: css_values::Refusal) -> &'static str
+    ensures word { result.now ≡ style_word kind }
+    ensures short { length result.now ≤ 17 }
+{
+    match kind {
+        css_values::Refusal::CssSyntax => "CssSyntax",
+        css_values::Refusal::Unsupported => "Unsupported",
+        css_values::Refusal::TooManyRules => "TooManyRules",
+    }
+}
+
+#[tactic(auto, unfolding(crate::specs::Due::open_word))]
+fn open_word(error: OpenError) -> &'static str
+    ensures word { result.now ≡ open_word error }
+    ensures short { length result.now ≤ 17 }
+{
+    match error {
+        OpenError::TooManyNodes(_) => "TooManyNodes",
+        OpenError::TooDeep(_) => "TooDeep",
+        OpenError::TooManyOrthogonal(_) => "TooManyOrthogonal",
+        OpenError::BlockInInline(_) => "BlockInInline",
+        OpenError::Memory => "Memory",
+    }
+}
+
+// The number of the node that an error tells.
+fn told_node(error: OpenError) -> Option<u32>
+    ensures { result ≡ told_node error }
+{
+    match error {
+        OpenError::TooManyNodes(number) => Some(number),
+        OpenError::TooDeep(number) => Some(number),
+        OpenError::TooManyOrthogonal(number) => Some(number),
+        OpenError::BlockInInline(number) => Some(number),
+        OpenError::Memory => None,
     }
 }

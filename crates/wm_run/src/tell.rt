@@ -8,9 +8,9 @@ ghost use Rattle.wm_run.specs.Job.{usage_line, Gives, ended};
 use crate::due::{Cause, Due};
 use crate::status::Status;
 use arrayvec::ArrayString;
-use early_listing::write_listing;
 use io_edge::{Sink, WriteError, write_all_of};
 use itoa::Buffer;
+use listing::write_listing;
 
 const USAGE: &[u8] =
     b"usage: wm_layout layout|edit|modes|gen [--view-inline N] [--view-block N] [--count N]\n";

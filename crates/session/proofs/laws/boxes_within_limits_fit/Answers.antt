@@ -1,4 +1,4 @@
-use Rattle.session.proofs.Holding.{boxes_fit}
+use Rattle.session.proofs.Weighing.{boxes_fit}
 use Rattle.session.proofs.laws.boxes_within_limits_fit.Goals as goal
 
 pub returns : goal.returns

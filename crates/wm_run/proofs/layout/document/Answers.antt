@@ -1,15 +1,17 @@
-use Rattle.std.proofs.Common.{ap, Err}
+use Rattle.std.proofs.Common.{subst, sym}
+use Rattle.css_sheet.specs.Styled.{Fails, styling}
+use Rattle.css_values.specs.declared.error.CssError.{CssError}
+use Rattle.face_api.specs.Faces.{faces_of}
 use Rattle.html_read.specs.Values.{whole_of}
-use Rattle.early_tree.specs.declared.error.EarlyError.{EarlyError}
-use Rattle.wm_run.proofs.JobLaws.{only_page, only_not_yet}
+use Rattle.wm_run.specs.Due.{IsDueAlone}
+use Rattle.wm_run.specs.Job.{IsDueOfWhole}
+use Rattle.wm_run.specs.declared.due.Due.{Due}
+use Rattle.wm_run.proofs.JobLaws.{only_no_styles}
 use Rattle.wm_run.proofs.layout.document.Goals as goal
 
-pub returns-in_ok-lay_out-in-Ok : goal.returns-in_ok-lay_out-in-Ok
-returns-in_ok-lay_out-in-Ok c =
-    let found = c.in-Ok.ensures.found in
-    only_page c.args.view (whole_of c.args.read.now) c.in-Ok.early.mode c.in-Ok.early.nodes c.in-Ok.early.boxes found.0 c.in_ok-lay_out-in-Ok.field-0
-    (record { early = found.1; is = found.2; only = c.in-Ok.ensures.only }) c.in_ok-lay_out-in-Ok.ensures
-
-pub returns-in-Err-NotYet : goal.returns-in-Err-NotYet
-returns-in-Err-NotYet c =
-    only_not_yet c.args.view (whole_of c.args.read.now) (c.in-Err-NotYet.ensures.not_yet (ap (λ (e : EarlyError). Err e) c.in-Err-NotYet.field-0-is))
+pub returns-in-Err-Refused : goal.returns-in-Err-Refused
+returns-in-Err-Refused g c =
+    let faces = faces_of (λ vtable. (g.dyn-1.0.entry vtable).1) c.args.faces in
+    let told = subst (λ (e : CssError). Fails e (styling (whole_of c.args.read.now))) c.in-Err-Refused.field-0-is c.in-Err-Refused.ensures.read in
+    subst (λ (due : Due). IsDueAlone (IsDueOfWhole faces c.args.view (whole_of c.args.read.now)) due) (sym c.no_styles.ensures)
+    (only_no_styles faces c.args.view (whole_of c.args.read.now) _ _ _ _ told c.in-Err-Refused.kind-is c.in-Err-Refused.place-is)

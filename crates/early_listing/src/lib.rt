@@ -1,7 +1,0 @@
-//! The listing of a page: its exact text, written to a sink.
-#![tactic(auto)]
-
-mod lines;
-mod listing;
-
-pub use listing::write_listing;

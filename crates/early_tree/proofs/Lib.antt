@@ -1,5 +1,0 @@
-mod Fine
-mod Items
-mod Nodes
-mod Styles
-mod Whole

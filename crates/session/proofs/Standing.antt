@@ -1,0 +1,52 @@
+-- The boxes of a session stand in its arena through all that is laid out and forgotten.
+use Rattle.std.proofs.Common.{◌≡◌, ◌∙◌, refl, sym, ap, subst, ℕ, List, Option, Some, None}
+use Rattle.box_gen.specs.Tree.{Boxes, box, none}
+use Rattle.box_arena.specs.Arena.{SameLinks, SameNodes}
+use Rattle.box_arena.specs.At.{Node, Slots, first_at, next_at, node_at, parent_at}
+use Rattle.box_arena.specs.Links as links
+use Rattle.box_arena.specs.Boxes.{StandFrom, Stands}
+use Rattle.box_arena.specs.declared.entry.Entry.{Entry}
+use Rattle.face_api.specs.Table.{Table}
+use Rattle.para_prepare.specs.Preparation.{Preparation}
+use Rattle.relayout.specs.Relayout.{AreRightUnder, IsSteadyUnder}
+use Rattle.slab.specs.Slab.{Slab}
+use Rattle.wm_units.specs.declared.view.View.{View}
+
+module _ (old new : Slots Preparation) (same : SameLinks old new) (nodes : SameNodes old new) where
+  same_first : (key : ℕ) → first_at new key ≡ first_at old key
+  same_first key = ap links.first_of (same key)
+
+  same_next : (key : ℕ) → next_at new key ≡ next_at old key
+  same_next key = ap links.next_of (same key)
+
+  pub same_parent : (key : ℕ) → parent_at new key ≡ parent_at old key
+  same_parent key = ap links.parent_of (same key)
+
+  pub stand_on : (from : Option ℕ) (tree : Boxes) → StandFrom old from tree → StandFrom new from tree
+  stand_on from none stand = stand
+  stand_on from (box name style content inner next) (key, is, node, inside, behind) =
+      let P : Option ℕ → Type 0 = λ o. StandFrom new o inner in
+      let Q : Option ℕ → Type 0 = λ o. StandFrom new o next in
+      (key, is, nodes key ∙ node, subst P (sym (same_first key)) (stand_on (first_at old key) inner inside), subst Q (sym (same_next key)) (stand_on (next_at old key) next behind))
+
+  pub stands_on : (key : ℕ) (tree : Boxes) → Stands old key tree → Stands new key tree
+  stands_on key none stands = stands
+  stands_on key (box name style content inner next) (node, inside, last) =
+      let P : Option ℕ → Type 0 = λ o. StandFrom new o inner in
+      (nodes key ∙ node, subst P (sym (same_first key)) (stand_on (first_at old key) inner inside), last)
+
+-- a tree that stands has a root
+pub root_of : (slots : Slots Preparation) (key : ℕ) (tree : Boxes) → Stands slots key tree → (node : Node) × (node_at slots key ≡ Some node)
+root_of slots key none stands = absurd stands
+root_of slots key (box name style content inner next) stands = (record { name = name; style = style; content = content }, stands.0)
+
+-- after a layout the same tree stands, and what is kept is right
+pub steady : (faces : List (Option Table)) (view : View) (old new : Slab (Entry Preparation)) (root : ℕ) (tree : Boxes) → Stands old.slots root tree → parent_at old.slots root ≡ None
+    → IsSteadyUnder faces view old new root → Stands new.slots root tree × (parent_at new.slots root ≡ None) × AreRightUnder faces view new.slots root
+steady faces view old new root tree stands free under =
+    let own = root_of old.slots root tree stands in
+    let same = under own.0 own.1 in (
+      stands_on old.slots new.slots same.links same.nodes root tree stands,
+      same_parent old.slots new.slots same.links same.nodes root ∙ free,
+      λ node is. (under node (sym (same.nodes root) ∙ is)).right,
+    )

@@ -1,0 +1,58 @@
+-- What a session holds, and the page that it shows.
+use Rattle.std.specs.Prelude.{◌≡◌, ◌⊎◌, List, None, Option, Result, Ok, Err}
+use Rattle.face_api.specs.Table.{Table}
+use Rattle.style_types.specs.declared.value.Declaration.{Declaration}
+use Rattle.style_types.specs.Rule.{Ruling}
+use Rattle.style_types.specs.Tree.{Nodes}
+use Rattle.wm_units.specs.View.{IsView}
+use Rattle.wm_units.specs.declared.view.View.{View}
+use Rattle.html_read.specs.Values.{Node}
+use Rattle.dom_store.specs.State.{IsRooted, IsSaidState, state_of}
+use Rattle.dom_store.specs.Opening.{opened}
+use Rattle.cascade.specs.Index.{index_rules}
+use Rattle.cascade.specs.Winners.{AreSaidRules}
+use Rattle.style_tree.specs.Styling.{styled_document}
+use Rattle.box_gen.specs.Boxes.{root_boxes}
+use Rattle.box_gen.specs.Tree.{Boxes}
+use Rattle.box_arena.specs.At.{parent_at}
+use Rattle.box_arena.specs.Boxes.{Stands}
+use Rattle.relayout.specs.Flow.{layout}
+use Rattle.relayout.specs.Relayout.{AreRightUnder}
+use Rattle.place_map.specs.Placed.{Page}
+use Rattle.place_map.specs.Placing.{place}
+use Rattle.session.specs.declared.error.OpenError.{OpenError}
+use Rattle.session.specs.declared.error.OpenError.TheVariants.{Memory}
+use Rattle.session.specs.declared.session.Session.{Session}
+use Rattle.session.specs.Limits.{CanBeLaidOut}
+use Rattle.session.specs.Opening.{CanOpen, IsRefused}
+
+-- the page of a styled tree: its flow from nothing, carried to the page
+abbrev pub page_of : (faces : List (Option Table)) → View → Nodes → Page
+page_of faces view nodes = place view (layout faces view.inline view.block (root_boxes nodes))
+
+module _ {I : Type 0} {D : I → Type 0} where
+  -- its document as a styled tree, and the boxes of that
+  abbrev pub styled_in : Session I D → Nodes
+  styled_in session = styled_document (index_rules session.rules) (state_of session.document)
+
+  abbrev pub boxes_of : Session I D → Boxes
+  boxes_of session = root_boxes (styled_in session)
+
+  abbrev pub page_in : (faces : List (Option Table)) → Session I D → Page
+  page_in faces session = page_of faces session.view (styled_in session)
+
+  -- what holds of a session with these faces: its boxes stand in its arena and can be laid out, and what is kept there is right
+  pub record IsSound (faces : List (Option Table)) (session : Session I D) : Type 0 where
+    pub rooted : IsRooted (state_of session.document)
+    pub said : IsSaidState (state_of session.document)
+    pub rules : AreSaidRules (index_rules session.rules)
+    pub stands : Stands session.arena.slots session.root (boxes_of session)
+    pub free : parent_at session.arena.slots session.root ≡ None
+    pub fit : CanBeLaidOut (boxes_of session)
+    pub view : IsView session.view
+    pub right : AreRightUnder faces session.view session.arena.slots session.root
+
+  -- the session of a document, or why there is none
+  abbrev pub Opens : List Node → List (List Declaration) → List Ruling → Result (Session I D) OpenError → Type 0
+  Opens nodes own rules (Ok session) = CanOpen nodes own rules × (state_of session.document ≡ opened nodes own) × (index_rules session.rules ≡ rules)
+  Opens nodes own rules (Err error) = (error ≡ Memory) ⊎ IsRefused nodes own rules error

@@ -1,0 +1,63 @@
+//! Why a document can't be opened.
+
+ghost use Rattle.std.specs.Prelude.{◌≡◌};
+ghost use Rattle.dom_store.specs.declared.error.EditError as edit;
+ghost use Rattle.box_gen.specs.declared.error.BoxError as boxes;
+ghost use Rattle.session.specs.Opening.{of_box_error, of_edit_error};
+ghost use Rattle.session.specs.declared.error.OpenError.TheVariants.{Memory};
+
+use box_gen::BoxError;
+use dom_store::EditError;
+use std::alloc::AllocError;
+use thiserror::Error;
+
+/// Why a document can't be opened. A number is that of a node.
+#[derive(Error, Clone, Copy, Debug, PartialEq, Eq)]
+pub enum OpenError {
+    /// More nodes than 65,536 would live: the least number past the limit.
+    #[error("TooManyNodes {0}")]
+    TooManyNodes(u32),
+    /// A node would stand deeper than 64, where `html` is at 1: the least such number.
+    #[error("TooDeep {0}")]
+    TooDeep(u32),
+    /// More than six boxes on a line of ancestors would be orthogonal to their containing blocks: the least number of the
+    /// node of such a box.
+    #[error("TooManyOrthogonal {0}")]
+    TooManyOrthogonal(u32),
+    /// A block-level box would stand in an inline box: the least number of such a node.
+    #[error("BlockInInline {0}")]
+    BlockInInline(u32),
+    #[error("Memory")]
+    Memory,
+}
+
+impl From<EditError> for OpenError {
+    ghost from_gives = { λ error own. own ≡ of_edit_error error };
+
+    fn from(error: EditError) -> OpenError {
+        match error {
+            EditError::TooManyNodes(number) => OpenError::TooManyNodes(number),
+            EditError::TooDeep(number) => OpenError::TooDeep(number),
+            EditError::Memory => OpenError::Memory,
+        }
+    }
+}
+
+impl From<BoxError> for OpenError {
+    ghost from_gives = { λ error own. own ≡ of_box_error error };
+
+    fn from(error: BoxError) -> OpenError {
+        match error {
+            BoxError::BlockInInline(number) => OpenError::BlockInInline(number),
+            BoxError::Memory => OpenError::Memory,
+        }
+    }
+}
+
+impl From<AllocError> for OpenError {
+    ghost from_gives = { λ _ own. own ≡ Memory };
+
+    fn from(_: AllocError) -> OpenError {
+        OpenError::Memory
+    }
+}
