@@ -2,6 +2,7 @@ pub mod Alike
 pub mod CallLemmas
 pub mod Chains
 pub mod Climbs
+pub mod Firsts
 pub mod Joined
 pub mod LinkSteps
 pub mod Planted

@@ -1,7 +1,9 @@
 //! What was laid out for a box, by the constraint it was laid out for.
 
 ghost use Rattle.std.specs.Prelude.{◌≡◌, ◌≢◌, [], Some, OnOk, OnErr, option_copied};
-ghost use Rattle.box_arena.specs.Results.{result_for};
+ghost use Rattle.std.specs.Ordering.{is_eq};
+ghost use Rattle.box_arena.specs.Results as rule;
+ghost use Rattle.box_arena.specs.Results.{result_for, sizes_cmp};
 
 use std::alloc::{AllocError, Global};
 use std::collections::BTreeMap;
@@ -19,10 +21,31 @@ fn sizes_of(c: Constraint) -> Sizes
     (inline, block)
 }
 
-/// Fragments by their constraints, in the constraints' order.
+fn are_same(one: Sizes, other: Sizes) -> bool
+    ensures { result ≡ is_eq (sizes_cmp one other) }
+{
+    one.cmp(&other).is_eq()
+}
+
+// A result with the sizes that it was laid out for.
+type Kept = (Sizes, Fragment);
+
+// Whether what is kept for these sizes stands first: where nothing does, or what is kept for them already.
+fn stands_first(first: &Option<Kept>, sizes: Sizes) -> bool
+    ensures { result ≡ rule.stands_first first.now sizes }
+{
+    match first {
+        Some((own, _)) => are_same(sizes, *own),
+        None => true,
+    }
+}
+
+/// Fragments by their constraints. The first that is kept stands in the box itself, since most boxes are laid out under one
+/// constraint alone.
 #[derive(Drop)]
 pub(crate) struct Results {
-    by_sizes: BTreeMap<Sizes, Fragment>,
+    first: Option<Kept>,
+    others: BTreeMap<Sizes, Fragment>,
 }
 
 impl Model for Results {
@@ -30,12 +53,13 @@ impl Model for Results {
     ghost use Rattle.std.specs.Coded.{codes};
     ghost use Rattle.style_types.specs.contracts.Fragment as fragment;
     ghost use Rattle.style_types.specs.declared.fragment.Fragment.{Fragment};
+    ghost use Rattle.box_arena.specs.Results.{with_first};
 
     ghost Value = { List ((Option ℤ × Option ℤ) × Fragment) };
 
     ghost coded = { Prim.hlevel (codes, fragment.the_row.coded) };
 
-    ghost view = { λ r. r.by_sizes.entries };
+    ghost view = { λ r. with_first r.first r.others.entries };
 }
 
 impl Results {
@@ -44,7 +68,8 @@ impl Results {
         ensures { result ≡ [] }
     {
         Results {
-            by_sizes: BTreeMap::new(alloc),
+            first: None,
+            others: BTreeMap::new(alloc),
         }
     }
 
@@ -52,7 +77,17 @@ impl Results {
     pub(crate) fn get(&self, c: Constraint) -> Option<&Fragment>
         ensures { option_copied result ≡ result_for self.now c }
     {
-        self.by_sizes.get(&sizes_of(c))
+        let sizes = sizes_of(c);
+        match &self.first {
+            Some((own, fragment)) => {
+                if are_same(sizes, *own) {
+                    Some(fragment)
+                } else {
+                    self.others.get(&sizes)
+                }
+            }
+            None => self.others.get(&sizes),
+        }
     }
 
     /// Keeps a fragment for a constraint, in place of what was kept for it.
@@ -61,7 +96,12 @@ impl Results {
         ensures others { OnOk result ((other : Constraint) → other ≢ c → result_for self.new other ≡ result_for self.old other) }
         ensures err { OnErr result (self.new ≡ self.old) }
     {
-        self.by_sizes.insert(sizes_of(c), fragment)?;
+        let sizes = sizes_of(c);
+        if stands_first(&self.first, sizes) {
+            self.first = Some((sizes, fragment));
+        } else {
+            self.others.insert(sizes, fragment)?;
+        }
         Ok(())
     }
 
@@ -69,6 +109,7 @@ impl Results {
     pub(crate) fn clear(&mut self)
         ensures { self.new ≡ [] }
     {
-        self.by_sizes.clear();
+        self.first = None;
+        self.others.clear();
     }
 }

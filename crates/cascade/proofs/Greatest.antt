@@ -1,7 +1,9 @@
 -- The greatest claim of a list, found claim by claim.
 use Rattle.std.proofs.Common.{◌≡◌, ◌≢◌, ◌⊎◌, inl, inr, eqb, ℕ, ◌<◌, ◌≤◌, ◌+◌, Bool, true, false, List, [], ◌∷◌, length, drop, get_or, set, refl, arith, sym, ap, ◌∙◌}
+use Rattle.std.specs.Borrow.{Bor}
 use Rattle.std.specs.Prelude.{Option, None, filter, cond}
-use Rattle.std.proofs.lemmas.List.{drop_all, drop_more, get_or-set_other, length-set}
+use Rattle.std.proofs.Math.ListN.{get_or-map}
+use Rattle.std.proofs.lemmas.List.{drop_all, drop_more, get_or-set_other, length-set, map-set}
 use Rattle.std.proofs.lemmas.Grind.{get_or-set_at}
 use Rattle.std.proofs.lemmas.Bool.Decides.{eqb_tells}
 use Rattle.cascade.specs.declared.claim.Claim.{Claim}
@@ -10,7 +12,7 @@ use Rattle.wm_modes.specs.declared.mode.Direction.{Direction}
 use Rattle.style_types.specs.declared.property.Property.{Property}
 use Rattle.style_types.specs.Page.{page_of}
 use Rattle.style_types.specs.Property.{place_of}
-use Rattle.cascade.specs.Winners.{greater, greatest, greatest_from, greater_if, naming, same_property, AreBest}
+use Rattle.cascade.specs.Winners.{claim_of, claims_of, greater, greatest, greatest_from, greater_if, naming, same_property, AreBest}
 
 by_bool : (b : Bool) (best : Option Claim) (claim : Claim) (others : List Claim)
     → greatest_from best (cond b (claim ∷ others) others) ≡ greatest_from (greater_if b best claim) others
@@ -95,6 +97,16 @@ best_goes_on mode dir claims i d page place best next lt is at below e now =
           (ap (λ (l : List (Option Claim)). get_or l (place_of property) None) new ∙ put best (get_or claims i d) (page_of mode dir (get_or claims i d).property) property lt_)
           (now.1 property),
     )
+
+-- the same for claims that are referred to
+pub best_goes_on_at : (mode : WritingMode) (dir : Direction) (claims : List Claim) (i : ℕ) (d : Claim) (page : Property) (place : ℕ) (best : List (Option (Bor Claim))) (next : Option (Bor Claim))
+    → i < length claims → page ≡ page_of mode dir (get_or claims i d).property → place ≡ place_of page → place < 55 → claim_of next ≡ greater (claim_of (get_or best place None)) (get_or claims i d)
+    → IsBestSoFar mode dir claims i (claims_of best) → IsBestSoFar mode dir claims (i + 1) (claims_of (set best place next))
+best_goes_on_at mode dir claims i d page place best next lt is at below e now =
+    let put_ : claims_of (set best place next) ≡ set (claims_of best) place (claim_of next) = map-set claim_of best place next in
+    let due : claim_of next ≡ greater (get_or (claims_of best) place None) (get_or claims i d) =
+    e ∙ ap (λ (b : Option Claim). greater b (get_or claims i d)) (sym (get_or-map claim_of best place None)) in
+    rw put_ (best_goes_on mode dir claims i d page place (claims_of best) (claim_of next) lt is at below due now)
 
 pub best_ends : (mode : WritingMode) (dir : Direction) (claims : List Claim) (i : ℕ) (best : List (Option Claim))
     → length claims ≤ i → IsBestSoFar mode dir claims i best → AreBest mode dir claims best

@@ -8,6 +8,7 @@ mod NumberOrder
 mod Members
 mod Best
 mod Keys
+mod ReadSaid
 mod SaidClaims
 pub mod SameClaims
 mod GreatestLaws

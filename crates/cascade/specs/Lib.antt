@@ -5,6 +5,7 @@ pub mod Index
 pub mod Line
 pub mod Matching
 pub mod Places
+pub mod Said
 pub mod Sheet
 pub mod Shelves
 pub mod Winners

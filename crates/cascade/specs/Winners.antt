@@ -1,5 +1,6 @@
 -- Which declaration wins. CSS Cascading 4, 6.1; CSS Logical Properties 1, 4; CSS Writing Modes 4, 7.4.
-use Rattle.std.specs.Prelude.{◌≡◌, ◌≢◌, ℕ, Bool, true, false, cond, nat_eq, List, [], ◌∷◌, filter, filter_map, get_or, Option, Some, None, option_map, slice_get}
+use Rattle.std.specs.Prelude.{◌≡◌, ◌≢◌, ℕ, Bool, true, false, cond, nat_eq, List, [], ◌∷◌, filter, filter_map, get_or, map, Option, Some, None, option_map, slice_get}
+use Rattle.std.specs.Borrow.{Bor}
 use Rattle.std.specs.List.{All, Contains}
 use Rattle.wm_modes.specs.declared.mode.WritingMode.{WritingMode}
 use Rattle.wm_modes.specs.declared.mode.Direction.{Direction}
@@ -93,6 +94,12 @@ KeysDiffer list = (place other : ℕ) (one two : Claim) → place ≢ other → 
 abbrev pub greater_if : (counts : Bool) → Option Claim → Claim → Option Claim
 greater_if true best claim = greater best claim
 greater_if false best claim = best
+
+abbrev pub claim_of : Option (Bor Claim) → Option Claim
+claim_of best = option_map (λ claim. claim.now) best
+
+abbrev pub claims_of : List (Option (Bor Claim)) → List (Option Claim)
+claims_of best = map claim_of best
 
 abbrev pub AreBest : WritingMode → Direction → List Claim → (best : List (Option Claim)) → Type 0
 AreBest mode dir list best = (property : Property) → get_or best (place_of property) None ≡ greatest (naming mode dir property list)

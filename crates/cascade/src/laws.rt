@@ -6,6 +6,7 @@ ghost use Rattle.style_types.specs.Rule.{Ruling};
 ghost use Rattle.dom_store.specs.State.{IsSaidState, State, What, line};
 ghost use Rattle.cascade.specs.declared.claim.Claim.{Claim};
 ghost use Rattle.cascade.specs.Claims.{claims};
+ghost use Rattle.cascade.specs.Said.{OwnAreSaid, RulesAreSaid};
 ghost use Rattle.cascade.specs.Winners.{AreSaidRules, AreSaidWinners, IsGreatest, IsSaidLine, KeysDiffer, greatest, winners};
 
 /// No two of the claims of an element have one key, so that of any two one wins.
@@ -26,4 +27,10 @@ pub fn the_greatest_wins()
 pub fn winners_are_said()
     ensures winners { (rules : List Ruling) (line : List What) (parent : Style) → AreSaidRules rules → IsSaidLine line → AreSaidWinners (winners rules line parent) }
     ensures lines { (state : State) (number : ℕ) → IsSaidState state → IsSaidLine (line state number) }
+{}
+
+/// What was read as a style sheet has numbers that one can say: the rules, and each node's own declarations.
+pub fn what_is_read_is_said()
+    ensures rules { RulesAreSaid }
+    ensures own { OwnAreSaid }
 {}

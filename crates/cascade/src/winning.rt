@@ -2,7 +2,7 @@
 
 ghost use Rattle.std.specs.Prelude.{◌≡◌, IfOk, map, option_map};
 ghost use Rattle.cascade.specs.Winners as definitions;
-ghost use Rattle.cascade.specs.Winners.{AreBest};
+ghost use Rattle.cascade.specs.Winners.{AreBest, claim_of, claims_of};
 
 use crate::claim::Claim;
 use std::alloc::{AllocError, Global};
@@ -13,7 +13,7 @@ use style_types::{
 use wm_modes::{Direction, WritingMode};
 
 // A claim, or none, for each property of the table, by its place.
-type Best = [Option<Claim>; 55];
+type Best<'a> = [Option<&'a Claim>; 55];
 
 /// The winner of each property, in the order of the table of properties, among these claims.
 pub(crate) fn winners_among(
@@ -50,7 +50,7 @@ fn first_winner(claims: &[Claim], property: Property) -> Option<Value>
 {
     let mut best = None;
     for claim in claims {
-        best = greater_if(is_same(claim.property, property), best, *claim);
+        best = greater_if(is_same(claim.property, property), best, claim);
     }
     value_of(best)
 }
@@ -61,8 +61,8 @@ fn is_same(one: Property, other: Property) -> bool
     one.place() == other.place()
 }
 
-fn value_of(best: Option<Claim>) -> Option<Value>
-    ensures { result ≡ option_map (λ claim. claim.value) best }
+fn value_of(best: Option<&Claim>) -> Option<Value>
+    ensures { result ≡ option_map (λ claim. claim.value) (claim_of best.entry) }
 {
     match best {
         Some(claim) => Some(claim.value),
@@ -71,8 +71,12 @@ fn value_of(best: Option<Claim>) -> Option<Value>
 }
 
 // The greater of the best so far and a claim, where this one counts.
-fn greater_if(counts: bool, best: Option<Claim>, claim: Claim) -> Option<Claim>
-    ensures { result ≡ definitions.greater_if counts best claim }
+fn greater_if<'a>(
+    counts: bool,
+    best: Option<&'a Claim>,
+    claim: &'a Claim,
+) -> Option<&'a Claim>
+    ensures { claim_of result ≡ definitions.greater_if counts (claim_of best.entry) claim.now }
 {
     match best {
         Some(best) if !counts || !best.key.is_below(claim.key) => Some(best),
@@ -82,20 +86,20 @@ fn greater_if(counts: bool, best: Option<Claim>, claim: Claim) -> Option<Claim>
 }
 
 // The greatest claim for each property of the page.
-fn best_claims(claims: &[Claim], mode: WritingMode, dir: Direction) -> Best
-    ensures { AreBest mode dir claims.now result }
+fn best_claims<'a>(claims: &'a [Claim], mode: WritingMode, dir: Direction) -> Best<'a>
+    ensures { AreBest mode dir claims.now (claims_of result) }
 {
     let mut best = [None; 55];
     for claim in claims {
         let place = page_property(claim.property, mode, dir).place();
-        best[place] = greater_if(true, best[place], *claim);
+        best[place] = greater_if(true, best[place], claim);
     }
     best
 }
 
 // The values of these claims, each under the name of its property of the page, in the order of these rows.
 fn listed(alloc: Global, rows: &[(&str, PropertyRow)], best: &Best) -> Result<Winners, AllocError>
-    ensures { IfOk result (λ w. w.items ≡ definitions.listed_of best.now (map (λ named. named.1) rows.now)) }
+    ensures { IfOk result (λ w. w.items ≡ definitions.listed_of (claims_of best.now) (map (λ named. named.1) rows.now)) }
 {
     let mut winners = Winners::new(alloc);
     for (_, row) in rows {

@@ -1,6 +1,7 @@
 //! A style engine: from the bytes of a document to the style of each of its nodes (docs/STYLE_ENGINE.md).
 
 use cascade::RuleIndex;
+use cascade::laws::what_is_read_is_said;
 use css_sheet::read_styled;
 use css_values::CssError;
 use dom_store::{Document, EditError};
@@ -20,6 +21,7 @@ pub(crate) enum StyleError {
 
 /// The nodes of a document as a tree, each with its style.
 pub(crate) fn style(alloc: Global, bytes: &[u8]) -> Result<StyledNode, StyleError> {
+    what_is_read_is_said();
     let read = read_document(alloc, bytes)?;
     read_tail(bytes, read.end, false)?;
     let styles = read_styled(alloc, &read)?;

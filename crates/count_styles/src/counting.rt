@@ -13,6 +13,7 @@ use crate::error::CountError;
 use crate::stage::Stage;
 use box_gen::boxes;
 use cascade::RuleIndex;
+use cascade::laws::what_is_read_is_said;
 use css_sheet::read_styled;
 use dom_store::Document;
 use html_read::{ReadDocument, ReadNode, read_document};
@@ -21,11 +22,11 @@ use style_tree::styled;
 use style_types::Styled;
 
 /// How many nodes the document of these bytes has, which is taken so far.
-#[tactic(auto, using(crate::proofs::Said::rules_are_said, crate::proofs::Said::own_are_said))]
 pub(crate) fn count(alloc: Global, bytes: &[u8], stage: Stage) -> Result<usize, CountError>
     ensures { IfOk result (λ count. (document : Whole) × IsTheDocument bytes.now document × (count ≡ length document.nodes)) }
 {
     let read = read_document(alloc, bytes)?;
+    what_is_read_is_said();
     let styles = read_styled(alloc, &read)?;
     if stage != Stage::Read {
         take_on(alloc, &read, &styles, stage)?;

@@ -14,7 +14,7 @@ use Rattle.wm_modes.specs.Mode.{is_horizontal}
 use Rattle.wm_units.specs.View.{IsView}
 use Rattle.wm_units.specs.declared.view.View.{View}
 use Rattle.place_map.specs.Frame.{line_mode, of_view, page_by, page_of, root_direction, root_mode}
-use Rattle.place_map.specs.Near.{AreNear}
+use Rattle.place_map.specs.Near.{AreNear, IsNearKind, IsNearPart}
 use Rattle.session.specs.Spread.{SpreadIsNear, reach_of}
 use Rattle.line_place.specs.Spread.{spread, stretch}
 
@@ -72,64 +72,48 @@ near_rect rect most le few = record { i = omega (arith, le, few); b = omega (ari
 
 -- ---- trees
 
+-- a fragment that isn't stretched too far is near, in the flow and on the page
+near_part : (mode : WritingMode) (dir : Direction) (area : Rect) (rect : FlowRect) (kind : Kind) → reach_of area + stretch rect ≤ 2 ^ 60 → IsNearKind kind
+    → IsNearPart (record { mode = mode; dir = dir; area = area }) rect kind
+near_part mode dir area rect kind few content =
+    let page = mapped mode dir area rect in
+    record {
+      here = near_area area (2 ^ 60) (omega (arith, few)) (omega arith);
+      flow = near_rect rect (2 ^ 60) (omega (arith, few)) (omega arith);
+      page = near_area (map_of mode dir area rect) (2 ^ 60) (omega (arith, few, page)) (omega arith);
+      content = content;
+    }
+
 pub spread_is_near : SpreadIsNear
 spread_is_near mode dir area none few = tt
 spread_is_near mode dir area (piece name rect (block mode_ dir_ content definite start end_ through) inner next) few =
     let page = mapped mode dir area rect in
     let content_area = mapped mode dir (map_of mode dir area rect) content in (
-      record {
-        here = near_area area (2 ^ 60) (omega (arith, few)) (omega arith);
-        flow = near_rect rect (2 ^ 60) (omega (arith, few)) (omega arith);
-        page = near_area (map_of mode dir area rect) (2 ^ 60) (omega (arith, few, page)) (omega arith);
-        content = near_rect content (2 ^ 60) (omega (arith, few)) (omega arith);
-      },
+      near_part mode dir area rect (block mode_ dir_ content definite start end_ through) (omega (arith, few)) (near_rect content (2 ^ 60) (omega (arith, few)) (omega arith)),
       spread_is_near mode_ dir_ (map_of mode dir (map_of mode dir area rect) content) inner (omega (arith, few, page, content_area)),
       spread_is_near mode dir area next (omega (arith, few)),
     )
 spread_is_near mode dir area (piece name rect (line index base mode_ baseline) inner next) few =
     let page = mapped mode dir area rect in (
-      record {
-        here = near_area area (2 ^ 60) (omega (arith, few)) (omega arith);
-        flow = near_rect rect (2 ^ 60) (omega (arith, few)) (omega arith);
-        page = near_area (map_of mode dir area rect) (2 ^ 60) (omega (arith, few, page)) (omega arith);
-        content = tt;
-      },
+      near_part mode dir area rect (line index base mode_ baseline) (omega (arith, few)) tt,
       spread_is_near (line_mode mode_) Ltr (map_of mode dir area rect) inner (omega (arith, few, page)),
       spread_is_near mode dir area next (omega (arith, few)),
     )
-spread_is_near mode dir area (piece name rect span inner next) few =
-    let page = mapped mode dir area rect in (
-      record {
-        here = near_area area (2 ^ 60) (omega (arith, few)) (omega arith);
-        flow = near_rect rect (2 ^ 60) (omega (arith, few)) (omega arith);
-        page = near_area (map_of mode dir area rect) (2 ^ 60) (omega (arith, few, page)) (omega arith);
-        content = tt;
-      },
-      spread_is_near mode dir area inner (omega (arith, few)),
-      spread_is_near mode dir area next (omega (arith, few)),
-    )
-spread_is_near mode dir area (piece name rect (run form level natural units) inner next) few =
-    let page = mapped mode dir area rect in (
-      record {
-        here = near_area area (2 ^ 60) (omega (arith, few)) (omega arith);
-        flow = near_rect rect (2 ^ 60) (omega (arith, few)) (omega arith);
-        page = near_area (map_of mode dir area rect) (2 ^ 60) (omega (arith, few, page)) (omega arith);
-        content = tt;
-      },
-      spread_is_near mode dir area inner (omega (arith, few)),
-      spread_is_near mode dir area next (omega (arith, few)),
-    )
-spread_is_near mode dir area (piece name rect (measure least most) inner next) few =
-    let page = mapped mode dir area rect in (
-      record {
-        here = near_area area (2 ^ 60) (omega (arith, few)) (omega arith);
-        flow = near_rect rect (2 ^ 60) (omega (arith, few)) (omega arith);
-        page = near_area (map_of mode dir area rect) (2 ^ 60) (omega (arith, few, page)) (omega arith);
-        content = tt;
-      },
-      spread_is_near mode dir area inner (omega (arith, few)),
-      spread_is_near mode dir area next (omega (arith, few)),
-    )
+spread_is_near mode dir area (piece name rect span inner next) few = (
+  near_part mode dir area rect span (omega (arith, few)) tt,
+  spread_is_near mode dir area inner (omega (arith, few)),
+  spread_is_near mode dir area next (omega (arith, few)),
+)
+spread_is_near mode dir area (piece name rect (run form level natural units) inner next) few = (
+  near_part mode dir area rect (run form level natural units) (omega (arith, few)) tt,
+  spread_is_near mode dir area inner (omega (arith, few)),
+  spread_is_near mode dir area next (omega (arith, few)),
+)
+spread_is_near mode dir area (piece name rect (measure least most) inner next) few = (
+  near_part mode dir area rect (measure least most) (omega (arith, few)) tt,
+  spread_is_near mode dir area inner (omega (arith, few)),
+  spread_is_near mode dir area next (omega (arith, few)),
+)
 
 -- ---- a page
 

@@ -9,6 +9,8 @@ use Rattle.box_arena.specs.declared.entry.Entry.{Entry}
 use Rattle.face_api.specs.Table.{Table}
 use Rattle.para_prepare.specs.Preparation.{Preparation}
 use Rattle.relayout.specs.Relayout.{AreRightUnder, IsSteadyUnder}
+use Rattle.session.specs.State.{IsSound, boxes_of}
+use Rattle.session.specs.declared.session.Session.{Session}
 use Rattle.slab.specs.Slab.{Slab}
 use Rattle.wm_units.specs.declared.view.View.{View}
 
@@ -41,7 +43,7 @@ root_of slots key none stands = absurd stands
 root_of slots key (box name style content inner next) stands = (record { name = name; style = style; content = content }, stands.0)
 
 -- after a layout the same tree stands, and what is kept is right
-pub steady : (faces : List (Option Table)) (view : View) (old new : Slab (Entry Preparation)) (root : ℕ) (tree : Boxes) → Stands old.slots root tree → parent_at old.slots root ≡ None
+steady : (faces : List (Option Table)) (view : View) (old new : Slab (Entry Preparation)) (root : ℕ) (tree : Boxes) → Stands old.slots root tree → parent_at old.slots root ≡ None
     → IsSteadyUnder faces view old new root → Stands new.slots root tree × (parent_at new.slots root ≡ None) × AreRightUnder faces view new.slots root
 steady faces view old new root tree stands free under =
     let own = root_of old.slots root tree stands in
@@ -50,3 +52,25 @@ steady faces view old new root tree stands free under =
       same_parent old.slots new.slots same.links same.nodes root ∙ free,
       λ node is. (under node (sym (same.nodes root) ∙ is)).right,
     )
+
+module _ {I : Type 0} {D : I → Type 0} where
+  -- a session with another arena is sound where its boxes stand in that and what is kept there is right
+  pub sound_on : (faces : List (Option Table)) (session : Session I D) (arena : Slab (Entry Preparation)) → IsSound faces session → Stands arena.slots session.root (boxes_of session)
+      → parent_at arena.slots session.root ≡ None → AreRightUnder faces session.view arena.slots session.root → IsSound faces (record session { arena = arena })
+  sound_on faces session arena sound stands free right = record {
+    rooted = sound.rooted;
+    said = sound.said;
+    rules = sound.rules;
+    stands = stands;
+    free = free;
+    fit = sound.fit;
+    view = sound.view;
+    right = right;
+  }
+
+  -- so it is after a layout
+  pub steady_sound : (faces : List (Option Table)) (session : Session I D) (arena : Slab (Entry Preparation)) → IsSound faces session
+      → IsSteadyUnder faces session.view session.arena arena session.root → IsSound faces (record session { arena = arena })
+  steady_sound faces session arena sound under =
+      let all = steady faces session.view session.arena arena session.root (boxes_of session) sound.stands sound.free under in
+      sound_on faces session arena sound all.0 all.1 all.2

@@ -16,6 +16,7 @@ ghost use Rattle.wm_run.specs.Job.{IsDueOfDocument, IsDueOfStyles, IsDueOfTail, 
 ghost use Rattle.wm_run.specs.Layout.{IsReadDocument};
 
 use crate::due::Due;
+use cascade::laws::what_is_read_is_said;
 use css_sheet::read_styled;
 use css_values::CssError;
 use face_api::{Face, Faces};
@@ -71,7 +72,6 @@ fn whole_input<L: Ledger, M: Ledger>(
 }
 
 // The page of a document with its style sheets and style attributes.
-#[tactic(auto, using(crate::proofs::Said::rules_are_said, crate::proofs::Said::own_are_said))]
 fn document<L: Ledger, M: Ledger>(
     alloc: Global,
     view: View,
@@ -84,6 +84,7 @@ fn document<L: Ledger, M: Ledger>(
     requires read { IsReadDocument read.now }
     ensures { IfOk result (λ due. IsDueAlone (IsDueOfWhole (faces_of ⟦<dyn Face as Face>⟧ faces) view (whole_of read.now)) due) }
 {
+    what_is_read_is_said();
     match read_styled(alloc, read) {
         Ok(styles) => with_styles(alloc, view, faces, read, &styles, prepared, arranged),
         Err(CssError::Refused { kind, place }) => Ok(Due::no_styles(kind, place)),

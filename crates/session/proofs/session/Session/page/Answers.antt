@@ -2,24 +2,12 @@ use Rattle.face_api.specs.Faces.{faces_of}
 use Rattle.style_types.specs.Fragment.{kind_of, piece_of}
 use Rattle.style_types.specs.declared.fragment.Fragment.{out-Fragment}
 use Rattle.session.proofs.Near.{view_near}
-use Rattle.session.proofs.Standing.{steady}
+use Rattle.session.proofs.Standing.{steady_sound}
 use Rattle.session.proofs.session.Session.page.Goals as goal
 
 pub returns-in_err-root-clause-sound : goal.returns-in_err-root-clause-sound
 returns-in_err-root-clause-sound g c =
-    let sound = c.requires.sound in
-    let faces = faces_of (λ vtable. (g.dyn-1.0.entry vtable).1) c.args.self.now.faces in
-    let all = steady faces c.args.self.now.view c.args.self.now.arena c.relayout.new.arena c.args.self.now.root _ sound.stands sound.free c.relayout.ensures.steady in
-    record {
-      rooted = sound.rooted;
-      said = sound.said;
-      rules = sound.rules;
-      stands = all.0;
-      free = all.1;
-      fit = sound.fit;
-      view = sound.view;
-      right = all.2;
-    }
+    steady_sound (faces_of (λ vtable. (g.dyn-1.0.entry vtable).1) c.args.self.now.faces) c.args.self.now c.relayout.new.arena c.requires.sound c.relayout.ensures.steady
 
 pub place-requires : goal.place-requires
 place-requires g c = record {
@@ -28,32 +16,8 @@ place-requires g c = record {
 
 pub returns-in_err-placed-clause-sound : goal.returns-in_err-placed-clause-sound
 returns-in_err-placed-clause-sound g c =
-    let sound = c.requires.sound in
-    let faces = faces_of (λ vtable. (g.dyn-1.0.entry vtable).1) c.args.self.now.faces in
-    let all = steady faces c.args.self.now.view c.args.self.now.arena c.relayout.new.arena c.args.self.now.root _ sound.stands sound.free c.relayout.ensures.steady in
-    record {
-      rooted = sound.rooted;
-      said = sound.said;
-      rules = sound.rules;
-      stands = all.0;
-      free = all.1;
-      fit = sound.fit;
-      view = sound.view;
-      right = all.2;
-    }
+    steady_sound (faces_of (λ vtable. (g.dyn-1.0.entry vtable).1) c.args.self.now.faces) c.args.self.now c.relayout.new.arena c.requires.sound c.relayout.ensures.steady
 
 pub returns-clause-sound : goal.returns-clause-sound
 returns-clause-sound g c =
-    let sound = c.requires.sound in
-    let faces = faces_of (λ vtable. (g.dyn-1.0.entry vtable).1) c.args.self.now.faces in
-    let all = steady faces c.args.self.now.view c.args.self.now.arena c.relayout.new.arena c.args.self.now.root _ sound.stands sound.free c.relayout.ensures.steady in
-    record {
-      rooted = sound.rooted;
-      said = sound.said;
-      rules = sound.rules;
-      stands = all.0;
-      free = all.1;
-      fit = sound.fit;
-      view = sound.view;
-      right = all.2;
-    }
+    steady_sound (faces_of (λ vtable. (g.dyn-1.0.entry vtable).1) c.args.self.now.faces) c.args.self.now c.relayout.new.arena c.requires.sound c.relayout.ensures.steady

@@ -1,0 +1,128 @@
+//! A document that is shown twice, with a face that counts how often it is asked.
+
+ghost use Rattle.std.specs.Prelude.{◌≡◌, ◌≤◌, ◌<◌, length};
+ghost use Rattle.face_api.specs.Kinds.{wide_table};
+
+use cascade::laws::what_is_read_is_said;
+use css_sheet::read_styled;
+use face_api::{Face, FaceError, Faces, Metrics, WideFace};
+use html_read::read_document;
+use io_edge::SteadySink;
+use listing::write_listing;
+use place_map::Placed;
+use session::Session;
+use std::alloc::Global;
+use std::cell::Cell;
+use std::marker::Brand;
+use std::rc::Rc;
+use std::sync::ledger::{Blank, Ledger};
+use std::test::Fail;
+use wm_units::{Steps, View};
+
+const TURNED: &[u8] = b"<html><body><p>one two <span style=\"display:inline-block;writing-mode:vertical-rl\">three \xe5\x9b\x9b</span></p><div style=\"writing-mode:vertical-lr\">five six</div></body></html>";
+
+const VIEW: View = View {
+    inline: 20480,
+    block: 38400,
+};
+
+/// A face of squares that counts how often it is asked.
+#[derive(Drop)]
+struct AskedFace {
+    face: WideFace,
+    asked: Rc<Cell<u32>>,
+}
+
+impl AskedFace {
+    fn count(&self) {
+        self.asked.set(self.asked.get().wrapping_add(1));
+    }
+}
+
+impl Face for AskedFace {
+    ghost table = { λ _. wide_table };
+
+    fn metrics(&self) -> Metrics {
+        self.count();
+        self.face.metrics()
+    }
+
+    fn advance(&self, c: char, upright: bool) -> u32 {
+        self.count();
+        self.face.advance(c, upright)
+    }
+
+    fn set(&mut self, c: char, upright: bool, value: u32) -> Result<(), FaceError> {
+        self.face.set(c, upright, value)
+    }
+}
+
+/// Two listings, one after the other, and how often the face had been asked when each was laid out.
+#[derive(Drop)]
+struct Twice {
+    listings: (SteadySink, SteadySink),
+    asked: (u32, u32),
+}
+
+fn listed(alloc: Global, page: &Placed) -> Result<SteadySink, Fail> {
+    let mut sink = SteadySink::new(alloc);
+    write_listing(page, &mut sink)?;
+    Ok(sink)
+}
+
+// A document that can be opened, shown twice; `None` where it can't.
+fn shown_twice<L: Ledger, M: Ledger>(
+    alloc: Global,
+    input: &[u8],
+    first: Blank,
+    second: Blank,
+) -> Result<Option<Twice>, Fail>
+    requires short { length input.now ≤ 1048576 }
+    requires first_name { first.name ≡ L.name }
+    requires first_parts { first.parts ≡ L.parts }
+    requires first_some { 0 < first.parts }
+    requires second_name { second.name ≡ M.name }
+    requires second_parts { second.parts ≡ M.parts }
+    requires second_some { 0 < second.parts }
+{
+    what_is_read_is_said();
+    let asked = Rc::new(alloc, Cell::new(0))?;
+    let face = AskedFace {
+        face: WideFace::new(),
+        asked: asked.clone()?,
+    };
+    let mut own: Vec<Box<dyn Face>> = Vec::new(alloc);
+    own.push(Box::new(alloc, face)?)?;
+    let faces = Faces::new(alloc, own)?;
+    let Ok(read) = read_document(alloc, input) else {
+        return Ok(None);
+    };
+    let Ok(styles) = read_styled(alloc, &read) else {
+        return Ok(None);
+    };
+    let Ok(mut session) = Session::open(alloc, &read, &styles, faces, VIEW) else {
+        return Ok(None);
+    };
+    let mut prepared = Steps::<L>::open(first);
+    let mut arranged = Steps::<M>::open(second);
+    let page = session.show(&mut prepared, &mut arranged)?;
+    let asked_first = asked.get();
+    let again = session.show(&mut prepared, &mut arranged)?;
+    Ok(Some(Twice {
+        listings: (listed(alloc, &page)?, listed(alloc, &again)?),
+        asked: (asked_first, asked.get()),
+    }))
+}
+
+/// What is laid out is kept: the second page is the first one, and no face is asked for it.
+#[test]
+fn a_second_show_asks_no_face(rt: HostRuntime) -> Result<(), Fail> {
+    let shown = shown_twice::<Brand, Brand>(rt.alloc(), TURNED, Blank::new(1), Blank::new(1))?;
+    assert!(rt; shown.is_some());
+    if let Some(twice) = shown {
+        assert_eq!(rt; twice.listings.0.bytes(), twice.listings.1.bytes());
+        assert_eq!(rt; twice.asked.0, twice.asked.1);
+        assert!(rt; twice.asked.0 > 0);
+    }
+    Ok(())
+}
