@@ -1,7 +1,6 @@
 -- A result that stands before the others.
-use Rattle.std.proofs.Common.{◌≡◌, ◌≢◌, ◌∙◌, Bool, true, false, cond, Option, Some, None, refl, sym, ap, subst}
+use Rattle.std.proofs.Common.{◌≡◌, ◌≢◌, ◌∙◌, true, false, cond, Option, Some, None, sym, ap, subst}
 use Rattle.std.specs.Prelude.{ℤ}
-use Rattle.std.specs.Map.{lookup}
 use Rattle.std.specs.Ordering.{is_eq}
 use Rattle.std.proofs.lemmas.Map.Entries.{lookup_tail}
 use Rattle.style_types.specs.declared.constraint.Constraint.{Constraint}

@@ -71,11 +71,7 @@ fn value_of(best: Option<&Claim>) -> Option<Value>
 }
 
 // The greater of the best so far and a claim, where this one counts.
-fn greater_if<'a>(
-    counts: bool,
-    best: Option<&'a Claim>,
-    claim: &'a Claim,
-) -> Option<&'a Claim>
+fn greater_if<'a>(counts: bool, best: Option<&'a Claim>, claim: &'a Claim) -> Option<&'a Claim>
     ensures { claim_of result ≡ definitions.greater_if counts (claim_of best.entry) claim.now }
 {
     match best {
