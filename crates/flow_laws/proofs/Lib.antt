@@ -1,0 +1,6 @@
+pub mod ConstraintLaws
+mod Examples
+pub mod MarginLaws
+pub mod PlacingLaws
+pub mod StackLaws
+pub mod StandingLaws

@@ -1,0 +1,4 @@
+pub mod Constraint
+pub mod Margins
+pub mod Placing
+pub mod Standing
