@@ -37,14 +37,20 @@ use Rattle.para_lines.specs.Filling.{fill_items}
 use Rattle.para_lines.specs.Lines.{paragraph_lines}
 use Rattle.unicode_segmentation.proofs.Computing.{unicode_segmentation}
 use Rattle.size_rules.specs.Equation.{or_zero, rest, start_margin}
-use Rattle.style_types.specs.Fragment.{Kind, block, none, piece}
+use Rattle.style_types.specs.Fragment.{Kind, block, none, piece, Pieces}
 use Rattle.box_arena.specs.At.{Node}
-use Rattle.box_gen.specs.Tree.{Boxes, none as no_boxes, box, blocks}
+use Rattle.box_gen.specs.Tree.{Boxes, none as no_boxes, box, blocks, inline}
 use Rattle.relayout.specs.Boxed.{block_box, border_box, boxed, content_area, handed_on, measured}
 use Rattle.relayout.specs.Content.{filled, paragraph, stack}
-use Rattle.relayout.specs.Flow.{asked, flow_step, laid_out, layout}
-use Rattle.relayout.specs.Inline.{equation_of, inline_place, inline_size, known_size, shrunk}
+use Rattle.relayout.specs.Flow.{asked, flow_step, laid_out, layout, members}
+use Rattle.relayout.specs.Inline.{equation_of, inline_place, inline_size, known_size, shrunk, Outside}
 use Rattle.relayout.specs.Intrinsic.{contribution, inner}
+use Rattle.relayout.specs.Flowed.{Flowed}
+use Rattle.relayout.specs.Sizes.{containing_of}
+use Rattle.style_types.specs.declared.constraint.Constraint.{Constraint}
+use Rattle.wm_modes.specs.declared.rects.FlowRect.{FlowRect}
+use Rattle.flow_laws.proofs.AtomLaws.{inline_blocks_are_moved_alone}
+use Rattle.flow_laws.specs.Placing.{AreBoxesOf, come_to, given}
 use Rattle.flow_laws.specs.Constraint.{Met, behind, comes_to, fragment_on, here, inside, outside_of}
 use Rattle.flow_laws.specs.Margins.{FillsInline}
 use Rattle.flow_laws.specs.Standing.{AreLinesInside, StandBetween}
@@ -108,7 +114,7 @@ narrow_fills : FillsInline from_right narrow.style (pos 12800) (pos 6400)
 unfolding flow_step asked measured laid_out boxed border_box content_area block_box handed_on contribution inner shrunk equation_of inline_size known_size inline_place stack filled initial or_zero rest start_margin
 narrow_fills = fills_containing_block (outside_of no_faces (pos 12800) (pos 9600) one) from_right narrow [] (pos 12800) None refl
 
-narrow_sum : (pos 200 +ℤ pos 6400) +ℤ pos 6200 ≡ pos 12800
+narrow_sum : pos 200 +ℤ pos 6400 +ℤ pos 6200 ≡ pos 12800
 unfolding equation_of inline_place initial or_zero rest start_margin
 narrow_sum = narrow_fills.whole
 
@@ -174,3 +180,33 @@ high = lines_stand_inside faces (record { node = 0; ordinal = 0 }) plain (pos 12
 one_line : (paragraph faces (record { node = 0; ordinal = 0 }) plain (pos 12800) text []).extent ≡ pos 1024
 unfolding paragraph paragraph_lines fill_items box_at chains leaves line_marks preparation parts marks taking_part bidi_texts inside_boxes visual_order reset order paragraph_levels explicit_levels explicit_classes isolating_runs weak resolved sequence_classes sequence_levels units_of unit_clusters advance_of used_table row_of bidi_class break_class orientation mirror bracket initial unicode_segmentation
 one_line = refl
+
+-- ---- an inline-block on a line: 64 from the line's left, as large as it came
+
+abbrev square : Boxes
+square = box (record { node = 2; ordinal = 0 }) (record initial { display = displays.InlineBlock; width = sizes.Length (pos 640); height = sizes.Length (pos 320); margin = record { top = sizes.Auto; right = sizes.Auto; bottom = sizes.Auto; left = sizes.Length (pos 64) } }) blocks no_boxes no_boxes
+
+abbrev holder : Node
+holder = record { name = record { node = 1; ordinal = 0 }; style = plain; content = inline (item.atom (record { node = 2; ordinal = 0 }) ∷ []) }
+
+abbrev page : Outside
+page = record { faces = faces; view = record { across = pos 12800; down = pos 9600 } }
+
+abbrev wide : Constraint
+wide = record { inline = Some (pos 12800); block = None }
+
+abbrev held : Flowed
+held = flow_step page (containing_of plain) holder (members page (containing_of plain) square) wide
+
+squares : AreBoxesOf (come_to (given page plain holder wide (members page (containing_of plain) square)) (members page (containing_of plain) square)) held.part.inner
+unfolding initial
+squares = inline_blocks_are_moved_alone page plain holder.name plain (item.atom (record { node = 2; ordinal = 0 }) ∷ []) square wide refl
+
+abbrev rect_of : Pieces → FlowRect
+rect_of none = record { i = pos 0; b = pos 0; inline = pos 0; block = pos 0 }
+rect_of (piece name rect kind (piece n own k inner others) next) = own
+rect_of (piece name rect kind none next) = rect
+
+on_line : rect_of held.part.inner ≡ record { i = pos 64; b = pos 448; inline = pos 640; block = pos 320 }
+unfolding flow_step asked measured laid_out boxed border_box content_area block_box handed_on contribution inner shrunk equation_of inline_size known_size inline_place stack filled initial or_zero rest start_margin paragraph paragraph_lines fill_items box_at chains leaves line_marks preparation parts marks taking_part bidi_texts inside_boxes visual_order reset order paragraph_levels explicit_levels explicit_classes isolating_runs weak resolved sequence_classes sequence_levels units_of unit_clusters advance_of used_table row_of bidi_class break_class orientation mirror bracket unicode_segmentation
+on_line = refl

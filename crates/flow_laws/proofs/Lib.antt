@@ -1,3 +1,4 @@
+pub mod AtomLaws
 pub mod ConstraintLaws
 mod Examples
 pub mod MarginLaws

@@ -143,7 +143,7 @@ extent_is outside parent node ms inline handed is =
 
 -- ---- the equation
 
-sum_is : (inline edges size first extent : ℤ) → extent ≡ size +ℤ edges → (first +ℤ extent) +ℤ (inline -ℤ edges -ℤ size -ℤ first) ≡ inline
+sum_is : (inline edges size first extent : ℤ) → extent ≡ size +ℤ edges → first +ℤ extent +ℤ (inline -ℤ edges -ℤ size -ℤ first) ≡ inline
 sum_is inline edges size first extent is = omega (arith, ints)
 
 room_is : (inline edges size extent : ℤ) → extent ≡ size +ℤ edges → inline -ℤ edges -ℤ size ≡ inline -ℤ extent
@@ -153,11 +153,11 @@ room_is inline edges size extent is = omega (arith, ints)
 by_equation : (inline edges extent place : ℤ) (size : Option ℤ) (min : ℤ) (max start finish : Option ℤ)
     → let used = equation.equation inline edges size min max start finish in
     place ≡ used.start → extent ≡ used.size +ℤ edges
-    → ((place +ℤ extent) +ℤ used.end ≡ inline) × AreUsed start finish (inline -ℤ extent) place used.end
+    → (place +ℤ extent +ℤ used.end ≡ inline) × AreUsed start finish (inline -ℤ extent) place used.end
 unfolding equation.rest equation.or_zero
 by_equation inline edges extent place size min max start finish at is =
     let used = equation.equation inline edges size min max start finish in
-    let P : ℤ → Type 0 = λ z. ((z +ℤ extent) +ℤ used.end ≡ inline) × AreUsed start finish (inline -ℤ extent) z used.end in
+    let P : ℤ → Type 0 = λ z. (z +ℤ extent +ℤ used.end ≡ inline) × AreUsed start finish (inline -ℤ extent) z used.end in
     let Q : ℤ → Type 0 = λ room. AreUsed start finish room used.start used.end in
     subst P (sym at) (
       sum_is inline edges used.size used.start extent is,

@@ -16,7 +16,7 @@ use Rattle.relayout.specs.Flowed.{Flowed, Laid, Member, Part}
 use Rattle.relayout.specs.Inline.{Outside, inline_size}
 use Rattle.relayout.specs.Sizes.{containing_of, is_parallel}
 use Rattle.relayout.specs.Step.{is_measured}
-use Rattle.flow_laws.specs.Placing.{AtomsAreMovedAlone, BoxesAreMovedAlone, ComeAtZero, at_origin, at_zero, come_to, given, wherever}
+use Rattle.flow_laws.specs.Placing.{BoxesAreMovedAlone, ComeAtZero, at_origin, at_zero, come_to, given, wherever}
 
 -- ---- at 0
 
@@ -64,7 +64,7 @@ set_down_wherever : (own : Style) (size : ℤ) (laid : List Laid) (s : Progress)
 set_down_wherever own size [] s = refl
 set_down_wherever own size (l ∷ ls) s = cons_is _ _ _ _ refl (set_down_wherever own size ls (after s (child_of l)))
 
-parts_under : (c : Constraint) (ms : List Member) → map own_part (map (laid_under c) ms) ≡ come_to c ms
+pub parts_under : (c : Constraint) (ms : List Member) → map own_part (map (laid_under c) ms) ≡ come_to c ms
 parts_under c [] = refl
 parts_under c (m ∷ ms) = cons_is _ _ _ _ refl (parts_under c ms)
 
@@ -92,6 +92,3 @@ boxes_are_moved_alone outside parent name style inner c is =
     ap (λ (f : Part). wherever f.inner) (ap (λ (f : Flowed). f.part) (step_laid outside parent node inside c is))
     ∙ laid_parts outside parent name style c inside
     ∙ come_at_zero outside style inner (given outside parent node c inside)
-
-pub atoms_are_moved_alone : AtomsAreMovedAlone
-atoms_are_moved_alone paragraph size laid i b next = refl

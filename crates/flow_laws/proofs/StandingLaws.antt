@@ -193,7 +193,7 @@ filled_stands faces name style joins size blocks laid tells up = stack_stands st
 filled_stands faces name style joins size (inline entries) laid tells up =
     stand_in_lines faces (record { name = name; style = style; size = size }) entries (prepared faces style entries) (map (atom_in style size) laid) up
 
-laid_tell : (outside : Outside) (parent : Style) (boxes : Boxes) (size : ℤ) (handed : Option ℤ)
+pub laid_tell : (outside : Outside) (parent : Style) (boxes : Boxes) (size : ℤ) (handed : Option ℤ)
     → All HasOwnMargins (map (laid_under (record { inline = Some size; block = handed })) (members outside (containing_of parent) boxes))
 laid_tell outside parent no_boxes size handed = All-nil HasOwnMargins
 laid_tell outside parent (box name style content inner next) size handed =

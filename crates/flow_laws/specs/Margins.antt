@@ -1,5 +1,5 @@
 -- The inline axis of a block-level box in its containing block. CSS 2, 10.3.3, where left and right are the inline-start and inline-end sides.
-use Rattle.std.specs.Prelude.{◌≡◌, true, List, Option, Some, None, unwrap_or, ℤ, pos, ◌+ℤ◌, ◌-ℤ◌, ◌≤ℤ◌}
+use Rattle.std.specs.Prelude.{◌≡◌, true, List, Option, Some, None, unwrap_or, ℤ, pos, ◌+ℤ◌, ◌-ℤ◌, ◌≤ℤ◌, ◌<ℤ◌}
 use Rattle.style_types.specs.declared.style.Style.{Style}
 use Rattle.box_arena.specs.At.{Node}
 use Rattle.relayout.specs.Edges.{inner_edges_along}
@@ -25,13 +25,13 @@ pub record AreUsed (start finish : Option ℤ) (room start_used finish_used : �
   -- two auto margins are equal, but for a unit that can't be halved
   pub both_auto : start ≡ None → finish ≡ None → pos 0 ≤ℤ room → (start_used ≤ℤ finish_used) × (finish_used ≤ℤ (start_used +ℤ pos 1))
   -- where too little is left, an auto margin at inline-start is 0
-  pub none_left : (left_in room start finish +ℤ pos 1) ≤ℤ pos 0 → start_used ≡ or_zero start
+  pub none_left : left_in room start finish <ℤ pos 0 → start_used ≡ or_zero start
   -- where nothing is left, all are used as they are, auto ones as 0
   pub all_taken : left_in room start finish ≡ pos 0 → (start_used ≡ or_zero start) × (finish_used ≡ or_zero finish)
 
 -- a border box of this inline size, from where its parent puts it to its containing block's inline-end edge
 pub record FillsInline (parent style : Style) (inline extent : ℤ) : Type 0 where
-  pub whole : (inline_place (containing_of parent) inline style extent +ℤ extent) +ℤ (equation_of (containing_of parent) style inline).end ≡ inline
+  pub whole : inline_place (containing_of parent) inline style extent +ℤ extent +ℤ (equation_of (containing_of parent) style inline).end ≡ inline
   pub margins : AreUsed (start_margin (containing_of parent) style inline) (end_margin (containing_of parent) style inline) (inline -ℤ extent)
       (inline_place (containing_of parent) inline style extent) (equation_of (containing_of parent) style inline).end
 

@@ -1,17 +1,16 @@
 -- What a box does with what the boxes in it come to: it puts each somewhere, and changes nothing else. CSS 2, 9.4.1; CSS Writing Modes 4, 7.
-use Rattle.std.specs.Prelude.{◌≡◌, false, List, [], ◌∷◌, map, Some, ℤ, pos}
+use Rattle.std.specs.Prelude.{◌≡◌, ⊤, ◌⊎◌, false, List, [], ◌∷◌, map, Some, pos}
 use Rattle.wm_modes.specs.declared.rects.FlowRect.{FlowRect}
 use Rattle.style_types.specs.declared.constraint.Constraint.{Constraint}
 use Rattle.style_types.specs.declared.item.BoxName.{BoxName}
 use Rattle.style_types.specs.declared.style.Style.{Style}
-use Rattle.style_types.specs.Fragment.{Pieces, none, piece}
+use Rattle.style_types.specs.Fragment.{block, line, measure, run, span, Pieces, none, piece}
+use Rattle.style_types.specs.Item.{Entry}
 use Rattle.box_arena.specs.At.{Node}
-use Rattle.box_gen.specs.Tree.{Boxes, blocks}
-use Rattle.line_place.specs.Placing.{atom_at}
-use Rattle.relayout.specs.Atoms.{atom_in}
+use Rattle.box_gen.specs.Tree.{Boxes, blocks, inline}
 use Rattle.relayout.specs.Boxed.{handed_on}
 use Rattle.relayout.specs.Flow.{flow_step, members}
-use Rattle.relayout.specs.Flowed.{Laid, Member, Part, at}
+use Rattle.relayout.specs.Flowed.{Member, Part}
 use Rattle.relayout.specs.Inline.{Outside, inline_size}
 use Rattle.relayout.specs.Sizes.{containing_of}
 use Rattle.relayout.specs.Step.{is_measured}
@@ -52,6 +51,25 @@ BoxesAreMovedAlone = (outside : Outside) (parent : Style) (name : BoxName) (styl
     let inside = members outside (containing_of style) inner in
     wherever (flow_step outside (containing_of parent) node inside c).part.inner ≡ come_to (given outside parent node c inside) inside
 
--- an inline-block, as its paragraph hands it to a line, is put somewhere by it, and nothing else of it changes
-abbrev pub AtomsAreMovedAlone : Type 0
-AtomsAreMovedAlone = (paragraph : Style) (size : ℤ) (laid : Laid) (i b : ℤ) (next : Pieces) → atom_at i b (atom_in paragraph size laid).fragment next ≡ at i b laid.flowed.part next
+-- it is one of these
+abbrev pub IsOneOf : List Part → Part → Type 0
+IsOneOf [] part = ⊥
+IsOneOf (own ∷ others) part = (part ≡ own) ⊎ IsOneOf others part
+
+-- each box among these fragments, and in the lines, inline boxes and texts among them, is one of those, wherever it stands
+abbrev pub AreBoxesOf : List Part → Pieces → Type 0
+AreBoxesOf parts none = ⊤
+AreBoxesOf parts (piece name rect (block mode dir content definite start end_ through) inner next) =
+    IsOneOf parts (at_zero (record { name = name; rect = rect; kind = block mode dir content definite start end_ through; inner = inner })) × AreBoxesOf parts next
+AreBoxesOf parts (piece name rect (line index base mode baseline) inner next) = AreBoxesOf parts inner × AreBoxesOf parts next
+AreBoxesOf parts (piece name rect span inner next) = AreBoxesOf parts inner × AreBoxesOf parts next
+AreBoxesOf parts (piece name rect (run form level natural units) inner next) = AreBoxesOf parts inner × AreBoxesOf parts next
+AreBoxesOf parts (piece name rect (measure min max) inner next) = ⊥
+
+-- the inline-blocks on the lines of a box that holds a paragraph are, wherever they stand, among what its boxes come to under the constraint
+-- that it gives them
+abbrev pub InlineBlocksAreMovedAlone : Type 0
+InlineBlocksAreMovedAlone = (outside : Outside) (parent : Style) (name : BoxName) (style : Style) (entries : List Entry) (inner : Boxes) (c : Constraint) → is_measured (containing_of parent) style c ≡ false
+    → let node : Node = record { name = name; style = style; content = inline entries } in
+    let inside = members outside (containing_of style) inner in
+    AreBoxesOf (come_to (given outside parent node c inside) inside) (flow_step outside (containing_of parent) node inside c).part.inner
