@@ -45,7 +45,7 @@ use Rattle.relayout.specs.Sizes.{block_sizes, containing_of, hold, is_atom, is_p
 use Rattle.relayout.proofs.ContentLaws.{chained}
 use Rattle.relayout.proofs.FlowLaws.{step_margins}
 use Rattle.flow_laws.specs.Placing.{given}
-use Rattle.flow_laws.specs.Standing.{AreAsHigh, AutoIsAsContent, ContentStandsInside, HasNoNegative, HaveNoNegative, LinesStandInside, StandBetween, content_of, ends_at, own_block_size, strut_height}
+use Rattle.flow_laws.specs.Standing.{AreAsHigh, AutoIsAsContent, ContentStandsInside, EachIsInside, EndsBefore, InOrderIsInside, HasNoNegative, HaveNoNegative, LinesStandInside, StandBetween, content_of, ends_at, own_block_size, strut_height}
 use Rattle.flow_laws.proofs.PlacingLaws.{step_laid}
 use Rattle.flow_laws.proofs.StackLaws.{HasOwnMargins, stack_stands}
 
@@ -88,6 +88,46 @@ stacked_stand (piece name rect kind inner next) from y low stacked up =
           (stacked_stand next (ends_at kind from rect) (y +ℤ rect.block)
           (end_there (ends_at kind from rect) rect.b rect.block y (ends_before kind rect from there (low_of kind rect up.0)) stacked.0) stacked.1 up.1),
     )
+
+-- ---- each of them
+
+both_low : (a b c : ℤ) → a ≤ℤ b → b ≤ℤ c → a ≤ℤ c
+both_low a b c low high = omega (arith, ints)
+
+ends_behind : (kind : Kind) (rect : FlowRect) (from : ℤ) → from ≤ℤ rect.b → pos 0 ≤ℤ rect.block → from ≤ℤ ends_at kind from rect
+ends_behind (block mode dir content base start end_ true) rect from low up = omega (arith, ints)
+ends_behind (block mode dir content base start end_ false) rect from low up = omega (arith, ints)
+ends_behind (line_kind index base mode baseline) rect from low up = omega (arith, ints)
+ends_behind span rect from low up = omega (arith, ints)
+ends_behind (run form level natural units) rect from low up = omega (arith, ints)
+ends_behind (measure min max) rect from low up = omega (arith, ints)
+
+in_order : (ps : Pieces) (from to : ℤ) → HaveNoNegative ps → StandBetween from to ps → from ≤ℤ to
+in_order none from to up stand = stand
+in_order (piece name rect kind inner next) from to up stand =
+    both_low from (ends_at kind from rect) to (ends_behind kind rect from stand.0 (low_of kind rect up.0)) (in_order next (ends_at kind from rect) to up.1 stand.1)
+
+before_end : (kind : Kind) (rect : FlowRect) (from to : ℤ) → ends_at kind from rect ≤ℤ to → EndsBefore to rect kind
+before_end (block mode dir content base start end_ true) rect from to high = λ is. absurd (cc)
+before_end (block mode dir content base start end_ false) rect from to high = λ is. high
+before_end (line_kind index base mode baseline) rect from to high = high
+before_end span rect from to high = high
+before_end (run form level natural units) rect from to high = high
+before_end (measure min max) rect from to high = high
+
+each_inside : (ps : Pieces) (low from to : ℤ) → low ≤ℤ from → HaveNoNegative ps → StandBetween from to ps → EachIsInside low to ps
+each_inside none low from to less up stand = tt
+each_inside (piece name rect kind inner next) low from to less up stand = (
+  both_low low from rect.b less stand.0,
+  before_end kind rect from to (in_order next (ends_at kind from rect) to up.1 stand.1),
+  each_inside next low (ends_at kind from rect) to (both_low low from (ends_at kind from rect) less (ends_behind kind rect from stand.0 (low_of kind rect up.0))) up.1 stand.1,
+)
+
+same_low : (z : ℤ) → z ≤ℤ z
+same_low z = omega (arith, ints)
+
+pub in_order_is_inside : InOrderIsInside
+in_order_is_inside from to pieces up stand = each_inside pieces from from to (same_low from) up stand
 
 -- ---- how high lines are
 

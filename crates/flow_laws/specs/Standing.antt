@@ -47,6 +47,23 @@ abbrev pub HaveNoNegative : Pieces → Type 0
 HaveNoNegative none = ⊤
 HaveNoNegative (piece name rect kind inner next) = HasNoNegative rect kind × HaveNoNegative next
 
+-- it ends there at the latest, unless it is collapsed through
+abbrev pub EndsBefore : (to : ℤ) → FlowRect → Kind → Type 0
+EndsBefore to rect (block mode dir content definite start end_ through) = through ≡ false → (rect.b +ℤ rect.block) ≤ℤ to
+EndsBefore to rect (line index base mode baseline) = (rect.b +ℤ rect.block) ≤ℤ to
+EndsBefore to rect span = (rect.b +ℤ rect.block) ≤ℤ to
+EndsBefore to rect (run form level natural units) = (rect.b +ℤ rect.block) ≤ℤ to
+EndsBefore to rect (measure min max) = (rect.b +ℤ rect.block) ≤ℤ to
+
+-- each fragment stands between two places
+abbrev pub EachIsInside : (from to : ℤ) → Pieces → Type 0
+EachIsInside from to none = ⊤
+EachIsInside from to (piece name rect kind inner next) = (from ≤ℤ rect.b) × EndsBefore to rect kind × EachIsInside from to next
+
+-- so it is with fragments one behind another
+abbrev pub InOrderIsInside : Type 0
+InOrderIsInside = (from to : ℤ) (pieces : Pieces) → HaveNoNegative pieces → StandBetween from to pieces → EachIsInside from to pieces
+
 -- what fills a box: the boxes in it under the constraint that it gives them, or the lines of its paragraph
 abbrev pub content_of : Outside → (parent : Style) → Node → Constraint → List Member → Filled
 content_of outside parent node c members =
