@@ -1,6 +1,6 @@
 -- A document is refused for one reason alone.
-use Rattle.std.proofs.Common.{◌≡◌, ◌∙◌, sym, ap, subst, arith, ℕ, ◌≤◌, ◌<◌, List, [], length, get_or, Option, Some}
-use Rattle.std.specs.List.{All, Contains, slice_get}
+use Rattle.std.proofs.Common.{◌≡◌, ◌∙◌, sym, ap, subst, arith, ℕ, ◌≤◌, List, [], get_or}
+use Rattle.std.specs.List.{All, Contains}
 use Rattle.std.proofs.lemmas.Option.{get_or_from_slice_get, slice_get_within}
 use Rattle.style_types.specs.declared.value.Declaration.{Declaration}
 use Rattle.style_types.specs.Rule.{Ruling}

@@ -1,5 +1,5 @@
 -- Fragments that don't spread too far are near.
-use Rattle.std.proofs.Common.{arith, Bool, true, false, ◌-◌, ℕ, ◌+◌, ◌*◌, ◌≤◌, ◌^◌, max, unsigned_abs, ℤ, ◌+ℤ◌, ◌-ℤ◌}
+use Rattle.std.proofs.Common.{arith, Bool, true, false, ◌-◌, ℕ, ◌+◌, ◌≤◌, ◌^◌, unsigned_abs, ℤ, ◌+ℤ◌}
 use Rattle.std.proofs.lemmas.Int.{ints}
 use Rattle.wm_modes.specs.Map.{along_line, from_other_end, map_of}
 use Rattle.wm_modes.specs.Near.{IsNear, IsNearFlow}

@@ -1,5 +1,5 @@
 -- The boxes of a session stand in its arena through all that is laid out and forgotten.
-use Rattle.std.proofs.Common.{◌≡◌, ◌∙◌, refl, sym, ap, subst, ℕ, List, Option, Some, None}
+use Rattle.std.proofs.Common.{◌≡◌, ◌∙◌, sym, ap, subst, ℕ, List, Option, Some, None}
 use Rattle.box_gen.specs.Tree.{Boxes, box, none}
 use Rattle.box_arena.specs.Arena.{SameLinks, SameNodes}
 use Rattle.box_arena.specs.At.{Node, Slots, first_at, next_at, node_at, parent_at}

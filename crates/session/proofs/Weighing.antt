@@ -1,18 +1,14 @@
 -- How far the boxes of a styled tree reach together.
-use Rattle.std.proofs.Common.{◌≡◌, ℕ, suc, ◌+◌, ◌*◌, ◌-◌, ◌≤◌, ◌^◌, Bool, true, false, List, [], ◌∷◌, ◌++◌, length, arith}
-use Rattle.style_types.specs.declared.style.Display.{Display}
-use Rattle.style_types.specs.declared.style.Display.TheVariants.{Block, Inline, InlineBlock, FlowRoot, Hidden}
+use Rattle.std.proofs.Common.{◌≡◌, ℕ, suc, ◌+◌, ◌*◌, ◌-◌, ◌≤◌, ◌^◌, Bool, true, false, List, [], ◌∷◌, ◌++◌, arith}
 use Rattle.style_types.specs.declared.style.Style.{Style}
 use Rattle.style_types.specs.Item as item
 use Rattle.style_types.specs.Item.{Entry}
 use Rattle.style_types.specs.Tree as styled
 use Rattle.style_types.specs.Tree.{NodeKind, Nodes}
-use Rattle.para_prepare.specs.Limits.{text_bytes}
-use Rattle.para_prepare.specs.Preparation.{atoms_of}
-use Rattle.box_gen.specs.Boxes.{Blocks, Held, Role, Run, anonymous, atom, block_level, container, element_role, held, inline_before, inline_box, is_blank, join, line_break, made, no_more, nothing, own_name, placed, role_by, role_of, root_boxes, stacked, then, words, wrapped}
+use Rattle.box_gen.specs.Boxes.{Blocks, Held, Role, Run, atom, block_level, container, held, inline_before, inline_box, is_blank, join, line_break, made, no_more, nothing, own_name, placed, role_of, root_boxes, stacked, then, words, wrapped}
 use Rattle.box_gen.specs.Tree.{Boxes, box, none, inline}
 use Rattle.relayout.specs.Fit.{room_in, weight}
-use Rattle.session.specs.Limits.{BoxesFit, bytes_in, bytes_of, nodes_in}
+use Rattle.session.specs.Limits.{BoxesFit, bytes_in, nodes_in}
 use Rattle.session.proofs.Holding.{atoms_on, boxes_held, bytes_in_role, bytes_on, length_on, role_bytes}
 
 -- ---- what is joined

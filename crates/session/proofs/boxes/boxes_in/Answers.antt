@@ -1,6 +1,6 @@
 use Rattle.std.proofs.lemmas.Result.{err_from_is_err_and}
 use Rattle.std.proofs.Common.{◌≡◌, subst, [], Some, Err}
-use Rattle.style_types.specs.Tree.{Nodes, nodes_of}
+use Rattle.style_types.specs.Tree.{Nodes}
 use Rattle.box_gen.specs.Boxes.{Makes}
 use Rattle.box_gen.specs.Orthogonal.{IsLeastOf, root_past}
 use Rattle.session.proofs.Refusals.{refused_boxes}

@@ -1,5 +1,4 @@
-use Rattle.std.proofs.Common.{◌≡◌, ◌∙◌, ap, sym, List, [], slice_index_or, Option, None}
-use Rattle.slab.specs.Slab.{Slab}
+use Rattle.std.proofs.Common.{◌∙◌, ap, slice_index_or, None}
 use Rattle.session.proofs.planting.grown.Goals as goal
 
 pub returns-clause-bare : goal.returns-clause-bare

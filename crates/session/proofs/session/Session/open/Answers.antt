@@ -1,4 +1,4 @@
-use Rattle.std.proofs.Common.{◌≡◌, ◌∙◌, subst, List, map, Err, ap}
+use Rattle.std.proofs.Common.{◌∙◌, subst, List, map, Err, ap}
 use Rattle.std.proofs.lemmas.Result.{err_from_is_err_and}
 use Rattle.style_types.specs.Rule.{Ruling, rulings_of}
 use Rattle.html_read.specs.Values.{nodes_of}
