@@ -5,11 +5,13 @@ mod children;
 mod copies;
 mod depths;
 mod document;
+mod edit;
 mod error;
 pub mod laws;
 mod node;
 mod opening;
 
 pub use document::Document;
+pub use edit::{Change, Edit, NewNodes};
 pub use error::EditError;
 pub use node::{Node, NodeKind, NodeNumbers};

@@ -1,0 +1,54 @@
+//! Edits of the tree (DOM, 4.2 and 4.5, narrowed).
+
+use crate::node::NodeNumbers;
+use html_read::ReadNodes;
+use style_types::{Declarations, LetterList, Letters, Styles};
+
+/// An edit of the tree. Nodes are named by their numbers, indices of children begin at 0.
+#[derive(Debug, Drop)]
+pub enum Edit {
+    /// The whole text of a text node.
+    Text {
+        node: u32,
+        text: Letters,
+    },
+    /// An element's own declarations.
+    Style {
+        node: u32,
+        declarations: Declarations,
+    },
+    /// An element's class words.
+    Class {
+        node: u32,
+        words: LetterList,
+    },
+    /// Nodes become children of `parent`, the first of them at this index; they take new numbers in order.
+    Insert {
+        parent: u32,
+        index: u32,
+        nodes: NewNodes,
+    },
+    /// A node goes, with all below it.
+    Remove {
+        node: u32,
+    },
+    /// A node becomes the child of `parent` at this index, counted without the node itself.
+    Move {
+        node: u32,
+        parent: u32,
+        index: u32,
+    },
+}
+
+/// Nodes that were read from element content, and each one's own declarations.
+#[derive(Debug, Drop)]
+pub struct NewNodes {
+    pub read: ReadNodes,
+    pub styles: Styles,
+}
+
+/// What an edit concerned: elements whose children or whose own styles are other than before, each once.
+#[derive(Debug, Drop)]
+pub struct Change {
+    pub elements: NodeNumbers,
+}
