@@ -17,14 +17,11 @@ pub(crate) fn print_refusal<W: Write>(output: &mut W, error: StyleError) -> io::
         StyleError::Css(CssError::Refused { kind, place }) => {
             writeln!(output, "refused {kind:?} {place}")
         }
-        StyleError::Edit(EditError::TooManyNodes(node)) => {
-            writeln!(output, "refused TooManyNodes {node}")
-        }
-        StyleError::Edit(EditError::TooDeep(node)) => writeln!(output, "refused TooDeep {node}"),
         StyleError::Html(HtmlError::Memory)
         | StyleError::Css(CssError::Memory)
         | StyleError::Edit(EditError::Memory)
         | StyleError::Memory => Err(io::ErrorKind::OutOfMemory.into()),
+        StyleError::Edit(error) => writeln!(output, "refused {error}"),
     }
 }
 

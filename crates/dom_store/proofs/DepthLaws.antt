@@ -6,7 +6,7 @@ use Rattle.std.proofs.lemmas.Option.{get_or_from_slice_get}
 use Rattle.html_read.specs.Values.{Node}
 use Rattle.style_types.specs.declared.value.Declaration.{Declaration}
 use Rattle.dom_store.specs.declared.error.EditError.{EditError}
-use Rattle.dom_store.specs.declared.error.EditError.TheVariants.{TooManyNodes, TooDeep, Memory}
+use Rattle.dom_store.specs.declared.error.EditError.TheVariants.{NoNode, IsRoot, NotText, NotElement, Inside, BadIndex, TooManyNodes, TooDeep, Memory}
 use Rattle.std.specs.Result.{IsErrAnd}
 use Rattle.dom_store.specs.declared.document.Document.{Document}
 use Rattle.dom_store.specs.Building.{JudgesDepths}
@@ -69,6 +69,12 @@ pub refused : (nodes : List Node) (own : List (List Declaration)) (error : EditE
 refused nodes own (TooManyNodes number) few judged = absurd judged
 refused nodes own (TooDeep number) few judged = (few, judged.0, judged.1)
 refused nodes own Memory few judged = tt
+refused nodes own NoNode few judged = absurd judged
+refused nodes own IsRoot few judged = absurd judged
+refused nodes own NotText few judged = absurd judged
+refused nodes own NotElement few judged = absurd judged
+refused nodes own Inside few judged = absurd judged
+refused nodes own BadIndex few judged = absurd judged
 
 -- the same, for an answer with this refusal
 pub refused_as : (nodes : List Node) (own : List (List Declaration)) (error : EditError) (answer : Result Document EditError) → IsErrAnd answer (λ e. e ≡ error) → length nodes ≤ greatest_count → JudgesDepths nodes (Err error) → Opens nodes own answer

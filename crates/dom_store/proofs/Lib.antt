@@ -1,9 +1,15 @@
 pub mod AddLaws
+pub mod ApplyLaws
 pub mod ChildLaws
 pub mod DepthLaws
 pub mod FillLaws
 pub mod Places
+pub mod RemoveLaws
 pub mod SameLaws
+pub mod StandLaws
+pub mod TakeLaws
+pub mod WriteLaws
+mod Examples
 mod OpenElements
 mod RootLaws
 mod TreeLaws

@@ -18,6 +18,7 @@ JudgesDepths nodes (Ok _) = All (λ depth. depth ≤ greatest_depth) (depths nod
 JudgesDepths nodes (Err (TooManyNodes number)) = ⊥
 JudgesDepths nodes (Err (TooDeep number)) = IsTooDeep nodes number × ((other : ℕ) → IsTooDeep nodes other → number ≤ other)
 JudgesDepths nodes (Err Memory) = ⊤
+JudgesDepths nodes (Err other) = ⊥
 
 -- the numbers in the list at this place
 abbrev pub numbers_at : List (Vec ℕ) → (place : ℕ) → List ℕ

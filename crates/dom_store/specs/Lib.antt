@@ -1,6 +1,10 @@
 pub mod Building
+pub mod Edited
+pub mod Edits
 pub mod Keys
 pub mod Laws
 pub mod Opening
+pub mod Refusals
+pub mod Standing
 pub mod State
 pub mod Whole

@@ -73,3 +73,4 @@ Opens nodes own (Ok document) = (length nodes ≤ greatest_count) × All (λ dep
 Opens nodes own (Err (TooManyNodes number)) = (greatest_count < length nodes) × (number ≡ greatest_count)
 Opens nodes own (Err (TooDeep number)) = (length nodes ≤ greatest_count) × IsTooDeep nodes number × ((other : ℕ) → IsTooDeep nodes other → number ≤ other)
 Opens nodes own (Err Memory) = ⊤
+Opens nodes own (Err other) = ⊥

@@ -54,7 +54,15 @@ fn copy_of_id(id: &Option<Letters>) -> Result<Option<Letters>, AllocError>
     }
 }
 
-fn copy_of_texts(alloc: Global, texts: &[Letters]) -> Result<LetterList, AllocError>
+/// A copy of a text.
+pub(crate) fn copy_of_text(text: &Letters) -> Result<Letters, AllocError>
+    ensures { IfOk result (λ copy. string_bytes copy ≡ string_bytes text.now) }
+{
+    text.clone()
+}
+
+/// Copies of texts.
+pub(crate) fn copy_of_texts(alloc: Global, texts: &[Letters]) -> Result<LetterList, AllocError>
     ensures { IfOk result (λ copy. map (λ t. string_bytes t) copy.items ≡ map (λ t. string_bytes t) texts.now) }
 {
     let mut copy = Vec::new(alloc);
@@ -64,7 +72,11 @@ fn copy_of_texts(alloc: Global, texts: &[Letters]) -> Result<LetterList, AllocEr
     Ok(copy)
 }
 
-fn copy_of_declarations(alloc: Global, own: &[Declaration]) -> Result<Declarations, AllocError>
+/// A copy of declarations.
+pub(crate) fn copy_of_declarations(
+    alloc: Global,
+    own: &[Declaration],
+) -> Result<Declarations, AllocError>
     ensures { IfOk result (λ copy. copy.items ≡ own.now) }
 {
     let mut copy = Vec::new(alloc);

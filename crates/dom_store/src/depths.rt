@@ -12,7 +12,7 @@ use html_read::ReadNode;
 use std::alloc::Global;
 
 /// The depth past which no node stands.
-const GREATEST_DEPTH: usize = 64;
+pub(crate) const GREATEST_DEPTH: usize = 64;
 
 /// Refuses the first node that stands too deep.
 pub(crate) fn check_depths(alloc: Global, nodes: &[ReadNode]) -> Result<(), EditError>

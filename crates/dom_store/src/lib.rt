@@ -6,10 +6,16 @@ mod copies;
 mod depths;
 mod document;
 mod edit;
+mod editing;
 mod error;
 pub mod laws;
 mod node;
 mod opening;
+mod refusals;
+mod removing;
+mod siblings;
+mod standing;
+mod writing;
 
 pub use document::Document;
 pub use edit::{Change, Edit, NewNodes};

@@ -22,7 +22,7 @@ use std::collections::BTreeMap;
 use style_types::{Declarations, Styled};
 
 /// How many nodes may live.
-const GREATEST_COUNT: u32 = 65_536;
+pub(crate) const GREATEST_COUNT: u32 = 65_536;
 
 impl Document {
     /// The state that a document begins with: `html` is 0, `body` is 1, the others follow in document order, each with

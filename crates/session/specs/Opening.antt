@@ -20,10 +20,11 @@ use Rattle.box_gen.specs.Tree.{boxes_of}
 use Rattle.session.specs.declared.error.OpenError.{OpenError}
 use Rattle.session.specs.declared.error.OpenError.TheVariants.{TooManyNodes, TooDeep, TooManyOrthogonal, BlockInInline, Memory}
 
+-- the others are never answered where a document is opened
 abbrev pub of_edit_error : EditError → OpenError
 of_edit_error (edit.TooManyNodes number) = TooManyNodes number
 of_edit_error (edit.TooDeep number) = TooDeep number
-of_edit_error edit.Memory = Memory
+of_edit_error other = Memory
 
 abbrev pub of_box_error : BoxError → OpenError
 of_box_error (box_errors.BlockInInline number) = BlockInInline number

@@ -38,7 +38,14 @@ impl From<EditError> for OpenError {
         match error {
             EditError::TooManyNodes(number) => OpenError::TooManyNodes(number),
             EditError::TooDeep(number) => OpenError::TooDeep(number),
-            EditError::Memory => OpenError::Memory,
+            // The others are never answered where a document is opened.
+            EditError::NoNode
+            | EditError::IsRoot
+            | EditError::NotText
+            | EditError::NotElement
+            | EditError::Inside
+            | EditError::BadIndex
+            | EditError::Memory => OpenError::Memory,
         }
     }
 }

@@ -1,0 +1,12 @@
+use Rattle.std.proofs.Common.{◌∙◌, List, ap}
+use Rattle.style_types.specs.declared.value.Declaration.{Declaration}
+use Rattle.dom_store.specs.Edits.{changed, set_style, with_own, with_what}
+use Rattle.dom_store.specs.State.{state_of}
+use Rattle.dom_store.proofs.ApplyLaws.{accepts}
+use Rattle.dom_store.proofs.document.Document.set_style.Goals as goal
+
+pub returns : goal.returns
+returns c =
+    let old = state_of c.args.self.now in
+    accepts old (state_of c.put_own.new.self) (set_style c.args.n c.args.own.now) c.in_ok-change.change.elements.items c.in_ok-check_element.ensures c.in_ok-change.ensures
+    (c.put_own.ensures ∙ ap (λ (own : List Declaration). changed old c.args.n (with_what (with_own own))) c.in_ok-own.ensures)

@@ -1,0 +1,48 @@
+//! Nodes go, with all below them (DOM, 4.2.3, narrowed).
+
+ghost use Rattle.std.specs.Prelude.{◌≡◌, OnErr, OnOk};
+ghost use Rattle.dom_store.specs.Edited.{Applies};
+ghost use Rattle.dom_store.specs.Edits.{changed_if, remove, with_children, without, without_nodes};
+ghost use Rattle.dom_store.specs.Standing.{parent_at};
+ghost use Rattle.dom_store.specs.State.{state_of};
+
+use crate::document::Document;
+use crate::edit::Change;
+use crate::error::EditError;
+use crate::siblings::without;
+use std::alloc::{AllocError, Global};
+
+impl Document {
+    /// Takes a node out, with all below it.
+    pub(crate) fn remove(&mut self, alloc: Global, n: u32) -> Result<Change, EditError>
+        ensures { Applies (state_of self.old) (state_of self.new) (remove n) result }
+    {
+        self.check_removal(n)?;
+        let change = self.change_above(alloc, n)?;
+        let gone = self.descendants(alloc, n)?;
+        self.leave_parent(alloc, n)?;
+        self.take_all_out(&gone);
+        Ok(change)
+    }
+
+    /// Takes a node from its parent's children.
+    pub(crate) fn leave_parent(&mut self, alloc: Global, n: u32) -> Result<(), AllocError>
+        ensures left { OnOk result (state_of self.new ≡ changed_if (state_of self.old) (parent_at (state_of self.old) n) (with_children (without n))) }
+        ensures same { OnErr result (state_of self.new ≡ state_of self.old) }
+    {
+        let Some(parent) = self.parent(n) else {
+            return Ok(());
+        };
+        let rest = without(alloc, self.children(parent), n)?;
+        self.put_children(parent, rest);
+        Ok(())
+    }
+
+    fn take_all_out(&mut self, numbers: &[u32])
+        ensures { state_of self.new ≡ without_nodes numbers.now (state_of self.old) }
+    {
+        for n in numbers {
+            self.take_out(*n);
+        }
+    }
+}

@@ -1,0 +1,62 @@
+//! Lists of nodes' numbers.
+
+ghost use Rattle.std.specs.Prelude.{◌≡◌, ◌≤◌, length, Some, IfOk};
+ghost use Rattle.dom_store.specs.Edits.{with_put, without};
+ghost use Rattle.dom_store.specs.Refusals.{least, lesser};
+
+use crate::node::NodeNumbers;
+use std::alloc::{AllocError, Global};
+
+/// The children but for this one.
+pub(crate) fn without(
+    alloc: Global,
+    children: &[u32],
+    number: u32,
+) -> Result<NodeNumbers, AllocError>
+    ensures { IfOk result (λ rest. rest.items ≡ without number children.now) }
+{
+    let mut rest = Vec::new(alloc);
+    for child in children {
+        if *child != number {
+            rest.push(*child)?;
+        }
+    }
+    Ok(rest)
+}
+
+/// The children with these numbers at the index.
+pub(crate) fn with_put(
+    alloc: Global,
+    children: &[u32],
+    index: usize,
+    numbers: &[u32],
+) -> Result<NodeNumbers, AllocError>
+    requires { index ≤ length children.now }
+    ensures { IfOk result (λ list. list.items ≡ with_put index numbers.now children.now) }
+{
+    let mut list = Vec::new(alloc);
+    list.extend_from_slice(&children[..index])?;
+    list.extend_from_slice(numbers)?;
+    list.extend_from_slice(&children[index..])?;
+    Ok(list)
+}
+
+/// The least of these numbers.
+pub(crate) fn least(numbers: &[u32]) -> Option<u32>
+    ensures { result ≡ least numbers.now }
+{
+    let mut least = None;
+    for number in numbers {
+        least = Some(lesser(least, *number));
+    }
+    least
+}
+
+fn lesser(least: Option<u32>, number: u32) -> u32
+    ensures { Some result ≡ lesser least number }
+{
+    match least {
+        Some(other) => other.min(number),
+        None => number,
+    }
+}
