@@ -10,7 +10,7 @@ use Rattle.dom_store.specs.declared.error.EditError.TheVariants.{NoNode, IsRoot,
 use Rattle.dom_store.specs.State.{Entry, State, element, text}
 use Rattle.dom_store.specs.Opening.{children_from, depths_from}
 use Rattle.dom_store.specs.Standing.{ancestors_to, below_levels, count_below}
-use Rattle.dom_store.specs.Edits.{set_text, set_style, set_class, insert, remove, move}
+use Rattle.dom_store.specs.Edits.{set_text, set_style, set_class, insert, remove, move_to}
 use Rattle.dom_store.specs.Edited.{Outcome, accepted, refused, edited}
 
 -- an outcome whose state can be compared: the nodes below the next number, that number, and the concerned elements
@@ -49,7 +49,7 @@ a_removal : told (edited (of ((Some (record { parent = None; children = (1 ∷ [
 unfolding numbers children_from depths_from ancestors_to below_levels count_below
 a_removal = refl
 
-a_move : told (edited (of ((Some (record { parent = None; children = (1 ∷ []); what = element tags.Html None [] None [] })) ∷ (Some (record { parent = (Some 0); children = (2 ∷ 3 ∷ []); what = element tags.Body None [] None [] })) ∷ (Some (record { parent = (Some 1); children = []; what = text [] })) ∷ (Some (record { parent = (Some 1); children = (4 ∷ []); what = element tags.P None [] None [] })) ∷ (Some (record { parent = (Some 3); children = []; what = text (120 ∷ []) })) ∷ []) 5) (move 4 1 1)) ≡ took ((Some (record { parent = None; children = (1 ∷ []); what = element tags.Html None [] None [] })) ∷ (Some (record { parent = (Some 0); children = (2 ∷ 4 ∷ 3 ∷ []); what = element tags.Body None [] None [] })) ∷ (Some (record { parent = (Some 1); children = []; what = text [] })) ∷ (Some (record { parent = (Some 1); children = []; what = element tags.P None [] None [] })) ∷ (Some (record { parent = (Some 1); children = []; what = text (120 ∷ []) })) ∷ []) 5 (3 ∷ 1 ∷ [])
+a_move : told (edited (of ((Some (record { parent = None; children = (1 ∷ []); what = element tags.Html None [] None [] })) ∷ (Some (record { parent = (Some 0); children = (2 ∷ 3 ∷ []); what = element tags.Body None [] None [] })) ∷ (Some (record { parent = (Some 1); children = []; what = text [] })) ∷ (Some (record { parent = (Some 1); children = (4 ∷ []); what = element tags.P None [] None [] })) ∷ (Some (record { parent = (Some 3); children = []; what = text (120 ∷ []) })) ∷ []) 5) (move_to 4 1 1)) ≡ took ((Some (record { parent = None; children = (1 ∷ []); what = element tags.Html None [] None [] })) ∷ (Some (record { parent = (Some 0); children = (2 ∷ 4 ∷ 3 ∷ []); what = element tags.Body None [] None [] })) ∷ (Some (record { parent = (Some 1); children = []; what = text [] })) ∷ (Some (record { parent = (Some 1); children = []; what = element tags.P None [] None [] })) ∷ (Some (record { parent = (Some 1); children = []; what = text (120 ∷ []) })) ∷ []) 5 (3 ∷ 1 ∷ [])
 unfolding numbers children_from depths_from ancestors_to below_levels count_below
 a_move = refl
 
@@ -57,7 +57,7 @@ no_such_node : told (edited (of ((Some (record { parent = None; children = (1 �
 unfolding numbers children_from depths_from ancestors_to below_levels count_below
 no_such_node = refl
 
-a_root : told (edited (of ((Some (record { parent = None; children = (1 ∷ []); what = element tags.Html None [] None [] })) ∷ (Some (record { parent = (Some 0); children = (2 ∷ 4 ∷ []); what = element tags.Body None [] None [] })) ∷ (Some (record { parent = (Some 1); children = (3 ∷ []); what = element tags.Div None [] None ((record { property = properties.WritingMode; value = values.Keyword keywords.HorizontalTb; important = false; place = 0 }) ∷ []) })) ∷ (Some (record { parent = (Some 2); children = []; what = text (32 ∷ []) })) ∷ (Some (record { parent = (Some 1); children = []; what = element tags.Br None [] None [] })) ∷ []) 5) (move 1 3 0)) ≡ no IsRoot
+a_root : told (edited (of ((Some (record { parent = None; children = (1 ∷ []); what = element tags.Html None [] None [] })) ∷ (Some (record { parent = (Some 0); children = (2 ∷ 4 ∷ []); what = element tags.Body None [] None [] })) ∷ (Some (record { parent = (Some 1); children = (3 ∷ []); what = element tags.Div None [] None ((record { property = properties.WritingMode; value = values.Keyword keywords.HorizontalTb; important = false; place = 0 }) ∷ []) })) ∷ (Some (record { parent = (Some 2); children = []; what = text (32 ∷ []) })) ∷ (Some (record { parent = (Some 1); children = []; what = element tags.Br None [] None [] })) ∷ []) 5) (move_to 1 3 0)) ≡ no IsRoot
 unfolding numbers children_from depths_from ancestors_to below_levels count_below
 a_root = refl
 
@@ -69,10 +69,10 @@ not_an_element : told (edited (of ((Some (record { parent = None; children = (1 
 unfolding numbers children_from depths_from ancestors_to below_levels count_below
 not_an_element = refl
 
-inside_itself : told (edited (of ((Some (record { parent = None; children = (1 ∷ []); what = element tags.Html None [] None [] })) ∷ (Some (record { parent = (Some 0); children = (2 ∷ 3 ∷ []); what = element tags.Body None [] None [] })) ∷ (Some (record { parent = (Some 1); children = []; what = text (97 ∷ []) })) ∷ (Some (record { parent = (Some 1); children = (4 ∷ []); what = element tags.P None [] None [] })) ∷ (Some (record { parent = (Some 3); children = []; what = text (120 ∷ []) })) ∷ []) 5) (move 3 3 1)) ≡ no Inside
+inside_itself : told (edited (of ((Some (record { parent = None; children = (1 ∷ []); what = element tags.Html None [] None [] })) ∷ (Some (record { parent = (Some 0); children = (2 ∷ 3 ∷ []); what = element tags.Body None [] None [] })) ∷ (Some (record { parent = (Some 1); children = []; what = text (97 ∷ []) })) ∷ (Some (record { parent = (Some 1); children = (4 ∷ []); what = element tags.P None [] None [] })) ∷ (Some (record { parent = (Some 3); children = []; what = text (120 ∷ []) })) ∷ []) 5) (move_to 3 3 1)) ≡ no Inside
 unfolding numbers children_from depths_from ancestors_to below_levels count_below
 inside_itself = refl
 
-past_the_children : told (edited (of ((Some (record { parent = None; children = (1 ∷ []); what = element tags.Html None [] None [] })) ∷ (Some (record { parent = (Some 0); children = (2 ∷ 3 ∷ []); what = element tags.Body None ((97 ∷ []) ∷ (98 ∷ []) ∷ []) None [] })) ∷ (Some (record { parent = (Some 1); children = []; what = text [] })) ∷ (Some (record { parent = (Some 1); children = (4 ∷ []); what = element tags.Div None [] None [] })) ∷ (Some (record { parent = (Some 3); children = []; what = text (32 ∷ []) })) ∷ []) 5) (move 2 3 2)) ≡ no BadIndex
+past_the_children : told (edited (of ((Some (record { parent = None; children = (1 ∷ []); what = element tags.Html None [] None [] })) ∷ (Some (record { parent = (Some 0); children = (2 ∷ 3 ∷ []); what = element tags.Body None ((97 ∷ []) ∷ (98 ∷ []) ∷ []) None [] })) ∷ (Some (record { parent = (Some 1); children = []; what = text [] })) ∷ (Some (record { parent = (Some 1); children = (4 ∷ []); what = element tags.Div None [] None [] })) ∷ (Some (record { parent = (Some 3); children = []; what = text (32 ∷ []) })) ∷ []) 5) (move_to 2 3 2)) ≡ no BadIndex
 unfolding numbers children_from depths_from ancestors_to below_levels count_below
 past_the_children = refl

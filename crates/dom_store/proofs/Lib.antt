@@ -3,6 +3,8 @@ pub mod ApplyLaws
 pub mod ChildLaws
 pub mod DepthLaws
 pub mod FillLaws
+pub mod JudgeLaws
+pub mod MoveLaws
 pub mod Places
 pub mod RemoveLaws
 pub mod SameLaws

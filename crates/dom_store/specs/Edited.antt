@@ -8,7 +8,7 @@ use Rattle.dom_store.specs.declared.edit.Edit.TheVariants as edits
 use Rattle.dom_store.specs.declared.error.EditError.{EditError}
 use Rattle.dom_store.specs.declared.error.EditError.TheVariants.{Memory}
 use Rattle.dom_store.specs.State.{State}
-use Rattle.dom_store.specs.Edits.{EditOf, set_text, set_style, set_class, insert, remove, move, after, concerned}
+use Rattle.dom_store.specs.Edits.{EditOf, set_text, set_style, set_class, insert, remove, move_to, after, concerned}
 use Rattle.dom_store.specs.Refusals.{refusal}
 
 -- the next state with the elements that the edit concerns, or why it is refused
@@ -31,13 +31,13 @@ Applies old new edit (Err error) = ((error ≡ Memory) ⊎ (edited old edit ≡ 
 -- ---- judgements within the crate
 
 -- why a judgement refuses, if it does
-abbrev pub refused_for : Result ⊤ EditError → Option EditError
-refused_for (Ok _) = None
+abbrev pub refused_for : {X : Type 0} → Result X EditError → Option EditError
+refused_for (Ok value) = None
 refused_for (Err error) = Some error
 
 -- the same of a judgement that takes memory
-abbrev pub Judges : Option EditError → Result ⊤ EditError → Type 0
-Judges reason (Ok _) = reason ≡ None
+abbrev pub Judges : {X : Type 0} → Option EditError → Result X EditError → Type 0
+Judges reason (Ok value) = reason ≡ None
 Judges reason (Err error) = (error ≡ Memory) ⊎ (reason ≡ Some error)
 
 -- ---- without where it lies in memory
@@ -48,7 +48,7 @@ edit_of (edits.Style number own) = set_style number own.items
 edit_of (edits.Class number words) = set_class number (map (λ word. string_bytes word) words.items)
 edit_of (edits.Insert parent index nodes) = insert parent index (nodes_of nodes.read.items) (map (λ own. own.items) nodes.styles.items)
 edit_of (edits.Remove number) = remove number
-edit_of (edits.Move number parent index) = move number parent index
+edit_of (edits.Move number parent index) = move_to number parent index
 
 -- nodes that are inserted are those of a fragment, each with its own declarations
 abbrev pub IsFitting : EditOf → Type 0

@@ -14,7 +14,7 @@ pub data EditOf : Type 0 where
   set_class : (number : ℕ) (words : List (List ℕ)) → EditOf
   insert : (parent index : ℕ) (nodes : List Node) (own : List (List Declaration)) → EditOf
   remove : (number : ℕ) → EditOf
-  move : (number parent index : ℕ) → EditOf
+  move_to : (number parent index : ℕ) → EditOf
 
 -- ---- changes of one node
 
@@ -99,7 +99,7 @@ after state (set_style number own) = changed state number (with_what (with_own o
 after state (set_class number words) = changed state number (with_what (with_classes words))
 after state (insert parent index nodes own) = inserted state parent index nodes own
 after state (remove number) = removed state number
-after state (move number parent index) = moved state number parent index
+after state (move_to number parent index) = moved state number parent index
 
 -- ---- the concerned elements: those of which the children or the own styles are other than before
 
@@ -114,4 +114,4 @@ concerned state (set_style number own) = number ∷ []
 concerned state (set_class number words) = number ∷ []
 concerned state (insert parent index nodes own) = parent ∷ []
 concerned state (remove number) = option_to_list (parent_at state number)
-concerned state (move number parent index) = both (parent_at state number) parent
+concerned state (move_to number parent index) = both (parent_at state number) parent

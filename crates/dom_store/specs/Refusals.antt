@@ -1,5 +1,5 @@
 -- Why an edit is refused: the first reason that there is, in the order of the list.
-use Rattle.std.specs.Prelude.{ℕ, ◌+◌, ◌-◌, ◌^◌, min, Bool, true, false, not, ◌||◌, List, [], ◌∷◌, length, fold, nat_eq, nat_lt, Option, Some, None, option_map, unwrap_or, position}
+use Rattle.std.specs.Prelude.{ℕ, ◌+◌, ◌-◌, ◌^◌, min, Bool, true, false, not, ◌||◌, List, [], ◌∷◌, ◌++◌, length, fold, nat_eq, nat_lt, Option, Some, None, option_map, unwrap_or, position}
 use Rattle.std.specs.List.{list_all, list_any}
 use Rattle.html_tokens.specs.declared.tag.Tag.{Tag}
 use Rattle.html_tokens.specs.declared.tag.Tag.TheVariants.{Br}
@@ -9,7 +9,7 @@ use Rattle.dom_store.specs.declared.error.EditError.TheVariants.{NoNode, IsRoot,
 use Rattle.dom_store.specs.State.{What, element, text, State, greatest_depth}
 use Rattle.dom_store.specs.Opening.{depths, greatest_count}
 use Rattle.dom_store.specs.Standing.{lives, children_at, depth_at, inclusive_ancestors, below_levels, live_count}
-use Rattle.dom_store.specs.Edits.{EditOf, set_text, set_style, set_class, insert, remove, move, without}
+use Rattle.dom_store.specs.Edits.{EditOf, set_text, set_style, set_class, insert, remove, move_to, without}
 
 abbrev pub refused_if : Bool → EditError → Option EditError
 refused_if true error = Some error
@@ -101,6 +101,10 @@ too_deep_moved state number parent = option_map TooDeep (least (below_levels (gr
 
 -- ---- the reasons of each edit, in order
 
+-- a node can't stand in this parent, wherever in it
+abbrev pub placing : State → (number parent : ℕ) → List (Option EditError)
+placing state number parent = no_node state (number ∷ parent ∷ []) ∷ is_root number ∷ in_html parent ∷ not_holder state parent ∷ inside state number parent ∷ []
+
 abbrev pub reasons : State → EditOf → List (Option EditError)
 reasons state (set_text number letters) = no_node state (number ∷ []) ∷ not_text state number ∷ []
 reasons state (set_style number own) = no_node state (number ∷ []) ∷ not_element state number ∷ []
@@ -108,8 +112,7 @@ reasons state (set_class number words) = no_node state (number ∷ []) ∷ not_e
 reasons state (insert parent index nodes own) = no_node state (parent ∷ []) ∷ in_html parent ∷ not_holder state parent ∷ bad_index index (children_at state parent)
     ∷ too_many state (length nodes) ∷ too_deep_under state parent nodes ∷ []
 reasons state (remove number) = no_node state (number ∷ []) ∷ is_root number ∷ []
-reasons state (move number parent index) = no_node state (number ∷ parent ∷ []) ∷ is_root number ∷ in_html parent ∷ not_holder state parent ∷ inside state number parent
-    ∷ bad_index index (without number (children_at state parent)) ∷ too_deep_moved state number parent ∷ []
+reasons state (move_to number parent index) = placing state number parent ++ bad_index index (without number (children_at state parent)) ∷ too_deep_moved state number parent ∷ []
 
 abbrev pub refusal : State → EditOf → Option EditError
 refusal state edit = first_of (reasons state edit)

@@ -9,6 +9,7 @@ mod edit;
 mod editing;
 mod error;
 pub mod laws;
+mod moving;
 mod node;
 mod opening;
 mod refusals;

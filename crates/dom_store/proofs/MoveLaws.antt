@@ -1,0 +1,35 @@
+-- Documents of which a node was moved.
+use Rattle.std.proofs.Common.{◌≡◌, ◌∙◌, ℕ, Bool, true, false, List, [], ◌∷◌, refl, ap, sym, Option, Some, None, option_map, filter, inl, inr}
+use Rattle.std.specs.Prelude.{nat_eq, not, unwrap_or}
+use Rattle.std.proofs.lemmas.Bool.Decides.{eqb_tells}
+use Rattle.dom_store.specs.State.{Entry, State}
+use Rattle.dom_store.specs.Standing.{children_at}
+use Rattle.dom_store.specs.Edits.{changed, changed_if, with_children, with_moved, with_put, without}
+use Rattle.dom_store.proofs.RemoveLaws.{put_as_changed}
+
+kept_twice : (test : ℕ → Bool) (number : ℕ) (numbers : List ℕ) (kept : Bool) → test number ≡ kept → filter test (filter test numbers) ≡ filter test numbers → filter test (filter test (number ∷ numbers)) ≡ filter test (number ∷ numbers)
+kept_twice test number numbers true is same = rw is (rw is (ap (λ (l : List ℕ). number ∷ l) same))
+kept_twice test number numbers false is same = rw is same
+
+filter_twice : (test : ℕ → Bool) (numbers : List ℕ) → filter test (filter test numbers) ≡ filter test numbers
+filter_twice test [] = refl
+filter_twice test (number ∷ numbers) = kept_twice test number numbers (test number) refl (filter_twice test numbers)
+
+module _ (state : State) (number : ℕ) where
+  of_entry : (o : Option Entry) → without number (unwrap_or (option_map (λ entry. entry.children) (option_map (with_children (without number)) o)) []) ≡ without number (unwrap_or (option_map (λ entry. entry.children) o) [])
+  of_entry None = refl
+  of_entry (Some entry) = filter_twice (λ child. not (nat_eq child number)) entry.children
+
+  -- where the node left its parent, each node's other children are what they were
+  pub others_left : (old : Option ℕ) (parent : ℕ) → without number (children_at (changed_if state old (with_children (without number))) parent) ≡ without number (children_at state parent)
+  others_left None parent = refl
+  others_left (Some old) parent = elim (eqb_tells parent old) [
+    | inl (here, same) ↦ rw here (of_entry (state.node_at parent))
+    | inr (there, apart) ↦ rw there refl
+  ]
+
+  -- the node comes at the index among the others
+  pub put_among : (old : Option ℕ) (parent index : ℕ) (children : List ℕ) → children ≡ with_put index (number ∷ []) (without number (children_at state parent))
+      → changed (changed_if state old (with_children (without number))) parent (with_children (λ before. children)) ≡ changed (changed_if state old (with_children (without number))) parent (with_children (with_moved number index))
+  put_among old parent index children is =
+      put_as_changed (changed_if state old (with_children (without number))) parent children (with_moved number index) (is ∙ ap (with_put index (number ∷ [])) (sym (others_left old parent)))

@@ -1,0 +1,122 @@
+//! Nodes are moved, with all below them (DOM, 4.2.3, narrowed).
+
+ghost use Rattle.std.specs.Prelude.{◌≡◌, ◌≤◌, length, IfOk};
+ghost use Rattle.dom_store.specs.Edited.{Applies, Judges, refused_for};
+ghost use Rattle.dom_store.specs.Edits.{both, move_to, without};
+ghost use Rattle.dom_store.specs.Refusals.{first_of, may_hold, placing, refusal, too_deep_moved};
+ghost use Rattle.dom_store.specs.Standing.{children_at, parent_at};
+ghost use Rattle.dom_store.specs.State.{state_of, what_of};
+
+use crate::depths::GREATEST_DEPTH;
+use crate::document::Document;
+use crate::edit::Change;
+use crate::error::EditError;
+use crate::node::{NodeKind, NodeNumbers};
+use crate::siblings::{least, with_put, without};
+use html_tokens::Tag;
+use std::alloc::{AllocError, Global};
+
+impl Document {
+    /// Makes a node the child of this parent, at the index among the others.
+    pub(crate) fn move_to(
+        &mut self,
+        alloc: Global,
+        n: u32,
+        parent: u32,
+        index: u32,
+    ) -> Result<Change, EditError>
+        ensures { Applies (state_of self.old) (state_of self.new) (move_to n parent index) result }
+    {
+        let others = self.check_move(alloc, n, parent, index)?;
+        let change = self.change_of_both(alloc, n, parent)?;
+        let children = with_put(alloc, &others, index as usize, n)?;
+        self.leave_parent(alloc, n)?;
+        self.put_children(parent, children);
+        self.put_parent(n, parent);
+        Ok(change)
+    }
+
+    /// Whether a node may be moved there, and the children among which it would stand.
+    fn check_move(
+        &self,
+        alloc: Global,
+        n: u32,
+        parent: u32,
+        index: u32,
+    ) -> Result<NodeNumbers, EditError>
+        ensures judges { Judges (refusal (state_of self.now) (move_to n parent index)) result }
+        ensures others { IfOk result (λ others. others.items ≡ without n (children_at (state_of self.now) parent)) }
+        ensures within { IfOk result (λ others. index ≤ length others.items) }
+    {
+        self.check_placing(n, parent)?;
+        let others = without(alloc, self.children(parent), n)?;
+        if index as usize > others.len() {
+            return Err(EditError::BadIndex);
+        }
+        self.check_move_depth(alloc, n, parent)?;
+        Ok(others)
+    }
+
+    /// Whether a node may stand in this parent, wherever in it, and however deep.
+    fn check_placing(&self, n: u32, parent: u32) -> Result<(), EditError>
+        ensures { refused_for result ≡ first_of (placing (state_of self.now) n parent) }
+    {
+        if self.node(n).is_none() {
+            return Err(EditError::NoNode);
+        }
+        let Some(holder) = self.node(parent) else {
+            return Err(EditError::NoNode);
+        };
+        if n <= 1 {
+            return Err(EditError::IsRoot);
+        }
+        if parent == 0 {
+            return Err(EditError::IsRoot);
+        }
+        if !may_hold(&holder.kind) {
+            return Err(EditError::NotElement);
+        }
+        if self.is_within(parent, n) {
+            return Err(EditError::Inside);
+        }
+        Ok(())
+    }
+
+    /// Whether a node and those below it would stand deep enough in this parent.
+    fn check_move_depth(&self, alloc: Global, n: u32, parent: u32) -> Result<(), EditError>
+        ensures { Judges (too_deep_moved (state_of self.now) n parent) result }
+    {
+        let mut past = Vec::new(alloc);
+        let skipped = GREATEST_DEPTH - self.depth(parent);
+        self.collect(skipped, GREATEST_DEPTH, n, &mut past)?;
+        match least(&past) {
+            Some(number) => Err(EditError::TooDeep(number)),
+            None => Ok(()),
+        }
+    }
+
+    /// What concerns the node's parent and this one.
+    fn change_of_both(&self, alloc: Global, n: u32, parent: u32) -> Result<Change, AllocError>
+        ensures { IfOk result (λ change. change.elements.items ≡ both (parent_at (state_of self.now) n) parent) }
+    {
+        let mut elements = Vec::new(alloc);
+        if let Some(old) = self.parent(n) {
+            if old != parent {
+                elements.push(old)?;
+            }
+        }
+        elements.push(parent)?;
+        Ok(Change { elements })
+    }
+}
+
+/// Whether nodes may stand in such a node.
+fn may_hold(kind: &NodeKind) -> bool
+    ensures { result ≡ may_hold (what_of kind.now) }
+{
+    match kind {
+        NodeKind::Element { tag: Tag::Br, .. } => false,
+        NodeKind::Element { .. } => true,
+        NodeKind::Text { .. } => false,
+    }
+}
