@@ -1,0 +1,9 @@
+mod AnsweredLaws
+mod Bringing
+mod ClassWords
+mod CommandLaws
+mod Lines
+mod MeaningLaws
+mod Reading
+mod ScriptLaws
+mod Tables

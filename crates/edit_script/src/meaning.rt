@@ -1,0 +1,127 @@
+//! What stands behind the words of a line.
+
+ghost use Rattle.std.specs.Prelude.{◌≡◌, IfErr, IfOk, map};
+ghost use Rattle.std.specs.String.{string_bytes};
+ghost use Rattle.html_read.specs.Judging as judging;
+ghost use Rattle.edit_script.specs.declared.error.Halt.TheVariants as halts;
+ghost use Rattle.edit_script.specs.Halt.{Reads};
+ghost use Rattle.edit_script.specs.Meaning as meanings;
+ghost use Rattle.edit_script.specs.Views.{command_of, new_of, step_of};
+
+use crate::command::Command;
+use crate::error::{Halt, Refusal};
+use crate::step::ScriptStep;
+use css_sheet::read_styled;
+use css_values::read_declarations;
+use dom_store::{Edit, NewNodes};
+use html_read::{ReadDocument, Sheets, read_fragment};
+use html_tokens::gap;
+use std::alloc::Global;
+use style_types::{Declarations, LetterList, Letters};
+
+/// What a line says whose words say this.
+#[tactic(auto, unfolding(crate::specs::Meaning::meaning))]
+pub(crate) fn meaning(alloc: Global, command: Command<'_>) -> Result<ScriptStep, Halt>
+    ensures { Reads step_of result (meanings.meaning (command_of command.entry)) }
+{
+    match command {
+        Command::Text { node, rest } => {
+            let text = letters(alloc, rest)?;
+            Ok(ScriptStep::Edit(Edit::Text { node, text }))
+        }
+        Command::Style { node, rest } => {
+            let declarations = own(alloc, rest)?;
+            Ok(ScriptStep::Edit(Edit::Style { node, declarations }))
+        }
+        Command::Class { node, rest } => {
+            let words = class_words(alloc, rest)?;
+            Ok(ScriptStep::Edit(Edit::Class { node, words }))
+        }
+        Command::Insert {
+            parent,
+            index,
+            rest,
+        } => {
+            let nodes = new_nodes(alloc, rest)?;
+            Ok(ScriptStep::Edit(Edit::Insert {
+                parent,
+                index,
+                nodes,
+            }))
+        }
+        Command::Remove { node } => Ok(ScriptStep::Edit(Edit::Remove { node })),
+        Command::Move {
+            node,
+            parent,
+            index,
+        } => Ok(ScriptStep::Edit(Edit::Move {
+            node,
+            parent,
+            index,
+        })),
+        Command::Show => Ok(ScriptStep::Show),
+    }
+}
+
+// The letters of a text in which no `<` stands. What stands before the first one is judged before it.
+fn letters(alloc: Global, text: &str) -> Result<Letters, Halt>
+    ensures { Reads (λ l. string_bytes l) result (meanings.letters text.now) }
+{
+    match text.split_once('<') {
+        None => whole_gap(alloc, text),
+        Some((before, _)) => {
+            whole_gap(alloc, before)?;
+            Err(Halt::Refused(Refusal::Html(html_read::Refusal::Syntax)))
+        }
+    }
+}
+
+// The letters of a text, to its end.
+#[tactic(auto, unfolding(crate::specs::Meaning::whole_gap))]
+fn whole_gap(alloc: Global, text: &str) -> Result<Letters, Halt>
+    ensures { Reads (λ l. string_bytes l) result (meanings.whole_gap text.now) }
+{
+    let (letters, left) = gap(alloc, text)?;
+    if left.is_empty() {
+        Ok(letters)
+    } else {
+        Err(Halt::Refused(Refusal::Html(html_read::Refusal::Syntax)))
+    }
+}
+
+// Own declarations.
+#[tactic(auto, unfolding(crate::specs::Meaning::own))]
+fn own(alloc: Global, text: &str) -> Result<Declarations, Halt>
+    ensures { Reads (λ d. d.items) result (meanings.own text.now) }
+{
+    Ok(read_declarations(alloc, text, 0)?)
+}
+
+// The words of a text, between white space.
+fn class_words(alloc: Global, text: &str) -> Result<LetterList, Halt>
+    ensures words { IfOk result (λ w. map (λ s. string_bytes s) w.items ≡ judging.words text.now) }
+    ensures memory { IfErr result (λ halt. halt ≡ halts.Memory) }
+{
+    let mut words = LetterList::new(alloc);
+    for word in text.split_ascii_whitespace() {
+        words.push(Letters::from_str(alloc, word)?)?;
+    }
+    Ok(words)
+}
+
+// The nodes of a fragment, and each one's own declarations.
+#[tactic(auto, unfolding(crate::specs::Meaning::new_nodes))]
+fn new_nodes(alloc: Global, text: &str) -> Result<NewNodes, Halt>
+    ensures { Reads new_of result (meanings.new_nodes text.now) }
+{
+    let fragment = ReadDocument {
+        nodes: read_fragment(alloc, text)?,
+        sheets: Sheets::new(alloc),
+        end: 0,
+    };
+    let styled = read_styled(alloc, &fragment)?;
+    Ok(NewNodes {
+        read: fragment.nodes,
+        styles: styled.styles,
+    })
+}

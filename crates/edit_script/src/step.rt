@@ -1,0 +1,22 @@
+//! What a script says.
+
+use dom_store::Edit;
+
+/// What a line says.
+#[derive(Debug, Drop)]
+pub enum ScriptStep {
+    /// The page is listed.
+    Show,
+    /// The tree is edited.
+    Edit(Edit),
+}
+
+/// What a line says, and the line's number. Lines count from 1.
+#[derive(Debug, Drop)]
+pub struct ScriptLine {
+    pub line: usize,
+    pub what: ScriptStep,
+}
+
+/// What the lines of a script say, in order. Lines that say nothing are left out.
+pub type Script = Vec<ScriptLine>;
