@@ -18,7 +18,7 @@ use Rattle.css_sheet.specs.Styled as styled
 use Rattle.edit_script.specs.declared.error.Refusal.TheVariants as kinds
 use Rattle.edit_script.specs.declared.error.Halt.{Halt}
 use Rattle.edit_script.specs.declared.error.Halt.TheVariants as halts
-use Rattle.edit_script.specs.Halt.{Halts, Reads, of_css_error}
+use Rattle.edit_script.specs.Error.{Halts, Reads, of_css_error}
 use Rattle.edit_script.specs.Meaning.{Said, and_then, by_html, by_styles, is_less, letters, new_nodes, unless, whole_gap}
 
 abbrev there : {A : Type 0} → A → Said A

@@ -2,6 +2,7 @@ mod AnsweredLaws
 mod Bringing
 mod ClassWords
 mod CommandLaws
+mod Examples
 mod Lines
 mod MeaningLaws
 mod Reading

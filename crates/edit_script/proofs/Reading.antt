@@ -7,7 +7,7 @@ use Rattle.std.proofs.lemmas.List.Splits.{slice_split_at, slice_split_none}
 use Rattle.edit_script.specs.declared.error.Halt.{Halt}
 use Rattle.edit_script.specs.declared.error.Halt.TheVariants as halts
 use Rattle.edit_script.specs.Answered.{IsRefused}
-use Rattle.edit_script.specs.Halt.{Halts, told_at}
+use Rattle.edit_script.specs.Error.{Halts, told_at}
 use Rattle.edit_script.specs.Meaning.{Said}
 use Rattle.edit_script.specs.Script.{Begun, at_place, empty, is_lf, lines_from, passed, script, with_line}
 use Rattle.edit_script.specs.Views.{IsFirstLine}

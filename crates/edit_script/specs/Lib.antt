@@ -1,7 +1,7 @@
 pub mod Answered
 pub mod Command
+pub mod Error
 pub mod Grammar
-pub mod Halt
 pub mod Meaning
 pub mod Script
 pub mod Views

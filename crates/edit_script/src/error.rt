@@ -6,7 +6,7 @@ ghost use Rattle.css_values.specs.declared.error.CssError as css_error;
 ghost use Rattle.edit_script.specs.declared.error.Halt.TheVariants.{Memory};
 ghost use Rattle.edit_script.specs.declared.error.Halt.TheVariants as halts;
 ghost use Rattle.edit_script.specs.declared.error.Refusal.TheVariants.{ScriptSyntax};
-ghost use Rattle.edit_script.specs.Halt.{of_css_error, of_html_error, of_html_stop};
+ghost use Rattle.edit_script.specs.Error.{of_css_error, of_html_error, of_html_stop};
 
 use css_values::CssError;
 use html_read::HtmlError;

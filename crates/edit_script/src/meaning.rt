@@ -4,7 +4,7 @@ ghost use Rattle.std.specs.Prelude.{◌≡◌, IfErr, IfOk, map};
 ghost use Rattle.std.specs.String.{string_bytes};
 ghost use Rattle.html_read.specs.Judging as judging;
 ghost use Rattle.edit_script.specs.declared.error.Halt.TheVariants as halts;
-ghost use Rattle.edit_script.specs.Halt.{Reads};
+ghost use Rattle.edit_script.specs.Error.{Reads};
 ghost use Rattle.edit_script.specs.Meaning as meanings;
 ghost use Rattle.edit_script.specs.Views.{command_of, new_of, step_of};
 

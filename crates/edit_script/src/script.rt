@@ -3,7 +3,7 @@
 ghost use Rattle.std.specs.Prelude.{◌≡◌, ◌+◌, ◌-◌, ◌^◌, ◌<◌, true, not, IfErr, IfOk, length};
 ghost use Rattle.std.specs.Str.Lines.{strip_carriage_return};
 ghost use Rattle.edit_script.specs.Answered.{IsTheScript, RefusesScript, Told};
-ghost use Rattle.edit_script.specs.Halt.{Reads, told_at};
+ghost use Rattle.edit_script.specs.Error.{Reads, told_at};
 ghost use Rattle.edit_script.specs.Script as scripts;
 ghost use Rattle.edit_script.specs.Views.{IsFirstLine, begun_of, command_of, steps_of};
 
