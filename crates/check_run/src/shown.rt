@@ -19,7 +19,8 @@ use std::sync::ledger::{Blank, Ledger};
 use std::test::Fail;
 use wm_units::{Steps, View};
 
-const TURNED: &[u8] = b"<html><body><p>one two <span style=\"display:inline-block;writing-mode:vertical-rl\">three \xe5\x9b\x9b</span></p><div style=\"writing-mode:vertical-lr\">five six</div></body></html>";
+const TURNED: &[u8] =
+    b"<html><body><p>one two <span style=\"display:inline-block;writing-mode:vertical-rl\">three \xe5\x9b\x9b</span></p><div style=\"writing-mode:vertical-lr\">five six</div></body></html>";
 
 const VIEW: View = View {
     inline: 20480,
