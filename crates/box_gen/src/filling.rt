@@ -104,17 +104,23 @@ pub fn own_name(number: u32) -> BoxName
     }
 }
 
-// A box whose content is all inline.
+// A box whose content is all inline. Most paragraphs have one item, so no room is kept for more.
 fn paragraph(name: BoxName, style: Style, run: Run) -> BoxTree
     ensures { boxes_of result ≡ box name style (inline (run_of run).items) (run_of run).atoms none }
 {
+    let Run {
+        mut items,
+        atoms,
+        ..
+    } = run;
+    items.shrink_to_fit();
     BoxTree {
         node: BoxNode {
             name,
             style,
-            content: Content::Inline(run.items),
+            content: Content::Inline(items),
         },
-        children: run.atoms,
+        children: atoms,
     }
 }
 

@@ -15,7 +15,7 @@ pub(crate) fn glyphs(alloc: Global, words: &mut Words<'_>) -> Result<Glyphs, Cas
             units.push(characters(alloc, unit)?)?;
         }
     }
-    Ok(Glyphs::many(units))
+    Ok(Glyphs::many(alloc, units)?)
 }
 
 fn characters(alloc: Global, unit: &str) -> Result<Characters, CaseError> {

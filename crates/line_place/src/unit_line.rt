@@ -295,7 +295,7 @@ fn unit_at(alloc: Global, line: &UnitLine, place: usize) -> Result<RunUnit, Allo
             first: 0,
             end: 0,
             extent: 0,
-            glyphs: Glyphs::many(Vec::new(alloc)),
+            glyphs: Glyphs::none(),
         })
     }
 }

@@ -139,7 +139,7 @@ pub fn run_unit(
             first: 0,
             end: 0,
             extent,
-            glyphs: Glyphs::many(Vec::new(alloc)),
+            glyphs: Glyphs::none(),
         }),
     }
 }

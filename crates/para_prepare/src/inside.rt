@@ -226,5 +226,5 @@ fn glyphs_of(
         let unit = units[place];
         seen.push(glyph(alloc, levels[place], &letters[unit.first..unit.end])?)?;
     }
-    Ok(Glyphs::many(seen))
+    Glyphs::many(alloc, seen)
 }

@@ -217,7 +217,7 @@ fn glyphs_of(alloc: Global, level: u8, letters: &[Letter]) -> Result<Glyphs, All
     }
     let mut units = Vec::with_capacity(alloc, 1)?;
     units.push(glyph(alloc, level, letters)?)?;
-    Ok(Glyphs::many(units))
+    Glyphs::many(alloc, units)
 }
 
 /// The characters of a unit at this level as they are seen: the first one mirrored on an odd level (UAX 9, L4).

@@ -17,8 +17,8 @@ use wm_modes::{Direction, FlowRect, WritingMode};
 #[derive(Debug, Drop)]
 pub struct RunUnit {
     /// The place of its first character in the node's text, and the place after its last.
-    pub first: usize,
-    pub end: usize,
+    pub first: u32,
+    pub end: u32,
     /// Its extent along the line, in units of 1/64 px.
     pub extent: i64,
     pub glyphs: Glyphs,

@@ -11,7 +11,8 @@ use std::slice;
 pub type Characters = Vec<char>;
 
 /// The characters of units, one entry for each unit from line-left: one unit, or those inside a combined run. Characters
-/// that are mirrored stand as their mirrors. A contract sees the list of the lists. A unit of one character takes no memory.
+/// that are mirrored stand as their mirrors. A contract sees the list of the lists. One unit of one character, and none at
+/// all, take no memory.
 #[derive(Debug, Drop)]
 pub struct Glyphs {
     kept: Kept,
@@ -19,8 +20,9 @@ pub struct Glyphs {
 
 #[derive(Debug, Drop)]
 enum Kept {
+    None,
     One(char),
-    Many(Vec<Characters>),
+    Many(Box<Vec<Characters>>),
 }
 
 impl Model for Glyphs {
@@ -40,13 +42,20 @@ impl Glyphs {
         Glyphs { kept: Kept::One(c) }
     }
 
-    /// Units with these characters.
-    pub fn many(units: Vec<Characters>) -> Glyphs
-        ensures { result ≡ lists_of units.items }
+    /// No unit.
+    pub fn none() -> Glyphs
+        ensures { result ≡ [] }
     {
-        Glyphs {
-            kept: Kept::Many(units),
-        }
+        Glyphs { kept: Kept::None }
+    }
+
+    /// Units with these characters.
+    pub fn many(alloc: Global, units: Vec<Characters>) -> Result<Glyphs, AllocError>
+        ensures { IfOk result (λ glyphs. glyphs ≡ lists_of units.items) }
+    {
+        Ok(Glyphs {
+            kept: Kept::Many(Box::new(alloc, units)?),
+        })
     }
 
     /// How many units there are.
@@ -54,6 +63,7 @@ impl Glyphs {
         ensures { result ≡ length self.now }
     {
         match &self.kept {
+            Kept::None => 0,
             Kept::One(_) => 1,
             Kept::Many(units) => units.len(),
         }
@@ -72,6 +82,7 @@ impl Glyphs {
         ensures { result.now ≡ slice_index_or self.now place [] }
     {
         match &self.kept {
+            Kept::None => &[],
             Kept::One(c) => slice::from_ref(c),
             Kept::Many(units) => &units[place],
         }
@@ -82,8 +93,9 @@ impl Glyphs {
         ensures { IfOk result (λ own. own ≡ self.now) }
     {
         match &self.kept {
+            Kept::None => Ok(Glyphs::none()),
             Kept::One(c) => Ok(Glyphs::one(*c)),
-            Kept::Many(units) => Ok(Glyphs::many(copy_of_units(alloc, units)?)),
+            Kept::Many(units) => Glyphs::many(alloc, copy_of_units(alloc, units)?),
         }
     }
 }
