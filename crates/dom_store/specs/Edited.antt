@@ -1,13 +1,14 @@
 -- What an edit leads to, and what is answered.
 use Rattle.std.specs.Prelude.{◌≡◌, ◌⊎◌, ℕ, List, length, map, Option, Some, None, Result, Ok, Err, string_bytes, ⊤}
-use Rattle.html_read.specs.Shape.{IsFragmentShaped}
+use Rattle.std.specs.List.{All}
+use Rattle.html_read.specs.Shape.{IsFragmentShaped, text_bytes}
 use Rattle.html_read.specs.Values.{nodes_of}
 use Rattle.dom_store.specs.declared.edit.Change.{Change}
 use Rattle.dom_store.specs.declared.edit.Edit as code
 use Rattle.dom_store.specs.declared.edit.Edit.TheVariants as edits
 use Rattle.dom_store.specs.declared.error.EditError.{EditError}
 use Rattle.dom_store.specs.declared.error.EditError.TheVariants.{Memory}
-use Rattle.dom_store.specs.State.{State}
+use Rattle.dom_store.specs.State.{AreSaid, State}
 use Rattle.dom_store.specs.Edits.{EditOf, set_text, set_style, set_class, insert, remove, move_to, after, concerned}
 use Rattle.dom_store.specs.Refusals.{refusal}
 
@@ -54,3 +55,15 @@ edit_of (edits.Move number parent index) = move_to number parent index
 abbrev pub IsFitting : EditOf → Type 0
 IsFitting (insert parent index nodes own) = IsFragmentShaped nodes × (length own ≡ length nodes)
 IsFitting other = ⊤
+
+-- the numbers of declarations that an edit brings are such as a style sheet can say
+abbrev pub IsSaidEdit : EditOf → Type 0
+IsSaidEdit (set_style number own) = AreSaid own
+IsSaidEdit (insert parent index nodes own) = All AreSaid own
+IsSaidEdit other = ⊤
+
+-- how many bytes of text an edit brings
+abbrev pub bytes_brought : EditOf → ℕ
+bytes_brought (set_text number letters) = length letters
+bytes_brought (insert parent index nodes own) = text_bytes nodes
+bytes_brought other = 0

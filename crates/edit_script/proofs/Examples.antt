@@ -5,7 +5,8 @@ use Rattle.reading.specs.Decimals.{number, more_digits}
 use Rattle.html_read.specs.Judging as judging
 use Rattle.edit_script.specs.declared.error.Refusal.TheVariants.{ScriptSyntax, TooManyEdits, TooManyShows}
 use Rattle.edit_script.specs.Command.{argument, arguments, command, insert_arguments, move_arguments, node_and_rest, rest, words}
-use Rattle.edit_script.specs.Meaning.{class, edit, meaning, move, remove, show}
+use Rattle.dom_store.specs.Edits.{set_class, move_to, remove}
+use Rattle.edit_script.specs.Meaning.{edit, meaning, show}
 use Rattle.edit_script.specs.Script.{lines_from, script, with_line}
 
 blank_lines_count : script (codes "\n# show\r\nshow") ≡ Ok (record { line = 3; what = show } ∷ [])
@@ -24,7 +25,7 @@ places_count_bytes : script (codes "#\r\n\nfloat 1") ≡ Err (ScriptSyntax, 4)
 unfolding script lines_from with_line command arguments node_and_rest insert_arguments move_arguments argument rest words one_word word_from strip starts after number more_digits one_of meaning
 places_count_bytes = refl
 
-nodes_move : script (codes "move 0001 02 3\nremove 9999999") ≡ Ok (record { line = 1; what = edit (move 1 2 3) } ∷ record { line = 2; what = edit (remove 9999999) } ∷ [])
+nodes_move : script (codes "move 0001 02 3\nremove 9999999") ≡ Ok (record { line = 1; what = edit (move_to 1 2 3) } ∷ record { line = 2; what = edit (remove 9999999) } ∷ [])
 unfolding script lines_from with_line command arguments node_and_rest insert_arguments move_arguments argument rest words one_word word_from strip starts after number more_digits one_of meaning
 nodes_move = refl
 
@@ -44,11 +45,11 @@ capital_letters : script (codes "Show") ≡ Err (ScriptSyntax, 0)
 unfolding script lines_from with_line command arguments node_and_rest insert_arguments move_arguments argument rest words one_word word_from strip starts after number more_digits one_of meaning
 capital_letters = refl
 
-the_space_may_be_missing : script (codes "class 3\nclass 4 ") ≡ Ok (record { line = 1; what = edit (class 3 []) } ∷ record { line = 2; what = edit (class 4 []) } ∷ [])
+the_space_may_be_missing : script (codes "class 3\nclass 4 ") ≡ Ok (record { line = 1; what = edit (set_class 3 []) } ∷ record { line = 2; what = edit (set_class 4 []) } ∷ [])
 unfolding script lines_from with_line command arguments node_and_rest insert_arguments move_arguments argument rest words one_word word_from strip starts after number more_digits one_of meaning judging.words
 the_space_may_be_missing = refl
 
-words_of_a_class : script (codes "class 3  a\tbc ") ≡ Ok (record { line = 1; what = edit (class 3 (codes "a" ∷ codes "bc" ∷ [])) } ∷ [])
+words_of_a_class : script (codes "class 3  a\tbc ") ≡ Ok (record { line = 1; what = edit (set_class 3 (codes "a" ∷ codes "bc" ∷ [])) } ∷ [])
 unfolding script lines_from with_line command arguments node_and_rest insert_arguments move_arguments argument rest words one_word word_from strip starts after number more_digits one_of meaning judging.words
 words_of_a_class = refl
 

@@ -3,6 +3,7 @@ mod Bringing
 mod ClassWords
 mod CommandLaws
 mod Examples
+mod FittingLaws
 mod Lines
 mod MeaningLaws
 mod Reading

@@ -28,6 +28,7 @@ use Rattle.edit_script.specs.Command.{Command, nothing}
 use Rattle.edit_script.specs.Command as commands
 use Rattle.edit_script.specs.Grammar.{IsText, Means}
 use Rattle.edit_script.specs.Meaning.{Said, Step, and_then, by_css, by_html, by_styles, is_less, letters, meaning, new_nodes, own, unless, whole_gap}
+use Rattle.dom_store.specs.Edits as edits
 use Rattle.edit_script.specs.Meaning as meanings
 use Rattle.edit_script.proofs.CommandLaws.{nothing_takes}
 
@@ -211,16 +212,16 @@ new_again fragments_are bytes nodes own_ is are =
 pub means : FragmentsAre → (c : Command) (what : Step) → meaning c ≡ there what → Means c what
 unfolding meaning
 means fragments_are (commands.text node rest) what e =
-    let a = then_ok (letters rest) (λ (l : List ℕ). there (meanings.edit (meanings.text node l))) what e in
-    (a.0, text_is rest a.0 a.1, sym (same_there (meanings.edit (meanings.text node a.0)) what a.2))
+    let a = then_ok (letters rest) (λ (l : List ℕ). there (meanings.edit (edits.set_text node l))) what e in
+    (a.0, text_is rest a.0 a.1, sym (same_there (meanings.edit (edits.set_text node a.0)) what a.2))
 means fragments_are (commands.style node rest) what e =
-    let a = then_ok (own rest) (λ (d : List Declaration). there (meanings.edit (meanings.style node d))) what e in
-    (a.0, own_is rest a.0 a.1, sym (same_there (meanings.edit (meanings.style node a.0)) what a.2))
+    let a = then_ok (own rest) (λ (d : List Declaration). there (meanings.edit (edits.set_style node d))) what e in
+    (a.0, own_is rest a.0 a.1, sym (same_there (meanings.edit (edits.set_style node a.0)) what a.2))
 means fragments_are (commands.class node rest) what e = cc
 means fragments_are (commands.insert parent index rest) what e =
-    let a = then_ok (new_nodes rest) (λ (new : List Node × List (List Declaration)). there (meanings.edit (meanings.insert parent index new.0 new.1))) what e in
+    let a = then_ok (new_nodes rest) (λ (new : List Node × List (List Declaration)). there (meanings.edit (edits.insert parent index new.0 new.1))) what e in
     let is = new_is fragments_are rest a.0 a.1 in
-    (a.0.0, a.0.1, is.fragment, is.styles, sym (same_there (meanings.edit (meanings.insert parent index a.0.0 a.0.1)) what a.2))
+    (a.0.0, a.0.1, is.fragment, is.styles, sym (same_there (meanings.edit (edits.insert parent index a.0.0 a.0.1)) what a.2))
 means fragments_are (commands.remove node) what e = cc
 means fragments_are (commands.move node parent index) what e = cc
 means fragments_are commands.show what e = cc
@@ -228,12 +229,12 @@ means fragments_are commands.show what e = cc
 pub means_again : FragmentsAre → (c : Command) (what : Step) → Means c what → meaning c ≡ there what
 unfolding meaning
 means_again fragments_are (commands.text node rest) what m =
-    ap (λ (r : Said (List ℕ)). and_then r (λ l. there (meanings.edit (meanings.text node l)))) (text_again rest m.0 m.1) ∙ ap (λ (s : Step). there s) (sym m.2)
+    ap (λ (r : Said (List ℕ)). and_then r (λ l. there (meanings.edit (edits.set_text node l)))) (text_again rest m.0 m.1) ∙ ap (λ (s : Step). there s) (sym m.2)
 means_again fragments_are (commands.style node rest) what m =
-    ap (λ (r : Said (List Declaration)). and_then r (λ d. there (meanings.edit (meanings.style node d)))) (own_again rest m.0 m.1) ∙ ap (λ (s : Step). there s) (sym m.2)
+    ap (λ (r : Said (List Declaration)). and_then r (λ d. there (meanings.edit (edits.set_style node d)))) (own_again rest m.0 m.1) ∙ ap (λ (s : Step). there s) (sym m.2)
 means_again fragments_are (commands.class node rest) what m = ap (λ (s : Step). there s) (sym m)
 means_again fragments_are (commands.insert parent index rest) what m =
-    ap (λ (r : Said (List Node × List (List Declaration))). and_then r (λ new. there (meanings.edit (meanings.insert parent index new.0 new.1)))) (new_again fragments_are rest m.0 m.1 m.2 m.3)
+    ap (λ (r : Said (List Node × List (List Declaration))). and_then r (λ new. there (meanings.edit (edits.insert parent index new.0 new.1)))) (new_again fragments_are rest m.0 m.1 m.2 m.3)
     ∙ ap (λ (s : Step). there s) (sym m.4)
 means_again fragments_are (commands.remove node) what m = ap (λ (s : Step). there s) (sym m)
 means_again fragments_are (commands.move node parent index) what m = ap (λ (s : Step). there s) (sym m)

@@ -6,6 +6,8 @@ use Rattle.std.specs.Str.Lines.{strip_carriage_return}
 use Rattle.std.proofs.lemmas.Bool.{lt-ltb, ltb-true}
 use Rattle.std.proofs.lemmas.List.{append-nil}
 use Rattle.reading.specs.Readers.{Read}
+use Rattle.dom_store.specs.Edits as changes
+use Rattle.dom_store.specs.Edits.{EditOf}
 use Rattle.edit_script.specs.declared.error.Refusal.{Refusal}
 use Rattle.edit_script.specs.declared.error.Refusal.TheVariants as kinds
 use Rattle.html_read.specs.Judging as judging
@@ -35,7 +37,7 @@ edit_more b = record { said = b.said; lines = b.lines; edits = b.edits + 1; show
 show_more : Begun → Begun
 show_more b = record { said = b.said; lines = b.lines; edits = b.edits; shows = b.shows + 1 }
 
-edit_counts : (b : Begun) (change : meanings.Edit) → b.edits < 10000 → IsCounted b (meanings.edit change) (edit_more b)
+edit_counts : (b : Begun) (change : EditOf) → b.edits < 10000 → IsCounted b (meanings.edit change) (edit_more b)
 unfolding edit_more
 edit_counts b change lt = record { said = refl; lines = refl; edits = refl; shows = omega arith; few_edits = λ few. omega (arith, lt); few_shows = λ few. few }
 
@@ -43,11 +45,11 @@ show_counts : (b : Begun) → b.shows < 64 → IsCounted b meanings.show (show_m
 unfolding show_more
 show_counts b lt = record { said = refl; lines = refl; edits = omega arith; shows = refl; few_edits = λ few. few; few_shows = λ few. omega (arith, lt) }
 
-edit_by : (b next : Begun) (change : meanings.Edit) (t : Bool) → nat_lt b.edits 10000 ≡ t → cond t (there (edit_more b)) (Err kinds.TooManyEdits) ≡ there next → IsCounted b (meanings.edit change) next
+edit_by : (b next : Begun) (change : EditOf) (t : Bool) → nat_lt b.edits 10000 ≡ t → cond t (there (edit_more b)) (Err kinds.TooManyEdits) ≡ there next → IsCounted b (meanings.edit change) next
 edit_by b next change true lt e = subst (λ (z : Begun). IsCounted b (meanings.edit change) z) (same_there (edit_more b) next e) (edit_counts b change (ltb-true b.edits 10000 lt))
 edit_by b next change false lt e = absurd cc
 
-edit_counted : (b next : Begun) (change : meanings.Edit) → counted_edit b ≡ there next → IsCounted b (meanings.edit change) next
+edit_counted : (b next : Begun) (change : EditOf) → counted_edit b ≡ there next → IsCounted b (meanings.edit change) next
 unfolding edit_more edit_by
 edit_counted b next change e = edit_by b next change (nat_lt b.edits 10000) refl e
 
@@ -59,17 +61,17 @@ show_counted : (b next : Begun) → counted_show b ≡ there next → IsCounted 
 unfolding show_more show_by
 show_counted b next e = show_by b next (nat_lt b.shows 64) refl e
 
-an_edit : (b next : Begun) (change : meanings.Edit) (what : Step) → what ≡ meanings.edit change → counted_edit b ≡ there next → IsCounted b what next
+an_edit : (b next : Begun) (change : EditOf) (what : Step) → what ≡ meanings.edit change → counted_edit b ≡ there next → IsCounted b what next
 an_edit b next change what is e = subst (λ (w : Step). IsCounted b w next) (sym is) (edit_counted b next change e)
 
 is_counted : (c : Command) (b next : Begun) (what : Step) → Means c what → counted c b ≡ there next → IsCounted b what next
 is_counted commands.show b next what m e = subst (λ (w : Step). IsCounted b w next) (sym m) (show_counted b next e)
-is_counted (commands.text node rest) b next what m e = an_edit b next (meanings.text node m.0) what m.2 e
-is_counted (commands.style node rest) b next what m e = an_edit b next (meanings.style node m.0) what m.2 e
-is_counted (commands.class node rest) b next what m e = an_edit b next (meanings.class node (judging.words rest)) what m e
-is_counted (commands.insert parent index rest) b next what m e = an_edit b next (meanings.insert parent index m.0 m.1) what m.4 e
-is_counted (commands.remove node) b next what m e = an_edit b next (meanings.remove node) what m e
-is_counted (commands.move node parent index) b next what m e = an_edit b next (meanings.move node parent index) what m e
+is_counted (commands.text node rest) b next what m e = an_edit b next (changes.set_text node m.0) what m.2 e
+is_counted (commands.style node rest) b next what m e = an_edit b next (changes.set_style node m.0) what m.2 e
+is_counted (commands.class node rest) b next what m e = an_edit b next (changes.set_class node (judging.words rest)) what m e
+is_counted (commands.insert parent index rest) b next what m e = an_edit b next (changes.insert parent index m.0 m.1) what m.4 e
+is_counted (commands.remove node) b next what m e = an_edit b next (changes.remove node) what m e
+is_counted (commands.move node parent index) b next what m e = an_edit b next (changes.move_to node parent index) what m e
 
 -- a step that may still come is counted
 record Counts (c : Command) (b : Begun) : Type 0 where
@@ -84,7 +86,7 @@ show_may : (b : Begun) → b.shows < 64 → counted_show b ≡ there (show_more 
 unfolding show_more
 show_may b lt = ap (λ (t : Bool). cond t (there (show_more b)) (Err kinds.TooManyShows)) (lt-ltb b.shows 64 lt)
 
-edit_fits : (b : Begun) (change : meanings.Edit) (what : Step) → what ≡ meanings.edit change → b.edits + edits_in what ≤ 10000 → b.edits < 10000
+edit_fits : (b : Begun) (change : EditOf) (what : Step) → what ≡ meanings.edit change → b.edits + edits_in what ≤ 10000 → b.edits < 10000
 edit_fits b change what is few =
     let one : edits_in what ≡ 1 = ap edits_in is in
     omega (arith, one, few)
@@ -96,12 +98,12 @@ show_fits b what is few =
 
 may_count : (c : Command) (b : Begun) (what : Step) → Means c what → b.edits + edits_in what ≤ 10000 → b.shows + shows_in what ≤ 64 → Counts c b
 may_count commands.show b what m edits shows = record { next = show_more b; is = show_may b (show_fits b what m shows) }
-may_count (commands.text node rest) b what m edits shows = record { next = edit_more b; is = edit_may b (edit_fits b (meanings.text node m.0) what m.2 edits) }
-may_count (commands.style node rest) b what m edits shows = record { next = edit_more b; is = edit_may b (edit_fits b (meanings.style node m.0) what m.2 edits) }
-may_count (commands.class node rest) b what m edits shows = record { next = edit_more b; is = edit_may b (edit_fits b (meanings.class node (judging.words rest)) what m edits) }
-may_count (commands.insert parent index rest) b what m edits shows = record { next = edit_more b; is = edit_may b (edit_fits b (meanings.insert parent index m.0 m.1) what m.4 edits) }
-may_count (commands.remove node) b what m edits shows = record { next = edit_more b; is = edit_may b (edit_fits b (meanings.remove node) what m edits) }
-may_count (commands.move node parent index) b what m edits shows = record { next = edit_more b; is = edit_may b (edit_fits b (meanings.move node parent index) what m edits) }
+may_count (commands.text node rest) b what m edits shows = record { next = edit_more b; is = edit_may b (edit_fits b (changes.set_text node m.0) what m.2 edits) }
+may_count (commands.style node rest) b what m edits shows = record { next = edit_more b; is = edit_may b (edit_fits b (changes.set_style node m.0) what m.2 edits) }
+may_count (commands.class node rest) b what m edits shows = record { next = edit_more b; is = edit_may b (edit_fits b (changes.set_class node (judging.words rest)) what m edits) }
+may_count (commands.insert parent index rest) b what m edits shows = record { next = edit_more b; is = edit_may b (edit_fits b (changes.insert parent index m.0 m.1) what m.4 edits) }
+may_count (commands.remove node) b what m edits shows = record { next = edit_more b; is = edit_may b (edit_fits b (changes.remove node) what m edits) }
+may_count (commands.move node parent index) b what m edits shows = record { next = edit_more b; is = edit_may b (edit_fits b (changes.move_to node parent index) what m edits) }
 
 -- ---- a line
 

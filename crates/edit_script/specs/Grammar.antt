@@ -22,11 +22,12 @@ use Rattle.html_read.specs.Values.{Node}
 use Rattle.css_values.specs.declared.within.Within.TheVariants.{Attribute}
 use Rattle.css_values.specs.Grammar.{AreDeclarations}
 use Rattle.css_sheet.specs.Answered.{AreEach}
+use Rattle.dom_store.specs.Edits.{set_text, set_style, set_class, insert, remove, move_to}
 use Rattle.edit_script.specs.declared.command.Word.{Word}
 use Rattle.edit_script.specs.declared.command.Word.TheVariants as words_
 use Rattle.edit_script.specs.Command.{Command, words}
 use Rattle.edit_script.specs.Command as commands
-use Rattle.edit_script.specs.Meaning.{Step, is_less, text, style, class, insert, remove, move, show, edit}
+use Rattle.edit_script.specs.Meaning.{Step, is_less, show, edit}
 use Rattle.edit_script.specs.Script.{StepAt, is_blank, is_lf}
 
 -- ---- the words of a line
@@ -61,13 +62,13 @@ IsText rest letters = IsGap rest letters × (list_any is_less rest ≡ false)
 -- The places of declarations are counted from the first byte of the text, and those of style attributes from the
 -- first byte of the fragment.
 abbrev pub Means : Command → Step → Type 0
-Means (commands.text node rest) what = (letters : List ℕ) × IsText rest letters × (what ≡ edit (text node letters))
-Means (commands.style node rest) what = (own : List Declaration) × AreDeclarations Attribute (end_of 0 rest) rest [] own × (what ≡ edit (style node own))
-Means (commands.class node rest) what = what ≡ edit (class node (judging.words rest))
+Means (commands.text node rest) what = (letters : List ℕ) × IsText rest letters × (what ≡ edit (set_text node letters))
+Means (commands.style node rest) what = (own : List Declaration) × AreDeclarations Attribute (end_of 0 rest) rest [] own × (what ≡ edit (set_style node own))
+Means (commands.class node rest) what = what ≡ edit (set_class node (judging.words rest))
 Means (commands.insert parent index rest) what = (nodes : List Node) × (own : List (List Declaration)) × IsFragment rest nodes × AreEach nodes own
     × (what ≡ edit (insert parent index nodes own))
 Means (commands.remove node) what = what ≡ edit (remove node)
-Means (commands.move node parent index) what = what ≡ edit (move node parent index)
+Means (commands.move node parent index) what = what ≡ edit (move_to node parent index)
 Means commands.show what = what ≡ show
 
 -- ---- lines

@@ -1,6 +1,7 @@
 pub mod Answered
 pub mod Command
 pub mod Error
+pub mod Fitting
 pub mod Grammar
 pub mod Meaning
 pub mod Script

@@ -14,24 +14,16 @@ use Rattle.css_values.specs.declared.within.Within.TheVariants.{Attribute}
 use Rattle.css_values.specs.Declarations.{declarations}
 use Rattle.css_values.specs.Error as css_error
 use Rattle.css_sheet.specs.Styled.{Placed, attributes}
+use Rattle.dom_store.specs.Edits.{EditOf, set_text, set_style, set_class, insert, remove, move_to}
 use Rattle.edit_script.specs.declared.error.Refusal.{Refusal}
 use Rattle.edit_script.specs.declared.error.Refusal.TheVariants as kinds
 use Rattle.edit_script.specs.Command.{Command, nothing}
 use Rattle.edit_script.specs.Command as commands
 
--- an edit of the tree, without where it lies in memory
-pub data Edit : Type 0 where
-  text : (node : ℕ) (letters : List ℕ) → Edit
-  style : (node : ℕ) (own : List Declaration) → Edit
-  class : (node : ℕ) (words : List (List ℕ)) → Edit
-  insert : (parent index : ℕ) (nodes : List Node) (own : List (List Declaration)) → Edit
-  remove : (node : ℕ) → Edit
-  move : (node parent index : ℕ) → Edit
-
 -- what a line says
 pub data Step : Type 0 where
   show : Step
-  edit : (change : Edit) → Step
+  edit : (change : EditOf) → Step
 
 -- a value, or what is wrong
 abbrev pub Said : Type 0 → Type 0
@@ -84,10 +76,10 @@ new_nodes bytes = and_then (by_html (fragment bytes)) (λ nodes. and_then (by_st
 -- ---- lines
 
 unfoldable pub meaning : Command → Said Step
-meaning (commands.text node rest) = and_then (letters rest) (λ text_. Ok (edit (text node text_)))
-meaning (commands.style node rest) = and_then (own rest) (λ declared. Ok (edit (style node declared)))
-meaning (commands.class node rest) = Ok (edit (class node (judging.words rest)))
+meaning (commands.text node rest) = and_then (letters rest) (λ text_. Ok (edit (set_text node text_)))
+meaning (commands.style node rest) = and_then (own rest) (λ declared. Ok (edit (set_style node declared)))
+meaning (commands.class node rest) = Ok (edit (set_class node (judging.words rest)))
 meaning (commands.insert parent index rest) = and_then (new_nodes rest) (λ new. Ok (edit (insert parent index new.0 new.1)))
 meaning (commands.remove node) = Ok (edit (remove node))
-meaning (commands.move node parent index) = Ok (edit (move node parent index))
+meaning (commands.move node parent index) = Ok (edit (move_to node parent index))
 meaning commands.show = Ok show

@@ -2,8 +2,7 @@
 use Rattle.std.specs.Prelude.{◌≡◌, ◌⊎◌, ℕ, false, List, [], ◌∷◌, ◌++◌, map}
 use Rattle.std.specs.List.{All}
 use Rattle.std.specs.String.{string_bytes}
-use Rattle.dom_store.specs.declared.edit.Edit as code_edit
-use Rattle.dom_store.specs.declared.edit.Edit.TheVariants as edits
+use Rattle.dom_store.specs.Edited.{edit_of}
 use Rattle.html_read.specs.Values.{Node, nodes_of}
 use Rattle.style_types.specs.declared.value.Declaration.{Declaration}
 use Rattle.edit_script.specs.declared.step.ScriptStep as code_step
@@ -13,21 +12,13 @@ use Rattle.edit_script.specs.declared.command.Command as code_command
 use Rattle.edit_script.specs.declared.command.Command.TheVariants as commands
 use Rattle.edit_script.specs.Command.{Command}
 use Rattle.edit_script.specs.Command as words
-use Rattle.edit_script.specs.Meaning.{Edit, Step, text, style, class, insert, remove, move, show, edit}
+use Rattle.edit_script.specs.Meaning.{Step, show, edit}
 use Rattle.edit_script.specs.declared.script.Begun as code_begun
 use Rattle.dom_store.specs.declared.edit.NewNodes as code_new
 use Rattle.edit_script.specs.Script.{Begun, StepAt, is_lf}
 
 abbrev pub new_of : code_new.NewNodes → List Node × List (List Declaration)
 new_of new = (nodes_of new.read.items, map (λ own. own.items) new.styles.items)
-
-abbrev pub edit_of : code_edit.Edit → Edit
-edit_of (edits.Text node letters) = text node (string_bytes letters)
-edit_of (edits.Style node declarations) = style node declarations.items
-edit_of (edits.Class node words) = class node (map (λ word. string_bytes word) words.items)
-edit_of (edits.Insert parent index nodes) = insert parent index (new_of nodes).0 (new_of nodes).1
-edit_of (edits.Remove node) = remove node
-edit_of (edits.Move node parent index) = move node parent index
 
 abbrev pub step_of : code_step.ScriptStep → Step
 step_of steps.Show = show

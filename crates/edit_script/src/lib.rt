@@ -3,6 +3,7 @@
 
 mod command;
 mod error;
+pub mod laws;
 mod meaning;
 mod script;
 mod step;

@@ -1,10 +1,14 @@
 //! What stands behind the words of a line.
 
-ghost use Rattle.std.specs.Prelude.{◌≡◌, IfErr, IfOk, map};
+ghost use Rattle.std.specs.Prelude.{◌≡◌, IfErr, IfOk, length, map};
+ghost use Rattle.std.specs.List.{All};
 ghost use Rattle.std.specs.String.{string_bytes};
 ghost use Rattle.html_read.specs.Judging as judging;
+ghost use Rattle.html_read.specs.Shape.{IsFragmentShaped};
+ghost use Rattle.dom_store.specs.State.{AreSaid};
 ghost use Rattle.edit_script.specs.declared.error.Halt.TheVariants as halts;
 ghost use Rattle.edit_script.specs.Error.{Reads};
+ghost use Rattle.edit_script.specs.Fitting.{Fits};
 ghost use Rattle.edit_script.specs.Meaning as meanings;
 ghost use Rattle.edit_script.specs.Views.{command_of, new_of, step_of};
 
@@ -22,7 +26,8 @@ use style_types::{Declarations, LetterList, Letters};
 /// What a line says whose words say this.
 #[tactic(auto, unfolding(crate::specs::Meaning::meaning))]
 pub(crate) fn meaning(alloc: Global, command: Command<'_>) -> Result<ScriptStep, Halt>
-    ensures { Reads step_of result (meanings.meaning (command_of command.entry)) }
+    ensures read { Reads step_of result (meanings.meaning (command_of command.entry)) }
+    ensures fits { IfOk result (λ step. Fits (step_of step)) }
 {
     match command {
         Command::Text { node, rest } => {
@@ -92,7 +97,8 @@ fn whole_gap(alloc: Global, text: &str) -> Result<Letters, Halt>
 // Own declarations.
 #[tactic(auto, unfolding(crate::specs::Meaning::own))]
 fn own(alloc: Global, text: &str) -> Result<Declarations, Halt>
-    ensures { Reads (λ d. d.items) result (meanings.own text.now) }
+    ensures read { Reads (λ d. d.items) result (meanings.own text.now) }
+    ensures said { IfOk result (λ d. AreSaid d.items) }
 {
     Ok(read_declarations(alloc, text, 0)?)
 }
@@ -112,7 +118,10 @@ fn class_words(alloc: Global, text: &str) -> Result<LetterList, Halt>
 // The nodes of a fragment, and each one's own declarations.
 #[tactic(auto, unfolding(crate::specs::Meaning::new_nodes))]
 fn new_nodes(alloc: Global, text: &str) -> Result<NewNodes, Halt>
-    ensures { Reads new_of result (meanings.new_nodes text.now) }
+    ensures read { Reads new_of result (meanings.new_nodes text.now) }
+    ensures shaped { IfOk result (λ new. IsFragmentShaped (new_of new).0) }
+    ensures each { IfOk result (λ new. length (new_of new).1 ≡ length (new_of new).0) }
+    ensures said { IfOk result (λ new. All AreSaid (new_of new).1) }
 {
     let fragment = ReadDocument {
         nodes: read_fragment(alloc, text)?,

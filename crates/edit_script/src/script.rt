@@ -1,14 +1,16 @@
 //! The lines of a script.
 
-ghost use Rattle.std.specs.Prelude.{◌≡◌, ◌+◌, ◌-◌, ◌^◌, ◌<◌, true, not, IfErr, IfOk, length};
+ghost use Rattle.std.specs.Prelude.{◌≡◌, ◌+◌, ◌-◌, ◌^◌, ◌<◌, ◌≤◌, true, not, IfErr, IfOk, length};
 ghost use Rattle.std.specs.Str.Lines.{strip_carriage_return};
 ghost use Rattle.edit_script.specs.Answered.{IsTheScript, RefusesScript, Told};
 ghost use Rattle.edit_script.specs.Error.{Reads, told_at};
+ghost use Rattle.edit_script.specs.Fitting.{AllFit, bytes_of};
 ghost use Rattle.edit_script.specs.Script as scripts;
 ghost use Rattle.edit_script.specs.Views.{IsFirstLine, begun_of, command_of, steps_of};
 
 use crate::command::{Command, words_of_line};
 use crate::error::{Halt, Refusal, ScriptError};
+use crate::laws::scripts_bring_no_more;
 use crate::meaning::meaning;
 use crate::step::{Script, ScriptLine};
 use html_read::laws::fragments_spell;
@@ -39,14 +41,20 @@ pub fn read_script(alloc: Global, text: &str, start: usize) -> Result<Script, Sc
     // The text is a script that says this and nothing else; where it is refused it is none.
     ensures found { IfOk result (λ script. IsTheScript text.now (steps_of script.items)) }
     ensures refused { IfErr result (λ error. RefusesScript text.now error) }
+    // Nodes that are inserted are those of a fragment, each with its own declarations; numbers of declarations are such as a
+    // style sheet can say; and together the edits bring no more bytes of text than the script has.
+    ensures fit { IfOk result (λ script. AllFit (steps_of script.items)) }
+    ensures bytes { IfOk result (λ script. bytes_of (steps_of script.items) ≤ length text.now) }
 {
     fragments_spell();
+    scripts_bring_no_more();
     answer_script(alloc, text, start)
 }
 
 // The reading of a script, with its places.
 fn answer_script(alloc: Global, text: &str, start: usize) -> Result<Script, ScriptError>
-    ensures { Told start (λ script. steps_of script.items) result (scripts.script text.now) }
+    ensures told { Told start (λ script. steps_of script.items) result (scripts.script text.now) }
+    ensures fit { IfOk result (λ script. AllFit (steps_of script.items)) }
 {
     let mut begun = begin(alloc);
     let mut rest = text;
@@ -96,6 +104,7 @@ fn read_line(alloc: Global, begun: &mut Begun, line: &str) -> Result<(), Halt>
     requires room { begun.old.lines < 2 ^ 64 - 1 }
     ensures read { Reads (λ _. begun_of begun.new) result (scripts.with_line (begun_of begun.old) line.now) }
     ensures line { IfOk result (λ _. begun.new.lines ≡ begun.old.lines + 1) }
+    ensures fit { AllFit (steps_of begun.old.said.items) → IfOk result (λ _. AllFit (steps_of begun.new.said.items)) }
 {
     begun.lines += 1;
     let line = without_cr(line);
@@ -110,6 +119,7 @@ fn read_line(alloc: Global, begun: &mut Begun, line: &str) -> Result<(), Halt>
 fn put_step(alloc: Global, begun: &mut Begun, command: Command<'_>) -> Result<(), Halt>
     ensures read { Reads (λ _. begun_of begun.new) result (scripts.with_command (command_of command.entry) (begun_of begun.old)) }
     ensures line { begun.new.lines ≡ begun.old.lines }
+    ensures fit { AllFit (steps_of begun.old.said.items) → IfOk result (λ _. AllFit (steps_of begun.new.said.items)) }
 {
     count(begun, command)?;
     let what = meaning(alloc, command)?;
@@ -142,6 +152,7 @@ fn is_blank(line: &str) -> bool
 fn count(begun: &mut Begun, command: Command<'_>) -> Result<(), Halt>
     ensures read { Reads (λ _. begun_of begun.new) result (scripts.counted (command_of command.entry) (begun_of begun.old)) }
     ensures line { begun.new.lines ≡ begun.old.lines }
+    ensures said { begun.new.said ≡ begun.old.said }
 {
     match command {
         Command::Show => count_show(begun),
@@ -157,6 +168,7 @@ fn count(begun: &mut Begun, command: Command<'_>) -> Result<(), Halt>
 fn count_show(begun: &mut Begun) -> Result<(), Halt>
     ensures read { Reads (λ _. begun_of begun.new) result (scripts.counted_show (begun_of begun.old)) }
     ensures line { begun.new.lines ≡ begun.old.lines }
+    ensures said { begun.new.said ≡ begun.old.said }
 {
     if begun.shows < MOST_SHOWS {
         begun.shows += 1;
@@ -169,6 +181,7 @@ fn count_show(begun: &mut Begun) -> Result<(), Halt>
 fn count_edit(begun: &mut Begun) -> Result<(), Halt>
     ensures read { Reads (λ _. begun_of begun.new) result (scripts.counted_edit (begun_of begun.old)) }
     ensures line { begun.new.lines ≡ begun.old.lines }
+    ensures said { begun.new.said ≡ begun.old.said }
 {
     if begun.edits < MOST_EDITS {
         begun.edits += 1;

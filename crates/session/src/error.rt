@@ -1,10 +1,13 @@
-//! Why a document can't be opened.
+//! Why a document can't be opened, and why an edit isn't done.
 
 ghost use Rattle.std.specs.Prelude.{◌≡◌};
 ghost use Rattle.dom_store.specs.declared.error.EditError as edit;
 ghost use Rattle.box_gen.specs.declared.error.BoxError as boxes;
 ghost use Rattle.session.specs.Opening.{of_box_error, of_edit_error};
 ghost use Rattle.session.specs.declared.error.OpenError.TheVariants.{Memory};
+ghost use Rattle.session.specs.declared.error.OpenError as opening;
+ghost use Rattle.session.specs.declared.error.ApplyError.TheVariants as applying;
+ghost use Rattle.session.specs.Applying.{of_open_error, of_refusal};
 
 use box_gen::BoxError;
 use dom_store::EditError;
@@ -66,5 +69,63 @@ impl From<AllocError> for OpenError {
 
     fn from(_: AllocError) -> OpenError {
         OpenError::Memory
+    }
+}
+
+/// Why an edit isn't done. A number is that of a node.
+#[derive(Error, Clone, Copy, Debug, PartialEq, Eq)]
+pub enum ApplyError {
+    /// The document refuses it.
+    #[error("{0}")]
+    Document(EditError),
+    /// More than six boxes on a line of ancestors would be orthogonal to their containing blocks: the least number of the
+    /// node of such a box.
+    #[error("TooManyOrthogonal {0}")]
+    TooManyOrthogonal(u32),
+    /// A block-level box would stand in an inline box: the least number of such a node.
+    #[error("BlockInInline {0}")]
+    BlockInInline(u32),
+    #[error("Memory")]
+    Memory,
+}
+
+impl From<EditError> for ApplyError {
+    ghost from_gives = { λ error own. own ≡ of_refusal error };
+
+    fn from(error: EditError) -> ApplyError {
+        match error {
+            EditError::Memory => ApplyError::Memory,
+            EditError::NoNode
+            | EditError::IsRoot
+            | EditError::NotText
+            | EditError::NotElement
+            | EditError::Inside
+            | EditError::BadIndex
+            | EditError::TooManyNodes(_)
+            | EditError::TooDeep(_) => ApplyError::Document(error),
+        }
+    }
+}
+
+impl From<OpenError> for ApplyError {
+    ghost from_gives = { λ error own. own ≡ of_open_error error };
+
+    fn from(error: OpenError) -> ApplyError {
+        match error {
+            OpenError::TooManyOrthogonal(number) => ApplyError::TooManyOrthogonal(number),
+            OpenError::BlockInInline(number) => ApplyError::BlockInInline(number),
+            // The others are never answered for boxes.
+            OpenError::TooManyNodes(_) | OpenError::TooDeep(_) | OpenError::Memory => {
+                ApplyError::Memory
+            }
+        }
+    }
+}
+
+impl From<AllocError> for ApplyError {
+    ghost from_gives = { λ _ own. own ≡ applying.Memory };
+
+    fn from(_: AllocError) -> ApplyError {
+        ApplyError::Memory
     }
 }

@@ -1,0 +1,28 @@
+-- What a script brings to a document: edits that fit, and no more text than it has.
+use Rattle.std.specs.Prelude.{ℕ, ◌+◌, ◌≤◌, List, [], ◌∷◌, length, ⊤}
+use Rattle.std.specs.List.{All}
+use Rattle.dom_store.specs.Edited.{IsFitting, IsSaidEdit, bytes_brought}
+use Rattle.edit_script.specs.Grammar.{IsScript}
+use Rattle.edit_script.specs.Meaning.{Step, show, edit}
+use Rattle.edit_script.specs.Script.{StepAt}
+
+-- an edit has the nodes of a fragment, each with its own declarations, with numbers that a style sheet can say
+abbrev pub Fits : Step → Type 0
+Fits show = ⊤
+Fits (edit change) = IsFitting change × IsSaidEdit change
+
+abbrev pub AllFit : List StepAt → Type 0
+AllFit said = All (λ s. Fits s.what) said
+
+-- how many bytes of text there are
+abbrev pub bytes_in : Step → ℕ
+bytes_in show = 0
+bytes_in (edit change) = bytes_brought change
+
+abbrev pub bytes_of : List StepAt → ℕ
+bytes_of [] = 0
+bytes_of (s ∷ others) = bytes_in s.what + bytes_of others
+
+-- no reference stands for more bytes than it has
+abbrev pub BringNoMore : Type 0
+BringNoMore = (text : List ℕ) (said : List StepAt) → IsScript text said → bytes_of said ≤ length text

@@ -1,0 +1,43 @@
+-- What an edit of an open document leads to.
+use Rattle.std.specs.Prelude.{◌≡◌, ◌⊎◌, ℕ, List, [], Option, Some, None, Result, Ok, Err, ⊤}
+use Rattle.style_types.specs.Rule.{Ruling}
+use Rattle.dom_store.specs.Edits.{EditOf, after}
+use Rattle.dom_store.specs.Refusals.{refusal}
+use Rattle.dom_store.specs.State.{State, state_of}
+use Rattle.cascade.specs.Index.{index_rules}
+use Rattle.style_tree.specs.Styling.{styled_document}
+use Rattle.style_types.specs.Tree.{Nodes}
+use Rattle.box_gen.specs.Boxes.{root_caught}
+use Rattle.box_gen.specs.Orthogonal.{IsLeastOf, root_past}
+use Rattle.session.specs.declared.error.ApplyError.{ApplyError}
+use Rattle.session.specs.declared.error.ApplyError.TheVariants.{Document, TooManyOrthogonal, BlockInInline, Memory}
+use Rattle.session.specs.declared.session.Session.{Session}
+
+-- the state after the edit as a styled tree
+abbrev pub styled_after : List Ruling → State → EditOf → Nodes
+styled_after rules state edit = styled_document rules (after state edit)
+
+-- it can be applied: the document takes it, and the boxes of the next state can stand
+pub record CanApply (rules : List Ruling) (state : State) (edit : EditOf) : Type 0 where
+  pub taken : refusal state edit ≡ None
+  pub turns : root_past (styled_after rules state edit) ≡ []
+  pub blocks : root_caught (styled_after rules state edit) ≡ []
+
+-- it can't, for this reason: those of the document come first, then orthogonal boxes, then block-level boxes in inline ones
+abbrev pub IsRefusedEdit : List Ruling → State → EditOf → ApplyError → Type 0
+IsRefusedEdit rules state edit (Document error) = refusal state edit ≡ Some error
+IsRefusedEdit rules state edit (TooManyOrthogonal number) = (refusal state edit ≡ None) × IsLeastOf (root_past (styled_after rules state edit)) (Some number)
+IsRefusedEdit rules state edit (BlockInInline number) =
+    (refusal state edit ≡ None) × (root_past (styled_after rules state edit) ≡ []) × IsLeastOf (root_caught (styled_after rules state edit)) (Some number)
+IsRefusedEdit rules state edit Memory = ⊥
+
+-- an edit can be applied, or is refused, and for one reason alone
+abbrev pub HasOneOutcome : Type 0
+HasOneOutcome = (rules : List Ruling) (state : State) (edit : EditOf) (error : ApplyError) → IsRefusedEdit rules state edit error
+    → (CanApply rules state edit → ⊥) × ((other : ApplyError) → IsRefusedEdit rules state edit other → other ≡ error)
+
+module _ {I : Type 0} {D : I → Type 0} where
+  -- it is done whole, or refused with nothing changed
+  abbrev pub Applies : (old new : Session I D) → EditOf → Result ⊤ ApplyError → Type 0
+  Applies old new edit (Ok done) = CanApply (index_rules old.rules) (state_of old.document) edit × (state_of new.document ≡ after (state_of old.document) edit)
+  Applies old new edit (Err error) = ((error ≡ Memory) ⊎ IsRefusedEdit (index_rules old.rules) (state_of old.document) edit error) × (new ≡ old)

@@ -1,0 +1,45 @@
+//! Edits of a document that is open: each is refused, or done whole (docs/PROFILE/edits.md).
+
+ghost use Rattle.std.specs.Prelude.{◌≡◌, ◌+◌, ◌≤◌};
+ghost use Rattle.face_api.specs.Faces.{faces_of};
+ghost use Rattle.dom_store.specs.Edited.{IsFitting, IsSaidEdit, bytes_brought, edit_of};
+ghost use Rattle.dom_store.specs.State.{state_of};
+ghost use Rattle.tree_laws.specs.Weight.{bytes, total};
+ghost use Rattle.session.specs.Editing.{Applies};
+ghost use Rattle.session.specs.State.{IsSound};
+
+use crate::boxes::boxes_in;
+use crate::error::ApplyError;
+use crate::laws::{boxes_within_limits_fit, whole_documents_fit};
+use crate::planting::grown;
+use crate::session::Session;
+use dom_store::Edit;
+use face_api::Face;
+use relayout::laws::what_is_not_kept_is_right;
+
+impl Session {
+    /// Applies an edit. Refused is first what the document refuses (`Document::apply`), then a state with more than six boxes on
+    /// a line of ancestors that are orthogonal to their containing blocks, then one with a block-level box in an inline box, both
+    /// with the least number of such a node. A refused edit changes nothing: the document, the faces and all that is kept of boxes
+    /// stay as they were. After one that is accepted nothing is kept. The texts of the document and of the edit together hold at
+    /// most 1,048,576 bytes. Costs as much as the whole document: the next state is made beside the old one.
+    pub fn apply(&mut self, edit: &Edit) -> Result<(), ApplyError>
+        requires sound { IsSound (faces_of ⟦<dyn Face as Face>⟧ self.old.faces) self.old }
+        requires fitting { IsFitting (edit_of edit.now) }
+        requires said { IsSaidEdit (edit_of edit.now) }
+        requires room { total bytes (state_of self.old.document) + bytes_brought (edit_of edit.now) ≤ 1048576 }
+        ensures applies { Applies self.old self.new (edit_of edit.now) result }
+        ensures rest { self.new ≡ record self.old { document = self.new.document; arena = self.new.arena; root = self.new.root } }
+        ensures bytes { total bytes (state_of self.new.document) ≤ total bytes (state_of self.old.document) + bytes_brought (edit_of edit.now) }
+        ensures sound { IsSound (faces_of ⟦<dyn Face as Face>⟧ self.new.faces) self.new }
+    {
+        let mut next = self.document.copy(self.alloc)?;
+        next.apply(self.alloc, edit)?;
+        let boxes = boxes_in(self.alloc, &next, &self.rules)?;
+        let grown = grown(self.alloc, boxes)?;
+        self.document = next;
+        self.arena = grown.arena;
+        self.root = grown.root;
+        Ok(())
+    }
+}
