@@ -1,0 +1,35 @@
+//! What holds of documents, as they are opened and as they are edited.
+
+ghost use Rattle.tree_laws.specs.Laws.{AcceptedAreDone, CountsAreTotals, EditsKeepWhole, EditsWeigh, OpenedAreWhole, TreesWeighNoMore};
+
+/// The tree of a document has no more than its nodes have together, whatever is counted: each node of the tree is one that lives, and it is
+/// met once.
+pub fn trees_weigh_no_more()
+    ensures { TreesWeighNoMore }
+{}
+
+/// Where each node counts as one, the nodes have together what lives.
+pub fn live_counts_are_totals()
+    ensures { CountsAreTotals }
+{}
+
+/// A document that was opened is whole, and has as many nodes and as many bytes of text as were read.
+pub fn opened_documents_are_whole()
+    ensures { OpenedAreWhole }
+{}
+
+/// An edit that is accepted is one that nothing refuses, and what it leads to is the state after it.
+pub fn accepted_edits_are_done()
+    ensures { AcceptedAreDone }
+{}
+
+/// A whole document is whole after each edit that isn't refused.
+pub fn accepted_edits_keep_documents_whole()
+    ensures { EditsKeepWhole }
+{}
+
+/// After an edit that isn't refused no more nodes live than may, and no more bytes of text stand there than before with those that the
+/// edit brings.
+pub fn accepted_edits_weigh()
+    ensures { EditsWeigh }
+{}
