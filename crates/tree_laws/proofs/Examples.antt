@@ -8,7 +8,8 @@ use Rattle.dom_store.specs.State.{Entry, State, element, text, tree_of, tree_to}
 use Rattle.dom_store.specs.Opening.{children_from}
 use Rattle.dom_store.specs.Standing.{below_levels, count_below, live_count}
 use Rattle.dom_store.specs.Edits.{after, insert, move_to, remove, set_text}
-use Rattle.tree_laws.specs.Weight.{bytes, bytes_of_edit, one, sum_below, total, weight_in}
+use Rattle.dom_store.specs.Edited.{bytes_brought}
+use Rattle.tree_laws.specs.Weight.{bytes, one, sum_below, total, weight_in}
 use Rattle.tree_laws.specs.Wholeness.{IsWhole}
 
 abbrev of : List (Option Entry) → ℕ → State
@@ -56,7 +57,7 @@ an_insertion : told (after small (insert 3 0 some_nodes ([] ∷ [] ∷ []))) ≡
 unfolding tree_to weight_in sum_below count_below children_from
 an_insertion = refl
 
-what_it_brings : bytes_of_edit (insert 3 0 some_nodes ([] ∷ [] ∷ [])) ≡ 1
+what_it_brings : bytes_brought (insert 3 0 some_nodes ([] ∷ [] ∷ [])) ≡ 1
 what_it_brings = refl
 
 -- the text stands in two elements: it is met twice, and lives once

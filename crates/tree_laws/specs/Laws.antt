@@ -7,9 +7,9 @@ use Rattle.dom_store.specs.State.{What, State, tree_of}
 use Rattle.dom_store.specs.Opening.{AreSame, greatest_count, opened}
 use Rattle.dom_store.specs.Standing.{live_count}
 use Rattle.dom_store.specs.Edits.{EditOf, after}
-use Rattle.dom_store.specs.Edited.{accepted, edited}
+use Rattle.dom_store.specs.Edited.{accepted, bytes_brought, edited}
 use Rattle.dom_store.specs.Refusals.{refusal}
-use Rattle.tree_laws.specs.Weight.{bytes, bytes_of_edit, one, total, weight_in}
+use Rattle.tree_laws.specs.Weight.{bytes, one, total, weight_in}
 use Rattle.tree_laws.specs.Wholeness.{IsWhole}
 
 -- each node of the tree is one that lives, met once
@@ -33,4 +33,4 @@ EditsKeepWhole = (state : State) (edit : EditOf) → IsWhole state → refusal s
 
 -- no more nodes live than may, and no more bytes come than the edit brings
 abbrev pub EditsWeigh : Type 0
-EditsWeigh = (state : State) (edit : EditOf) → refusal state edit ≡ None → (live_count state ≤ greatest_count → live_count (after state edit) ≤ greatest_count) × (total bytes (after state edit) ≤ total bytes state + bytes_of_edit edit)
+EditsWeigh = (state : State) (edit : EditOf) → refusal state edit ≡ None → (live_count state ≤ greatest_count → live_count (after state edit) ≤ greatest_count) × (total bytes (after state edit) ≤ total bytes state + bytes_brought edit)

@@ -1,8 +1,6 @@
 -- How much a tree weighs, and how much all nodes of a state: a weight of each node, summed.
 use Rattle.std.specs.Prelude.{ℕ, zero, suc, ◌+◌, length, Option, Some, None}
-use Rattle.html_read.specs.Shape.{text_bytes}
 use Rattle.dom_store.specs.State.{What, element, text, Entry, State, Tree, none, node}
-use Rattle.dom_store.specs.Edits.{EditOf, set_text, set_style, set_class, insert, remove, move_to}
 
 -- the weight of all nodes of a tree together
 unfoldable pub weight_in : (weight : What → ℕ) → Tree → ℕ
@@ -33,12 +31,3 @@ one what = 1
 abbrev pub bytes : What → ℕ
 bytes (element tag id classes dir own) = 0
 bytes (text letters) = length letters
-
--- the bytes of the texts that an edit brings
-abbrev pub bytes_of_edit : EditOf → ℕ
-bytes_of_edit (set_text number letters) = length letters
-bytes_of_edit (set_style number own) = 0
-bytes_of_edit (set_class number words) = 0
-bytes_of_edit (insert parent index nodes own) = text_bytes nodes
-bytes_of_edit (remove number) = 0
-bytes_of_edit (move_to number parent index) = 0
