@@ -92,7 +92,7 @@ fn scripts_are_read(rt: HostRuntime) -> Result<(), Fail> {
         let script = read_script(rt.alloc(), text, 0).ok().ok_or("a script")?;
         assert_eq!(rt; script.len(), numbers.len());
         for (line, digit) in script.iter().zip(numbers.as_bytes()) {
-            assert_eq!(rt; line.line, (*digit - b'0') as usize);
+            assert_eq!(rt; line.line, digit.wrapping_sub(b'0') as usize);
         }
     }
     Ok(())
