@@ -1,0 +1,4 @@
+pub mod Lines
+pub mod Looking
+pub mod Turns
+pub mod Walking

@@ -1,0 +1,43 @@
+//! The job that the words of a command line give.
+
+ghost use Rattle.std.specs.Prelude.{◌≡◌, IfOk, IsErrOf};
+ghost use Rattle.clap.specs.Words.{found_of, rows_of};
+ghost use Rattle.command_line.specs.Command.{IsJob};
+ghost use Rattle.command_line.specs.declared.job.Job.{Job};
+ghost use Rattle.command_line.specs.Reading as readings;
+
+use clap::ArgMatches;
+use std::alloc::Global;
+use wm_units::View;
+
+use crate::error::WordsError;
+use crate::job::Job;
+use crate::line::parsed;
+use crate::values::{block_of, command_of, count_of, inline_of};
+use crate::words::Words;
+
+/// The job that the words give. Usage comes exactly where they give none, and Memory may come anywhere.
+pub fn read_words(alloc: Global, words: &Words) -> Result<Job, WordsError>
+    ensures read { IfOk result (λ job. IsJob words.now job) }
+    ensures usage { IsErrOf result WordsError.Usage → (job : Job) → IsJob words.now job → ⊥ }
+{
+    let matches = parsed(alloc, words.as_slice())?;
+    match job_in(&matches) {
+        Some(job) => Ok(job),
+        None => Err(WordsError::Usage),
+    }
+}
+
+fn job_in(matches: &ArgMatches) -> Option<Job>
+    ensures { result ≡ readings.job_in (rows_of (found_of matches.now)) }
+{
+    let command = command_of(matches.get_str("command")?)?;
+    let inline = inline_of(matches.get_str("view-inline"))?;
+    let block = block_of(matches.get_str("view-block"))?;
+    let count = count_of(matches.get_str("count"))?;
+    Some(Job {
+        command,
+        view: View { inline, block },
+        count,
+    })
+}

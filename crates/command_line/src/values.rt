@@ -1,0 +1,100 @@
+//! What the texts of a command line stand for.
+
+ghost use Rattle.std.specs.Prelude.{◌≡◌, ◌*◌, ◌≤◌, pos};
+ghost use Rattle.wm_units.specs.Numbers as numbers;
+ghost use Rattle.command_line.specs.Reading as readings;
+
+use reading::decimal;
+use wm_units::fixed;
+
+use crate::job::Command;
+
+/// The greatest size of the view on either axis, in pixels.
+const MOST_PIXELS: u32 = 16_384;
+
+/// The view where the words give no sizes, in pixels.
+const DEFAULT_INLINE: u32 = 800;
+
+const DEFAULT_BLOCK: u32 = 600;
+
+/// The greatest count, and the count where the words give none.
+const MOST_COUNT: u32 = 1_000;
+
+const DEFAULT_COUNT: u32 = 100;
+
+/// The command of a name.
+pub(crate) fn command_of(name: &str) -> Option<Command>
+    ensures { result ≡ readings.command_of name.now }
+{
+    match name {
+        "layout" => Some(Command::Layout),
+        "edit" => Some(Command::Edit),
+        "gen" => Some(Command::Gen),
+        _ => None,
+    }
+}
+
+/// The view's size on the root's inline axis, in units of 1/64 px.
+pub(crate) fn inline_of(text: Option<&str>) -> Option<i64>
+    ensures { result ≡ readings.inline_of (readings.text_of text.entry) }
+{
+    match text {
+        None => Some(pixels(DEFAULT_INLINE)),
+        Some(text) => size_of(text),
+    }
+}
+
+/// The view's size on the root's block axis, in units of 1/64 px.
+pub(crate) fn block_of(text: Option<&str>) -> Option<i64>
+    ensures { result ≡ readings.block_of (readings.text_of text.entry) }
+{
+    match text {
+        None => Some(pixels(DEFAULT_BLOCK)),
+        Some(text) => size_of(text),
+    }
+}
+
+/// How many paragraphs the generated input has.
+pub(crate) fn count_of(text: Option<&str>) -> Option<u32>
+    ensures { result ≡ readings.count_of (readings.text_of text.entry) }
+{
+    match text {
+        None => Some(DEFAULT_COUNT),
+        Some(text) => number_to(MOST_COUNT, text),
+    }
+}
+
+fn size_of(text: &str) -> Option<i64>
+    ensures { result ≡ readings.size_of text.now }
+{
+    let size = number_to(MOST_PIXELS, text)?;
+    Some(pixels(size))
+}
+
+// A number from 1 to `most`, of one to five digits.
+fn number_to(most: u32, text: &str) -> Option<u32>
+    ensures { result ≡ readings.number_to most text.now }
+{
+    match decimal(5, text) {
+        Ok((number, rest)) => within(most, number, rest),
+        Err(_) => None,
+    }
+}
+
+fn within(most: u32, number: u32, rest: &str) -> Option<u32>
+    ensures { result ≡ readings.within most number rest.now }
+{
+    if rest.is_empty() && 1 <= number && number <= most {
+        Some(number)
+    } else {
+        None
+    }
+}
+
+// Whole pixels in units of 1/64 px.
+fn pixels(count: u32) -> i64
+    requires { count ≤ 16384 }
+    ensures { result ≡ numbers.fixed (pos (100 * count)) }
+{
+    fixed(100 * i64::from(count))
+}
