@@ -1,0 +1,117 @@
+-- Texts are read as the values that they spell.
+use Rattle.std.proofs.Common.{◌≡◌, refl, sym, ap, ◌∙◌, subst, arith, ℕ, zero, suc, ◌+◌, ◌*◌, ◌<◌, ◌≤◌, ◌==◌, Bool, true, false, cond, ◌&&◌, nat_le, List, [], ◌∷◌, length, append-nil, ne_eqb, ℤ, pos, Option, Some, None, option_map, Ok, Err, codes}
+use Rattle.std.specs.Prelude.{bytes_eq, slice_get}
+use Rattle.std.specs.List.{All, slice_index_or}
+use Rattle.std.specs.Char.{IsAsciiDigit}
+use Rattle.std.proofs.lemmas.Slice.Eq.{bytes_eq-Decides}
+use Rattle.clap.specs.Walk.{Text}
+use Rattle.reading.specs.Readers.{Read}
+use Rattle.reading.specs.Decimals.{number, IsDecimal}
+use Rattle.reading.proofs.DecimalLaws.{decimal_spells}
+use Rattle.command_line.specs.declared.job.Command.{Command}
+use Rattle.command_line.specs.declared.job.Command.TheVariants.{Layout, Edit, Gen}
+use Rattle.command_line.specs.Command.{IsNumberTo, IsValue, IsViewSize, command_name, px}
+use Rattle.command_line.specs.Reading.{command_of, number_read, number_to, size_of, value_or, within}
+use Rattle.command_line.proofs.Looking.{Looks, bare, no_hyphen}
+
+pub same_some : {A : Type 0} (x y : A) → Some x ≡ Some y → x ≡ y
+same_some x y e = cc
+
+-- ---- numbers
+
+decimal_again : (text : Text) (n : ℕ) → IsDecimal 5 text n → number 5 text ≡ Ok (n, [])
+decimal_again text n d = ap (number 5) (sym (append-nil text)) ∙ (decimal_spells 5).again text n [] d tt
+
+decimal_takes : (text : Text) (n : ℕ) → number 5 text ≡ Ok (n, []) → IsDecimal 5 text n
+decimal_takes text n e =
+    let found = (decimal_spells 5).takes text n [] e in
+    subst (λ (t : Text). IsDecimal 5 t n) (sym (found.2 ∙ append-nil found.0)) found.1
+
+range_true : (most n : ℕ) → 1 ≤ n → n ≤ most → nat_le 1 n && nat_le n most ≡ true
+range_true most n low high = grind arith
+
+pub number_again : (most : ℕ) (text : Text) (n : ℕ) → IsNumberTo most text n → number_to most text ≡ Some n
+number_again most text n is =
+    ap (number_read most) (decimal_again text n is.0) ∙ ap (λ (b : Bool). cond b (Some n) None) (range_true most n is.1 is.2)
+
+pub number_takes : (most : ℕ) (text : Text) (n : ℕ) → number_to most text ≡ Some n → IsNumberTo most text n
+number_takes most text n e = go (number 5 text) refl where
+  within_takes : (m : ℕ) (rest : Text) → number 5 text ≡ Ok (m, rest) → within most m rest ≡ Some n → IsNumberTo most text n
+  within_takes m (byte ∷ rest) is some = absurd (cc)
+  within_takes m [] is some = ranged (nat_le 1 m && nat_le m most) refl some where
+    ranged : (b : Bool) → nat_le 1 m && nat_le m most ≡ b → cond (nat_le 1 m && nat_le m most) (Some m) None ≡ Some n → IsNumberTo most text n
+    ranged true h value =
+        let same : m ≡ n = same_some _ _ (sym (ap (λ (b : Bool). cond b (Some m) None) h) ∙ value) in
+        subst (IsNumberTo most text) same (decimal_takes text m is, grind arith, grind arith)
+    ranged false h value =
+        let bad : None ≡ Some n = sym (ap (λ (b : Bool). cond b (Some m) None) h) ∙ value in
+        absurd (cc)
+
+  go : (r : Read ℕ) → number 5 text ≡ r → IsNumberTo most text n
+  go (Ok x) is = within_takes x.0 x.1 is (sym (ap (number_read most) is) ∙ e)
+  go (Err left) is = let bad : None ≡ Some n = sym (ap (number_read most) is) ∙ e in absurd (cc)
+
+pub size_again : (text : Text) (size : ℤ) → IsViewSize text size → size_of text ≡ Some size
+size_again text size is = ap (option_map px) (number_again 16384 text is.0 is.1) ∙ ap Some (sym is.2)
+
+pub size_takes : (text : Text) (size : ℤ) → size_of text ≡ Some size → IsViewSize text size
+size_takes text size e = go (number_to 16384 text) refl where
+  go : (o : Option ℕ) → number_to 16384 text ≡ o → IsViewSize text size
+  go None is = let bad : None ≡ Some size = sym (ap (option_map px) is) ∙ e in absurd (cc)
+  go (Some n) is = (n, number_takes 16384 text n is, sym (same_some _ _ (sym (ap (option_map px) is) ∙ e)))
+
+-- a number doesn't begin with a hyphen
+pub number_bare : (most : ℕ) (text : Text) (n : ℕ) → IsNumberTo most text n → Looks bare text
+number_bare most [] n is = let some = is.0.some in absurd (omega (arith, some))
+number_bare most (x ∷ xs) n is =
+    let digit : IsAsciiDigit x = is.0.digits 0 x (omega arith) in
+    no_hyphen x xs (ne_eqb x 45 (λ e. omega (arith, digit, e)))
+
+-- ---- commands
+
+pub name_again : (c : Command) → command_of (command_name c) ≡ Some c
+name_again Layout = refl
+name_again Edit = refl
+name_again Gen = refl
+
+pub name_bare : (c : Command) → Looks bare (command_name c)
+name_bare Layout = no_hyphen _ _ refl
+name_bare Edit = no_hyphen _ _ refl
+name_bare Gen = no_hyphen _ _ refl
+
+pub name_takes : (text : Text) (c : Command) → command_of text ≡ Some c → text ≡ command_name c
+name_takes text c e = go (bytes_eq text (codes "layout")) refl (bytes_eq text (codes "edit")) refl (bytes_eq text (codes "gen")) refl
+  where
+    of_three : (a b d : Bool) → Option Command
+    of_three a b d = cond a (Some Layout) (cond b (Some Edit) (cond d (Some Gen) None))
+
+    is : (a b d : Bool) → bytes_eq text (codes "layout") ≡ a → bytes_eq text (codes "edit") ≡ b → bytes_eq text (codes "gen") ≡ d
+        → cond a (Some Layout) (cond b (Some Edit) (cond d (Some Gen) None)) ≡ Some c
+    is a b d ea eb ed =
+        sym (ap (λ a. cond a (Some Layout) (cond (bytes_eq text (codes "edit")) (Some Edit) (cond (bytes_eq text (codes "gen")) (Some Gen) None))) ea
+        ∙ ap (λ b. cond a (Some Layout) (cond b (Some Edit) (cond (bytes_eq text (codes "gen")) (Some Gen) None))) eb
+        ∙ ap (λ d. cond a (Some Layout) (cond b (Some Edit) (cond d (Some Gen) None))) ed) ∙ e
+
+    go : (a : Bool) → bytes_eq text (codes "layout") ≡ a → (b : Bool) → bytes_eq text (codes "edit") ≡ b → (d : Bool) → bytes_eq text (codes "gen") ≡ d → text ≡ command_name c
+    go true ea b eb d ed = (bytes_eq-Decides text (codes "layout")).0 ea ∙ ap command_name (same_some Layout c (is true b d ea eb ed))
+    go false ea true eb d ed = (bytes_eq-Decides text (codes "edit")).0 eb ∙ ap command_name (same_some Edit c (is false true d ea eb ed))
+    go false ea false eb true ed = (bytes_eq-Decides text (codes "gen")).0 ed ∙ ap command_name (same_some Gen c (is false false true ea eb ed))
+    go false ea false eb false ed = let bad : None ≡ Some c = is false false false ea eb ed in absurd (cc)
+
+-- ---- options
+
+module _ {X : Type 0} (Means : Text → X → Type 0) (read : Text → Option X) (default : X) where
+  pub value_again : ((t : Text) (x : X) → Means t x → read t ≡ Some x) → (ts : List Text) (x : X) → IsValue Means default ts x → value_or read default (slice_get ts 0) ≡ Some x
+  value_again again [] x is = ap Some (sym is)
+  value_again again (t ∷ []) x is = again t x is
+  value_again again (t ∷ u ∷ more) x is = absurd is
+
+  pub value_takes : ((t : Text) (x : X) → read t ≡ Some x → Means t x) → (ts : List Text) (x : X) → length ts ≤ 1 → value_or read default (slice_get ts 0) ≡ Some x → IsValue Means default ts x
+  value_takes takes [] x few e = sym (same_some default x e)
+  value_takes takes (t ∷ []) x few e = takes t x e
+  value_takes takes (t ∷ u ∷ more) x few e = absurd (omega (arith, few))
+
+  pub value_once : (ts : List Text) (x : X) → IsValue Means default ts x → length ts ≤ 1
+  value_once [] x is = omega arith
+  value_once (t ∷ []) x is = omega arith
+  value_once (t ∷ u ∷ more) x is = absurd is
