@@ -1,18 +1,18 @@
 -- The definition of a command line and its reading agree.
-use Rattle.std.proofs.Common.{◌≡◌, refl, sym, ap, ap₂, ◌∙◌, subst, arith, ℕ, ◌≤◌, ◌==◌, Bool, true, false, not, cond, ◌&&◌, ◌||◌, List, [], ◌∷◌, ◌++◌, map, length, fold, Option, Some, None, is_some, option_map, ne_eqb, ℤ, codes}
+use Rattle.std.proofs.Common.{◌≡◌, refl, sym, ap, ap₂, ◌∙◌, subst, arith, ℕ, ◌≤◌, ◌==◌, Bool, true, false, not, cond, ◌||◌, List, [], ◌∷◌, map, length, fold, Option, Some, None, is_some, ne_eqb, ℤ, codes}
 use Rattle.std.specs.Prelude.{⊤, bytes_eq, filter, find, option_and_then, slice_get}
 use Rattle.std.specs.Option.{option_map_or}
 use Rattle.clap.specs.Facts.{explicit_source}
 use Rattle.clap.specs.Kinds.{Kinds, check_kinds, or_else}
 use Rattle.clap.specs.Faults.{check_fault, default_fault, defaults_fault, entered_fault, fault_of, level_fault, settle_fault, walk_fault}
-use Rattle.clap.specs.Simple.{App, built, entered, matches_of}
+use Rattle.clap.specs.Simple.{built, entered, matches_of}
 use Rattle.clap.specs.Takes.{is_given}
-use Rattle.clap.specs.Walk.{Row, Rule, Text, finished, first_of, has_row, nothing_held, settled, walk, walk_from, walked, with_default}
+use Rattle.clap.specs.Walk.{Row, Rule, Text, finished, first_of, has_row, nothing_held, settled, walk, with_default}
 use Rattle.command_line.specs.declared.job.Command.{Command}
 use Rattle.command_line.specs.declared.job.Job.{Job}
 use Rattle.command_line.specs.Command.{IsJob, IsNumberTo, IsValue, IsViewSize, Kind, Part, command_name, count, given, is_kind, px, the_command, view_block, view_inline}
 use Rattle.command_line.specs.Reading.{block_of, command_line, command_of, count_of, inline_of, job_in, job_of, job_with, number_to, size_of}
-use Rattle.command_line.proofs.Walking.{Once, all, given_other, given_own, has_some, id_of, is_same, row, rule, rules, same_id, top}
+use Rattle.command_line.proofs.Walking.{Once, given_other, given_own, has_some, id_of, is_same, row, rule, rules, same_id, top}
 use Rattle.command_line.proofs.Looking.{Looks, bare}
 use Rattle.command_line.proofs.Turns.{at, fault_from, or_both, or_parts, rows_from}
 use Rattle.command_line.proofs.Lines.{AllBare, Found, complete, sound}
@@ -91,8 +91,8 @@ first_given k (p ∷ ps) =
     let before = first_given k ps in
     ap (λ (b : Bool). option_and_then (λ (r : Row). slice_get r.values 0) (cond b (Some (row p)) (find (λ (r : Row). bytes_eq r.id (id_of k)) (map row ps)))) (same_id k p.kind)
     ∙ elim (is_kind k p.kind) as (λ (b : Bool). option_and_then (λ (r : Row). slice_get r.values 0) (cond b (Some (row p)) (find (λ (r : Row). bytes_eq r.id (id_of k)) (map row ps)))
-        ≡ slice_get (map (λ (q : Part). q.text) (cond b (p ∷ filter (λ (q : Part). is_kind k q.kind) ps) (filter (λ (q : Part). is_kind k q.kind) ps))) 0)
-        [ true ↦ refl | false ↦ before ]
+    ≡ slice_get (map (λ (q : Part). q.text) (cond b (p ∷ filter (λ (q : Part). is_kind k q.kind) ps) (filter (λ (q : Part). is_kind k q.kind) ps))) 0)
+    [ true ↦ refl | false ↦ before ]
 
 command_given : (k : Kind) (ps : List Part) → is_given (id_of k) (map row ps) ≡ has_some (given k ps)
 command_given k [] = refl
@@ -100,8 +100,8 @@ command_given k (p ∷ ps) =
     let before = command_given k ps in
     ap (λ (b : Bool). option_map_or (λ (r : Row). explicit_source r.source) (cond b (Some (row p)) (find (λ (r : Row). bytes_eq r.id (id_of k)) (map row ps))) false) (same_id k p.kind)
     ∙ elim (is_kind k p.kind) as (λ (b : Bool). option_map_or (λ (r : Row). explicit_source r.source) (cond b (Some (row p)) (find (λ (r : Row). bytes_eq r.id (id_of k)) (map row ps))) false
-        ≡ has_some (map (λ (q : Part). q.text) (cond b (p ∷ filter (λ (q : Part). is_kind k q.kind) ps) (filter (λ (q : Part). is_kind k q.kind) ps))))
-        [ true ↦ refl | false ↦ before ]
+    ≡ has_some (map (λ (q : Part). q.text) (cond b (p ∷ filter (λ (q : Part). is_kind k q.kind) ps) (filter (λ (q : Part). is_kind k q.kind) ps))))
+    [ true ↦ refl | false ↦ before ]
 
 -- the job of the texts that are given
 abbrev job_given : List Part → Option Job
@@ -155,11 +155,11 @@ module _ (words : List (List ℕ)) (job : Job) (is : IsJob words job) where
       ap (λ ts. job_with (option_and_then command_of (slice_get ts 0)) (inline_of (slice_get (given view_inline is.parts) 0)) (block_of (slice_get (given view_block is.parts) 0)) (count_of (slice_get (given count is.parts) 0))) is.command
       ∙ ap (λ c. job_with c (inline_of (slice_get (given view_inline is.parts) 0)) (block_of (slice_get (given view_block is.parts) 0)) (count_of (slice_get (given count is.parts) 0))) (name_again job.command)
       ∙ ap (λ i. job_with (Some job.command) i (block_of (slice_get (given view_block is.parts) 0)) (count_of (slice_get (given count is.parts) 0)))
-          (value_again IsViewSize size_of (px 800) size_again (given view_inline is.parts) job.view.inline is.inline)
+      (value_again IsViewSize size_of (px 800) size_again (given view_inline is.parts) job.view.inline is.inline)
       ∙ ap (λ b. job_with (Some job.command) (Some job.view.inline) b (count_of (slice_get (given count is.parts) 0)))
-          (value_again IsViewSize size_of (px 600) size_again (given view_block is.parts) job.view.block is.block)
+      (value_again IsViewSize size_of (px 600) size_again (given view_block is.parts) job.view.block is.block)
       ∙ ap (λ n. job_with (Some job.command) (Some job.view.inline) (Some job.view.block) n)
-          (value_again (IsNumberTo 1000) (number_to 1000) 100 (number_again 1000) (given count is.parts) job.count is.count)
+      (value_again (IsNumberTo 1000) (number_to 1000) 100 (number_again 1000) (given count is.parts) job.count is.count)
 
   pub read_again : job_of words ≡ Some job
   read_again =
@@ -223,3 +223,24 @@ read_takes words job e = go (fault_of command_line words) refl e
         let test : (length (k ∷ ks) == 0) ≡ false = ne_eqb _ _ (λ h. omega arith) in
         let none : None ≡ Some job = sym (ap (λ (b : Bool). cond b (job_in (matches_of command_line words)) None) test) ∙ bad in
         absurd (cc)
+
+-- words with a fault give no job
+pub none_with_fault : (words : List (List ℕ)) (job : Job) → (fault_of command_line words ≡ [] → ⊥) → IsJob words job → ⊥
+none_with_fault words job faulty is = go (fault_of command_line words) refl (read_again words job is)
+  where
+    go : (faults : Kinds) → fault_of command_line words ≡ faults → cond (length (fault_of command_line words) == 0) (job_in (matches_of command_line words)) None ≡ Some job → ⊥
+    go [] none some = faulty none
+    go (k ∷ ks) faults some =
+        let test : (length (k ∷ ks) == 0) ≡ false = ne_eqb _ _ (λ h. omega arith) in
+        let none : None ≡ Some job = sym (ap (λ (f : Kinds). cond (length f == 0) (job_in (matches_of command_line words)) None) faults ∙ ap (λ (b : Bool). cond b (job_in (matches_of command_line words)) None) test) ∙ some in
+        absurd (cc)
+
+-- a job is what its words are read as
+pub job_is_read : (words : List (List ℕ)) (job : Job) → fault_of command_line words ≡ [] → job_in (matches_of command_line words) ≡ Some job → IsJob words job
+job_is_read words job none some =
+    read_takes words job (ap (λ (f : Kinds). cond (length f == 0) (job_in (matches_of command_line words)) None) none ∙ some)
+
+pub job_is_none : (words : List (List ℕ)) (job : Job) → fault_of command_line words ≡ [] → job_in (matches_of command_line words) ≡ None → IsJob words job → ⊥
+job_is_none words job none nothing is =
+    let bad : None ≡ Some job = sym (ap (λ (f : Kinds). cond (length f == 0) (job_in (matches_of command_line words)) None) none ∙ nothing) ∙ read_again words job is in
+    absurd (cc)

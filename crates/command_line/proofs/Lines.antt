@@ -1,14 +1,13 @@
 -- The words in which `clap` finds no fault are the words of a line, and the other way round.
-use Rattle.std.proofs.Common.{◌≡◌, refl, sym, ap, ap₂, ◌∙◌, subst, arith, inl, inr, ℕ, ◌+◌, ◌≤◌, Bool, true, false, List, [], ◌∷◌, ◌++◌, map, length, length-append, append-nil, Option, Some, None, codes}
-use Rattle.std.specs.Prelude.{⊤, bytes_eq}
+use Rattle.std.proofs.Common.{◌≡◌, refl, sym, ap, ap₂, ◌∙◌, subst, arith, inl, inr, ℕ, Bool, true, false, List, [], ◌∷◌, ◌++◌, map, length, length-append, append-nil, Option, Some, None, codes}
+use Rattle.std.specs.Prelude.{⊤}
 use Rattle.std.proofs.lemmas.List.{append_assoc}
-use Rattle.clap.specs.Walk.{Row, Text, idle, value}
-use Rattle.clap.specs.Faults.{settle_fault, use_fault}
-use Rattle.clap.specs.Walk.{settled}
+use Rattle.clap.specs.Walk.{Row, Text, idle}
+use Rattle.clap.specs.Faults.{use_fault}
 use Rattle.command_line.specs.Command.{Kind, the_command, view_inline, view_block, count, Part, IsLine, IsOption, IsPart, given}
-use Rattle.command_line.proofs.Walking.{Once, all, held, given_append, given_own, once_front, part, pend, row, rule, rules, settled_to, settles, settles_once, uses, uses_once}
+use Rattle.command_line.proofs.Walking.{Once, all, given_append, given_own, once_front, part, pend, row, rule, settled_to, settles, settles_once, uses, uses_once}
 use Rattle.command_line.proofs.Looking.{Class, Looks, Name, Says, Seen, ending, named, bad, bare, dashes, inline, block, number, kind_of, looks_ending, looks_named, seen, word}
-use Rattle.command_line.proofs.Turns.{Goes, at, end_fault, fault_command, fault_end, fault_from, fault_name, fault_turn, fault_value, goes_fault, goes_rows, or_both, or_parts, rows_from, stuck_bad, stuck_end, stuck_ending, stuck_named, turn_bad, turn_command, turn_ending, turn_name, turn_stray, turn_text, turn_value, waits_for}
+use Rattle.command_line.proofs.Turns.{at, end_fault, fault_command, fault_end, fault_from, fault_name, fault_value, goes_fault, goes_rows, or_both, or_parts, rows_from, stuck_bad, stuck_end, stuck_ending, stuck_named, turn_bad, turn_command, turn_ending, turn_name, turn_stray, turn_text, turn_value, waits_for}
 
 -- one part more
 pub one_more : (us ps : List Part) (q : Part) → (us ++ q ∷ []) ++ ps ≡ us ++ (q ∷ ps)

@@ -1,7 +1,7 @@
 -- What a word looks like to `clap`, at the command that this crate has.
-use Rattle.std.proofs.Common.{◌≡◌, refl, sym, ap, ap₂, ◌∙◌, subst, arith, ℕ, zero, suc, ◌+◌, ◌==◌, Bool, true, false, not, cond, ◌&&◌, ◌||◌, List, [], ◌∷◌, ◌++◌, length, take, drop, Option, Some, None, is_some, eqb-true, codes}
-use Rattle.std.specs.Prelude.{⊤, find, slice_get, bytes_eq, option_and_then}
-use Rattle.std.specs.List.{list_any, before_first, after_first, position_or_len}
+use Rattle.std.proofs.Common.{◌≡◌, refl, sym, ap, ap₂, ◌∙◌, subst, arith, ℕ, suc, ◌+◌, ◌==◌, Bool, true, false, not, cond, ◌&&◌, ◌||◌, [], ◌∷◌, ◌++◌, length, take, drop, Option, Some, None, eqb-true, codes}
+use Rattle.std.specs.Prelude.{⊤, slice_get, bytes_eq, option_and_then}
+use Rattle.std.specs.List.{position_or_len}
 use Rattle.std.specs.Option.{option_map_or}
 use Rattle.std.specs.Str.{chars}
 use Rattle.std.proofs.lemmas.Slice.Eq.{bytes_eq-Decides}
@@ -231,12 +231,20 @@ seen_short x xs e = go (slice_get (chars (x ∷ xs)) 0) refl
     w = 45 ∷ x ∷ xs
 
     go : (o : Option ℕ) → slice_get (chars (x ∷ xs)) 0 ≡ o → Seen (45 ∷ x ∷ xs)
-    go None none = (bare, looks_no_flag (45 ∷ x ∷ xs) (ap (λ (b : Bool). b && bytes_eq xs []) e) x xs
-        (ap (λ (b : Bool). option_and_then long_of_rest (cond b (Some xs) None)) e)
-        (ap (λ (b : Bool). cond b None (Some (x ∷ xs))) e) none, tt)
-    go (Some c) some = (bad, looks_short (45 ∷ x ∷ xs) (ap (λ (b : Bool). b && bytes_eq xs []) e) x c xs
-        (ap (λ (b : Bool). option_and_then long_of_rest (cond b (Some xs) None)) e)
-        (ap (λ (b : Bool). cond b None (Some (x ∷ xs))) e) some, tt)
+    go None none = (
+      bare,
+      looks_no_flag (45 ∷ x ∷ xs) (ap (λ (b : Bool). b && bytes_eq xs []) e) x xs
+          (ap (λ (b : Bool). option_and_then long_of_rest (cond b (Some xs) None)) e)
+          (ap (λ (b : Bool). cond b None (Some (x ∷ xs))) e) none,
+      tt,
+    )
+    go (Some c) some = (
+      bad,
+      looks_short (45 ∷ x ∷ xs) (ap (λ (b : Bool). b && bytes_eq xs []) e) x c xs
+          (ap (λ (b : Bool). option_and_then long_of_rest (cond b (Some xs) None)) e)
+          (ap (λ (b : Bool). cond b None (Some (x ∷ xs))) e) some,
+      tt,
+    )
 
 -- a word that begins with another byte than `-` is no option
 pub no_hyphen : (x : ℕ) (xs : Text) → (x == 45) ≡ false → Looks bare (x ∷ xs)

@@ -1,13 +1,12 @@
 -- Each turn of `clap`'s walk, at the command that this crate has.
 use Rattle.std.proofs.Common.{◌≡◌, refl, sym, ap, ap₂, ◌∙◌, subst, ℕ, Bool, true, false, cond, ◌&&◌, ◌||◌, List, [], ◌∷◌, ◌++◌, map, fold, Option, Some, None, codes}
-use Rattle.std.specs.Prelude.{bytes_eq}
-use Rattle.clap.specs.Walk.{Held, Row, Step, Text, Waiting, Walk, idle, option, after_step, is_pending, plain_word, pushed, settled, used, value, walked, word_met}
+use Rattle.clap.specs.Walk.{Held, Row, Step, Text, Walk, idle, option, after_step, is_pending, plain_word, pushed, settled, used, value, walked, word_met}
 use Rattle.clap.specs.Kinds.{Kinds, or_else}
-use Rattle.clap.specs.Faults.{react_fault, settle_fault, step_fault, turn_fault, use_fault, walk_fault, word_fault}
+use Rattle.clap.specs.Faults.{react_fault, settle_fault, step_fault, turn_fault, walk_fault, word_fault}
 use Rattle.clap.specs.declared.error.kind.ErrorKind.TheVariants as kind
-use Rattle.command_line.specs.Command.{Kind, the_command, Part}
-use Rattle.command_line.proofs.Walking.{Once, Pending, all, held, id_of, part, pend, row, rule, rules, settled_to, top, unsettled, used_to}
-use Rattle.command_line.proofs.Looking.{Class, Looks, Name, ending, named, bad, bare, inline, block, number, kind_of, met_as, fault_as}
+use Rattle.command_line.specs.Command.{the_command, Part}
+use Rattle.command_line.proofs.Walking.{Once, all, held, id_of, part, pend, row, rule, rules, settled_to, top, unsettled, used_to}
+use Rattle.command_line.proofs.Looking.{Looks, Name, ending, named, bad, bare, inline, block, number, kind_of, met_as}
 
 -- ---- faults
 

@@ -1,7 +1,6 @@
 -- Texts are read as the values that they spell.
-use Rattle.std.proofs.Common.{◌≡◌, refl, sym, ap, ◌∙◌, subst, arith, ℕ, zero, suc, ◌+◌, ◌*◌, ◌<◌, ◌≤◌, ◌==◌, Bool, true, false, cond, ◌&&◌, nat_le, List, [], ◌∷◌, length, append-nil, ne_eqb, ℤ, pos, Option, Some, None, option_map, Ok, Err, codes}
+use Rattle.std.proofs.Common.{◌≡◌, refl, sym, ap, ◌∙◌, subst, arith, ℕ, ◌≤◌, Bool, true, false, cond, ◌&&◌, nat_le, List, [], ◌∷◌, length, append-nil, ne_eqb, ℤ, Option, Some, None, option_map, Ok, Err, codes}
 use Rattle.std.specs.Prelude.{bytes_eq, slice_get}
-use Rattle.std.specs.List.{All, slice_index_or}
 use Rattle.std.specs.Char.{IsAsciiDigit}
 use Rattle.std.proofs.lemmas.Slice.Eq.{bytes_eq-Decides}
 use Rattle.clap.specs.Walk.{Text}
@@ -82,9 +81,6 @@ name_bare Gen = no_hyphen _ _ refl
 pub name_takes : (text : Text) (c : Command) → command_of text ≡ Some c → text ≡ command_name c
 name_takes text c e = go (bytes_eq text (codes "layout")) refl (bytes_eq text (codes "edit")) refl (bytes_eq text (codes "gen")) refl
   where
-    of_three : (a b d : Bool) → Option Command
-    of_three a b d = cond a (Some Layout) (cond b (Some Edit) (cond d (Some Gen) None))
-
     is : (a b d : Bool) → bytes_eq text (codes "layout") ≡ a → bytes_eq text (codes "edit") ≡ b → bytes_eq text (codes "gen") ≡ d
         → cond a (Some Layout) (cond b (Some Edit) (cond d (Some Gen) None)) ≡ Some c
     is a b d ea eb ed =

@@ -1,21 +1,17 @@
 -- One step of `clap`'s walk over the words, at the command that this crate has.
-use Rattle.std.proofs.Common.{◌≡◌, ◌≢◌, refl, sym, ap, ap₂, ◌∙◌, subst, arith, inl, inr, ℕ, zero, suc, ◌+◌, ◌<◌, ◌≤◌, ◌==◌, Bool, true, false, not, cond, ◌&&◌, ◌||◌, List, [], ◌∷◌, ◌++◌, map, length, fold, Option, Some, None, is_some, option_map, append-nil, length-append, eqb-true, codes}
-use Rattle.std.specs.Prelude.{find, filter, slice_get, bytes_eq, option_and_then}
-use Rattle.std.specs.List.{list_any}
+use Rattle.std.proofs.Common.{◌≡◌, refl, sym, ap, ◌∙◌, arith, ◌≤◌, Bool, true, false, cond, ◌&&◌, ◌||◌, List, [], ◌∷◌, ◌++◌, map, length, Option, Some, None, append-nil, length-append, codes}
+use Rattle.std.specs.Prelude.{filter, bytes_eq}
 use Rattle.std.specs.Option.{option_map_or}
-use Rattle.std.specs.Str.{chars}
-use Rattle.std.proofs.lemmas.Slice.Eq.{bytes_eq-Decides}
-use Rattle.std.proofs.lemmas.List.{append_assoc, map-append}
-use Rattle.clap.specs.Lexer.{long_of, long_of_rest, short_of, short_of_rest, strip_byte, name_and_value, has_byte}
-use Rattle.clap.specs.Walk.{Held, Names, Outcome, Row, Rule, Step, Text, Waiting, Walk, idle, option, positional, next, trailing, value, done, waits, plain, refused, action_of, after_flag, after_step, arg_by_id, arg_by_index, arg_by_long, arg_by_short, at_row, bundle, bundle_met, has_row, is_pending, long_or_other, more_values, option_met, plain_word, positional_held, reacted, settled, settled_rows, subcommand_met, subcommand_or_other, takes_several, used, used_by_id, walked, with_values, without, word_met}
-use Rattle.clap.specs.Kinds.{Kinds, or_else}
+use Rattle.std.proofs.lemmas.List.{map-append}
+use Rattle.clap.specs.Walk.{Held, Row, Rule, Text, arg_by_id, at_row, has_row, more_values, settled, used, used_by_id, with_values, without}
+use Rattle.clap.specs.Kinds.{or_else}
 use Rattle.clap.specs.Simple.{Shape, built, filled, with_index}
-use Rattle.clap.specs.Faults.{flag_word_fault, flags_fault, option_fault, other_fault, positional_fault, settle_fault, step_fault, stray_fault, turn_fault, use_fault, walk_fault, word_fault}
+use Rattle.clap.specs.Faults.{settle_fault, use_fault}
 use Rattle.clap.specs.Words.{new_rule}
 use Rattle.clap.specs.declared.error.kind.ErrorKind.TheVariants as kind
 use Rattle.clap.specs.declared.parser.matches.ValueSource.TheVariants.{CommandLine}
 use Rattle.clap.specs.declared.builder.value_parser.Reading.TheVariants.{AsWritten}
-use Rattle.command_line.specs.Command.{Kind, the_command, view_inline, view_block, count, Part, is_kind, given, IsPart}
+use Rattle.command_line.specs.Command.{Kind, the_command, view_inline, view_block, count, Part, is_kind, given}
 use Rattle.command_line.specs.Reading.{command_line, option_rule}
 
 -- ---- the command
@@ -81,7 +77,7 @@ has_given k (p ∷ ps) =
     let before = has_given k ps in
     ap (λ (b : Bool). b || has_row (id_of k) (map row ps)) (same_id k p.kind)
     ∙ elim (is_kind k p.kind) as (λ (b : Bool). (b || has_row (id_of k) (map row ps)) ≡ has_some (map (λ (q : Part). q.text) (cond b (p ∷ filter (λ (q : Part). is_kind k q.kind) ps) (filter (λ (q : Part). is_kind k q.kind) ps))))
-        [ true ↦ refl | false ↦ before ]
+    [ true ↦ refl | false ↦ before ]
 
 fresh_row : (id : Text) (change : Row → List Row) (missing rows : List Row) → has_row id rows ≡ false → at_row id change missing rows ≡ rows ++ missing
 fresh_row id change missing [] e = refl
@@ -140,8 +136,8 @@ given_append k [] ps = refl
 given_append k (u ∷ us) ps =
     let before = given_append k us ps in
     elim (is_kind k u.kind) as (λ (b : Bool). map (λ (q : Part). q.text) (cond b (u ∷ filter (λ (q : Part). is_kind k q.kind) (us ++ ps)) (filter (λ (q : Part). is_kind k q.kind) (us ++ ps)))
-        ≡ map (λ (q : Part). q.text) (cond b (u ∷ filter (λ (q : Part). is_kind k q.kind) us) (filter (λ (q : Part). is_kind k q.kind) us)) ++ given k ps)
-        [ true ↦ ap (λ (more : List Text). u.text ∷ more) before | false ↦ before ]
+    ≡ map (λ (q : Part). q.text) (cond b (u ∷ filter (λ (q : Part). is_kind k q.kind) us) (filter (λ (q : Part). is_kind k q.kind) us)) ++ given k ps)
+    [ true ↦ ap (λ (more : List Text). u.text ∷ more) before | false ↦ before ]
 
 pub same_kind : (k : Kind) → is_kind k k ≡ true
 same_kind the_command = refl

@@ -1,6 +1,6 @@
 -- The words of a command line as they are read: by the kit's `clap`, whose function of the words is
 -- `fault_of` and `matches_of`, and then text by text, with a function here for each of the code.
-use Rattle.std.specs.Prelude.{ℕ, ◌*◌, ◌==◌, ◌&&◌, Bool, true, nat_le, length, if◌then◌else◌, List, [], ◌∷◌, codes, ℤ, Option, Some, None, option_map, option_and_then, Ok, Err, bytes_eq}
+use Rattle.std.specs.Prelude.{ℕ, ◌==◌, ◌&&◌, true, nat_le, length, if◌then◌else◌, List, [], ◌∷◌, codes, ℤ, Option, Some, None, option_map, option_and_then, Ok, Err, bytes_eq}
 use Rattle.std.specs.Borrow.{Bor}
 use Rattle.clap.specs.Words.{App, Row, Rule, fault_of, first_of, matches_of, new_app, new_rule, with_rule}
 use Rattle.clap.specs.Simple.{new_shape}
@@ -52,6 +52,9 @@ size_of text = option_map px (number_to 16384 text)
 abbrev pub text_of : Option (Bor (List ℕ)) → Option (List ℕ)
 text_of = option_map (λ text. text.now)
 
+abbrev pub named : Option (List ℕ) → Option Command
+named = option_and_then command_of
+
 -- the value of an option, or its default
 abbrev pub value_or : {X : Type 0} → (List ℕ → Option X) → X → Option (List ℕ) → Option X
 value_or read default None = Some default
@@ -74,7 +77,7 @@ job_with command inline block count = option_and_then (λ c. option_and_then (λ
     option_map (λ n. record { command = c; view = record { inline = i; block = b }; count = n }) count) block) inline) command
 
 abbrev pub job_in : List Row → Option Job
-job_in rows = job_with (option_and_then command_of (first_of (codes "command") rows))
+job_in rows = job_with (named (first_of (codes "command") rows))
     (inline_of (first_of (codes "view-inline") rows))
     (block_of (first_of (codes "view-block") rows))
     (count_of (first_of (codes "count") rows))

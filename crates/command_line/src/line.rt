@@ -4,11 +4,10 @@ ghost use Rattle.std.specs.Prelude.{◌≡◌, ◌≢◌, [], map, string_bytes,
 ghost use Rattle.clap.specs.Words.{app_of, fault_of, found_of, matches_of, rows_of};
 ghost use Rattle.command_line.specs.Reading.{command_line};
 
+use crate::error::WordsError;
 use clap::error::ErrorKind;
 use clap::{Arg, ArgMatches};
 use std::alloc::{AllocError, Global};
-
-use crate::error::WordsError;
 
 /// The words of a command line by their names. Usage comes only where `clap` finds a fault in them.
 pub(crate) fn parsed<'a>(alloc: Global, words: &'a [String]) -> Result<ArgMatches<'a>, WordsError>

@@ -6,15 +6,14 @@ ghost use Rattle.command_line.specs.Command.{IsJob};
 ghost use Rattle.command_line.specs.declared.job.Job.{Job};
 ghost use Rattle.command_line.specs.Reading as readings;
 
-use clap::ArgMatches;
-use std::alloc::Global;
-use wm_units::View;
-
 use crate::error::WordsError;
-use crate::job::Job;
+use crate::job::{Command, Job};
 use crate::line::parsed;
 use crate::values::{block_of, command_of, count_of, inline_of};
 use crate::words::Words;
+use clap::ArgMatches;
+use std::alloc::Global;
+use wm_units::View;
 
 /// The job that the words give. Usage comes exactly where they give none, and Memory may come anywhere.
 pub fn read_words(alloc: Global, words: &Words) -> Result<Job, WordsError>
@@ -31,13 +30,29 @@ pub fn read_words(alloc: Global, words: &Words) -> Result<Job, WordsError>
 fn job_in(matches: &ArgMatches) -> Option<Job>
     ensures { result ≡ readings.job_in (rows_of (found_of matches.now)) }
 {
-    let command = command_of(matches.get_str("command")?)?;
-    let inline = inline_of(matches.get_str("view-inline"))?;
-    let block = block_of(matches.get_str("view-block"))?;
-    let count = count_of(matches.get_str("count"))?;
+    job_with(
+        command_of(matches.get_str("command")),
+        inline_of(matches.get_str("view-inline")),
+        block_of(matches.get_str("view-block")),
+        count_of(matches.get_str("count")),
+    )
+}
+
+// The job of its values, where each is there.
+fn job_with(
+    command: Option<Command>,
+    inline: Option<i64>,
+    block: Option<i64>,
+    count: Option<u32>,
+) -> Option<Job>
+    ensures { result ≡ readings.job_with command inline block count }
+{
     Some(Job {
-        command,
-        view: View { inline, block },
-        count,
+        command: command?,
+        view: View {
+            inline: inline?,
+            block: block?,
+        },
+        count: count?,
     })
 }

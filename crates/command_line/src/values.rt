@@ -4,10 +4,9 @@ ghost use Rattle.std.specs.Prelude.{◌≡◌, ◌*◌, ◌≤◌, pos};
 ghost use Rattle.wm_units.specs.Numbers as numbers;
 ghost use Rattle.command_line.specs.Reading as readings;
 
+use crate::job::Command;
 use reading::decimal;
 use wm_units::fixed;
-
-use crate::job::Command;
 
 /// The greatest size of the view on either axis, in pixels.
 const MOST_PIXELS: u32 = 16_384;
@@ -22,8 +21,17 @@ const MOST_COUNT: u32 = 1_000;
 
 const DEFAULT_COUNT: u32 = 100;
 
-/// The command of a name.
-pub(crate) fn command_of(name: &str) -> Option<Command>
+/// The command that is named.
+pub(crate) fn command_of(name: Option<&str>) -> Option<Command>
+    ensures { result ≡ readings.named (readings.text_of name.entry) }
+{
+    match name {
+        None => None,
+        Some(name) => command_named(name),
+    }
+}
+
+fn command_named(name: &str) -> Option<Command>
     ensures { result ≡ readings.command_of name.now }
 {
     match name {

@@ -1,6 +1,6 @@
-use Rattle.std.proofs.Common.{rules, ap, ap₂, refl, codes, true, ◌≡◌, ◌∙◌}
-use Rattle.clap.specs.Words.{App, Rule, app_of, new_rule, rule_of, with_rule}
-use Rattle.command_line.specs.Reading.{command_line, option_rule, without_rules}
+use Rattle.std.proofs.Common.{rules, ap₂, codes, true, ◌≡◌, ◌∙◌}
+use Rattle.clap.specs.Words.{app_of, new_rule, rule_of, with_rule}
+use Rattle.command_line.specs.Reading.{option_rule, without_rules}
 use Rattle.command_line.proofs.line.command_line.Goals as goal
 
 pub returns : goal.returns
