@@ -1,6 +1,8 @@
 -- The definition of a command line and its reading agree.
 use Rattle.std.proofs.Common.{◌≡◌, refl, sym, ap, ap₂, ◌∙◌, subst, arith, ℕ, ◌≤◌, ◌==◌, Bool, true, false, not, cond, ◌||◌, List, [], ◌∷◌, map, length, fold, Option, Some, None, is_some, ne_eqb, ℤ, codes}
-use Rattle.std.specs.Prelude.{⊤, bytes_eq, filter, find, option_and_then, slice_get}
+use Rattle.std.proofs.lemmas.Int.{ints}
+use Rattle.wm_units.specs.View.{IsView}
+use Rattle.std.specs.Prelude.{pos, ◌≤ℤ◌, ◌^◌, ⊤, bytes_eq, filter, find, option_and_then, slice_get}
 use Rattle.std.specs.Option.{option_map_or}
 use Rattle.clap.specs.Facts.{explicit_source}
 use Rattle.clap.specs.Kinds.{Kinds, check_kinds, or_else}
@@ -244,3 +246,35 @@ pub job_is_none : (words : List (List ℕ)) (job : Job) → fault_of command_lin
 job_is_none words job none nothing is =
     let bad : None ≡ Some job = sym (ap (λ (f : Kinds). cond (length f == 0) (job_in (matches_of command_line words)) None) none ∙ nothing) ∙ read_again words job is in
     absurd (cc)
+
+-- words give one job
+pub one_job : (words : List (List ℕ)) (job other : Job) → IsJob words job → IsJob words other → other ≡ job
+one_job words job other is also = same_some other job (sym (read_again words other also) ∙ read_again words job is)
+
+size_fits : (text : Text) (size : ℤ) → IsViewSize text size → (pos 0 ≤ℤ size) × (size ≤ℤ pos (2 ^ 32))
+size_fits text size is =
+    let most : is.0 ≤ 16384 = is.1.2 in
+    let fits : (pos 0 ≤ℤ px is.0) × (px is.0 ≤ℤ pos (2 ^ 32)) = (omega (arith, ints), omega (arith, ints, most)) in
+    subst (λ (z : ℤ). (pos 0 ≤ℤ z) × (z ≤ℤ pos (2 ^ 32))) (sym is.2) fits
+
+value_fits : (default : ℕ) (ts : List Text) (size : ℤ) → default ≤ 16384 → IsValue IsViewSize (px default) ts size → (pos 0 ≤ℤ size) × (size ≤ℤ pos (2 ^ 32))
+value_fits default [] size small is =
+    let fits : (pos 0 ≤ℤ px default) × (px default ≤ℤ pos (2 ^ 32)) = (omega (arith, ints), omega (arith, ints, small)) in
+    subst (λ (z : ℤ). (pos 0 ≤ℤ z) × (z ≤ℤ pos (2 ^ 32))) (sym is) fits
+value_fits default (t ∷ []) size small is = size_fits t size is
+value_fits default (t ∷ u ∷ more) size small is = absurd is
+
+-- the sizes of a job's view, and its count, are in their bounds
+pub job_view : (words : List (List ℕ)) (job : Job) → IsJob words job → IsView job.view
+job_view words job is =
+    let inline = value_fits 800 (given view_inline is.parts) job.view.inline (omega arith) is.inline in
+    let block = value_fits 600 (given view_block is.parts) job.view.block (omega arith) is.block in
+    record { inline_low = inline.0; inline_high = inline.1; block_low = block.0; block_high = block.1 }
+
+pub job_count : (words : List (List ℕ)) (job : Job) → IsJob words job → (1 ≤ job.count) × (job.count ≤ 1000)
+job_count words job is = go (given count is.parts) is.count
+  where
+    go : (ts : List Text) → IsValue (IsNumberTo 1000) 100 ts job.count → (1 ≤ job.count) × (job.count ≤ 1000)
+    go [] h = (omega (arith, h), omega (arith, h))
+    go (t ∷ []) h = (h.1, h.2)
+    go (t ∷ u ∷ more) h = absurd h

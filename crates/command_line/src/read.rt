@@ -1,6 +1,7 @@
 //! The job that the words of a command line give.
 
-ghost use Rattle.std.specs.Prelude.{◌≡◌, IfOk, IsErrOf};
+ghost use Rattle.std.specs.Prelude.{◌≡◌, ◌≤◌, IfOk, IsErrOf};
+ghost use Rattle.wm_units.specs.View.{IsView};
 ghost use Rattle.clap.specs.Words.{found_of, rows_of};
 ghost use Rattle.command_line.specs.Command.{IsJob};
 ghost use Rattle.command_line.specs.declared.job.Job.{Job};
@@ -15,9 +16,13 @@ use clap::ArgMatches;
 use std::alloc::Global;
 use wm_units::View;
 
-/// The job that the words give. Usage comes exactly where they give none, and Memory may come anywhere.
+/// The one job that the words give (docs/PROFILE/commands.md). Usage comes exactly where they give none, and
+/// Memory wherever memory runs out.
 pub fn read_words(alloc: Global, words: &Words) -> Result<Job, WordsError>
     ensures read { IfOk result (λ job. IsJob words.now job) }
+    ensures only { IfOk result (λ job. (other : Job) → IsJob words.now other → other ≡ job) }
+    ensures view { IfOk result (λ job. IsView job.view) }
+    ensures count { IfOk result (λ job. (1 ≤ job.count) × (job.count ≤ 1000)) }
     ensures usage { IsErrOf result WordsError.Usage → (job : Job) → IsJob words.now job → ⊥ }
 {
     let matches = parsed(alloc, words.as_slice())?;
