@@ -45,9 +45,9 @@ pub record IsUnitOf (many : ℕ) (unit : Unit) : Type 0 where
   pub order : unit.first ≤ unit.end
   pub within : unit.end ≤ many
 
--- a character stands at a place of a text
+-- a character stands at a place of a text, and so does what comes behind it
 abbrev pub IsPlaced : Letter → Type 0
-IsPlaced letter = letter.place < 2 ^ 32
+IsPlaced letter = letter.place + 1 < 2 ^ 32
 
 -- how long a unit may be: no character advances by more than 655,360
 pub record IsSize (unit : Unit) : Type 0 where

@@ -8,8 +8,8 @@ pub enum PreparedContent {
     /// A unit of text; `space` where it is the single character U+0020.
     Unit {
         node: u32,
-        first: usize,
-        end: usize,
+        first: u32,
+        end: u32,
         form: UnitKind,
         advance: i64,
         space: bool,
@@ -18,8 +18,8 @@ pub enum PreparedContent {
     /// A combined run; `natural` is the sum of its plain advances.
     Combined {
         node: u32,
-        first: usize,
-        end: usize,
+        first: u32,
+        end: u32,
         advance: i64,
         natural: i64,
         glyphs: Glyphs,

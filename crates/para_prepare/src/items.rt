@@ -161,7 +161,7 @@ pub(crate) fn combined_content(
 }
 
 // The place of the first character in its node's text.
-fn first_place(letters: &[Letter]) -> usize
+fn first_place(letters: &[Letter]) -> u32
     ensures { result ≡ items.first_place letters.now }
 {
     match letters.first() {
@@ -171,7 +171,7 @@ fn first_place(letters: &[Letter]) -> usize
 }
 
 // The place behind the last one.
-fn place_behind(letters: &[Letter]) -> usize
+fn place_behind(letters: &[Letter]) -> u32
     requires { All IsPlaced letters.now }
     ensures { result ≡ items.place_behind letters.now }
 {
@@ -194,7 +194,7 @@ pub(crate) fn last_letter(letters: &[Letter]) -> Option<Letter>
     }
 }
 
-fn behind(letter: Letter) -> usize
+fn behind(letter: Letter) -> u32
     requires { IsPlaced letter }
     ensures { result ≡ letter.place + 1 }
 {

@@ -1,10 +1,11 @@
 //! The kept characters of a paragraph (CSS Text 3, 4.1), and their text.
 
-ghost use Rattle.std.specs.Prelude.{◌≡◌, ◌≤◌, ◌+◌, ◌++◌, [], ◌∷◌, length, drop, encode_utf8_all, IfOk, OnOk};
+ghost use Rattle.std.specs.Prelude.{◌≡◌, ◌≤◌, ◌<◌, ◌+◌, ◌^◌, ◌++◌, [], ◌∷◌, length, drop, encode_utf8_all, IfOk, OnOk};
 ghost use Rattle.std.specs.Str.{chars};
 ghost use Rattle.std.specs.String.{string_bytes};
 ghost use Rattle.style_types.specs.Item.{entry_of, entries_of};
 ghost use Rattle.para_prepare.specs.Kept.{kept, kept_in, joined, ends_from, chars_of};
+ghost use Rattle.para_prepare.specs.Limits.{text_bytes};
 ghost use Rattle.para_prepare.specs.White.{as_kept, chosen, signs_in};
 
 use crate::letter::Letter;
@@ -27,6 +28,7 @@ pub(crate) struct Kept<'a> {
 
 /// The kept characters of these items. A white space character that is kept is U+0020.
 pub(crate) fn kept_letters<'a>(arena: &'a Bump, items: &[Item]) -> Result<Kept<'a>, AllocError>
+    requires bytes { text_bytes (entries_of items.now) ≤ 1048576 }
     ensures letters { IfOk result (λ k. k.letters.items ≡ joined (kept (entries_of items.now))) }
     ensures ends { IfOk result (λ k. k.ends.items ≡ ends_from 0 (kept (entries_of items.now))) }
 {
@@ -60,7 +62,8 @@ fn add_item(
     marks: &[bool],
     place: usize,
 ) -> Result<usize, AllocError>
-    requires { place + length (signs_in (entry_of item.now)) ≤ length marks.now }
+    requires marks { place + length (signs_in (entry_of item.now)) ≤ length marks.now }
+    requires few { length (signs_in (entry_of item.now)) < 2 ^ 32 }
     ensures letters { OnOk result (letters.new.items ≡ letters.old.items ++ kept_in (entry_of item.now) (drop place marks.now)) }
     ensures place { IfOk result (λ end_. end_ ≡ place + length (signs_in (entry_of item.now))) }
 {
@@ -79,13 +82,14 @@ fn add_text(
     marks: &[bool],
     place: usize,
 ) -> Result<usize, AllocError>
-    requires { place + length (chars text.now) ≤ length marks.now }
+    requires marks { place + length (chars text.now) ≤ length marks.now }
+    requires few { length (chars text.now) < 2 ^ 32 }
     ensures letters { OnOk result (letters.new.items ≡ letters.old.items ++ chosen 0 (chars text.now) (drop place marks.now)) }
     ensures place { IfOk result (λ end_. end_ ≡ place + length (chars text.now)) }
 {
     let mut count = 0;
     for c in text.chars() {
-        add_character(letters, marks[place + count], count, c)?;
+        add_character(letters, marks[place + count], count as u32, c)?;
         count += 1;
     }
     Ok(place + count)
@@ -95,7 +99,7 @@ fn add_text(
 fn add_character(
     letters: &mut Letters,
     is_kept: bool,
-    place: usize,
+    place: u32,
     c: char,
 ) -> Result<(), AllocError>
     ensures { OnOk result (letters.new.items ≡ letters.old.items ++ chosen place (c ∷ []) (is_kept ∷ [])) }

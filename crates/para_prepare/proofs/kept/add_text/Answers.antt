@@ -12,7 +12,7 @@ loop-c-preserved c =
     let step = chars_past_char _ _ c.in-Some.c c.loop-c.invariant.0 parts in
     let fewer : length (chars (chars_rest c.loop-c.c-iterator)) ≡ length (c.in-Some.c ∷ chars (chars_rest c.next.new.self)) = ap length step in
     let count = c.loop-c.invariant.1 in
-    let room = c.requires in (
+    let room = c.requires.marks in (
       IsUtf8-past_char _ _ c.in-Some.c c.loop-c.invariant.0 parts,
       omega arith,
       chosen_more _ _ _ c.args.marks.now c.args.place c.loop-c.count c.in-Some.c _ _ c.loop-c.invariant.2 step (omega arith) c.in_ok-add_character.ensures,
