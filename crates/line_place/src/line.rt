@@ -48,16 +48,16 @@ pub enum LineContent<'a> {
     /// A unit of a text node: the places of its first character in the node's text and after its last.
     Unit {
         node: u32,
-        first: usize,
-        end: usize,
+        first: u32,
+        end: u32,
         form: UnitKind,
         glyphs: &'a Glyphs,
     },
     /// A combined run of a text node, with the sum of the plain advances of its units.
     Combined {
         node: u32,
-        first: usize,
-        end: usize,
+        first: u32,
+        end: u32,
         natural: i64,
         glyphs: &'a Glyphs,
     },

@@ -29,8 +29,8 @@ use style_types::{
 /// of 1/64 px, and what is seen of it.
 #[derive(Clone, Copy, Debug)]
 pub struct TextUnit<'a> {
-    pub first: usize,
-    pub end: usize,
+    pub first: u32,
+    pub end: u32,
     pub extent: i64,
     pub glyphs: &'a Glyphs,
 }
