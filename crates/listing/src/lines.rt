@@ -125,8 +125,8 @@ fn run_place(node: u32, rect: &Rect, units: &[RunUnit]) -> Line
     let mut line = Line::new();
     line.push_str("run");
     push_node(&mut line, node);
-    push_count(&mut line, first_of(units));
-    push_count(&mut line, end_of(units));
+    push_count(&mut line, first_of(units) as usize);
+    push_count(&mut line, end_of(units) as usize);
     push_rect(&mut line, rect);
     line
 }

@@ -12,7 +12,7 @@ use wm_modes::WritingMode;
 
 /// The least place at which a unit begins.
 #[tactic(auto, unfolding(crate::specs::Runs::first_of))]
-pub(crate) fn first_of(units: &[RunUnit]) -> usize
+pub(crate) fn first_of(units: &[RunUnit]) -> u32
     ensures { result ≡ spec.first_of units.now }
 {
     units.iter().map(|unit| unit.first).min().unwrap_or(0)
@@ -20,7 +20,7 @@ pub(crate) fn first_of(units: &[RunUnit]) -> usize
 
 /// The greatest place at which one ends.
 #[tactic(auto, unfolding(crate::specs::Runs::end_of))]
-pub(crate) fn end_of(units: &[RunUnit]) -> usize
+pub(crate) fn end_of(units: &[RunUnit]) -> u32
     ensures { result ≡ spec.end_of units.now }
 {
     units.iter().map(|unit| unit.end).max().unwrap_or(0)
