@@ -129,8 +129,8 @@ fn run_kind(alloc: Global, words: &mut Words<'_>) -> Result<FragmentKind, CaseEr
 fn run_units(alloc: Global, words: &mut Words<'_>) -> Result<RunUnits, CaseError> {
     let mut units = Vec::new(alloc);
     for _ in 0..words.place()? {
-        let first = words.place()?;
-        let end = words.place()?;
+        let first = words.character()?;
+        let end = words.character()?;
         let extent = words.length()?;
         let glyphs = glyphs(alloc, words)?;
         units.push(RunUnit {

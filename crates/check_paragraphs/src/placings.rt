@@ -44,15 +44,15 @@ struct CaseItem {
 enum CaseContent {
     Unit {
         node: u32,
-        first: usize,
-        end: usize,
+        first: u32,
+        end: u32,
         form: UnitKind,
         glyphs: Glyphs,
     },
     Combined {
         node: u32,
-        first: usize,
-        end: usize,
+        first: u32,
+        end: u32,
         natural: i64,
         glyphs: Glyphs,
     },
@@ -121,15 +121,15 @@ fn case_content(alloc: Global, words: &mut Words<'_>) -> Result<CaseContent, Cas
     match words.word()? {
         "unit" => Ok(CaseContent::Unit {
             node: words.node()?,
-            first: words.place()?,
-            end: words.place()?,
+            first: words.character()?,
+            end: words.character()?,
             form: words.named(&FORMS)?,
             glyphs: glyphs(alloc, words)?,
         }),
         "combined" => Ok(CaseContent::Combined {
             node: words.node()?,
-            first: words.place()?,
-            end: words.place()?,
+            first: words.character()?,
+            end: words.character()?,
             natural: words.length()?,
             glyphs: glyphs(alloc, words)?,
         }),

@@ -92,6 +92,14 @@ impl<'a> Words<'a> {
         }
     }
 
+    /// The place of a character in its node's text.
+    pub(crate) fn character(&mut self) -> Result<u32, CaseError> {
+        match self.word()?.parse::<u32>() {
+            Ok(place) => Ok(place),
+            Err(_) => Err(CaseError::Malformed),
+        }
+    }
+
     /// The number of a node.
     pub(crate) fn node(&mut self) -> Result<u32, CaseError> {
         match self.word()?.parse::<u32>() {

@@ -90,7 +90,7 @@ fn run(
     })
 }
 
-fn unit(first: usize, end: usize, c: char) -> RunUnit {
+fn unit(first: u32, end: u32, c: char) -> RunUnit {
     RunUnit {
         first,
         end,
