@@ -9,7 +9,7 @@ use Rattle.html_read.specs.Values.{Node}
 use Rattle.dom_store.specs.Building.{numbers_at}
 use Rattle.dom_store.specs.Opening.{children_from, put_if, stands_in}
 
-put_before : (b : Bool) (at : ℕ) (some more : List ℕ) → put_if b at (some ++ more) ≡ put_if b at some ++ more
+pub put_before : (b : Bool) (at : ℕ) (some more : List ℕ) → put_if b at (some ++ more) ≡ put_if b at some ++ more
 put_before true at some more = refl
 put_before false at some more = refl
 
@@ -24,17 +24,17 @@ children_more at place (first ∷ nodes) node =
     ap (put_if b at) (children_more (at + 1) place nodes node ∙ ap (λ (n : ℕ). children_from (at + 1) place nodes ++ put_if (stands_in place node.parent) n []) later) ∙ put_before b at (children_from (at + 1) place nodes) more
 
 -- no children among no nodes
-pub no_children : (place : ℕ) → children_from 0 place [] ≡ []
+pub no_children : (first place : ℕ) → children_from first place [] ≡ []
 unfolding children_from
-no_children place = refl
+no_children first place = refl
 
 -- the children among the nodes up to the one at this place
-pub children_up_to : (nodes : List Node) (at place : ℕ) (node : Node) → slice_get nodes at ≡ Some node → children_from 0 place (take (at + 1) nodes) ≡ children_from 0 place (take at nodes) ++ put_if (stands_in place node.parent) at []
-children_up_to nodes at place node here =
+pub children_up_to : (nodes : List Node) (first at place : ℕ) (node : Node) → slice_get nodes at ≡ Some node → children_from first place (take (at + 1) nodes) ≡ children_from first place (take at nodes) ++ put_if (stands_in place node.parent) (first + at) []
+children_up_to nodes first at place node here =
     let within : at < length nodes = slice_get_within nodes at node here in
-    let count : 0 + length (take at nodes) ≡ at = omega (arith, length-take-le at nodes (omega arith)) in
+    let count : first + length (take at nodes) ≡ first + at = omega (arith, length-take-le at nodes (omega arith)) in
     let more : take (at + 1) nodes ≡ take at nodes ++ node ∷ [] = take_more nodes at node within ∙ ap (λ (n : Node). take at nodes ++ n ∷ []) (get_or_from_slice_get nodes at node node here) in
-    ap (children_from 0 place) more ∙ (children_more 0 place (take at nodes) node ∙ ap (λ (n : ℕ). children_from 0 place (take at nodes) ++ put_if (stands_in place node.parent) n []) count)
+    ap (children_from first place) more ∙ (children_more first place (take at nodes) node ∙ ap (λ (n : ℕ). children_from first place (take at nodes) ++ put_if (stands_in place node.parent) n []) count)
 
 module _ (lists : List (Vec ℕ)) (parent child : ℕ) (was is : Vec ℕ) (within : parent < length lists) (before : was ≡ get_or lists parent was) (grown : is.items ≡ was.items ++ child ∷ []) where
   put_same : numbers_at (set lists parent is) parent ≡ numbers_at lists parent ++ child ∷ []

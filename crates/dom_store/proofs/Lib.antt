@@ -1,8 +1,11 @@
 pub mod AddLaws
 pub mod ApplyLaws
 pub mod ChildLaws
+pub mod CopyLaws
+pub mod CountLaws
 pub mod DepthLaws
 pub mod FillLaws
+pub mod InsertLaws
 pub mod JudgeLaws
 pub mod MoveLaws
 pub mod Places

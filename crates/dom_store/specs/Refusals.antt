@@ -105,12 +105,15 @@ too_deep_moved state number parent = option_map TooDeep (least (below_levels (gr
 abbrev pub placing : State → (number parent : ℕ) → List (Option EditError)
 placing state number parent = no_node state (number ∷ parent ∷ []) ∷ is_root number ∷ in_html parent ∷ not_holder state parent ∷ inside state number parent ∷ []
 
+-- nodes can't be inserted in this parent, the first of them at this index
+abbrev pub entering : State → (parent index : ℕ) → List (Option EditError)
+entering state parent index = no_node state (parent ∷ []) ∷ in_html parent ∷ not_holder state parent ∷ bad_index index (children_at state parent) ∷ []
+
 abbrev pub reasons : State → EditOf → List (Option EditError)
 reasons state (set_text number letters) = no_node state (number ∷ []) ∷ not_text state number ∷ []
 reasons state (set_style number own) = no_node state (number ∷ []) ∷ not_element state number ∷ []
 reasons state (set_class number words) = no_node state (number ∷ []) ∷ not_element state number ∷ []
-reasons state (insert parent index nodes own) = no_node state (parent ∷ []) ∷ in_html parent ∷ not_holder state parent ∷ bad_index index (children_at state parent)
-    ∷ too_many state (length nodes) ∷ too_deep_under state parent nodes ∷ []
+reasons state (insert parent index nodes own) = entering state parent index ++ too_many state (length nodes) ∷ too_deep_under state parent nodes ∷ []
 reasons state (remove number) = no_node state (number ∷ []) ∷ is_root number ∷ []
 reasons state (move_to number parent index) = placing state number parent ++ bad_index index (without number (children_at state parent)) ∷ too_deep_moved state number parent ∷ []
 

@@ -1,6 +1,8 @@
 -- Where nodes stand in a document: above others, below others, and how deep. DOM, 4.2.
 use Rattle.std.specs.Prelude.{ℕ, zero, suc, ◌+◌, ◌-◌, Bool, List, [], ◌∷◌, ◌++◌, length, flat_map, Option, Some, None, is_some, option_map, option_and_then, unwrap_or}
 use Rattle.dom_store.specs.State.{State, greatest_depth}
+unfoldable pub use Rattle.dom_store.specs.Keys.{count_below}
+pub use Rattle.dom_store.specs.Keys.{one_if}
 
 abbrev pub lives : State → (number : ℕ) → Bool
 lives state number = is_some (state.node_at number)
@@ -39,15 +41,6 @@ below_levels skipped (suc levels) state number = unless_skipped skipped number +
 -- the node itself first
 abbrev pub inclusive_descendants : State → (number : ℕ) → List ℕ
 inclusive_descendants state number = below_levels 0 greatest_depth state number
-
-abbrev pub one_if : {X : Type 0} → Option X → ℕ
-one_if None = 0
-one_if (Some value) = 1
-
--- how many numbers below this one have something
-unfoldable pub count_below : {X : Type 0} → (ℕ → Option X) → (number : ℕ) → ℕ
-count_below at zero = 0
-count_below at (suc number) = count_below at number + one_if (at number)
 
 -- how many nodes live
 abbrev pub live_count : State → ℕ

@@ -28,6 +28,42 @@ pub(crate) fn node_of(
     })
 }
 
+/// A copy of a node.
+pub(crate) fn copy_of_node(alloc: Global, node: &Node) -> Result<Node, AllocError>
+    ensures { IfOk result (λ copy. entry_of copy ≡ entry_of node.now) }
+{
+    let mut children = Vec::new(alloc);
+    children.extend_from_slice(&node.children)?;
+    Ok(Node {
+        parent: node.parent,
+        children,
+        kind: copy_of_what(alloc, &node.kind)?,
+    })
+}
+
+fn copy_of_what(alloc: Global, kind: &NodeKind) -> Result<NodeKind, AllocError>
+    ensures { IfOk result (λ copy. what_of copy ≡ what_of kind.now) }
+{
+    match kind {
+        NodeKind::Element {
+            tag,
+            id,
+            classes,
+            dir,
+            declarations,
+        } => Ok(NodeKind::Element {
+            tag: *tag,
+            id: copy_of_id(id)?,
+            classes: copy_of_texts(alloc, classes)?,
+            dir: *dir,
+            declarations: copy_of_declarations(alloc, declarations)?,
+        }),
+        NodeKind::Text { text } => Ok(NodeKind::Text {
+            text: text.clone()?,
+        }),
+    }
+}
+
 fn copy_of_kind(alloc: Global, kind: &ReadKind, own: &[Declaration]) -> Result<NodeKind, AllocError>
     ensures { IfOk result (λ copy. what_of copy ≡ opening.what_of (kind_of kind.now) own.now) }
 {

@@ -3,7 +3,8 @@
 ghost use Rattle.std.specs.Ordering.{nat_cmp};
 ghost use Rattle.std.specs.BTreeMap as keyed;
 ghost use Rattle.slab.specs.Slab as slots;
-ghost use Rattle.dom_store.specs.Keys.{IsKeyed};
+ghost use Rattle.std.specs.Prelude.{◌≡◌, ◌<◌, ◌^◌};
+ghost use Rattle.dom_store.specs.Keys.{IsKeyed, count_below};
 
 use crate::node::Node;
 use slab::Slab;
@@ -18,6 +19,8 @@ pub struct Document {
     pub(crate) keys: BTreeMap<u32, usize>,
     pub(crate) next: u32,
     ghost sound: { IsKeyed (keyed.get nat_cmp keys) (slots.get nodes) next },
+    ghost fits: { next < 2 ^ 32 },
+    ghost counted: { keyed.btree_map_len keys ≡ count_below (keyed.get nat_cmp keys) next },
 }
 
 impl Document {

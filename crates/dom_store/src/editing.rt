@@ -2,19 +2,59 @@
 
 ghost use Rattle.std.specs.Prelude.{◌≡◌, ◌∷◌, [], map, option_to_list, IfOk};
 ghost use Rattle.std.specs.String.{string_bytes};
-ghost use Rattle.dom_store.specs.Edited.{Applies};
+ghost use Rattle.dom_store.specs.Edited.{Applies, IsFitting, edit_of};
 ghost use Rattle.dom_store.specs.Edits.{set_class, set_style, set_text};
 ghost use Rattle.dom_store.specs.Standing.{parent_at};
 ghost use Rattle.dom_store.specs.State.{state_of};
 
 use crate::copies::{copy_of_declarations, copy_of_text, copy_of_texts};
 use crate::document::Document;
-use crate::edit::Change;
+use crate::edit::{Change, Edit};
 use crate::error::EditError;
 use std::alloc::{AllocError, Global};
 use style_types::{Declaration, Letters};
 
 impl Document {
+    /// Does an edit whole (DOM, 4.2.3, narrowed), or refuses it and changes nothing. Nodes that are inserted are those of
+    /// a fragment, each with its own declarations; they draw the next numbers in order. A refused edit draws no number,
+    /// nor does one for which memory doesn't suffice. The first of these reasons is answered:
+    ///
+    /// 1. `NoNode`: a named node doesn't live.
+    /// 2. `IsRoot`: `html` (0) or `body` (1) would be removed or moved.
+    /// 3. `IsRoot`: a node would be inserted in `html` or moved into it.
+    /// 4. `NotText`, `NotElement`: a text is set of an element, declarations or class words of a text, or a text or a
+    ///    `br` is named as a parent.
+    /// 5. `Inside`: a node would be moved into itself or into a node below it.
+    /// 6. `BadIndex`: the index is above the count of the parent's children, at a move without the node itself.
+    /// 7. `TooManyNodes`: an insertion would leave more than 65,536 nodes, or draw a number above 4,294,967,294: the first
+    ///    number past the limit.
+    /// 8. `TooDeep`: a node would stand deeper than 64, where `html` is at 1: the least such number.
+    ///
+    /// `Memory` may be answered in place of any of them, and of a change. The cost: what is copied out of the edit, the
+    /// children of the parents that change, the nodes below one that goes or moves, 64 parents at most; each node takes
+    /// the logarithm of their count.
+    pub fn apply(&mut self, alloc: Global, edit: &Edit) -> Result<Change, EditError>
+        requires fitting { IsFitting (edit_of edit.now) }
+        ensures applies { Applies (state_of self.old) (state_of self.new) (edit_of edit.now) result }
+    {
+        match edit {
+            Edit::Text { node, text } => self.set_text(alloc, *node, text),
+            Edit::Style { node, declarations } => self.set_style(alloc, *node, declarations),
+            Edit::Class { node, words } => self.set_class(alloc, *node, words),
+            Edit::Insert {
+                parent,
+                index,
+                nodes,
+            } => self.insert(alloc, *parent, *index, nodes),
+            Edit::Remove { node } => self.remove(alloc, *node),
+            Edit::Move {
+                node,
+                parent,
+                index,
+            } => self.move_to(alloc, *node, *parent, *index),
+        }
+    }
+
     /// Sets the whole text of a text node.
     pub(crate) fn set_text(
         &mut self,
@@ -76,7 +116,7 @@ impl Document {
 }
 
 /// What concerns this element alone.
-fn change_of(alloc: Global, n: u32) -> Result<Change, AllocError>
+pub(crate) fn change_of(alloc: Global, n: u32) -> Result<Change, AllocError>
     ensures { IfOk result (λ change. change.elements.items ≡ n ∷ []) }
 {
     let mut elements = Vec::new(alloc);

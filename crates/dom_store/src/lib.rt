@@ -3,11 +3,14 @@
 
 mod children;
 mod copies;
+mod copying;
 mod depths;
 mod document;
 mod edit;
 mod editing;
 mod error;
+mod filling;
+mod inserting;
 pub mod laws;
 mod moving;
 mod node;

@@ -29,7 +29,7 @@ impl Document {
     {
         let others = self.check_move(alloc, n, parent, index)?;
         let change = self.change_of_both(alloc, n, parent)?;
-        let children = with_put(alloc, &others, index as usize, n)?;
+        let children = with_put(alloc, &others, index as usize, &[n])?;
         self.leave_parent(alloc, n)?;
         self.put_children(parent, children);
         self.put_parent(n, parent);
@@ -111,7 +111,7 @@ impl Document {
 }
 
 /// Whether nodes may stand in such a node.
-fn may_hold(kind: &NodeKind) -> bool
+pub(crate) fn may_hold(kind: &NodeKind) -> bool
     ensures { result ≡ may_hold (what_of kind.now) }
 {
     match kind {

@@ -1,12 +1,12 @@
 //! The state that a document begins with: its nodes as they were read (DOM, 4.2, narrowed).
 
-ghost use Rattle.std.specs.Prelude.{◌≡◌, ◌+◌, ◌<◌, ◌≤◌, ◌^◌, ℕ, length, map, None, IfOk, OnOk};
+ghost use Rattle.std.specs.Prelude.{◌≡◌, ◌≤◌, ℕ, length, map, None, IfOk};
 ghost use Rattle.std.specs.List.{All};
 ghost use Rattle.html_read.specs.Shape.{IsInDocumentOrder, IsShaped};
 ghost use Rattle.html_read.specs.Values.{nodes_of};
-ghost use Rattle.dom_store.specs.Building.{Adds, FollowParents, numbers_at};
+ghost use Rattle.dom_store.specs.Building.{FollowParents, numbers_at};
 ghost use Rattle.dom_store.specs.Opening.{AreSame, Opens, children_from, greatest_count, opened};
-ghost use Rattle.dom_store.specs.State.{AreSaid, IsRooted, IsSaidState, entry_of, state_of, tree_of};
+ghost use Rattle.dom_store.specs.State.{AreSaid, IsRooted, IsSaidState, state_of, tree_of};
 ghost use Rattle.dom_store.specs.Whole.{listed, numbered};
 
 use crate::children::children_of;
@@ -14,11 +14,9 @@ use crate::copies::node_of;
 use crate::depths::check_depths;
 use crate::document::Document;
 use crate::error::EditError;
-use crate::node::{Node, NodeNumbers};
+use crate::node::NodeNumbers;
 use html_read::{ReadDocument, ReadNode};
-use slab::Slab;
 use std::alloc::{AllocError, Global};
-use std::collections::BTreeMap;
 use style_types::{Declarations, Styled};
 
 /// How many nodes may live.
@@ -57,7 +55,7 @@ impl Document {
             return Err(EditError::TooManyNodes(GREATEST_COUNT));
         }
         check_depths(alloc, &read.nodes)?;
-        let children = children_of(alloc, &read.nodes)?;
+        let children = children_of(alloc, &read.nodes, 0)?;
         let document = Document::filled(alloc, &read.nodes, &styled.styles, children)?;
         Ok(document)
     }
@@ -76,29 +74,12 @@ impl Document {
         requires lists { (place : ℕ) → numbers_at lists.items place ≡ children_from 0 place (nodes_of nodes.now) }
         ensures { IfOk result (λ document. AreSame (state_of document) (opened (nodes_of nodes.now) (map (λ own. own.items) styles.now))) }
     {
-        let mut document = Document {
-            nodes: Slab::new(alloc),
-            keys: BTreeMap::new(alloc),
-            next: 0,
-        };
+        let mut document = Document::empty(alloc);
         for children in lists {
             let place = document.next as usize;
             let node = node_of(alloc, &nodes[place], &styles[place], children)?;
             document.add(node)?;
         }
         Ok(document)
-    }
-
-    /// Gives the next number to this node.
-    fn add(&mut self, node: Node) -> Result<(), AllocError>
-        requires { self.old.next + 1 < 2 ^ 32 }
-        ensures { OnOk result (Adds (state_of self.old) (state_of self.new) (entry_of node)) }
-    {
-        self.nodes.reserve(1)?;
-        let key = self.nodes.vacant_key();
-        self.keys.insert(self.next, key)?;
-        self.nodes.insert_reserved(node);
-        self.next += 1;
-        Ok(())
     }
 }

@@ -1,6 +1,6 @@
 //! Lists of nodes' numbers.
 
-ghost use Rattle.std.specs.Prelude.{◌≡◌, ◌≤◌, ◌∷◌, [], length, Some, IfOk};
+ghost use Rattle.std.specs.Prelude.{◌≡◌, ◌≤◌, length, Some, IfOk};
 ghost use Rattle.dom_store.specs.Edits.{with_put, without};
 ghost use Rattle.dom_store.specs.Refusals.{least, lesser};
 
@@ -24,19 +24,19 @@ pub(crate) fn without(
     Ok(rest)
 }
 
-/// The children with this number at the index.
+/// The children with these numbers at the index.
 pub(crate) fn with_put(
     alloc: Global,
     children: &[u32],
     index: usize,
-    number: u32,
+    numbers: &[u32],
 ) -> Result<NodeNumbers, AllocError>
     requires { index ≤ length children.now }
-    ensures { IfOk result (λ list. list.items ≡ with_put index (number ∷ []) children.now) }
+    ensures { IfOk result (λ list. list.items ≡ with_put index numbers.now children.now) }
 {
     let mut list = Vec::new(alloc);
     list.extend_from_slice(&children[..index])?;
-    list.push(number)?;
+    list.extend_from_slice(numbers)?;
     list.extend_from_slice(&children[index..])?;
     Ok(list)
 }

@@ -7,7 +7,7 @@ use Rattle.dom_store.proofs.children.children_of.Goals as goal
 pub loop-place-init : goal.loop-place-init
 loop-place-init c = record {
   count = c.in_ok-lists.ensures.count;
-  lists = λ place. c.in_ok-lists.ensures.empty place ∙ sym (no_children place);
+  lists = λ place. c.in_ok-lists.ensures.empty place ∙ sym (no_children c.args.first place);
 }
 
 pub add_child-requires : goal.add_child-requires
@@ -22,7 +22,7 @@ loop-place-preserved c =
       lists = λ place.
           let put = c.in_ok-add_child.ensures.put place in
           let before = c.loop-place.invariant.lists place in
-          let more = children_up_to nodes c.loop-place.place place (node_of c.index-nodes-place.result) here in
+          let more = children_up_to nodes c.args.first c.loop-place.place place (node_of c.index-nodes-place.result) here in
           let is = c.index-nodes-place.is in
           cc;
     }

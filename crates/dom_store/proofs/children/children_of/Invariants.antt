@@ -7,5 +7,5 @@ use Rattle.dom_store.proofs.children.children_of.Given as goal
 abbrev pub invariant-loop-place : goal.invariant-loop-place
 invariant-loop-place l = record {
   count : length l.lists.items ≡ length l.nodes;
-  lists : (place : ℕ) → numbers_at l.lists.items place ≡ children_from 0 place (take l.place (nodes_of l.nodes));
+  lists : (place : ℕ) → numbers_at l.lists.items place ≡ children_from l.first place (take l.place (nodes_of l.nodes));
 }

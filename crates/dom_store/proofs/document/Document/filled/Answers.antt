@@ -15,7 +15,7 @@ pub loop-children-preserved : goal.loop-children-preserved
 loop-children-preserved c =
     let place = c.loop-children.document.next in
     let at = begins_at c.args.lists.items place c.in-Some.children c.next.new.self.rest.items (sym c.in-Some.ensures.steps.0 ∙ c.loop-children.invariant.rest) in
-    let next : c.add.new.self.next ≡ place + 1 = c.in_ok-add.ensures.next in
+    let next : c.add.new.self.next ≡ place + 1 = c.in_ok-add.ensures.adds.next in
     let here = entry_here c.args.nodes.now c.args.styles.now c.args.lists.items place c.index-nodes-place.result c.index-styles-place.result c.in-Some.children (omega arith) c.index-nodes-place.is
     (omega arith) c.index-styles-place.is at.within at.is c.requires.lists in
     let entry = c.in_ok-node.ensures in
@@ -23,7 +23,7 @@ loop-children-preserved c =
     record {
       within = omega arith;
       rest = rw next at.rest;
-      filled = filled_more _ (state_of c.loop-children.document) (state_of c.add.new.self) (entry_of c.in_ok-node.node) c.loop-children.invariant.filled c.in_ok-add.ensures (cc);
+      filled = filled_more _ (state_of c.loop-children.document) (state_of c.add.new.self) (entry_of c.in_ok-node.node) c.loop-children.invariant.filled c.in_ok-add.ensures.adds (cc);
     }
 
 pub returns : goal.returns

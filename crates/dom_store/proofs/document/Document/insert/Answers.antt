@@ -1,0 +1,81 @@
+use Rattle.std.proofs.Common.{◌∙◌, ◌≡◌, ◌+◌, ◌<◌, ◌≤◌, ◌^◌, ℕ, List, [], None, length, map, ap, sym, subst, arith}
+use Rattle.std.specs.Ordering.{nat_cmp}
+use Rattle.std.specs.BTreeMap as keyed
+use Rattle.std.specs.Global.{Vec}
+use Rattle.slab.specs.Slab as slots
+use Rattle.std.proofs.lemmas.List.{length-map}
+use Rattle.html_read.specs.declared.node.ReadNode.{ReadNode}
+use Rattle.html_read.specs.Values.{node_of, nodes_of}
+use Rattle.style_types.specs.declared.value.Declaration.{Declaration}
+use Rattle.dom_store.specs.Building.{FollowParents, added_under, tops_from}
+use Rattle.dom_store.specs.Edits.{changed, insert, with_children, with_put}
+use Rattle.dom_store.specs.Refusals.{refusal}
+use Rattle.dom_store.specs.Standing.{children_at}
+use Rattle.dom_store.specs.State.{State, state_of}
+use Rattle.dom_store.proofs.ApplyLaws.{accepts}
+use Rattle.dom_store.proofs.CountLaws.{lives_below}
+use Rattle.dom_store.proofs.InsertLaws.{fragment_follows, inserted_under, may_enter}
+use Rattle.dom_store.proofs.JudgeLaws.{fits}
+use Rattle.dom_store.proofs.document.Document.insert.Goals as goal
+
+pub check_insert-requires : goal.check_insert-requires
+check_insert-requires c =
+    let P : List ReadNode → Type 0 = λ reads. FollowParents (nodes_of reads) in
+    record { follow = subst P (sym c.deref.ensures.value) (fragment_follows (nodes_of c.args.nodes.now.read.items) c.requires.fitting.0) }
+
+pub tops_of-requires : goal.tops_of-requires
+tops_of-requires c =
+    let old = c.args.self.now in
+    let reads = c.args.nodes.now.read.items in
+    let entered = may_enter (state_of old) c.args.parent c.args.index c.deref.result.now reads c.deref.ensures.value c.in_ok-check_insert.ensures in
+    omega (arith, (fits (state_of old) (length reads) entered.room old.fits).1, ap length c.deref-2.ensures.value)
+
+pub with_put-requires : goal.with_put-requires
+with_put-requires c =
+    let old = c.args.self.now in
+    let reads = c.args.nodes.now.read.items in
+    let entered = may_enter (state_of old) c.args.parent c.args.index c.deref.result.now reads c.deref.ensures.value c.in_ok-check_insert.ensures in
+    omega (arith, entered.within, ap length c.children.ensures)
+
+pub add_all-requires : goal.add_all-requires
+add_all-requires c =
+    let old = c.args.self.now in
+    let reads = c.args.nodes.now.read.items in
+    let styles = c.args.nodes.now.styles.items in
+    let owns = λ (own : Vec Declaration). own.items in
+    let P : List ReadNode → Type 0 = λ reads. FollowParents (nodes_of reads) in
+    let entered = may_enter (state_of old) c.args.parent c.args.index c.deref.result.now reads c.deref.ensures.value c.in_ok-check_insert.ensures in
+    let (few, room) = fits (state_of old) (length reads) entered.room old.fits in
+    let same : length c.deref-4.result.now ≡ length reads = ap length c.deref-4.ensures.value in
+    record {
+      few = omega (arith, few, same);
+      room = omega (arith, room, same);
+      follow = subst P (sym c.deref-4.ensures.value) (fragment_follows (nodes_of reads) c.requires.fitting.0);
+      styles = omega (arith, same, ap length c.deref-5.ensures.value, c.requires.fitting.1, length-map styles owns, length-map reads node_of);
+      parent = lives_below (keyed.get nat_cmp old.keys) (slots.get old.nodes) old.next old.sound c.args.parent entered.lives;
+    }
+
+pub returns : goal.returns
+returns c =
+    let old = c.args.self.now in
+    let state = state_of old in
+    let parent = c.args.parent in
+    let index = c.args.index in
+    let reads = c.args.nodes.now.read.items in
+    let styles = c.args.nodes.now.styles.items in
+    let owns = λ (own : Vec Declaration). own.items in
+    let children = c.in_ok-children.children.items in
+    let tops = c.in_ok-tops.tops.items in
+    let entered = may_enter state parent index c.deref.result.now reads c.deref.ensures.value c.in_ok-check_insert.ensures in
+    let low = lives_below (keyed.get nat_cmp old.keys) (slots.get old.nodes) old.next old.sound parent entered.lives in
+    let none = subst (λ (known : List ReadNode). refusal state (insert parent index (nodes_of known) []) ≡ None) c.deref.ensures.value c.in_ok-check_insert.ensures in
+    let are_tops = c.in_ok-tops.ensures ∙ ap (λ (known : List ReadNode). tops_from old.next (nodes_of known)) c.deref-2.ensures.value in
+    let are_children = c.in_ok-children.ensures
+    ∙ (ap (λ (l : List ℕ). with_put index l c.children.result.now) c.deref-3.ensures.value ∙ ap (with_put index tops) c.children.ensures) in
+    let put = λ (s : State). changed s parent (with_children (λ before. children)) in
+    accepts state (state_of c.put_children.new.self) (insert parent index (nodes_of reads) (map owns styles)) c.in_ok-change.change.elements.items (sym none) c.in_ok-change.ensures
+    (c.put_children.ensures
+    ∙ (ap put (c.in_ok-add_all.ensures.added
+    ∙ (ap (λ (known : List ReadNode). added_under state parent (nodes_of known) (map owns c.deref-5.result.now)) c.deref-4.ensures.value
+    ∙ ap (λ (known : List (Vec Declaration)). added_under state parent (nodes_of reads) (map owns known)) c.deref-5.ensures.value))
+    ∙ inserted_under state parent (nodes_of reads) (map owns styles) low index tops children are_tops are_children))
