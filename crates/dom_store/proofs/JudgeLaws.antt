@@ -54,11 +54,11 @@ reason_none None after is = refl
 reason_none (Some other) after is = absurd cc
 
 -- where there is no reason, the first is none, and the others are none
-first_none : (reason : Option EditError) (after : List (Option EditError)) → first_of (reason ∷ after) ≡ None → (reason ≡ None) × (first_of after ≡ None)
+pub first_none : (reason : Option EditError) (after : List (Option EditError)) → first_of (reason ∷ after) ≡ None → (reason ≡ None) × (first_of after ≡ None)
 first_none None after is = (refl, is)
 first_none (Some error) after is = absurd cc
 
-not_refused : (b : Bool) (error : EditError) → refused_if b error ≡ None → b ≡ false
+pub not_refused : (b : Bool) (error : EditError) → refused_if b error ≡ None → b ≡ false
 not_refused true error is = absurd cc
 not_refused false error is = refl
 

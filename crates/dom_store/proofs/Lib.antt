@@ -7,15 +7,16 @@ pub mod DepthLaws
 pub mod FillLaws
 pub mod InsertLaws
 pub mod JudgeLaws
+pub mod KeepLaws
 pub mod MoveLaws
 pub mod Places
 pub mod RemoveLaws
+pub mod RootLaws
 pub mod SameLaws
 pub mod StandLaws
 pub mod TakeLaws
 pub mod WriteLaws
 mod Examples
 mod OpenElements
-mod RootLaws
 mod TreeLaws
 mod WholeLaws

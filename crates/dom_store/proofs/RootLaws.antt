@@ -7,7 +7,7 @@ use Rattle.std.proofs.lemmas.Bool.{cases_lt, ne_eqb}
 use Rattle.std.proofs.lemmas.List.{get_or_past}
 use Rattle.std.proofs.lemmas.List.Elements.{All-map, All-nil}
 use Rattle.style_types.specs.Value.{HasSayable}
-use Rattle.std.proofs.lemmas.Option.{none-some}
+use Rattle.std.proofs.lemmas.Option.{none-some, slice_get_within}
 use Rattle.html_read.specs.Shape.{IsShaped}
 use Rattle.html_read.specs.Values as html
 use Rattle.html_read.specs.Values.{Node}
@@ -47,12 +47,14 @@ rooted : (nodes : List Node) (own : List (List Declaration)) → IsShaped nodes 
 rooted nodes own shaped = record {
   html = (_, ap (entry_at nodes own 0) shaped.html.1, tt, refl, body_alone nodes shaped);
   body = (_, ap (entry_at nodes own 1) shaped.body.1, tt, refl);
+  drawn = slice_get_within nodes 1 _ shaped.body.1;
 }
 
 rooted_as : (one other : State) → AreSame one other → IsRooted other → IsRooted one
 rooted_as one other same root = record {
   html = (root.html.0, same.nodes 0 ∙ root.html.1, root.html.2, root.html.3, root.html.4);
   body = (root.body.0, same.nodes 1 ∙ root.body.1, root.body.2, root.body.3);
+  drawn = omega (arith, same.next, root.drawn);
 }
 
 pub opens_rooted : (nodes : List Node) (own : List (List Declaration)) (result : Result Document EditError) → IsShaped nodes → Opens nodes own result → IfOk result (λ document. IsRooted (state_of document))
@@ -61,17 +63,17 @@ opens_rooted nodes own (Err error) shaped opens = tt
 
 -- ---- the numbers of declarations
 
-said_at : (own : List (List Declaration)) (place : ℕ) → All AreSaid own → AreSaid (get_or own place [])
+pub said_at : (own : List (List Declaration)) (place : ℕ) → All AreSaid own → AreSaid (get_or own place [])
 said_at own place said = elim (cases_lt place (length own)) [
   | inl within ↦ said place [] within
   | inr past ↦ subst AreSaid (sym (get_or_past own place [] past)) (All-nil (λ (d : Declaration). HasSayable d.value))
 ]
 
-said_what : (kind : html.Kind) (own : List Declaration) → AreSaid own → IsSaid (what_of kind own)
+pub said_what : (kind : html.Kind) (own : List Declaration) → AreSaid own → IsSaid (what_of kind own)
 said_what (html.element tag acting) own said = said
 said_what (html.text letters) own said = tt
 
-some_entry : (entry other : Entry) → Some entry ≡ Some other → entry ≡ other
+pub some_entry : (entry other : Entry) → Some entry ≡ Some other → entry ≡ other
 some_entry entry other is = ap (λ (o : Option Entry). unwrap_or o entry) is
 
 said_entry : (nodes : List Node) (own : List (List Declaration)) (number : ℕ) (node : Option Node) (entry : Entry) → All AreSaid own → entry_at nodes own number node ≡ Some entry → IsSaid entry.what

@@ -1,5 +1,5 @@
 -- The state of a document: its nodes under their numbers, and the tree that they are. DOM, 4.2, narrowed.
-use Rattle.std.specs.Prelude.{ℕ, zero, suc, List, [], ◌∷◌, map, Option, Some, None, option_map, option_and_then, slice_get, ◌≡◌, ⊤}
+use Rattle.std.specs.Prelude.{ℕ, zero, suc, List, [], ◌∷◌, map, Option, Some, None, option_map, option_and_then, slice_get, ◌≡◌, ◌<◌, ⊤}
 use Rattle.std.specs.List.{All}
 use Rattle.std.specs.Ordering.{nat_cmp}
 use Rattle.std.specs.String.{string_bytes}
@@ -84,10 +84,11 @@ IsElement (text letters) = ⊥
 abbrev pub IsEntryAt : State → (number : ℕ) → Entry → Type 0
 IsEntryAt state number entry = state.node_at number ≡ Some entry
 
--- `html` has the number 0, and `body`, which alone stands in it, the number 1
+-- `html` has the number 0, and `body`, which alone stands in it, the number 1; both were drawn
 pub record IsRooted (state : State) : Type 0 where
   pub html : (entry : Entry) × IsEntryAt state 0 entry × IsElement entry.what × (entry.parent ≡ None) × (entry.children ≡ 1 ∷ [])
   pub body : (entry : Entry) × IsEntryAt state 1 entry × IsElement entry.what × (entry.parent ≡ Some 0)
+  pub drawn : 1 < state.next
 
 -- the numbers of an element's own declarations are such as a style sheet can say
 abbrev pub AreSaid : List Declaration → Type 0

@@ -59,7 +59,7 @@ fn copy_of_what(alloc: Global, kind: &NodeKind) -> Result<NodeKind, AllocError>
             declarations: copy_of_declarations(alloc, declarations)?,
         }),
         NodeKind::Text { text } => Ok(NodeKind::Text {
-            text: text.clone()?,
+            text: copy_of_text(text)?,
         }),
     }
 }
