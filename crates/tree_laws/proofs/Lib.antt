@@ -3,6 +3,7 @@ pub mod Edited
 mod Examples
 pub mod Inserting
 pub mod Keeping
+pub mod Parents
 pub mod Places
 pub mod Refusing
 pub mod Sums

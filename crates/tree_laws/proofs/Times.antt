@@ -1,6 +1,6 @@
 -- How often a number is in a list.
 use Rattle.std.proofs.Common.{◌≡◌, ◌∙◌, ℕ, ◌+◌, ◌<◌, ◌≤◌, Bool, true, false, List, [], ◌∷◌, ◌++◌, take, drop, refl, ap, sym, subst, arith, if◌then◌else◌, inl, inr}
-use Rattle.std.specs.Prelude.{nat_eq, ◌≢◌, ◌||◌}
+use Rattle.std.specs.Prelude.{nat_eq, ◌≢◌, ◌||◌, Option, Some, None, option_to_list}
 use Rattle.std.specs.List.{list_any}
 use Rattle.std.proofs.lemmas.Bool.{eq-eqb, ne_eqb}
 use Rattle.std.proofs.lemmas.Bool.Decides.{eqb_tells}
@@ -82,3 +82,21 @@ in_either false rest many some is = omega (arith, some is)
 pub some_where : (number : ℕ) (numbers : List ℕ) → list_any (nat_eq number) numbers ≡ true → 0 < times number numbers
 some_where number [] is = absurd cc
 some_where number (other ∷ numbers) is = in_either (nat_eq number other) (list_any (nat_eq number) numbers) (times number numbers) (some_where number numbers) is
+
+-- ---- a number that is there
+
+found : (number other : ℕ) (others : List ℕ) (t : Bool) → nat_eq number other ≡ t → (list_any (nat_eq number) others ≡ true → 1 ≤ times number others) → list_any (nat_eq number) (other ∷ others) ≡ true → 1 ≤ times number (other ∷ others)
+found number other others true is more there = rw is (omega arith)
+found number other others false is more there = rw is (omega (arith, more (ap (λ (b : Bool). b || list_any (nat_eq number) others) (sym is) ∙ there)))
+
+pub times_there : (number : ℕ) (others : List ℕ) → list_any (nat_eq number) others ≡ true → 1 ≤ times number others
+times_there number [] there = absurd cc
+times_there number (other ∷ others) there = found number other others (nat_eq number other) refl (times_there number others) there
+
+-- the one number of a list
+pub the_one : (number : ℕ) (one : Option ℕ) → 1 ≤ times number (option_to_list one) → one ≡ Some number
+the_one number None there = absurd (omega (arith, there))
+the_one number (Some other) there = elim (eqb_tells number other) [
+  | inl (here, same) ↦ ap (λ (n : ℕ). Some n) (sym same)
+  | inr (apart, differ) ↦ absurd (let none = hit_apart number other differ in omega (arith, there, none))
+]

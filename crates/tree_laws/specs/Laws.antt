@@ -4,6 +4,7 @@ use Rattle.style_types.specs.declared.value.Declaration.{Declaration}
 use Rattle.html_read.specs.Shape.{IsShaped, text_bytes}
 use Rattle.html_read.specs.Values.{Node}
 use Rattle.dom_store.specs.State.{What, State, tree_of}
+use Rattle.dom_store.specs.Laws.{HaveParents}
 use Rattle.dom_store.specs.Opening.{AreSame, greatest_count, opened}
 use Rattle.dom_store.specs.Standing.{live_count}
 use Rattle.dom_store.specs.Edits.{EditOf, after}
@@ -11,6 +12,10 @@ use Rattle.dom_store.specs.Edited.{accepted, bytes_brought, edited}
 use Rattle.dom_store.specs.Refusals.{refusal}
 use Rattle.tree_laws.specs.Weight.{bytes, one, total, weight_in}
 use Rattle.tree_laws.specs.Wholeness.{IsWhole}
+
+-- each child of a node of a whole document has it as its parent
+abbrev pub ChildrenHaveParents : Type 0
+ChildrenHaveParents = (state : State) → IsWhole state → HaveParents state
 
 -- each node of the tree is one that lives, met once
 abbrev pub TreesWeighNoMore : Type 0

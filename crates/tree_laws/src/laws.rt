@@ -1,6 +1,11 @@
 //! What holds of documents, as they are opened and as they are edited.
 
-ghost use Rattle.tree_laws.specs.Laws.{AcceptedAreDone, CountsAreTotals, EditsKeepWhole, EditsWeigh, OpenedAreWhole, TreesWeighNoMore};
+ghost use Rattle.tree_laws.specs.Laws.{AcceptedAreDone, ChildrenHaveParents, CountsAreTotals, EditsKeepWhole, EditsWeigh, OpenedAreWhole, TreesWeighNoMore};
+
+/// Each child of a node of a whole document has that node as its parent.
+pub fn children_have_parents()
+    ensures { ChildrenHaveParents }
+{}
 
 /// The tree of a document has no more than its nodes have together, whatever is counted: each node of the tree is one that lives, and it is
 /// met once.

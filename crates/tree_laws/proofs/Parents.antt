@@ -1,0 +1,14 @@
+-- Each child of a node of a whole document has it as its parent.
+use Rattle.std.proofs.Common.{◌≤◌, ℕ, arith}
+use Rattle.std.specs.Prelude.{option_to_list}
+use Rattle.dom_store.specs.Standing.{children_at, parent_at}
+use Rattle.dom_store.specs.State.{State}
+use Rattle.tree_laws.specs.Laws.{ChildrenHaveParents}
+use Rattle.tree_laws.specs.Wholeness.{times}
+use Rattle.tree_laws.proofs.Times.{the_one, times_there}
+
+pub children_have_parents : ChildrenHaveParents
+children_have_parents state whole number child there =
+    let inside = whole.inside number child in
+    let once = times_there child (children_at state number) there in
+    the_one number (parent_at state child) (omega (arith, inside, once))
