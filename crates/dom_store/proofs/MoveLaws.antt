@@ -1,6 +1,7 @@
 -- Documents of which a node was moved.
-use Rattle.std.proofs.Common.{◌≡◌, ◌∙◌, ℕ, Bool, true, false, List, [], ◌∷◌, refl, ap, sym, Option, Some, None, option_map, filter, inl, inr}
+use Rattle.std.proofs.Common.{◌≡◌, ◌∙◌, ℕ, Bool, true, false, List, [], ◌∷◌, take, drop, append_assoc, refl, ap, sym, Option, Some, None, option_map, filter, inl, inr}
 use Rattle.std.specs.Prelude.{nat_eq, not, unwrap_or}
+use Rattle.std.specs.List.{insert}
 use Rattle.std.proofs.lemmas.Bool.Decides.{eqb_tells}
 use Rattle.dom_store.specs.State.{Entry, State}
 use Rattle.dom_store.specs.Standing.{children_at}
@@ -14,6 +15,10 @@ kept_twice test number numbers false is same = rw is same
 filter_twice : (test : ℕ → Bool) (numbers : List ℕ) → filter test (filter test numbers) ≡ filter test numbers
 filter_twice test [] = refl
 filter_twice test (number ∷ numbers) = kept_twice test number numbers (test number) refl (filter_twice test numbers)
+
+-- a number that is put at an index
+pub put_one : (children : List ℕ) (index number : ℕ) → insert children index number ≡ with_put index (number ∷ []) children
+put_one children index number = sym (append_assoc (take index children) (number ∷ []) (drop index children))
 
 module _ (state : State) (number : ℕ) where
   of_entry : (o : Option Entry) → without number (unwrap_or (option_map (λ entry. entry.children) (option_map (with_children (without number)) o)) []) ≡ without number (unwrap_or (option_map (λ entry. entry.children) o) [])

@@ -12,7 +12,7 @@ use crate::document::Document;
 use crate::edit::Change;
 use crate::error::EditError;
 use crate::node::{NodeKind, NodeNumbers};
-use crate::siblings::{least, with_put, without};
+use crate::siblings::{least, without};
 use html_tokens::Tag;
 use std::alloc::{AllocError, Global};
 
@@ -27,10 +27,10 @@ impl Document {
     ) -> Result<Change, EditError>
         ensures { Applies (state_of self.old) (state_of self.new) (move_to n parent index) result }
     {
-        let others = self.check_move(alloc, n, parent, index)?;
+        let mut children = self.check_move(alloc, n, parent, index)?;
         let change = self.change_of_both(alloc, n, parent)?;
-        let children = with_put(alloc, &others, index as usize, &[n])?;
-        self.leave_parent(alloc, n)?;
+        children.insert(index as usize, n)?;
+        self.leave_parent(n);
         self.put_children(parent, children);
         self.put_parent(n, parent);
         Ok(change)

@@ -1,6 +1,6 @@
 //! Nodes go, with all below them (DOM, 4.2.3, narrowed).
 
-ghost use Rattle.std.specs.Prelude.{◌≡◌, OnErr, OnOk};
+ghost use Rattle.std.specs.Prelude.{◌≡◌};
 ghost use Rattle.dom_store.specs.Edited.{Applies};
 ghost use Rattle.dom_store.specs.Edits.{changed_if, remove, with_children, without, without_nodes};
 ghost use Rattle.dom_store.specs.Standing.{parent_at};
@@ -9,8 +9,7 @@ ghost use Rattle.dom_store.specs.State.{state_of};
 use crate::document::Document;
 use crate::edit::Change;
 use crate::error::EditError;
-use crate::siblings::without;
-use std::alloc::{AllocError, Global};
+use std::alloc::Global;
 
 impl Document {
     /// Takes a node out, with all below it.
@@ -20,22 +19,18 @@ impl Document {
         self.check_removal(n)?;
         let change = self.change_above(alloc, n)?;
         let gone = self.descendants(alloc, n)?;
-        self.leave_parent(alloc, n)?;
+        self.leave_parent(n);
         self.take_all_out(&gone);
         Ok(change)
     }
 
-    /// Takes a node from its parent's children.
-    pub(crate) fn leave_parent(&mut self, alloc: Global, n: u32) -> Result<(), AllocError>
-        ensures left { OnOk result (state_of self.new ≡ changed_if (state_of self.old) (parent_at (state_of self.old) n) (with_children (without n))) }
-        ensures same { OnErr result (state_of self.new ≡ state_of self.old) }
+    /// Takes a node from its parent's children. It takes no memory.
+    pub(crate) fn leave_parent(&mut self, n: u32)
+        ensures { state_of self.new ≡ changed_if (state_of self.old) (parent_at (state_of self.old) n) (with_children (without n)) }
     {
-        let Some(parent) = self.parent(n) else {
-            return Ok(());
-        };
-        let rest = without(alloc, self.children(parent), n)?;
-        self.put_children(parent, rest);
-        Ok(())
+        if let Some(parent) = self.parent(n) {
+            self.drop_child(parent, n);
+        }
     }
 
     fn take_all_out(&mut self, numbers: &[u32])

@@ -2,7 +2,7 @@
 
 ghost use Rattle.std.specs.Prelude.{◌≡◌, ◌∷◌, [], map};
 ghost use Rattle.std.specs.String.{string_bytes};
-ghost use Rattle.dom_store.specs.Edits.{changed, with_children, with_classes, with_own, with_parent, with_what, without_nodes};
+ghost use Rattle.dom_store.specs.Edits.{changed, with_children, with_classes, with_own, with_parent, with_what, without, without_nodes};
 ghost use Rattle.dom_store.specs.State.{state_of, text};
 
 use crate::document::Document;
@@ -25,6 +25,15 @@ impl Document {
     {
         if let Some(key) = self.keys.get(&n) {
             self.nodes[*key].children = children;
+        }
+    }
+
+    /// A node isn't among this one's children from now on.
+    pub(crate) fn drop_child(&mut self, n: u32, child: u32)
+        ensures { state_of self.new ≡ changed (state_of self.old) n (with_children (without child)) }
+    {
+        if let Some(key) = self.keys.get(&n) {
+            self.nodes[*key].children.retain(|number| *number != child);
         }
     }
 
