@@ -1,5 +1,5 @@
 -- How many numbers have something.
-use Rattle.std.proofs.Common.{◌≡◌, ◌≢◌, ◌∙◌, ℕ, zero, suc, ◌+◌, ◌<◌, ◌≤◌, refl, ap, sym, subst, arith, Option, Some, None, IsSome, is_some, option_map, option_and_then, inl, inr, true, if◌then◌else◌}
+use Rattle.std.proofs.Common.{◌≡◌, ◌≢◌, ◌∙◌, ℕ, zero, suc, ◌+◌, ◌<◌, ◌≤◌, refl, ap, sym, arith, Option, Some, None, IsSome, is_some, option_map, option_and_then, inl, inr, true, if◌then◌else◌}
 use Rattle.std.proofs.lemmas.Bool.{cases_eq, cases_lt}
 use Rattle.dom_store.specs.declared.node.Node.{Node}
 use Rattle.dom_store.specs.Keys.{IsKeyed}

@@ -11,7 +11,7 @@ use Rattle.dom_store.specs.declared.error.EditError.TheVariants.{NoNode, IsRoot,
 use Rattle.std.specs.Result.{IsErrAnd}
 use Rattle.dom_store.specs.declared.document.Document.{Document}
 use Rattle.dom_store.specs.Building.{FindsTooDeep, JudgesDepths}
-use Rattle.dom_store.specs.Opening.{IsTooDeep, Opens, greatest_count, depth_in, depths, depths_from}
+use Rattle.dom_store.specs.Opening.{Opens, greatest_count, depth_in, depths, depths_from}
 use Rattle.dom_store.specs.Refusals.{too_deep_under}
 use Rattle.dom_store.specs.Standing.{depth_at}
 use Rattle.dom_store.specs.State.{State, greatest_depth}

@@ -1,5 +1,5 @@
 -- Documents into which nodes are inserted.
-use Rattle.std.proofs.Common.{◌≡◌, ◌≢◌, ◌∙◌, ℕ, suc, ◌+◌, ◌-◌, ◌<◌, ◌≤◌, Bool, true, false, List, [], ◌∷◌, ◌++◌, length, map, get_or, drop, refl, ap, sym, subst, arith, Option, Some, None, option_map, if◌then◌else◌, inl, inr}
+use Rattle.std.proofs.Common.{◌≡◌, ◌≢◌, ◌∙◌, ℕ, ◌+◌, ◌-◌, ◌<◌, ◌≤◌, Bool, true, false, List, [], ◌∷◌, ◌++◌, length, map, get_or, drop, refl, ap, sym, subst, arith, Option, Some, None, option_map, if◌then◌else◌, inl, inr}
 use Rattle.std.specs.Prelude.{◌^◌, nat_eq, nat_lt, is_none, is_some, not, unwrap_or, IfSome, OnErr, Result, Ok, Err}
 use Rattle.std.specs.List.{slice_get}
 use Rattle.std.specs.Global.{Vec}
@@ -8,12 +8,12 @@ use Rattle.std.proofs.lemmas.Bool.Decides.{nat_tests}
 use Rattle.std.proofs.lemmas.List.{append_assoc, get_or-map, length-map}
 use Rattle.std.proofs.lemmas.Option.{slice_get-map, slice_get_past}
 use Rattle.html_read.specs.Shape.{IsFragmentShaped}
-use Rattle.html_read.specs.Values.{Kind, Node, node_of, nodes_of, kind_of}
+use Rattle.html_read.specs.Values.{Node, node_of, nodes_of, kind_of}
 use Rattle.html_read.specs.declared.node.ReadNode.{ReadNode}
 use Rattle.style_types.specs.declared.value.Declaration.{Declaration}
-use Rattle.dom_store.specs.Building.{Adds, FollowParents, Grows, IsFilledFrom, added_under, numbers_at, tops_from, with_next}
+use Rattle.dom_store.specs.Building.{FollowParents, Grows, IsFilledFrom, added_under, numbers_at, tops_from, with_next}
 use Rattle.dom_store.specs.Edits.{changed, insert, inserted, inserted_at, parent_under, under, with_children, with_parent, with_put, without_nodes}
-use Rattle.dom_store.specs.Opening.{AreSame, children_from, put_if, stands_in, what_of}
+use Rattle.dom_store.specs.Opening.{children_from, put_if, stands_in, what_of}
 use Rattle.dom_store.specs.Refusals.{refusal}
 use Rattle.dom_store.specs.Standing.{children_at}
 use Rattle.dom_store.specs.declared.node.Node as code_node

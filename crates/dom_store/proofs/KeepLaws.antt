@@ -1,6 +1,6 @@
 -- What an edit keeps.
-use Rattle.std.proofs.Common.{◌≡◌, ◌≢◌, ◌∙◌, ℕ, zero, suc, ◌+◌, ◌-◌, ◌<◌, ◌≤◌, Bool, true, false, List, [], ◌∷◌, ◌++◌, length, get_or, refl, ap, sym, subst, arith, Option, Some, None, option_map, if◌then◌else◌, inl, inr}
-use Rattle.std.specs.Prelude.{◌||◌, flat_map, nat_eq, nat_lt, not, unwrap_or}
+use Rattle.std.proofs.Common.{◌≡◌, ◌≢◌, ◌∙◌, ℕ, zero, suc, ◌+◌, ◌-◌, ◌<◌, ◌≤◌, Bool, true, false, List, [], ◌∷◌, get_or, refl, ap, sym, subst, arith, Option, Some, None, option_map, if◌then◌else◌, inl, inr}
+use Rattle.std.specs.Prelude.{◌||◌, flat_map, nat_eq, nat_lt, unwrap_or}
 use Rattle.std.specs.List.{All, list_any, slice_get}
 use Rattle.std.proofs.lemmas.Bool.{true≢false, cases_eq, cases_lt, eq-eqb, le-ltb, lt-ltb, ne_eqb}
 use Rattle.std.proofs.lemmas.Bool.Decides.{eqb_tells}
@@ -9,7 +9,7 @@ use Rattle.std.proofs.lemmas.Option.{none-some}
 use Rattle.html_read.specs.Values.{Node}
 use Rattle.style_types.specs.declared.value.Declaration.{Declaration}
 use Rattle.dom_store.specs.declared.error.EditError.TheVariants.{IsRoot, NotText}
-use Rattle.dom_store.specs.Edits.{EditOf, set_text, set_style, set_class, insert, remove, move_to, after, changed, changed_if, inserted_at, under, with_children, with_classes, with_moved, with_own, with_parent, with_put, with_what, without, without_nodes}
+use Rattle.dom_store.specs.Edits.{set_text, set_style, set_class, insert, remove, move_to, after, changed, changed_if, inserted_at, under, with_children, with_classes, with_moved, with_own, with_parent, with_put, with_what, without, without_nodes}
 use Rattle.dom_store.specs.Laws.{HaveParents, KeepRoots, KeepSaid}
 use Rattle.dom_store.specs.Opening.{children_from, what_of}
 use Rattle.dom_store.specs.Refusals.{in_html, is_element, is_of, is_root, no_node, not_text}

@@ -1,5 +1,5 @@
 -- Where nodes stand in a document: above others, below others, and how deep. DOM, 4.2.
-use Rattle.std.specs.Prelude.{ℕ, zero, suc, ◌+◌, ◌-◌, Bool, List, [], ◌∷◌, ◌++◌, length, flat_map, Option, Some, None, is_some, option_map, option_and_then, unwrap_or}
+use Rattle.std.specs.Prelude.{ℕ, zero, suc, ◌-◌, Bool, List, [], ◌∷◌, ◌++◌, length, flat_map, Option, Some, None, is_some, option_map, option_and_then, unwrap_or}
 use Rattle.dom_store.specs.State.{State, greatest_depth}
 unfoldable pub use Rattle.dom_store.specs.Keys.{count_below}
 pub use Rattle.dom_store.specs.Keys.{one_if}

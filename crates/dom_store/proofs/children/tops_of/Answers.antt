@@ -1,4 +1,4 @@
-use Rattle.std.proofs.Common.{ℕ, Bool, List, is_some, ◌≡◌, ◌∙◌, ◌+◌, ◌++◌, ap, sym, drop, [], arith, refl}
+use Rattle.std.proofs.Common.{ℕ, Bool, List, is_some, ◌≡◌, ◌∙◌, ◌+◌, ◌++◌, ap, sym, drop, [], arith}
 use Rattle.std.specs.Global.{Vec}
 use Rattle.std.proofs.lemmas.List.{append-nil, drop_all, length-map}
 use Rattle.html_read.specs.declared.node.ReadNode.{ReadNode}

@@ -1,4 +1,4 @@
-use Rattle.std.proofs.Common.{ℕ, List, ◌<◌, ◌^◌, ◌≡◌, ◌∙◌, ◌+◌, IfSome, subst, ◌-◌, length, map, ap, sym, drop, arith}
+use Rattle.std.proofs.Common.{ℕ, List, ◌<◌, ◌^◌, ◌≡◌, ◌∙◌, ◌+◌, IfSome, subst, ◌-◌, length, ap, sym, drop, arith}
 use Rattle.std.specs.Ordering.{nat_cmp}
 use Rattle.std.specs.BTreeMap as keyed
 use Rattle.slab.specs.Slab as slots
@@ -12,7 +12,7 @@ use Rattle.dom_store.specs.State.{Entry, state_of}
 use Rattle.dom_store.proofs.CountLaws.{none_past}
 use Rattle.dom_store.proofs.FillLaws.{filled_more}
 use Rattle.dom_store.proofs.InsertLaws.{added_here, all_added, grows, none_added, number_fits, on_err, stands_under}
-use Rattle.dom_store.proofs.Places.{begins_at, parent_fits, parent_known}
+use Rattle.dom_store.proofs.Places.{begins_at, parent_fits}
 use Rattle.dom_store.proofs.document.Document.add_each.Goals as goal
 
 pub loop-children-init : goal.loop-children-init

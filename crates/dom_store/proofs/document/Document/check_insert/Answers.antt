@@ -1,4 +1,4 @@
-use Rattle.std.proofs.Common.{◌≡◌, ◌∙◌, [], ◌∷◌, ap, sym, arith, length, inl, inr}
+use Rattle.std.proofs.Common.{◌≡◌, ◌∙◌, [], ◌∷◌, ap, sym, length, inl, inr}
 use Rattle.std.proofs.lemmas.List.{length-map}
 use Rattle.html_read.specs.Values.{node_of, nodes_of}
 use Rattle.dom_store.specs.Edits.{insert}

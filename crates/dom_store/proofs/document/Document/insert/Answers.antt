@@ -1,4 +1,4 @@
-use Rattle.std.proofs.Common.{◌∙◌, ◌≡◌, ◌+◌, ◌<◌, ◌≤◌, ◌^◌, ℕ, List, [], None, length, map, ap, sym, subst, arith}
+use Rattle.std.proofs.Common.{◌∙◌, ◌≡◌, ℕ, List, [], None, length, map, ap, sym, subst, arith}
 use Rattle.std.specs.Ordering.{nat_cmp}
 use Rattle.std.specs.BTreeMap as keyed
 use Rattle.std.specs.Global.{Vec}
@@ -10,7 +10,6 @@ use Rattle.style_types.specs.declared.value.Declaration.{Declaration}
 use Rattle.dom_store.specs.Building.{FollowParents, added_under, tops_from}
 use Rattle.dom_store.specs.Edits.{changed, insert, with_children, with_put}
 use Rattle.dom_store.specs.Refusals.{refusal}
-use Rattle.dom_store.specs.Standing.{children_at}
 use Rattle.dom_store.specs.State.{State, state_of}
 use Rattle.dom_store.proofs.ApplyLaws.{accepts}
 use Rattle.dom_store.proofs.CountLaws.{lives_below}
