@@ -14,7 +14,7 @@ use Rattle.session.specs.Opening.{AreFew, CanOpen, HasOneAnswer, IsRefused}
 nothing_in : (number : ℕ) → Contains [] number → ⊥
 nothing_in number (k, lt, is) = absurd (omega (arith, lt))
 
-none_there : (numbers : List ℕ) (number : ℕ) → numbers ≡ [] → Contains numbers number → ⊥
+pub none_there : (numbers : List ℕ) (number : ℕ) → numbers ≡ [] → Contains numbers number → ⊥
 none_there numbers number none has = let P : List ℕ → Type 0 = λ ns. Contains ns number in nothing_in number (subst P none has)
 
 -- where no node stands too deep
@@ -28,7 +28,7 @@ none_deep nodes place low (depth, is, deep) =
 deep_few : (nodes : List Node) (place : ℕ) → AreFew nodes → IsTooDeep nodes place → ⊥
 deep_few nodes place few deep = none_deep nodes place few.low deep
 
-least_one : (one other : ℕ) → one ≤ other → other ≤ one → other ≡ one
+pub least_one : (one other : ℕ) → one ≤ other → other ≤ one → other ≡ one
 least_one one other a b = omega (arith, a, b)
 
 module _ (nodes : List Node) (own : List (List Declaration)) (rules : List Ruling) where

@@ -1,6 +1,8 @@
 pub mod Answering
+pub mod Fresh
 pub mod Holding
 pub mod Near
+pub mod Outcomes
 pub mod Refusals
 pub mod Standing
 pub mod Styled

@@ -60,6 +60,8 @@ module _ {I : Type 0} {D : I → Type 0} where
   sound_on faces session arena sound stands free right = record {
     rooted = sound.rooted;
     said = sound.said;
+    whole = sound.whole;
+    few = sound.few;
     rules = sound.rules;
     stands = stands;
     free = free;

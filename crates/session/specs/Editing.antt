@@ -1,6 +1,8 @@
 -- What an edit of an open document leads to.
 use Rattle.std.specs.Prelude.{◌≡◌, ◌⊎◌, ℕ, List, [], Option, Some, None, Result, Ok, Err, ⊤}
 use Rattle.style_types.specs.Rule.{Ruling}
+use Rattle.dom_store.specs.declared.error.EditError.{EditError}
+use Rattle.dom_store.specs.declared.error.EditError.TheVariants as refusals
 use Rattle.dom_store.specs.Edits.{EditOf, after}
 use Rattle.dom_store.specs.Refusals.{refusal}
 use Rattle.dom_store.specs.State.{State, state_of}
@@ -11,7 +13,20 @@ use Rattle.box_gen.specs.Boxes.{root_caught}
 use Rattle.box_gen.specs.Orthogonal.{IsLeastOf, root_past}
 use Rattle.session.specs.declared.error.ApplyError.{ApplyError}
 use Rattle.session.specs.declared.error.ApplyError.TheVariants.{Document, TooManyOrthogonal, BlockInInline, Memory}
+use Rattle.session.specs.declared.error.OpenError.{OpenError}
+use Rattle.session.specs.declared.error.OpenError.TheVariants as opening
 use Rattle.session.specs.declared.session.Session.{Session}
+
+-- want of memory is no refusal
+abbrev pub of_refusal : EditError → ApplyError
+of_refusal refusals.Memory = Memory
+of_refusal other = Document other
+
+-- of boxes; the others are never answered for them
+abbrev pub of_open_error : OpenError → ApplyError
+of_open_error (opening.TooManyOrthogonal number) = TooManyOrthogonal number
+of_open_error (opening.BlockInInline number) = BlockInInline number
+of_open_error other = Memory
 
 -- the state after the edit as a styled tree
 abbrev pub styled_after : List Ruling → State → EditOf → Nodes

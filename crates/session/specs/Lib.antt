@@ -1,3 +1,4 @@
+pub mod Editing
 pub mod Limits
 pub mod Opening
 pub mod Spread

@@ -1,14 +1,13 @@
 -- How much a styled tree may have, and that its boxes can be laid out then.
-use Rattle.std.specs.Prelude.{◌≡◌, ℕ, suc, ◌+◌, ◌-◌, ◌≤◌, ◌^◌, max, List, length, None}
+use Rattle.std.specs.Prelude.{ℕ, suc, ◌+◌, ◌-◌, ◌≤◌, ◌^◌, max, List, length}
 use Rattle.style_types.specs.Tree as styled
 use Rattle.style_types.specs.Tree.{NodeKind, Nodes}
-use Rattle.style_types.specs.declared.value.Declaration.{Declaration}
 use Rattle.style_types.specs.Rule.{Ruling}
-use Rattle.html_read.specs.Shape.{text_bytes}
-use Rattle.html_read.specs.Values.{Node}
 use Rattle.dom_store.specs.Opening.{greatest_count}
-use Rattle.dom_store.specs.State.{State, tree_of}
-use Rattle.dom_store.specs.Whole.{listed, numbered}
+use Rattle.dom_store.specs.Standing.{live_count}
+use Rattle.dom_store.specs.State.{State}
+use Rattle.tree_laws.specs.Weight.{bytes, total}
+use Rattle.tree_laws.specs.Wholeness.{IsWhole}
 use Rattle.style_tree.specs.Styling.{AreBounded, styled_document}
 use Rattle.box_gen.specs.Tree.{Boxes}
 use Rattle.box_gen.specs.Boxes.{root_boxes}
@@ -52,9 +51,9 @@ pub record CanBeLaidOut (boxes : Boxes) : Type 0 where
 abbrev pub BoxesFit : Type 0
 BoxesFit = (nodes : Nodes) → IsWithin nodes → CanBeLaidOut (root_boxes nodes)
 
--- ---- a document that was read
+-- ---- a document
 
--- a document whose tree has the nodes that were read is within the limits where these are
+-- a whole document is within the limits where its nodes and their texts are
 abbrev pub DocumentsFit : Type 0
-DocumentsFit = (nodes : List Node) (own : List (List Declaration)) (rules : List Ruling) (state : State) → listed None (tree_of state) ≡ numbered nodes own → length nodes ≤ greatest_count
-    → text_bytes nodes ≤ 1048576 → AreBounded (styled_document rules state) → IsWithin (styled_document rules state)
+DocumentsFit = (rules : List Ruling) (state : State) → IsWhole state → live_count state ≤ greatest_count → total bytes state ≤ 1048576 → AreBounded (styled_document rules state)
+    → IsWithin (styled_document rules state)

@@ -1,5 +1,5 @@
 -- What a session holds, and the page that it shows.
-use Rattle.std.specs.Prelude.{◌≡◌, ◌⊎◌, List, None, Option, Result, Ok, Err}
+use Rattle.std.specs.Prelude.{◌≡◌, ◌≤◌, ◌⊎◌, List, None, Option, Result, Ok, Err}
 use Rattle.face_api.specs.Table.{Table}
 use Rattle.style_types.specs.declared.value.Declaration.{Declaration}
 use Rattle.style_types.specs.Rule.{Ruling}
@@ -8,7 +8,9 @@ use Rattle.wm_units.specs.View.{IsView}
 use Rattle.wm_units.specs.declared.view.View.{View}
 use Rattle.html_read.specs.Values.{Node}
 use Rattle.dom_store.specs.State.{IsRooted, IsSaidState, state_of}
-use Rattle.dom_store.specs.Opening.{opened}
+use Rattle.dom_store.specs.Opening.{greatest_count, opened}
+use Rattle.dom_store.specs.Standing.{live_count}
+use Rattle.tree_laws.specs.Wholeness.{IsWhole}
 use Rattle.cascade.specs.Index.{index_rules}
 use Rattle.cascade.specs.Winners.{AreSaidRules}
 use Rattle.style_tree.specs.Styling.{styled_document}
@@ -45,6 +47,8 @@ module _ {I : Type 0} {D : I → Type 0} where
   pub record IsSound (faces : List (Option Table)) (session : Session I D) : Type 0 where
     pub rooted : IsRooted (state_of session.document)
     pub said : IsSaidState (state_of session.document)
+    pub whole : IsWhole (state_of session.document)
+    pub few : live_count (state_of session.document) ≤ greatest_count
     pub rules : AreSaidRules (index_rules session.rules)
     pub stands : Stands session.arena.slots session.root (boxes_of session)
     pub free : parent_at session.arena.slots session.root ≡ None

@@ -10,12 +10,17 @@ ghost use Rattle.session.specs.State.{IsSound};
 
 use crate::boxes::boxes_in;
 use crate::error::ApplyError;
-use crate::laws::{boxes_within_limits_fit, whole_documents_fit};
+use crate::laws::{boxes_within_limits_fit, documents_within_limits_fit};
 use crate::planting::grown;
 use crate::session::Session;
 use dom_store::Edit;
+use dom_store::laws::{accepted_edits_keep_roots, accepted_edits_stay_said};
 use face_api::Face;
 use relayout::laws::what_is_not_kept_is_right;
+use tree_laws::laws::{
+    accepted_edits_are_done, accepted_edits_keep_documents_whole, accepted_edits_weigh,
+    children_have_parents,
+};
 
 impl Session {
     /// Applies an edit. Refused is first what the document refuses (`Document::apply`), then a state with more than six boxes on
@@ -33,6 +38,15 @@ impl Session {
         ensures bytes { total bytes (state_of self.new.document) ≤ total bytes (state_of self.old.document) + bytes_brought (edit_of edit.now) }
         ensures sound { IsSound (faces_of ⟦<dyn Face as Face>⟧ self.new.faces) self.new }
     {
+        accepted_edits_are_done();
+        accepted_edits_keep_documents_whole();
+        accepted_edits_weigh();
+        children_have_parents();
+        accepted_edits_keep_roots();
+        accepted_edits_stay_said();
+        documents_within_limits_fit();
+        boxes_within_limits_fit();
+        what_is_not_kept_is_right();
         let mut next = self.document.copy(self.alloc)?;
         next.apply(self.alloc, edit)?;
         let boxes = boxes_in(self.alloc, &next, &self.rules)?;

@@ -5,9 +5,8 @@ ghost use Rattle.dom_store.specs.declared.error.EditError as edit;
 ghost use Rattle.box_gen.specs.declared.error.BoxError as boxes;
 ghost use Rattle.session.specs.Opening.{of_box_error, of_edit_error};
 ghost use Rattle.session.specs.declared.error.OpenError.TheVariants.{Memory};
-ghost use Rattle.session.specs.declared.error.OpenError as opening;
 ghost use Rattle.session.specs.declared.error.ApplyError.TheVariants as applying;
-ghost use Rattle.session.specs.Applying.{of_open_error, of_refusal};
+ghost use Rattle.session.specs.Editing.{of_open_error, of_refusal};
 
 use box_gen::BoxError;
 use dom_store::EditError;

@@ -1,18 +1,24 @@
 //! Laws of documents within the limits. These functions do nothing: their contracts are the laws.
 
+ghost use Rattle.session.specs.Editing.{HasOneOutcome};
 ghost use Rattle.session.specs.Limits.{BoxesFit, DocumentsFit};
 ghost use Rattle.session.specs.Opening.{HasOneAnswer};
 ghost use Rattle.session.specs.Spread.{SpreadIsNear};
+
+use tree_laws::laws::{live_counts_are_totals, trees_weigh_no_more};
 
 /// The boxes of a document within the limits can be laid out.
 pub fn boxes_within_limits_fit()
     ensures { BoxesFit }
 {}
 
-/// A document is within the limits where the nodes that were read are.
+/// A document that is whole is within the limits where its nodes and their texts are.
 pub fn documents_within_limits_fit()
     ensures { DocumentsFit }
-{}
+{
+    trees_weigh_no_more();
+    live_counts_are_totals();
+}
 
 /// No coordinate is too far out of fragments that don't spread too far, in the flow and on the page.
 pub fn what_does_not_spread_is_near()
@@ -22,4 +28,9 @@ pub fn what_does_not_spread_is_near()
 /// A document is refused for one reason alone, and not where it can be opened.
 pub fn one_answer()
     ensures { HasOneAnswer }
+{}
+
+/// An edit is refused for one reason alone, and not where it can be applied.
+pub fn one_outcome()
+    ensures { HasOneOutcome }
 {}

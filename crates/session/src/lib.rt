@@ -1,12 +1,13 @@
-//! A document that is open: it is laid out and shown.
+//! A document that is open: it is laid out, shown and edited.
 #![tactic(auto)]
 
 mod boxes;
+mod editing;
 mod error;
 pub mod laws;
 mod planting;
 mod session;
 mod stored;
 
-pub use error::OpenError;
+pub use error::{ApplyError, OpenError};
 pub use session::Session;

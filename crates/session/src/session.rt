@@ -7,7 +7,8 @@ ghost use Rattle.style_types.specs.Rule.{rulings_of};
 ghost use Rattle.wm_units.specs.View.{IsView};
 ghost use Rattle.html_read.specs.Shape.{IsInDocumentOrder, IsShaped, text_bytes};
 ghost use Rattle.html_read.specs.Values.{nodes_of};
-ghost use Rattle.dom_store.specs.State.{AreSaid};
+ghost use Rattle.dom_store.specs.State.{AreSaid, state_of};
+ghost use Rattle.tree_laws.specs.Weight.{bytes, total};
 ghost use Rattle.cascade.specs.Winners.{AreSaidRules};
 ghost use Rattle.relayout.specs.Laws.{IsBare};
 ghost use Rattle.place_map.specs.Placed.{placed_of};
@@ -32,6 +33,7 @@ use relayout::relayout;
 use std::alloc::{AllocError, Global};
 use std::sync::ledger::Ledger;
 use style_types::Styled;
+use tree_laws::laws::{live_counts_are_totals, opened_documents_are_whole};
 use wm_units::{Steps, View};
 
 /// A document that is open in a view, and ready to be shown.
@@ -68,10 +70,13 @@ impl Session {
         requires own { All (λ own. AreSaid own.items) styled.now.styles.items }
         requires view { IsView view }
         ensures opens { Opens (nodes_of read.now.nodes.items) (map (λ own. own.items) styled.now.styles.items) (rulings_of styled.now.rules.items) result }
+        ensures bytes { IfOk result (λ session. total bytes (state_of session.document) ≡ text_bytes (nodes_of read.now.nodes.items)) }
         ensures faces { IfOk result (λ session. session.faces ≡ faces) }
         ensures view { IfOk result (λ session. session.view ≡ view) }
         ensures sound { IfOk result (λ session. IsSound (faces_of ⟦<dyn Face as Face>⟧ session.faces) session) }
     {
+        opened_documents_are_whole();
+        live_counts_are_totals();
         documents_within_limits_fit();
         boxes_within_limits_fit();
         what_is_not_kept_is_right();

@@ -1,12 +1,16 @@
-use Rattle.std.proofs.Common.{◌∙◌, subst, List, map, Err, ap}
+use Rattle.std.proofs.Common.{◌∙◌, sym, subst, List, map, Err, ap, arith}
 use Rattle.std.proofs.lemmas.Result.{err_from_is_err_and}
+use Rattle.face_api.specs.Faces.{faces_of}
 use Rattle.style_types.specs.Rule.{Ruling, rulings_of}
 use Rattle.html_read.specs.Values.{nodes_of}
-use Rattle.dom_store.specs.State.{State}
+use Rattle.dom_store.specs.State.{State, state_of}
+use Rattle.tree_laws.specs.Weight.{bytes, total}
 use Rattle.style_tree.specs.Styling.{styled_document}
 use Rattle.cascade.specs.Index.{index_rules}
+use Rattle.cascade.specs.Winners.{AreSaidRules}
 use Rattle.dom_store.specs.Opening.{opened}
 use Rattle.session.specs.Opening.{MakesBoxes}
+use Rattle.session.proofs.Fresh.{few_boxes, fits, right, same_opened, stand}
 use Rattle.session.proofs.Refusals.{refused_opening}
 use Rattle.session.proofs.session.Session.open.Goals as goal
 
@@ -20,3 +24,53 @@ returns-in_err-boxes-clause-opens g c =
     let refused = refused_opening nodes own (rulings_of c.args.styled.now.rules.items) error c.in_ok-document.ensures.stores.0 (subst P (c.in_ok-rules.ensures ∙ ap rulings_of c.deref.ensures.value) (subst Q c.in_ok-document.ensures.stores.1 c.in_err-boxes.ensures.makes)) in
     let p = err_from_is_err_and c.from_residual-in_err-boxes.result c.from_residual-in_err-boxes.ensures.1 in
     rw (p.1, p.2) refused
+
+pub grown-requires : goal.grown-requires
+grown-requires g c =
+    let nodes = nodes_of c.args.read.now.nodes.items in
+    let own = map (λ own. own.items) c.args.styled.now.styles.items in
+    let state = state_of c.in_ok-document.document in
+    let stores = c.in_ok-document.ensures.stores in
+    let opened = c.opened_documents_are_whole.ensures nodes own state c.requires.shaped (same_opened state (opened nodes own) stores.1) in
+    let counts = c.live_counts_are_totals.ensures state in
+    let number = opened.1 in
+    let few = stores.0.few in
+    let letters = opened.2 in
+    let short = c.requires.bytes in
+    record {
+      few =
+          few_boxes _ c.in_ok-boxes.boxes c.in_ok-boxes.ensures.makes
+          (fits c.documents_within_limits_fit.ensures c.boxes_within_limits_fit.ensures (index_rules c.in_ok-rules.rules) state opened.0 (omega (arith, counts, number, few)) (omega (arith, letters, short)) c.in_ok-boxes.ensures.bounded);
+    }
+
+pub returns-clause-bytes : goal.returns-clause-bytes
+returns-clause-bytes g c =
+    let nodes = nodes_of c.args.read.now.nodes.items in
+    let own = map (λ own. own.items) c.args.styled.now.styles.items in
+    let state = state_of c.in_ok-document.document in
+    (c.opened_documents_are_whole.ensures nodes own state c.requires.shaped (same_opened state (opened nodes own) c.in_ok-document.ensures.stores.1)).2
+
+pub returns-clause-sound : goal.returns-clause-sound
+returns-clause-sound g c =
+    let nodes = nodes_of c.args.read.now.nodes.items in
+    let own = map (λ own. own.items) c.args.styled.now.styles.items in
+    let state = state_of c.in_ok-document.document in
+    let stores = c.in_ok-document.ensures.stores in
+    let opened = c.opened_documents_are_whole.ensures nodes own state c.requires.shaped (same_opened state (opened nodes own) stores.1) in
+    let counts = c.live_counts_are_totals.ensures state in
+    let number = opened.1 in
+    let few = stores.0.few in
+    let letters = opened.2 in
+    let short = c.requires.bytes in
+    record {
+      rooted = c.in_ok-document.ensures.rooted;
+      said = c.in_ok-document.ensures.said;
+      whole = opened.0;
+      few = omega (arith, counts, number, few);
+      rules = subst AreSaidRules (sym (c.in_ok-rules.ensures ∙ ap rulings_of c.deref.ensures.value)) c.requires.rules;
+      stands = stand _ c.in_ok-boxes.boxes c.in_ok-grown.grown.arena.slots c.in_ok-grown.grown.root c.in_ok-boxes.ensures.makes c.in_ok-grown.ensures.stands;
+      free = c.in_ok-grown.ensures.free;
+      fit = fits c.documents_within_limits_fit.ensures c.boxes_within_limits_fit.ensures (index_rules c.in_ok-rules.rules) state opened.0 (omega (arith, counts, number, few)) (omega (arith, letters, short)) c.in_ok-boxes.ensures.bounded;
+      view = c.requires.view;
+      right = right c.what_is_not_kept_is_right.ensures.bare (faces_of (λ vtable. (g.dyn-1.0.entry vtable).1) c.args.faces) c.args.view c.in_ok-grown.grown.arena.slots c.in_ok-grown.grown.root c.in_ok-grown.ensures.bare;
+    }

@@ -1,0 +1,44 @@
+-- Boxes that were made anew.
+use Rattle.std.proofs.Common.{◌≡◌, subst, ap, sym, ◌≤◌, ◌^◌, ℕ, List, [], Option, Some, None, Ok}
+use Rattle.face_api.specs.Table.{Table}
+use Rattle.wm_units.specs.declared.view.View.{View}
+use Rattle.style_types.specs.Rule.{Ruling}
+use Rattle.style_types.specs.Tree.{Nodes}
+use Rattle.dom_store.specs.Opening.{AreSame, greatest_count}
+use Rattle.dom_store.specs.Standing.{live_count}
+use Rattle.dom_store.specs.State.{State}
+use Rattle.tree_laws.specs.Weight.{bytes, total}
+use Rattle.tree_laws.specs.Wholeness.{IsWhole}
+use Rattle.style_tree.specs.Styling.{AreBounded, styled_document}
+use Rattle.box_gen.specs.declared.tree.BoxTree.{BoxTree}
+use Rattle.box_gen.specs.Boxes.{root_boxes}
+use Rattle.box_gen.specs.Tree.{Boxes, boxes_of}
+use Rattle.box_arena.specs.At.{Slots}
+use Rattle.box_arena.specs.Boxes.{Stands}
+use Rattle.box_arena.specs.Planting as planting
+use Rattle.para_prepare.specs.Preparation.{Preparation}
+use Rattle.relayout.specs.Laws.{BareIsRight}
+use Rattle.relayout.specs.Relayout.{AreRightUnder}
+use Rattle.session.specs.Limits.{BoxesFit, CanBeLaidOut, DocumentsFit}
+use Rattle.session.specs.Opening.{MakesBoxes}
+
+-- states that are one are the same
+pub same_opened : (state other : State) → state ≡ other → AreSame state other
+same_opened state other is = record { nodes = λ number. ap (λ (s : State). s.node_at number) is; next = ap (λ (s : State). s.next) is }
+
+-- the boxes of a whole document can be laid out
+pub fits : DocumentsFit → BoxesFit → (rules : List Ruling) (state : State) → IsWhole state → live_count state ≤ greatest_count → total bytes state ≤ 1048576 → AreBounded (styled_document rules state)
+    → CanBeLaidOut (root_boxes (styled_document rules state))
+fits documents boxes rules state whole few short bounded = boxes (styled_document rules state) (documents rules state whole few short bounded)
+
+-- so there are few enough
+pub few_boxes : (nodes : Nodes) (tree : BoxTree) → MakesBoxes nodes (Ok tree) → CanBeLaidOut (root_boxes nodes) → planting.count (boxes_of tree) ≤ 2 ^ 18
+few_boxes nodes tree makes fits = subst (λ (boxes : Boxes). planting.count boxes ≤ 2 ^ 18) (sym makes.2) fits.few
+
+-- and they stand where they were planted
+pub stand : (nodes : Nodes) (tree : BoxTree) (slots : Slots Preparation) (root : ℕ) → MakesBoxes nodes (Ok tree) → Stands slots root (boxes_of tree) → Stands slots root (root_boxes nodes)
+stand nodes tree slots root makes stands = subst (λ (boxes : Boxes). Stands slots root boxes) makes.2 stands
+
+-- where nothing is kept all that is kept is right
+pub right : BareIsRight → (faces : List (Option Table)) (view : View) (slots : Slots Preparation) (root : ℕ) → ((key : ℕ) → planting.IsBare slots key) → AreRightUnder faces view slots root
+right bare_is faces view slots root bare = λ node is. bare_is _ slots (record { kept = λ key c. (bare key).kept c; texts = λ key. (bare key).text })

@@ -1,0 +1,125 @@
+-- What an edit of an open document leads to, by what the document and its boxes answer.
+use Rattle.std.proofs.Common.{◌≡◌, ◌⊎◌, ◌∙◌, ◌+◌, ◌≤◌, sym, ap, subst, refl, inl, inr, ℕ, List, [], Option, Some, None, Ok, Err, arith}
+use Rattle.std.specs.List.{Contains}
+use Rattle.style_types.specs.Rule.{Ruling}
+use Rattle.style_types.specs.Tree.{Nodes}
+use Rattle.dom_store.specs.declared.error.EditError.{EditError}
+use Rattle.dom_store.specs.declared.error.EditError.TheVariants as refusals
+use Rattle.dom_store.specs.Edited.{IsSaidEdit, accepted, bytes_brought, edited, refused, unless}
+use Rattle.dom_store.specs.Edits.{EditOf, after, concerned}
+use Rattle.dom_store.specs.Refusals.{refusal}
+use Rattle.dom_store.specs.Laws.{KeepRoots, KeepSaid}
+use Rattle.dom_store.specs.Opening.{greatest_count}
+use Rattle.dom_store.specs.Standing.{live_count}
+use Rattle.dom_store.specs.State.{IsRooted, IsSaidState, State}
+use Rattle.tree_laws.specs.Laws.{AcceptedAreDone, ChildrenHaveParents, EditsKeepWhole, EditsWeigh}
+use Rattle.tree_laws.specs.Weight.{bytes, total}
+use Rattle.tree_laws.specs.Wholeness.{IsWhole}
+use Rattle.style_tree.specs.Styling.{styled_document}
+use Rattle.box_gen.specs.declared.tree.BoxTree.{BoxTree}
+use Rattle.session.specs.declared.error.ApplyError.{ApplyError}
+use Rattle.session.specs.declared.error.ApplyError.TheVariants as applying
+use Rattle.session.specs.declared.error.OpenError.{OpenError}
+use Rattle.session.specs.declared.error.OpenError.TheVariants as opening
+use Rattle.session.specs.Editing.{CanApply, HasOneOutcome, IsRefusedEdit, of_open_error, of_refusal, styled_after}
+use Rattle.session.specs.Opening.{MakesBoxes}
+use Rattle.session.proofs.Answering.{least_one, none_there}
+
+-- ---- one outcome
+
+module _ (rules : List Ruling) (state : State) (edit : EditOf) where
+  taken : (error : EditError) → refusal state edit ≡ Some error → refusal state edit ≡ None → ⊥
+  taken error is none = absurd cc
+
+  same_some : (one other : EditError) → refusal state edit ≡ Some one → refusal state edit ≡ Some other → other ≡ one
+  same_some one other is also = cc
+
+  not_applied : (error : ApplyError) → IsRefusedEdit rules state edit error → CanApply rules state edit → ⊥
+  not_applied (applying.Document error) is can = taken error is can.taken
+  not_applied (applying.TooManyOrthogonal number) (none, least) can = none_there _ number can.turns least.0
+  not_applied (applying.BlockInInline number) (none, turns, least) can = none_there _ number can.blocks least.0
+  not_applied applying.Memory is can = is
+
+  same : (error other : ApplyError) → IsRefusedEdit rules state edit error → IsRefusedEdit rules state edit other → other ≡ error
+  same (applying.Document error) (applying.Document e) is is' = ap (λ (x : EditError). applying.Document x) (same_some error e is is')
+  same (applying.Document error) (applying.TooManyOrthogonal n) is (none, least) = absurd (taken error is none)
+  same (applying.Document error) (applying.BlockInInline n) is (none, turns, least) = absurd (taken error is none)
+  same (applying.TooManyOrthogonal number) (applying.Document e) (none, least) is = absurd (taken e is none)
+  same (applying.TooManyOrthogonal number) (applying.TooManyOrthogonal n) (none, least) (none', least') = ap (λ (k : ℕ). applying.TooManyOrthogonal k) (least_one number n (least.1 n least'.0) (least'.1 number least.0))
+  same (applying.TooManyOrthogonal number) (applying.BlockInInline n) (none, least) (none', turns, least') = absurd (none_there _ number turns least.0)
+  same (applying.BlockInInline number) (applying.Document e) (none, turns, least) is = absurd (taken e is none)
+  same (applying.BlockInInline number) (applying.TooManyOrthogonal n) (none, turns, least) (none', least') = absurd (none_there _ n turns least'.0)
+  same (applying.BlockInInline number) (applying.BlockInInline n) (none, turns, least) (none', turns', least') = ap (λ (k : ℕ). applying.BlockInInline k) (least_one number n (least.1 n least'.0) (least'.1 number least.0))
+  same applying.Memory other is is' = absurd is
+  same (applying.Document error) applying.Memory is is' = absurd is'
+  same (applying.TooManyOrthogonal number) applying.Memory is is' = absurd is'
+  same (applying.BlockInInline number) applying.Memory is is' = absurd is'
+
+pub one_outcome : HasOneOutcome
+one_outcome rules state edit error is = (not_applied rules state edit error is, λ other also. same rules state edit error other is also)
+
+-- ---- what the document refuses
+
+refused_by : (reason : Option EditError) (next : State) (elements : List ℕ) (error : EditError) → unless reason next elements ≡ refused error → reason ≡ Some error
+refused_by None next elements error is = absurd cc
+refused_by (Some reason) next elements error is = cc
+
+told : (rules : List Ruling) (state : State) (edit : EditOf) (error : EditError) → refusal state edit ≡ Some error → (of_refusal error ≡ applying.Memory) ⊎ IsRefusedEdit rules state edit (of_refusal error)
+told rules state edit refusals.NoNode is = inr is
+told rules state edit refusals.IsRoot is = inr is
+told rules state edit refusals.NotText is = inr is
+told rules state edit refusals.NotElement is = inr is
+told rules state edit refusals.Inside is = inr is
+told rules state edit refusals.BadIndex is = inr is
+told rules state edit (refusals.TooManyNodes number) is = inr is
+told rules state edit (refusals.TooDeep number) is = inr is
+told rules state edit refusals.Memory is = inl refl
+
+pub refused_edit : (rules : List Ruling) (state : State) (edit : EditOf) (error : EditError) → (error ≡ refusals.Memory) ⊎ (edited state edit ≡ refused error)
+    → (of_refusal error ≡ applying.Memory) ⊎ IsRefusedEdit rules state edit (of_refusal error)
+refused_edit rules state edit error (inl is) = inl (ap of_refusal is)
+refused_edit rules state edit error (inr is) = told rules state edit error (refused_by (refusal state edit) (after state edit) (concerned state edit) error is)
+
+-- ---- what its boxes refuse
+
+pub refused_boxes_after : (rules : List Ruling) (state : State) (edit : EditOf) (error : OpenError) → refusal state edit ≡ None → MakesBoxes (styled_after rules state edit) (Err error)
+    → (of_open_error error ≡ applying.Memory) ⊎ IsRefusedEdit rules state edit (of_open_error error)
+refused_boxes_after rules state edit (opening.TooManyNodes number) none makes = absurd makes
+refused_boxes_after rules state edit (opening.TooDeep number) none makes = absurd makes
+refused_boxes_after rules state edit (opening.TooManyOrthogonal number) none makes = inr (none, makes)
+refused_boxes_after rules state edit (opening.BlockInInline number) none makes = inr (none, makes.0, makes.1)
+refused_boxes_after rules state edit opening.Memory none makes = inl refl
+
+-- ---- an edit that the document takes
+
+-- of a document whose state is this one
+pub done_by : AcceptedAreDone → (old copy next : State) (edit : EditOf) (elements : List ℕ) → copy ≡ old → edited copy edit ≡ accepted next elements → (refusal old edit ≡ None) × (next ≡ after old edit)
+done_by done old copy next edit elements same is = done old next edit elements (subst (λ (s : State). edited s edit ≡ accepted next elements) same is)
+
+pub refused_by_copy : (rules : List Ruling) (old copy : State) (edit : EditOf) (error : EditError) → copy ≡ old → (error ≡ refusals.Memory) ⊎ (edited copy edit ≡ refused error)
+    → (of_refusal error ≡ applying.Memory) ⊎ IsRefusedEdit rules old edit (of_refusal error)
+refused_by_copy rules old copy edit error same is = refused_edit rules old edit error (subst (λ (s : State). (error ≡ refusals.Memory) ⊎ (edited s edit ≡ refused error)) same is)
+
+module _ (rules : List Ruling) (old next : State) (edit : EditOf) (done : (refusal old edit ≡ None) × (next ≡ after old edit)) where
+  pub boxes_refuse : (error : OpenError) → MakesBoxes (styled_document rules next) (Err error) → (of_open_error error ≡ applying.Memory) ⊎ IsRefusedEdit rules old edit (of_open_error error)
+  boxes_refuse error makes = refused_boxes_after rules old edit error done.0 (subst (λ (s : State). MakesBoxes (styled_document rules s) (Err error)) done.1 makes)
+
+  pub can_apply : (tree : BoxTree) → MakesBoxes (styled_document rules next) (Ok tree) → CanApply rules old edit
+  can_apply tree makes =
+      let there = subst (λ (s : State). MakesBoxes (styled_document rules s) (Ok tree)) done.1 makes in
+      record { taken = done.0; turns = there.0; blocks = there.1 }
+
+  pub rooted_after : KeepRoots → ChildrenHaveParents → IsWhole old → IsRooted old → IsRooted next
+  rooted_after keep parents whole rooted = subst IsRooted (sym done.1) (keep old edit rooted (parents old whole) done.0)
+
+  pub said_after : KeepSaid → IsSaidEdit edit → IsSaidState old → IsSaidState next
+  said_after keep said is = subst IsSaidState (sym done.1) (keep old edit is said)
+
+  pub whole_after : EditsKeepWhole → IsWhole old → IsWhole next
+  whole_after keep whole = subst IsWhole (sym done.1) (keep old edit whole done.0)
+
+  pub few_after : EditsWeigh → live_count old ≤ greatest_count → live_count next ≤ greatest_count
+  few_after weigh few = subst (λ (s : State). live_count s ≤ greatest_count) (sym done.1) ((weigh old edit done.0).0 few)
+
+  pub bytes_after : EditsWeigh → total bytes next ≤ total bytes old + bytes_brought edit
+  bytes_after weigh = subst (λ (s : State). total bytes s ≤ total bytes old + bytes_brought edit) (sym done.1) (weigh old edit done.0).1
