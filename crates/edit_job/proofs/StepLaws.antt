@@ -1,0 +1,194 @@
+-- Steps one after the other, and what is written of them.
+use Rattle.std.proofs.Common.{◌≡◌, ◌⊎◌, ◌∙◌, refl, sym, ap, subst, arith, inl, inr, ℕ, suc, ◌+◌, ◌<◌, ◌≤◌, List, [], ◌∷◌, ◌++◌, append_assoc, append-nil, length, map, drop, get_or, Option}
+use Rattle.std.specs.Io.KnownBytes.{Appends}
+use Rattle.std.proofs.KnownBytes.{Appends-nil, Appends-trans}
+use Rattle.std.proofs.Math.Seq.{drop-cons}
+use Rattle.face_api.specs.Table.{Table}
+use Rattle.wm_units.specs.declared.view.View.{View}
+use Rattle.io_edge.specs.Edge.{AppendsFront, AppendsUpTo}
+use Rattle.io_edge.proofs.Growth.{next_front, nothing_yet}
+use Rattle.style_types.specs.Rule.{Ruling}
+use Rattle.dom_store.specs.Edits.{EditOf, after}
+use Rattle.dom_store.specs.State.{State}
+use Rattle.edit_script.specs.declared.step.ScriptLine.{ScriptLine}
+use Rattle.edit_script.specs.Fitting.{AllFit, Fits, bytes_in, bytes_of}
+use Rattle.edit_script.specs.Meaning.{Step, show, edit}
+use Rattle.edit_script.specs.Script.{StepAt}
+use Rattle.edit_script.specs.Views.{step_at, step_of, steps_of}
+use Rattle.std.specs.Prelude.{OnOk, Result, ⊤, Ok, Err}
+use Rattle.std.proofs.lemmas.List.{drop_all, get_or-map, length-map}
+use Rattle.face_api.specs.Faces.{faces_of}
+use Rattle.face_api.specs.declared.face.Face.{Ghosts}
+use Rattle.slab.specs.Slab.{Slab}
+use Rattle.box_arena.specs.declared.entry.Entry.{Entry}
+use Rattle.para_prepare.specs.Preparation.{Preparation}
+use Rattle.cascade.specs.Index.{index_rules}
+use Rattle.dom_store.specs.State.{state_of}
+use Rattle.dom_store.specs.declared.document.Document.{Document}
+use Rattle.session.specs.declared.session.Session.{Session}
+use Rattle.edit_job.specs.Steps.{IsStepIn}
+use Rattle.session.specs.declared.error.ApplyError.{ApplyError}
+use Rattle.session.specs.declared.error.ApplyError.TheVariants as applying
+use Rattle.session.specs.Editing.{CanApply, HasOneOutcome, IsRefusedEdit}
+use Rattle.edit_job.specs.Refusal.{IsRefusal, refusal, word_of}
+use Rattle.edit_job.specs.Steps.{AreSteps, HaveOneEnd, IsStep}
+
+module _ (faces : List (Option Table)) (view : View) (rules : List Ruling) where
+  -- with a step more at the end
+  pub steps_on : (state : State) (steps : List StepAt) (mid : State) (due : List ℕ) (s : StepAt) (next : State) (first : List ℕ) → AreSteps faces view rules state steps mid due → IsStep faces view rules mid s.what s.line next first
+      → AreSteps faces view rules state (steps ++ s ∷ []) next (due ++ first)
+  steps_on state [] mid due s next first (is, none) step =
+      (next, first, [], subst (λ (from : State). IsStep faces view rules from s.what s.line next first) is step, (refl, refl), ap (λ (d : List ℕ). d ++ first) none ∙ sym (append-nil first))
+  steps_on state (t ∷ steps) mid due s next first (m, f, rest, here, more, cut) step =
+      (m, f, rest ++ first, here, steps_on m steps mid rest s next first more step, ap (λ (d : List ℕ). d ++ first) cut ∙ append_assoc f rest first)
+
+  -- steps in two parts
+  pub steps_cut : (state : State) (one two : List StepAt) (last : State) (due : List ℕ) → AreSteps faces view rules state (one ++ two) last due
+      → (mid : State) × (front back : List ℕ) × AreSteps faces view rules state one mid front × AreSteps faces view rules mid two last back × (due ≡ front ++ back)
+  steps_cut state [] two last due all = (state, [], due, (refl, refl), all, refl)
+  steps_cut state (s ∷ one) two last due (next, first, rest, here, more, cut) =
+      let parts = steps_cut next one two last rest more in
+      (parts.0, first ++ parts.1, parts.2, (next, first, parts.1, here, parts.3, refl), parts.4, cut ∙ ap (λ (d : List ℕ). first ++ d) parts.5 ∙ sym (append_assoc first parts.1 parts.2))
+
+  -- ---- one end
+
+  module _ (one : HasOneOutcome) where
+    pub step_end : (state : State) (what : Step) (line : ℕ) (next other : State) (due more : List ℕ) → IsStep faces view rules state what line next due → IsStep faces view rules state what line other more → (other ≡ next) × (more ≡ due)
+    step_end state show line next other due more (is, d) (is', d') = (is' ∙ sym is, d' ∙ sym d)
+    step_end state (edit change) line next other due more (inl (can, is, d)) (inl (can', is', d')) = (is' ∙ sym is, d' ∙ sym d)
+    step_end state (edit change) line next other due more (inl (can, is, d)) (inr (error, refused, is', d')) = absurd ((one rules state change error refused).0 can)
+    step_end state (edit change) line next other due more (inr (error, refused, is, d)) (inl (can', is', d')) = absurd ((one rules state change error refused).0 can')
+    step_end state (edit change) line next other due more (inr (error, refused, is, d)) (inr (error', refused', is', d')) =
+        (is' ∙ sym is, d' ∙ ap (λ (e : ApplyError). refusal (word_of e) line) ((one rules state change error refused).1 error' refused') ∙ sym d)
+
+    pub steps_end : (state : State) (steps : List StepAt) (last other : State) (due more : List ℕ) → AreSteps faces view rules state steps last due → AreSteps faces view rules state steps other more → (other ≡ last) × (more ≡ due)
+    steps_end state [] last other due more (is, d) (is', d') = (is' ∙ sym is, d' ∙ sym d)
+    steps_end state (s ∷ steps) last other due more (next, first, rest, here, after_, cut) (next', first', rest', here', after', cut') =
+        let here_ends = step_end state s.what s.line next next' first first' here here' in
+        let behind = subst (λ (from : State). AreSteps faces view rules from steps other rest') here_ends.0 after' in
+        let more_ends = steps_end next steps last other rest rest' after_ behind in
+        (more_ends.0, cut' ∙ ap (λ (d : List ℕ). d ++ rest') here_ends.1 ∙ ap (λ (d : List ℕ). first ++ d) more_ends.1 ∙ sym cut)
+
+pub one_end : HasOneOutcome → HaveOneEnd
+one_end one faces view rules state steps last other due more is also = steps_end faces view rules one state steps last other due more is also
+
+-- ---- what is written of steps
+
+-- the first of these steps were gone through, those behind are left
+pub record HaveGone (faces : List (Option Table)) (view : View) (rules : List Ruling) (first now : State) (old new : Option (List ℕ)) (all behind : List StepAt) : Type 0 where
+  pub front : List StepAt
+  pub written : List ℕ
+  pub steps : AreSteps faces view rules first front now written
+  pub cut : all ≡ front ++ behind
+  pub appended : Appends old new written
+
+module _ (faces : List (Option Table)) (view : View) (rules : List Ruling) where
+  pub none_gone : (state : State) (sink : Option (List ℕ)) (all : List StepAt) → HaveGone faces view rules state state sink sink all all
+  none_gone state sink all = record { front = []; written = []; steps = (refl, refl); cut = refl; appended = Appends-nil sink }
+
+  -- a step more
+  pub gone_on : (first now next : State) (old mid new : Option (List ℕ)) (all : List StepAt) (s : StepAt) (behind : List StepAt) (due : List ℕ) → HaveGone faces view rules first now old mid all (s ∷ behind)
+      → IsStep faces view rules now s.what s.line next due → Appends mid new due → HaveGone faces view rules first next old new all behind
+  gone_on first now next old mid new all s behind due gone step more = record {
+    front = gone.front ++ s ∷ [];
+    written = gone.written ++ due;
+    steps = steps_on faces view rules first gone.front now gone.written s next due gone.steps step;
+    cut = gone.cut ∙ sym (append_assoc gone.front (s ∷ []) behind);
+    appended = Appends-trans old mid new _ _ gone.appended more;
+  }
+
+  -- all were gone through
+  pub all_gone : (first now : State) (old new : Option (List ℕ)) (all : List StepAt) → HaveGone faces view rules first now old new all [] → (due : List ℕ) × AreSteps faces view rules first all now due × Appends old new due
+  all_gone first now old new all gone =
+      (gone.written, subst (λ (steps : List StepAt). AreSteps faces view rules first steps now gone.written) (sym (gone.cut ∙ append-nil gone.front)) gone.steps, gone.appended)
+
+  module _ (ends : HaveOneEnd) where
+    -- a step broke off
+    pub broken : (first now : State) (old mid new : Option (List ℕ)) (all : List StepAt) (s : StepAt) (behind : List StepAt) → HaveGone faces view rules first now old mid all (s ∷ behind)
+        → ((next : State) (due : List ℕ) → IsStep faces view rules now s.what s.line next due → AppendsFront mid new due)
+        → (last : State) (due : List ℕ) → AreSteps faces view rules first all last due → AppendsFront old new due
+    broken first now old mid new all s behind gone front last due steps =
+        let parts = steps_cut faces view rules first gone.front (s ∷ behind) last due (subst (λ (l : List StepAt). AreSteps faces view rules first l last due) gone.cut steps) in
+        let same = ends faces view rules first gone.front now parts.0 gone.written parts.1 gone.steps parts.3 in
+        let after_ = subst (λ (from : State). AreSteps faces view rules from (s ∷ behind) last parts.2) same.0 parts.4 in
+        let whole : due ≡ gone.written ++ (after_.1 ++ after_.2) = parts.5 ∙ ap (λ (d : List ℕ). d ++ parts.2) same.1 ∙ ap (λ (d : List ℕ). gone.written ++ d) after_.5 in
+        next_front old mid new due after_.1 after_.2 (record { front = gone.written; appended = gone.appended; whole = whole }) (front after_.0 after_.1 after_.3)
+
+    -- nothing is left
+    pub finished : (first now : State) (old new : Option (List ℕ)) (all : List StepAt) → HaveGone faces view rules first now old new all [] → (last : State) (due : List ℕ) → AreSteps faces view rules first all last due → AppendsFront old new due
+    finished first now old new all gone last due steps =
+        let whole = all_gone first now old new all gone in
+        let same = ends faces view rules first all now last whole.0 due whole.1 steps in
+        ([], record { front = whole.0; appended = whole.2; whole = same.1 ∙ sym (append-nil whole.0) })
+
+-- the steps from a line on
+pub steps_from : (lines : List ScriptLine) (k : ℕ) (line : ScriptLine) → k < length lines → steps_of (drop k lines) ≡ step_at (get_or lines k line) ∷ steps_of (drop (k + 1) lines)
+steps_from lines k line within =
+    let next : suc k ≡ k + 1 = omega arith in
+    ap steps_of (drop-cons lines k line within) ∙ ap (λ (n : ℕ). step_at (get_or lines k line) ∷ steps_of (drop n lines)) next
+
+-- ---- one edit
+
+module _ (faces : List (Option Table)) (view : View) (rules : List Ruling) (state : State) (change : EditOf) (line : ℕ) where
+  -- it is refused for a reason that is no want of memory
+  reason : (error : ApplyError) → (error ≡ applying.Memory) ⊎ IsRefusedEdit rules state change error → IsRefusal error → IsRefusedEdit rules state change error
+  reason error (inl is) told = absurd (subst IsRefusal is told)
+  reason error (inr refused) told = refused
+
+  -- an edit that is done
+  pub edit_done : (next : State) (sink : Option (List ℕ)) → CanApply rules state change × (next ≡ after state change) → (due : List ℕ) × IsStep faces view rules state (edit change) line next due × Appends sink sink due
+  edit_done next sink done = ([], inl (done.0, done.1, refl), Appends-nil sink)
+
+  pub edit_front : HasOneOutcome → (sink : Option (List ℕ)) → CanApply rules state change → (next : State) (due : List ℕ) → IsStep faces view rules state (edit change) line next due → AppendsFront sink sink due
+  edit_front one sink can next due step = nothing_yet sink due
+
+  -- an edit that is refused, and told so
+  pub edit_refused : (error : ApplyError) (next : State) (old new : Option (List ℕ)) → (error ≡ applying.Memory) ⊎ IsRefusedEdit rules state change error → IsRefusal error → next ≡ state → Appends old new (refusal (word_of error) line)
+      → (due : List ℕ) × IsStep faces view rules state (edit change) line next due × Appends old new due
+  edit_refused error next old new why told same more = (refusal (word_of error) line, inr (error, reason error why told, same, refl), more)
+
+  -- what is due for it is that line
+  pub refused_front : HasOneOutcome → (error : ApplyError) (old new : Option (List ℕ)) → (error ≡ applying.Memory) ⊎ IsRefusedEdit rules state change error → (error ≡ applying.Memory → new ≡ old) → AppendsFront old new (refusal (word_of error) line)
+      → (next : State) (due : List ℕ) → IsStep faces view rules state (edit change) line next due → AppendsFront old new due
+  refused_front one error old new (inl is) none front next due step = subst (λ (sink : Option (List ℕ)). AppendsFront old sink due) (sym (none is)) (nothing_yet old due)
+  refused_front one error old new (inr refused) none front next due (inl (can, is, d)) = absurd ((one rules state change error refused).0 can)
+  refused_front one error old new (inr refused) none front next due (inr (other, also, is, d)) =
+      let same : due ≡ refusal (word_of error) line = d ∙ ap (λ (e : ApplyError). refusal (word_of e) line) ((one rules state change error refused).1 other also) in
+      subst (λ (bytes : List ℕ). AppendsFront old new bytes) (sym same) front
+
+-- ---- lines
+
+pub on_ok : {A B : Type 0} {E : Type 0} (r : Result ⊤ E) → OnOk r A → (A → B) → OnOk r B
+on_ok (Ok done) a f = f a
+on_ok (Err error) a f = tt
+
+-- the line at a place
+pub line_fits : (lines : List ScriptLine) (k : ℕ) (line : ScriptLine) → k < length lines → line ≡ get_or lines k line → AllFit (steps_of lines) → Fits (step_of line.what)
+line_fits lines k line within is fit =
+    let there : get_or (steps_of lines) k (step_at line) ≡ step_at line = get_or-map step_at lines k line (step_at line) within ∙ ap step_at (sym is) in
+    let long : length (steps_of lines) ≡ length lines = length-map lines step_at in
+    subst (λ (s : StepAt). Fits s.what) there (fit k (step_at line) (omega (arith, within, long)))
+
+pub line_on : (lines : List ScriptLine) (k : ℕ) (line : ScriptLine) → k < length lines → line ≡ get_or lines k line → steps_of (drop k lines) ≡ step_at line ∷ steps_of (drop (k + 1) lines)
+line_on lines k line within is = steps_from lines k line within ∙ ap (λ (l : ScriptLine). step_at l ∷ steps_of (drop (k + 1) lines)) (sym is)
+
+pub bytes_on : (lines : List ScriptLine) (k : ℕ) (line : ScriptLine) → k < length lines → line ≡ get_or lines k line → bytes_of (steps_of (drop k lines)) ≡ bytes_in (step_of line.what) + bytes_of (steps_of (drop (k + 1) lines))
+bytes_on lines k line within is = ap bytes_of (line_on lines k line within is)
+
+pub none_on : (lines : List ScriptLine) (k : ℕ) → length lines ≤ k → steps_of (drop k lines) ≡ []
+none_on lines k all = ap steps_of (drop_all k lines all)
+
+-- ---- a session as it goes on
+
+module _ {I : Type 0} {D : I → Type 0} (members : (x : I) → Ghosts (D x)) where
+  -- a step over a session that has the faces, the view and the rules of this one
+  pub step_over : (first now : Session I D) (document : Document) (arena : Slab (Entry Preparation)) (root : ℕ) → now ≡ record first { document = document; arena = arena; root = root } → (what : Step) (line : ℕ) (next : State) (due : List ℕ)
+      → IsStepIn (faces_of members now.faces) now what line next due ≡ IsStep (faces_of members first.faces) first.view (index_rules first.rules) (state_of now.document) what line next due
+  step_over first now document arena root same what line next due =
+      ap (λ (s : Session I D). IsStep (faces_of members s.faces) s.view (index_rules s.rules) (state_of now.document) what line next due) same
+
+module _ {I : Type 0} {D : I → Type 0} where
+  -- its faces, view and rules stay
+  pub still : (first now new : Session I D) (document : Document) (arena : Slab (Entry Preparation)) (root : ℕ) → now ≡ record first { document = document; arena = arena; root = root }
+      → new ≡ record now { document = new.document; arena = new.arena; root = new.root } → new ≡ record first { document = new.document; arena = new.arena; root = new.root }
+  still first now new document arena root same rest = rest ∙ ap (λ (s : Session I D). record s { document = new.document; arena = new.arena; root = new.root }) same

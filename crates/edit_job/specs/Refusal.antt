@@ -1,0 +1,36 @@
+-- The lines that tell what is refused (docs/PROFILE/commands.md).
+use Rattle.std.specs.Prelude.{ℕ, List, ◌++◌, codes, decimal, ⊤}
+use Rattle.dom_store.specs.declared.error.EditError.{EditError}
+use Rattle.dom_store.specs.declared.error.EditError.TheVariants as document
+use Rattle.session.specs.declared.error.ApplyError.{ApplyError}
+use Rattle.session.specs.declared.error.ApplyError.TheVariants.{Document, TooManyOrthogonal, BlockInInline, Memory}
+
+-- the line of a refusal, with its place in bytes, the number of a node, or that of a line
+unfoldable pub refusal : (kind : List ℕ) → (place : ℕ) → List ℕ
+refusal kind place = codes "refused " ++ kind ++ codes " " ++ decimal place ++ codes "\n"
+
+-- the word of why a document refuses an edit
+unfoldable pub document_word : EditError → List ℕ
+document_word document.NoNode = codes "NoNode"
+document_word document.IsRoot = codes "IsRoot"
+document_word document.NotText = codes "NotText"
+document_word document.NotElement = codes "NotElement"
+document_word document.Inside = codes "Inside"
+document_word document.BadIndex = codes "BadIndex"
+document_word (document.TooManyNodes number) = codes "TooManyNodes"
+document_word (document.TooDeep number) = codes "TooDeep"
+document_word document.Memory = codes "Memory"
+
+-- the word of why an edit is refused
+unfoldable pub word_of : ApplyError → List ℕ
+word_of (Document error) = document_word error
+word_of (TooManyOrthogonal number) = codes "TooManyOrthogonal"
+word_of (BlockInInline number) = codes "BlockInInline"
+word_of Memory = codes "Memory"
+
+-- want of memory is no refusal
+abbrev pub IsRefusal : ApplyError → Type 0
+IsRefusal (Document error) = ⊤
+IsRefusal (TooManyOrthogonal number) = ⊤
+IsRefusal (BlockInInline number) = ⊤
+IsRefusal Memory = ⊥

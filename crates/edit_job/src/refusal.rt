@@ -1,0 +1,56 @@
+//! The lines that tell what is refused.
+
+ghost use Rattle.std.specs.Prelude.{◌≡◌, ◌≤◌, length};
+ghost use Rattle.edit_job.specs.Refusal.{document_word, refusal, word_of};
+
+use arrayvec::ArrayString;
+use dom_store::EditError;
+use itoa::Buffer;
+use session::ApplyError;
+
+/// The line of a refusal: its word of at most 17 bytes, and its place, the number of a node or that of a line.
+#[tactic(auto, unfolding(crate::specs::Refusal::refusal))]
+pub fn refusal_line(word: &str, place: usize) -> ArrayString<64>
+    requires { length word.now ≤ 17 }
+    ensures { result.bytes ≡ refusal word.now place }
+{
+    let mut line = ArrayString::new();
+    line.push_str("refused ");
+    line.push_str(word);
+    line.push_str(" ");
+    line.push_str(Buffer::new().format(place));
+    line.push_str("\n");
+    line
+}
+
+/// The word of why an edit is refused.
+#[tactic(auto, unfolding(crate::specs::Refusal::word_of))]
+pub(crate) fn word_of(error: ApplyError) -> &'static str
+    ensures word { result.now ≡ word_of error }
+    ensures short { length result.now ≤ 17 }
+{
+    match error {
+        ApplyError::Document(error) => document_word(error),
+        ApplyError::TooManyOrthogonal(_) => "TooManyOrthogonal",
+        ApplyError::BlockInInline(_) => "BlockInInline",
+        ApplyError::Memory => "Memory",
+    }
+}
+
+#[tactic(auto, unfolding(crate::specs::Refusal::document_word))]
+fn document_word(error: EditError) -> &'static str
+    ensures word { result.now ≡ document_word error }
+    ensures short { length result.now ≤ 17 }
+{
+    match error {
+        EditError::NoNode => "NoNode",
+        EditError::IsRoot => "IsRoot",
+        EditError::NotText => "NotText",
+        EditError::NotElement => "NotElement",
+        EditError::Inside => "Inside",
+        EditError::BadIndex => "BadIndex",
+        EditError::TooManyNodes(_) => "TooManyNodes",
+        EditError::TooDeep(_) => "TooDeep",
+        EditError::Memory => "Memory",
+    }
+}
