@@ -1,0 +1,101 @@
+-- What is due for an input, as its end and the bytes to be written.
+use Rattle.std.specs.Prelude.{◌≡◌, ◌↔◌, ◌+◌, ◌≤◌, ℕ, List, codes, Option, Some, None, option_map, ⊤}
+use Rattle.face_api.specs.Faces.{faces_of}
+use Rattle.face_api.specs.Table.{Table}
+use Rattle.face_api.specs.declared.face.Face.{Ghosts}
+use Rattle.css_values.specs.declared.error.Refusal.{Refusal}
+use Rattle.css_values.specs.declared.error.Refusal.TheVariants.{CssSyntax, TooManyRules, Unsupported}
+use Rattle.html_tokens.specs.Error.{kind_word}
+use Rattle.dom_store.specs.State.{State, state_of}
+use Rattle.tree_laws.specs.Weight.{bytes, total}
+use Rattle.edit_script.specs.declared.error.Refusal as script
+use Rattle.edit_script.specs.declared.error.Refusal.TheVariants as script_kinds
+use Rattle.edit_script.specs.Fitting.{AllFit, bytes_of}
+use Rattle.edit_script.specs.Script.{StepAt}
+use Rattle.edit_script.specs.Views.{steps_of}
+use Rattle.session.specs.declared.error.OpenError.{OpenError}
+use Rattle.session.specs.declared.error.OpenError.TheVariants.{TooManyNodes, TooDeep, TooManyOrthogonal, BlockInInline, Memory}
+use Rattle.session.specs.declared.session.Session.{Session}
+use Rattle.session.specs.State.{IsSound}
+use Rattle.edit_job.specs.Refusal.{refusal}
+use Rattle.edit_job.specs.Steps.{AreStepsIn}
+use Rattle.input_due.specs.declared.due.Due.{Due}
+use Rattle.input_due.specs.declared.due.Due.TheVariants as dues
+use Rattle.input_due.specs.declared.due.Cause.{Cause}
+use Rattle.input_due.specs.declared.due.Cause.TheVariants as causes
+use Rattle.input_due.specs.declared.due.End.{End}
+use Rattle.input_due.specs.declared.due.End.TheVariants.{Done, Refused}
+
+-- the word of what is wrong with a style sheet or a style attribute
+unfoldable pub style_word : Refusal → List ℕ
+style_word CssSyntax = codes "CssSyntax"
+style_word Unsupported = codes "Unsupported"
+style_word TooManyRules = codes "TooManyRules"
+
+-- the word of what is wrong with a script
+unfoldable pub script_word : script.Refusal → List ℕ
+script_word script_kinds.ScriptSyntax = codes "ScriptSyntax"
+script_word script_kinds.TooManyEdits = codes "TooManyEdits"
+script_word script_kinds.TooManyShows = codes "TooManyShows"
+script_word (script_kinds.Html kind) = kind_word kind
+script_word (script_kinds.Css kind) = style_word kind
+
+-- the word of why a document can't be opened, and the number of the node that it tells
+unfoldable pub open_word : OpenError → List ℕ
+open_word (TooManyNodes number) = codes "TooManyNodes"
+open_word (TooDeep number) = codes "TooDeep"
+open_word (TooManyOrthogonal number) = codes "TooManyOrthogonal"
+open_word (BlockInInline number) = codes "BlockInInline"
+open_word Memory = codes "Memory"
+
+abbrev pub node_of : OpenError → ℕ
+node_of (TooManyNodes number) = number
+node_of (TooDeep number) = number
+node_of (TooManyOrthogonal number) = number
+node_of (BlockInInline number) = number
+node_of Memory = 0
+
+-- no refusal comes of want of memory
+abbrev pub told_node : OpenError → Option ℕ
+told_node Memory = None
+told_node (TooManyNodes number) = Some number
+told_node (TooDeep number) = Some number
+told_node (TooManyOrthogonal number) = Some number
+told_node (BlockInInline number) = Some number
+
+-- the word of why an input is refused
+unfoldable pub cause_word : Cause → List ℕ
+cause_word causes.TooLong = codes "TooLong"
+cause_word (causes.Document kind) = kind_word kind
+cause_word (causes.Style kind) = style_word kind
+cause_word (causes.Script kind) = script_word kind
+cause_word (causes.Opening error) = open_word error
+
+module _ {I : Type 0} {D : I → Type 0} where
+  abbrev pub not_opened : OpenError → Option (Due I D)
+  not_opened error = option_map (λ node. dues.Refused (causes.Opening error) node) (told_node error)
+
+  abbrev pub HasSteps : Due I D → Type 0
+  HasSteps (dues.Steps session script) = ⊤
+  HasSteps (dues.Refused cause place) = ⊥
+
+  -- steps can be gone through over a session
+  pub record AreReady (faces : List (Option Table)) (session : Session I D) (steps : List StepAt) : Type 0 where
+    pub sound : IsSound faces session
+    pub fit : AllFit steps
+    pub room : total bytes (state_of session.document) + bytes_of steps ≤ 1048576
+
+module _ {I : Type 0} {D : I → Type 0} (members : (x : I) → Ghosts (D x)) where
+  -- these bytes are those of what is due, with its end
+  abbrev pub IsOf : Due I D → End → (due : List ℕ) → Type 0
+  IsOf (dues.Steps session script) end_ due = (end_ ≡ Done) × (last : State) × AreStepsIn (faces_of members session.faces) session (steps_of script.items) last due
+  IsOf (dues.Refused cause place) end_ due = (end_ ≡ Refused) × (due ≡ refusal (cause_word cause) place)
+
+  -- what is due can be told
+  abbrev pub IsReady : Due I D → Type 0
+  IsReady (dues.Steps session script) = AreReady (faces_of members session.faces) session (steps_of script.items)
+  IsReady (dues.Refused cause place) = ⊤
+
+  -- what is due is this, where the other says which bytes are due with which end
+  abbrev pub IsDueBy : (End → List ℕ → Type 0) → Due I D → Type 0
+  IsDueBy IsDueWith due = (end_ : End) (bytes : List ℕ) → IsDueWith end_ bytes ↔ IsOf due end_ bytes

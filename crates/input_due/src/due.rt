@@ -1,0 +1,156 @@
+//! What is due for an input: the steps over its document, or its refusal.
+
+ghost use Rattle.std.specs.Prelude.{◌≡◌, ◌≤◌, length};
+ghost use Rattle.input_due.specs.Due.{cause_word, not_opened, open_word, script_word, style_word, told_node};
+ghost use Rattle.input_due.specs.declared.due.Cause.TheVariants as Causes;
+ghost use Rattle.input_due.specs.declared.due.Due.TheVariants as Dues;
+
+use edit_script::Script;
+use html_read::Refusal;
+use session::{OpenError, Session};
+
+/// How an input ends.
+#[derive(Clone, Copy, Debug, PartialEq, Eq)]
+pub enum End {
+    /// It was gone through.
+    Done,
+    /// It was refused.
+    Refused,
+}
+
+/// What is due for an input. Nothing is written before all of the input is read and its document can be opened.
+#[derive(Drop)]
+pub enum Due {
+    /// What the steps of a script write over a document.
+    Steps { session: Session, script: Script },
+    /// A line of refusal, with its cause, and its place in bytes or the number of its node.
+    Refused { cause: Cause, place: usize },
+}
+
+impl Due {
+    /// The refusal of what is no document.
+    pub(crate) fn no_document(kind: Refusal, place: usize) -> Due
+        ensures { result ≡ Dues.Refused (Causes.Document kind) place }
+    {
+        Due::Refused {
+            cause: Cause::Document(kind),
+            place,
+        }
+    }
+
+    /// The refusal of styles.
+    pub(crate) fn no_styles(kind: css_values::Refusal, place: usize) -> Due
+        ensures { result ≡ Dues.Refused (Causes.Style kind) place }
+    {
+        Due::Refused {
+            cause: Cause::Style(kind),
+            place,
+        }
+    }
+
+    /// The refusal of a script.
+    pub(crate) fn no_script(kind: edit_script::Refusal, place: usize) -> Due
+        ensures { result ≡ Dues.Refused (Causes.Script kind) place }
+    {
+        Due::Refused {
+            cause: Cause::Script(kind),
+            place,
+        }
+    }
+
+    /// The refusal of a document that can't be opened; none where memory ran out.
+    pub(crate) fn not_opened(error: OpenError) -> Option<Due>
+        ensures { result ≡ not_opened error }
+    {
+        let node = told_node(error)?;
+        Some(Due::Refused {
+            cause: Cause::Opening(error),
+            place: node as usize,
+        })
+    }
+}
+
+/// Why an input is refused (docs/PROFILE/commands.md).
+#[derive(Clone, Copy)]
+pub enum Cause {
+    /// It has more bytes than an input may have.
+    TooLong,
+    /// It is no document.
+    Document(Refusal),
+    /// Its style sheets or its style attributes are refused.
+    Style(css_values::Refusal),
+    /// What stands behind its document is no script.
+    Script(edit_script::Refusal),
+    /// Its document can't be opened.
+    Opening(OpenError),
+}
+
+impl Cause {
+    /// The word that a line of refusal has for it.
+    #[tactic(auto, unfolding(crate::specs::Due::cause_word))]
+    pub fn word(self) -> &'static str
+        ensures word { result.now ≡ cause_word self }
+        ensures short { length result.now ≤ 17 }
+    {
+        match self {
+            Cause::TooLong => "TooLong",
+            Cause::Document(kind) => kind.word(),
+            Cause::Style(kind) => style_word(kind),
+            Cause::Script(kind) => script_word(kind),
+            Cause::Opening(error) => open_word(error),
+        }
+    }
+}
+
+#[tactic(auto, unfolding(crate::specs::Due::style_word))]
+fn style_word(kind: css_values::Refusal) -> &'static str
+    ensures word { result.now ≡ style_word kind }
+    ensures short { length result.now ≤ 17 }
+{
+    match kind {
+        css_values::Refusal::CssSyntax => "CssSyntax",
+        css_values::Refusal::Unsupported => "Unsupported",
+        css_values::Refusal::TooManyRules => "TooManyRules",
+    }
+}
+
+#[tactic(auto, unfolding(crate::specs::Due::script_word))]
+fn script_word(kind: edit_script::Refusal) -> &'static str
+    ensures word { result.now ≡ script_word kind }
+    ensures short { length result.now ≤ 17 }
+{
+    match kind {
+        edit_script::Refusal::ScriptSyntax => "ScriptSyntax",
+        edit_script::Refusal::TooManyEdits => "TooManyEdits",
+        edit_script::Refusal::TooManyShows => "TooManyShows",
+        edit_script::Refusal::Html(kind) => kind.word(),
+        edit_script::Refusal::Css(kind) => style_word(kind),
+    }
+}
+
+#[tactic(auto, unfolding(crate::specs::Due::open_word))]
+fn open_word(error: OpenError) -> &'static str
+    ensures word { result.now ≡ open_word error }
+    ensures short { length result.now ≤ 17 }
+{
+    match error {
+        OpenError::TooManyNodes(_) => "TooManyNodes",
+        OpenError::TooDeep(_) => "TooDeep",
+        OpenError::TooManyOrthogonal(_) => "TooManyOrthogonal",
+        OpenError::BlockInInline(_) => "BlockInInline",
+        OpenError::Memory => "Memory",
+    }
+}
+
+// The number of the node that an error tells.
+fn told_node(error: OpenError) -> Option<u32>
+    ensures { result ≡ told_node error }
+{
+    match error {
+        OpenError::TooManyNodes(number) => Some(number),
+        OpenError::TooDeep(number) => Some(number),
+        OpenError::TooManyOrthogonal(number) => Some(number),
+        OpenError::BlockInInline(number) => Some(number),
+        OpenError::Memory => None,
+    }
+}

@@ -1,0 +1,8 @@
+//! What is due for an input: the steps of a script over its document, or its refusal (docs/PROFILE/commands.md).
+#![tactic(auto)]
+
+mod document;
+mod due;
+
+pub use document::due_of_document;
+pub use due::{Cause, Due};
