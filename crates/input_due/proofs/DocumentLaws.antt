@@ -36,14 +36,12 @@ use Rattle.session.specs.declared.error.OpenError.TheVariants as open_errors
 use Rattle.session.specs.declared.session.Session.{Session}
 use Rattle.edit_job.specs.Refusal.{refusal}
 use Rattle.edit_job.specs.Steps.{AreSteps, AreStepsIn}
-use Rattle.input_due.specs.Due.{IsDueBy, IsOf, cause_word, node_of, not_opened, open_word, script_word, style_word}
+use Rattle.input_due.specs.Due.{End, Done, Refused, IsDueBy, IsOf, cause_word, node_of, not_opened, open_word, script_word, style_word}
 use Rattle.input_due.specs.Input.{IsDueOfDocument, IsDueOfFault, IsDueOfInput, IsDueOfOpened, IsDueOfRead, IsDueOfSteps, IsDueOfStyling, IsDueOfTail, IsDueOfWhole, longest_input, placed_from, steps_behind}
 use Rattle.input_due.specs.Document.{read_at}
 use Rattle.input_due.specs.declared.due.Due.{Due}
 use Rattle.input_due.specs.declared.due.Due.TheVariants as dues
 use Rattle.input_due.specs.declared.due.Cause.TheVariants as causes
-use Rattle.input_due.specs.declared.due.End.{End}
-use Rattle.input_due.specs.declared.due.End.TheVariants.{Done, Refused}
 
 -- lines of refusal that are one
 same_line : (kind word : List ℕ) (place at : ℕ) → kind ≡ word → place ≡ at → (end_ : End) (due : List ℕ) → ((end_ ≡ Refused) × (due ≡ refusal kind place)) ↔ ((end_ ≡ Refused) × (due ≡ refusal word at))

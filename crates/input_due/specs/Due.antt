@@ -23,8 +23,11 @@ use Rattle.input_due.specs.declared.due.Due.{Due}
 use Rattle.input_due.specs.declared.due.Due.TheVariants as dues
 use Rattle.input_due.specs.declared.due.Cause.{Cause}
 use Rattle.input_due.specs.declared.due.Cause.TheVariants as causes
-use Rattle.input_due.specs.declared.due.End.{End}
-use Rattle.input_due.specs.declared.due.End.TheVariants.{Done, Refused}
+
+-- how an input ends: it is gone through, or refused
+pub data End : Type 0 where
+  Done : End
+  Refused : End
 
 -- the word of what is wrong with a style sheet or a style attribute
 unfoldable pub style_word : Refusal → List ℕ

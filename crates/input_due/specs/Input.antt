@@ -20,9 +20,7 @@ use Rattle.session.specs.Opening.{CanOpen, IsRefused}
 use Rattle.session.specs.declared.error.OpenError.{OpenError}
 use Rattle.edit_job.specs.Refusal.{refusal}
 use Rattle.edit_job.specs.Steps.{AreSteps}
-use Rattle.input_due.specs.Due.{node_of, open_word, script_word, style_word}
-use Rattle.input_due.specs.declared.due.End.{End}
-use Rattle.input_due.specs.declared.due.End.TheVariants.{Done, Refused}
+use Rattle.input_due.specs.Due.{End, Done, Refused, node_of, open_word, script_word, style_word}
 
 -- the greatest length of an input, in bytes
 abbrev pub longest_input : ℕ

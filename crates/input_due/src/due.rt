@@ -9,15 +9,6 @@ use edit_script::Script;
 use html_read::Refusal;
 use session::{OpenError, Session};
 
-/// How an input ends.
-#[derive(Clone, Copy, Debug, PartialEq, Eq)]
-pub enum End {
-    /// It was gone through.
-    Done,
-    /// It was refused.
-    Refused,
-}
-
 /// What is due for an input. Nothing is written before all of the input is read and its document can be opened.
 #[derive(Drop)]
 pub enum Due {
