@@ -1,8 +1,9 @@
 //! Scripts, with what is due by hand.
 
 use dom_store::{Edit, NewNodes};
-use edit_script::{Refusal, ScriptError, ScriptStep, read_script};
+use edit_script::{Refusal, ScriptError, ScriptLine, ScriptStep, read_script};
 use html_read::ReadKind;
+use std::alloc::Global;
 use std::process::Abort;
 use std::test::*;
 
@@ -112,35 +113,53 @@ fn scripts_are_refused(rt: HostRuntime) {
     }
 }
 
+// What the last line of a script says.
+fn said(alloc: Global, text: &str) -> Result<ScriptStep, Fail> {
+    let mut script = read_script(alloc, text, 0).ok().ok_or("a script")?;
+    let ScriptLine { what, .. } = script.pop().ok_or("a line")?;
+    Ok(what)
+}
+
 #[test]
-fn what_is_read(rt: HostRuntime) -> Result<(), Fail> {
-    let text =
-        "text 4 a &lt;\nstyle 5 height:1px\nclass 6 a b\ninsert 7 1 c<p style=\"width:0\">d</p>\nremove 8\nmove 9 10 11\nshow";
-    let script = read_script(rt.alloc(), text, 0).ok().ok_or("a script")?;
-    assert_eq!(rt; script.len(), 7);
-    match &script[0].what {
+fn texts(rt: HostRuntime) -> Result<(), Fail> {
+    match said(rt.alloc(), "text 4 a &lt;")? {
         ScriptStep::Edit(Edit::Text { node, text }) => {
-            assert_eq!(rt; *node, 4);
+            assert_eq!(rt; node, 4);
             assert_eq!(rt; text.as_str(), "a <");
+            Ok(())
         }
-        _ => return Err("a text".into()),
+        _ => Err("a text".into()),
     }
-    match &script[1].what {
+}
+
+#[test]
+fn styles(rt: HostRuntime) -> Result<(), Fail> {
+    match said(rt.alloc(), "style 5 height:1px")? {
         ScriptStep::Edit(Edit::Style { node, declarations }) => {
-            assert_eq!(rt; *node, 5);
+            assert_eq!(rt; node, 5);
             assert_eq!(rt; declarations.len(), 1);
+            Ok(())
         }
-        _ => return Err("a style".into()),
+        _ => Err("a style".into()),
     }
-    match &script[2].what {
+}
+
+#[test]
+fn classes(rt: HostRuntime) -> Result<(), Fail> {
+    match said(rt.alloc(), "class 6 a b")? {
         ScriptStep::Edit(Edit::Class { node, words }) => {
-            assert_eq!(rt; *node, 6);
+            assert_eq!(rt; node, 6);
             assert_eq!(rt; words.len(), 2);
             assert_eq!(rt; words[1].as_str(), "b");
+            Ok(())
         }
-        _ => return Err("classes".into()),
+        _ => Err("classes".into()),
     }
-    match &script[3].what {
+}
+
+#[test]
+fn insertions(rt: HostRuntime) -> Result<(), Fail> {
+    match said(rt.alloc(), "insert 7 1 c<p style=\"width:0\">d</p>")? {
         ScriptStep::Edit(
             Edit::Insert {
                 parent,
@@ -148,17 +167,21 @@ fn what_is_read(rt: HostRuntime) -> Result<(), Fail> {
                 nodes,
             },
         ) => {
-            assert_eq!(rt; *parent, 7);
-            assert_eq!(rt; *index, 1);
-            are_the_nodes(&rt, nodes)?;
+            assert_eq!(rt; parent, 7);
+            assert_eq!(rt; index, 1);
+            are_the_nodes(&rt, &nodes)
         }
-        _ => return Err("nodes".into()),
+        _ => Err("nodes".into()),
     }
-    match &script[4].what {
-        ScriptStep::Edit(Edit::Remove { node }) => assert_eq!(rt; *node, 8),
+}
+
+#[test]
+fn removals_and_moves(rt: HostRuntime) -> Result<(), Fail> {
+    match said(rt.alloc(), "remove 8")? {
+        ScriptStep::Edit(Edit::Remove { node }) => assert_eq!(rt; node, 8),
         _ => return Err("a removal".into()),
     }
-    match &script[5].what {
+    match said(rt.alloc(), "move 9 10 11")? {
         ScriptStep::Edit(
             Edit::Move {
                 node,
@@ -166,13 +189,18 @@ fn what_is_read(rt: HostRuntime) -> Result<(), Fail> {
                 index,
             },
         ) => {
-            assert_eq!(rt; *node, 9);
-            assert_eq!(rt; *parent, 10);
-            assert_eq!(rt; *index, 11);
+            assert_eq!(rt; node, 9);
+            assert_eq!(rt; parent, 10);
+            assert_eq!(rt; index, 11);
+            Ok(())
         }
-        _ => return Err("a move".into()),
+        _ => Err("a move".into()),
     }
-    match &script[6].what {
+}
+
+#[test]
+fn pages(rt: HostRuntime) -> Result<(), Fail> {
+    match said(rt.alloc(), "remove 8\nshow")? {
         ScriptStep::Show => Ok(()),
         ScriptStep::Edit(_) => Err("a page".into()),
     }
