@@ -1,16 +1,23 @@
--- Small documents: what a tree and a state weigh, and where a state isn't whole.
-use Rattle.std.specs.Prelude.{◌≡◌, refl, ℕ, List, [], ◌∷◌, get_or, Option, Some, None}
-use Rattle.std.proofs.Common.{arith}
+-- Small documents: what a tree and a state weigh, where a state isn't whole, and where a node that lives isn't reached.
+use Rattle.std.specs.Prelude.{◌≡◌, refl, ℕ, zero, suc, ◌<◌, true, List, [], ◌∷◌, get_or, Option, Some, None, unwrap_or}
+use Rattle.std.proofs.Common.{◌∙◌, ap, arith, subst, sym}
+use Rattle.std.proofs.lemmas.Option.{slice_get_within}
 use Rattle.html_tokens.specs.declared.tag.Tag.TheVariants as tags
+use Rattle.html_read.specs.Shape.{IsShaped}
 use Rattle.html_read.specs.Values as html
 use Rattle.html_read.specs.Values.{Node}
 use Rattle.dom_store.specs.State.{Entry, State, element, text, tree_of, tree_to}
-use Rattle.dom_store.specs.Opening.{children_from}
-use Rattle.dom_store.specs.Standing.{below_levels, count_below, live_count}
-use Rattle.dom_store.specs.Edits.{after, insert, move_to, remove, set_text}
+use Rattle.dom_store.specs.Opening.{children_from, depths_from, opened}
+use Rattle.dom_store.specs.Standing.{ancestors_to, below_levels, count_below, live_count, lives, parent_at}
+use Rattle.dom_store.specs.Edits.{EditOf, after, insert, move_to, remove, set_text}
 use Rattle.dom_store.specs.Edited.{bytes_brought}
+use Rattle.dom_store.specs.Refusals.{refusal}
+use Rattle.tree_laws.specs.Reached.{IsAtLevel, IsReached}
 use Rattle.tree_laws.specs.Weight.{bytes, one, sum_below, total, weight_in}
 use Rattle.tree_laws.specs.Wholeness.{IsWhole}
+use Rattle.tree_laws.proofs.Edited.{edits_keep_whole}
+use Rattle.tree_laws.proofs.Inserting.{opened_whole}
+use Rattle.tree_laws.proofs.Levels.{parent_of_child}
 
 abbrev of : List (Option Entry) → ℕ → State
 of entries next = record { node_at = λ n. get_or entries n None; next = next }
@@ -75,3 +82,52 @@ met_twice = refl
 
 not_whole : IsWhole twice → ⊥
 not_whole whole = omega (arith, whole.inside 3 2)
+
+-- ---- reached
+
+abbrev plain : html.Acting
+plain = record { id = None; classes = []; dir = None; style = None }
+
+-- `html` with an empty `body`
+abbrev two_nodes : List Node
+two_nodes = record { parent = None; kind = html.element tags.Html plain } ∷ record { parent = Some 0; kind = html.element tags.Body plain } ∷ []
+
+abbrev two : State
+two = opened two_nodes []
+
+two_shaped : IsShaped two_nodes
+two_shaped = record {
+  html = (plain, refl);
+  body = (plain, refl);
+  others = λ place node late here. let within : place < 2 = slice_get_within two_nodes place node here in absurd (omega (arith, within, late));
+}
+
+-- an element that stands in itself, which no fragment has, would come into `body`
+abbrev in_itself : EditOf
+in_itself = insert 1 0 (record { parent = Some 0; kind = html.element tags.B plain } ∷ []) ([] ∷ [])
+
+nothing_refuses : refusal two in_itself ≡ None
+unfolding children_from depths_from ancestors_to count_below
+nothing_refuses = refl
+
+its_parent : parent_at (after two in_itself) 2 ≡ Some 2
+unfolding children_from
+its_parent = refl
+
+-- it lives, and is below itself alone
+no_level : IsWhole (after two in_itself) → (level : ℕ) → IsAtLevel (after two in_itself) level 2 → ⊥
+no_level whole zero at = absurd (omega (arith, at))
+no_level whole (suc level) (parent, at, there) =
+    let same : 2 ≡ parent = ap (λ (o : Option ℕ). unwrap_or o 0) (sym its_parent ∙ parent_of_child (after two in_itself) whole parent 2 there) in
+    no_level whole level (subst (IsAtLevel (after two in_itself) level) (sym same) at)
+
+its_life : lives (after two in_itself) 2 ≡ true
+unfolding children_from
+its_life = refl
+
+-- an edit must fit, for its nodes to be reached
+not_reached : IsReached (after two in_itself) → ⊥
+not_reached reached =
+    let whole : IsWhole two = opened_whole two_nodes [] two_shaped in
+    let (level, low, at) = reached.reached 2 its_life in
+    no_level (edits_keep_whole two in_itself whole nothing_refuses) level at

@@ -30,7 +30,7 @@ lives_changed change false o = refl
 
 -- ---- other contents
 
-what_children : (change : What → What) (here : Bool) (o : Option Entry) → children_of (if here then option_map (with_what change) o else o) ≡ children_of o
+pub what_children : (change : What → What) (here : Bool) (o : Option Entry) → children_of (if here then option_map (with_what change) o else o) ≡ children_of o
 what_children change true None = refl
 what_children change true (Some entry) = refl
 what_children change false o = refl
@@ -66,7 +66,7 @@ none_at number None = refl
 none_at number (Some entry) = none_without number entry.children
 
 -- a node that leaves its parent
-abbrev left : State → (number : ℕ) → (parent : Option ℕ) → State
+abbrev pub left : State → (number : ℕ) → (parent : Option ℕ) → State
 left state number parent = changed_if state parent (with_children (without number))
 
 module _ (state : State) (number : ℕ) where
@@ -78,7 +78,7 @@ module _ (state : State) (number : ℕ) where
   left_parents None child = refl
   left_parents (Some parent) child = children_parent (without number) (nat_eq child parent) (state.node_at child)
 
-  left_lives : (parent : Option ℕ) (other : ℕ) → lives (left state number parent) other ≡ lives state other
+  pub left_lives : (parent : Option ℕ) (other : ℕ) → lives (left state number parent) other ≡ lives state other
   left_lives None other = refl
   left_lives (Some parent) other = lives_changed (with_children (without number)) (nat_eq other parent) (state.node_at other)
 
@@ -151,7 +151,7 @@ module _ (state : State) (whole : IsWhole state) (number : ℕ) where
 
 -- ---- a node is moved
 
-parent_children : (parent : ℕ) (here : Bool) (o : Option Entry) → children_of (if here then option_map (with_parent parent) o else o) ≡ children_of o
+pub parent_children : (parent : ℕ) (here : Bool) (o : Option Entry) → children_of (if here then option_map (with_parent parent) o else o) ≡ children_of o
 parent_children parent true None = refl
 parent_children parent true (Some entry) = refl
 parent_children parent false o = refl

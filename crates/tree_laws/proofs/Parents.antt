@@ -1,10 +1,7 @@
 -- Each child of a node of a whole document has it as its parent.
-use Rattle.std.proofs.Common.{◌≤◌, ℕ, arith}
-use Rattle.std.specs.Prelude.{option_to_list}
+use Rattle.std.proofs.Common.{arith}
 use Rattle.dom_store.specs.Standing.{children_at, parent_at}
-use Rattle.dom_store.specs.State.{State}
 use Rattle.tree_laws.specs.Laws.{ChildrenHaveParents}
-use Rattle.tree_laws.specs.Wholeness.{times}
 use Rattle.tree_laws.proofs.Times.{the_one, times_there}
 
 pub children_have_parents : ChildrenHaveParents

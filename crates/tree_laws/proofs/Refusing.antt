@@ -1,18 +1,20 @@
 -- What holds where an edit isn't refused.
-use Rattle.std.proofs.Common.{◌≡◌, ◌∙◌, ℕ, ◌+◌, ◌<◌, ◌≤◌, Bool, true, false, List, [], ◌∷◌, length, refl, ap, sym, Option, Some, None, inl, inr}
-use Rattle.std.specs.Prelude.{nat_eq, nat_lt, not, ◌≢◌, ◌||◌, ◌&&◌, ⊤, is_some}
-use Rattle.std.specs.List.{list_all}
+use Rattle.std.proofs.Common.{◌≡◌, ◌∙◌, ℕ, zero, suc, ◌+◌, ◌-◌, ◌<◌, ◌≤◌, Bool, true, false, List, [], ◌∷◌, length, get_or, refl, ap, sym, arith, Option, Some, None, option_map, if◌then◌else◌, inl, inr}
+use Rattle.std.specs.Prelude.{nat_eq, nat_lt, not, ◌≢◌, ◌||◌, ◌&&◌, ⊤, is_some, fold, min, position}
+use Rattle.std.specs.List.{Contains, list_all, list_any, position_or_len}
 use Rattle.std.proofs.lemmas.Bool.{and_parts, cases_lt, eqb-false, ltb-false, not-false, or_parts, false≢true}
 use Rattle.std.proofs.lemmas.Option.{none-some}
 use Rattle.html_read.specs.Values.{Node}
 use Rattle.style_types.specs.declared.value.Declaration.{Declaration}
 use Rattle.dom_store.specs.declared.error.EditError.{EditError}
-use Rattle.dom_store.specs.declared.error.EditError.TheVariants.{NoNode, IsRoot, TooManyNodes}
-use Rattle.dom_store.specs.State.{Entry, State}
-use Rattle.dom_store.specs.Standing.{lives}
+use Rattle.dom_store.specs.declared.error.EditError.TheVariants.{Inside, NoNode, IsRoot, TooDeep, TooManyNodes}
+use Rattle.dom_store.specs.State.{Entry, State, greatest_depth}
+use Rattle.dom_store.specs.Opening.{depths}
+use Rattle.dom_store.specs.Standing.{below_levels, depth_at, inclusive_ancestors, lives}
 use Rattle.dom_store.specs.Edits.{insert, move_to}
-use Rattle.dom_store.specs.Refusals.{first_of, no_node, reasons, refusal, refused_if, room_left}
+use Rattle.dom_store.specs.Refusals.{first_of, least, lesser, no_node, reasons, refusal, refused_if, room_left}
 use Rattle.tree_laws.specs.Wholeness.{IsWhole}
+use Rattle.tree_laws.proofs.Levels.{none_contained}
 
 -- none of the reasons is there
 abbrev AllNone : List (Option EditError) → Type 0
@@ -45,6 +47,62 @@ insert_passes state parent index nodes own accepted =
       lives_named state parent [] none.0,
       ltb-false (room_left state) (length nodes) (not_refused (nat_lt (room_left state) (length nodes)) (TooManyNodes (state.next + room_left state)) none.1.1.1.1.0),
     )
+
+-- ---- none too deep
+
+unmapped : {A B : Type 0} (f : A → B) (o : Option A) → option_map f o ≡ None → o ≡ None
+unmapped f None is = refl
+unmapped f (Some value) is = absurd (none-some (f value) (sym is))
+
+unchosen : {A : Type 0} (b : Bool) (value : A) → (if b then Some value else None) ≡ None → b ≡ false
+unchosen true value is = absurd (none-some value (sym is))
+unchosen false value is = refl
+
+-- where none passes up to the end, the first doesn't, nor do the others
+passes_later : (test : ℕ → Bool) (first : ℕ) (others : List ℕ) (b : Bool) → test first ≡ b → length (first ∷ others) ≤ position_or_len test (first ∷ others) → (test first ≡ false) × (length others ≤ position_or_len test others)
+passes_later test first others true is all = absurd (let none : position_or_len test (first ∷ others) ≡ 0 = rw is refl in omega (arith, all, none))
+passes_later test first others false is all = (is, let more : position_or_len test (first ∷ others) ≡ 1 + position_or_len test others = rw is refl in omega (arith, all, more))
+
+none_passes : (test : ℕ → Bool) (numbers : List ℕ) → length numbers ≤ position_or_len test numbers → (place : ℕ) → place < length numbers → test (get_or numbers place 0) ≡ false
+none_passes test [] all place within = absurd (omega (arith, within))
+none_passes test (first ∷ others) all zero within = (passes_later test first others (test first) refl all).0
+none_passes test (first ∷ others) all (suc place) within = none_passes test others (passes_later test first others (test first) refl all).1 place (omega (arith, within))
+
+-- inserted nodes stand no deeper than they may
+pub insert_shallow : (state : State) (parent index : ℕ) (nodes : List Node) (own : List (List Declaration)) → refusal state (insert parent index nodes own) ≡ None
+    → (place : ℕ) → place < length (depths nodes) → depth_at state parent + get_or (depths nodes) place 0 ≤ greatest_depth
+insert_shallow state parent index nodes own accepted place within =
+    let test : ℕ → Bool = λ depth. nat_lt greatest_depth (depth_at state parent + depth) in
+    let none = all_none (reasons state (insert parent index nodes own)) accepted in
+    let no_place : position test (depths nodes) ≡ None = unmapped (λ place. TooDeep (state.next + place)) (position test (depths nodes)) none.1.1.1.1.1.0 in
+    let all : length (depths nodes) ≤ position_or_len test (depths nodes) =
+    ltb-false (position_or_len test (depths nodes)) (length (depths nodes)) (unchosen (nat_lt (position_or_len test (depths nodes)) (length (depths nodes))) (position_or_len test (depths nodes)) no_place) in
+    ltb-false greatest_depth (depth_at state parent + get_or (depths nodes) place 0) (none_passes test (depths nodes) all place within)
+
+some_least : (number : ℕ) (numbers : List ℕ) → fold lesser (Some number) numbers ≡ None → ⊥
+some_least number [] is = none-some number (sym is)
+some_least number (other ∷ numbers) is = some_least (min number other) numbers is
+
+no_least : (numbers : List ℕ) → least numbers ≡ None → (number : ℕ) → Contains numbers number → ⊥
+no_least [] is number there = none_contained number there
+no_least (first ∷ numbers) is number there = some_least first numbers is
+
+-- what holds where a node is moved: it isn't above its new parent, and nothing below it comes to stand too deep
+pub record Moves (state : State) (number parent : ℕ) : Type 0 where
+  pub parent_lives : lives state parent ≡ true
+  pub apart : list_any (nat_eq number) (inclusive_ancestors state parent) ≡ false
+  pub shallow : (other : ℕ) → Contains (below_levels (greatest_depth - depth_at state parent) greatest_depth state number) other → ⊥
+
+pub moves : (state : State) (number parent index : ℕ) → refusal state (move_to number parent index) ≡ None → Moves state number parent
+moves state number parent index accepted =
+    let none = all_none (reasons state (move_to number parent index)) accepted in
+    let both = and_parts (lives state number) (lives state parent && true) (not-false (lives state number && (lives state parent && true)) (not_refused (not (lives state number && (lives state parent && true))) NoNode none.0)) in
+    record {
+      parent_lives = (and_parts (lives state parent) true both.1).0;
+      apart = not_refused (list_any (nat_eq number) (inclusive_ancestors state parent)) Inside none.1.1.1.1.0;
+      shallow = no_least (below_levels (greatest_depth - depth_at state parent) greatest_depth state number)
+          (unmapped TooDeep (least (below_levels (greatest_depth - depth_at state parent) greatest_depth state number)) none.1.1.1.1.1.1.0);
+    }
 
 -- a node that lives has a number that was given
 pub lives_below : (state : State) → IsWhole state → (number : ℕ) → lives state number ≡ true → number < state.next

@@ -37,6 +37,17 @@ pub times-without : (number child : ℕ) (children : List ℕ) → times child (
 times-without number child [] = omega arith
 times-without number child (other ∷ children) = kept number child other children (nat_eq other number) refl (times-without number child children)
 
+more_kept : (number child other : ℕ) (others : List ℕ) → child ≢ number → times child others ≤ times child (without number others) → times child (other ∷ others) ≤ times child (without number (other ∷ others))
+more_kept number child other others apart more = elim (eqb_tells other number) [
+  | inl (here, same) ↦ rw here (omega (arith, more, hit_apart child other (λ is. apart (is ∙ same))))
+  | inr (there, differ) ↦ rw there (omega (arith, more))
+]
+
+-- the others stay
+pub others_without : (number child : ℕ) (children : List ℕ) → child ≢ number → times child children ≤ times child (without number children)
+others_without number child [] apart = omega arith
+others_without number child (other ∷ children) apart = more_kept number child other children apart (others_without number child children apart)
+
 left : (number other : ℕ) (others : List ℕ) → times number (without number others) ≡ 0 → times number (without number (other ∷ others)) ≡ 0
 left number other others none = elim (eqb_tells other number) [
   | inl (here, same) ↦ rw here none

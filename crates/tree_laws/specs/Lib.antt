@@ -1,3 +1,4 @@
 pub mod Laws
+pub mod Reached
 pub mod Weight
 pub mod Wholeness

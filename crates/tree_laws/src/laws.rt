@@ -1,6 +1,7 @@
 //! What holds of documents, as they are opened and as they are edited.
 
 ghost use Rattle.tree_laws.specs.Laws.{AcceptedAreDone, ChildrenHaveParents, CountsAreTotals, EditsKeepWhole, EditsWeigh, OpenedAreWhole, TreesWeighNoMore};
+ghost use Rattle.tree_laws.specs.Reached.{EditsKeepReached, OpenedAreReached};
 
 /// Each child of a node of a whole document has that node as its parent.
 pub fn children_have_parents()
@@ -37,4 +38,15 @@ pub fn accepted_edits_keep_documents_whole()
 /// edit brings.
 pub fn accepted_edits_weigh()
     ensures { EditsWeigh }
+{}
+
+/// In a document that was opened each node that lives stands below `html`, at a level that is below the greatest depth.
+pub fn opened_documents_are_reached()
+    ensures { OpenedAreReached }
+{}
+
+/// So it does in a whole document after each edit that isn't refused, where nodes that are inserted are those of a fragment, each with its
+/// own declarations.
+pub fn accepted_edits_keep_documents_reached()
+    ensures { EditsKeepReached }
 {}
