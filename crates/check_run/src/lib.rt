@@ -8,6 +8,8 @@ mod running;
 #[cfg(test)]
 mod runs;
 #[cfg(test)]
+mod scripts;
+#[cfg(test)]
 mod shown;
 #[cfg(test)]
 mod streams;

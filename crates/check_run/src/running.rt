@@ -77,11 +77,23 @@ pub(crate) fn check(
     input: &[u8],
     due: &str,
 ) -> Result<(), Fail> {
+    check_ended(rt, name, texts, input, due, status_of(due))
+}
+
+/// The same with this status.
+pub(crate) fn check_ended(
+    rt: &(impl Abort + AllocGlobal),
+    name: &str,
+    texts: &[&str],
+    input: &[u8],
+    due: &str,
+    status: Status,
+) -> Result<(), Fail> {
     let words = words(rt, texts)?;
     let mut sink = SteadySink::new(rt.alloc());
     let ended = run_with_faces(rt, &words, &mut SteadySource::new(input), &mut sink)?;
     assert_eq!(rt; str::from_utf8(sink.bytes())?, due, "{name}: {texts:?}");
-    assert_eq!(rt; ended, status_of(due), "{name}: {texts:?}");
+    assert_eq!(rt; ended, status, "{name}: {texts:?}");
     Ok(())
 }
 

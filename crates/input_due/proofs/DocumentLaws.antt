@@ -1,5 +1,5 @@
 -- What is due for a document, by what was read of it.
-use Rattle.std.proofs.Common.{◌≡◌, ◌↔◌, ◌⊎◌, ◌∙◌, refl, sym, ap, subst, arith, inl, inr, ℕ, ◌+◌, ◌-◌, ◌<◌, ◌≤◌, Bool, true, false, List, ◌++◌, length, drop, Option, Some, None, Ok, Err}
+use Rattle.std.proofs.Common.{◌≡◌, ◌↔◌, ◌⊎◌, ◌∙◌, refl, sym, ap, subst, arith, inl, inr, ℕ, ◌-◌, ◌<◌, ◌≤◌, Bool, true, false, List, length, drop, Option, Some, Ok, Err}
 use Rattle.std.specs.Prelude.{IfOk, Result, codes, ⊤}
 use Rattle.std.proofs.lemmas.List.{length-drop}
 use Rattle.std.proofs.lemmas.Option.{same_Some}
@@ -13,7 +13,7 @@ use Rattle.style_types.specs.Rule.{Ruling, Styling}
 use Rattle.reading.specs.Readers.{Read, ReadOr}
 use Rattle.html_tokens.specs.declared.error.Refusal.{Refusal}
 use Rattle.html_tokens.specs.declared.error.Refusal.TheVariants.{Syntax}
-use Rattle.html_tokens.specs.Error.{Fault, kind_word, syntax}
+use Rattle.html_tokens.specs.Error.{Fault, kind_word}
 use Rattle.html_read.specs.Error.{place_in}
 use Rattle.html_read.specs.Reading as reading
 use Rattle.html_read.specs.declared.node.ReadDocument.{ReadDocument}
@@ -37,7 +37,7 @@ use Rattle.session.specs.declared.session.Session.{Session}
 use Rattle.edit_job.specs.Refusal.{refusal}
 use Rattle.edit_job.specs.Steps.{AreSteps, AreStepsIn}
 use Rattle.input_due.specs.Due.{End, Done, Refused, IsDueBy, IsOf, cause_word, node_of, not_opened, open_word, script_word, style_word}
-use Rattle.input_due.specs.Input.{IsDueOfDocument, IsDueOfFault, IsDueOfInput, IsDueOfOpened, IsDueOfRead, IsDueOfSteps, IsDueOfStyling, IsDueOfTail, IsDueOfWhole, longest_input, placed_from, steps_behind}
+use Rattle.input_due.specs.Input.{IsDueOfDocument, IsDueOfInput, IsDueOfOpened, IsDueOfRead, IsDueOfSteps, IsDueOfStyling, IsDueOfTail, IsDueOfWhole, longest_input, placed_from, steps_behind}
 use Rattle.input_due.specs.Document.{read_at}
 use Rattle.input_due.specs.declared.due.Due.{Due}
 use Rattle.input_due.specs.declared.due.Due.TheVariants as dues

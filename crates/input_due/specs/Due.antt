@@ -78,6 +78,11 @@ module _ {I : Type 0} {D : I → Type 0} where
   abbrev pub not_opened : OpenError → Option (Due I D)
   not_opened error = option_map (λ node. dues.Refused (causes.Opening error) node) (told_node error)
 
+  -- steps are due, and no refusal
+  abbrev pub HasSteps : Due I D → Type 0
+  HasSteps (dues.Steps session script) = ⊤
+  HasSteps (dues.Refused cause place) = ⊥
+
   -- steps can be gone through over a session
   pub record AreReady (faces : List (Option Table)) (session : Session I D) (steps : List StepAt) : Type 0 where
     pub sound : IsSound faces session

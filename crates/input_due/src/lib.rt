@@ -3,6 +3,10 @@
 
 mod document;
 mod due;
+mod error;
+mod input;
 
 pub use document::due_of_document;
 pub use due::{Cause, Due};
+pub use error::InputError;
+pub use input::due_of_input;

@@ -1,225 +1,79 @@
--- What stands after each step, from what the steps below it give.
-use Rattle.std.proofs.Common.{◌≡◌, refl, sym, ap, ◌∙◌, subst, arith, ◌⊎◌, inl, inr, ℕ, ◌<◌, ◌≤◌, List, ◌++◌, append-nil, length, length-append, Option, Some, None, Ok, Err}
-use Rattle.std.specs.Prelude.{codes, ⊤}
-use Rattle.std.specs.Io.KnownBytes.{Appends, Consumes, IsAtEnd}
-use Rattle.std.proofs.KnownBytes.{Keeps-refl}
-use Rattle.std.proofs.lemmas.Option.{same_Some}
+-- What is due for words and an input, from what is due for its parts.
+use Rattle.std.proofs.Common.{◌≡◌, ◌∙◌, refl, sym, ap, subst, inl, inr, true, ℕ, List, Option}
+use Rattle.std.specs.Prelude.{◌↔◌, OnOk, Result, ⊤}
+use Rattle.std.specs.Global.{Vec}
+use Rattle.std.specs.Io.KnownBytes.{Appends}
 use Rattle.io_edge.specs.Edge.{AppendsFront}
-use Rattle.io_edge.proofs.Growth.{front_of_kept}
-use Rattle.wm_units.specs.declared.view.View.{View}
-use Rattle.css_values.specs.declared.error.Refusal as css
-use Rattle.css_sheet.specs.Styled.{Placed, styling}
+use Rattle.io_edge.specs.declared.error.WriteError.{WriteError}
 use Rattle.face_api.specs.Table.{Table}
-use Rattle.style_types.specs.Rule.{Styling}
-use Rattle.reading.specs.Readers.{Read, ReadOr}
-use Rattle.html_tokens.specs.declared.error.Refusal.{Refusal}
-use Rattle.html_tokens.specs.declared.error.Refusal.TheVariants.{Syntax}
-use Rattle.html_tokens.specs.Error.{Fault}
-use Rattle.html_read.specs.Error.{place_in}
-use Rattle.html_read.specs.Reading as reading
-use Rattle.html_read.specs.Values.{Node, Whole}
-use Rattle.listing.specs.Listing.{listing}
-use Rattle.place_map.specs.Placed.{Page}
-use Rattle.session.specs.Opening.{CanOpen, HasOneAnswer, IsRefused, styled_as_read}
-use Rattle.session.specs.State.{page_of}
-use Rattle.session.specs.declared.error.OpenError.{OpenError}
-use Rattle.session.specs.declared.error.OpenError.TheVariants as open_errors
-use Rattle.wm_run.specs.Command.{IsCommand, IsNoCommand}
-use Rattle.html_tokens.specs.Error.{kind_word}
-use Rattle.wm_run.specs.Due.{refusal, cause_word, node_of, not_opened, open_word, style_word, status_of, bytes_of, IsOnly, IsDueAlone}
-use Rattle.wm_run.specs.Job.{usage_line, longest_input, IsDueOfFault, IsDueOfStyles, IsDueOfStyling, IsDueOfWhole, IsDueOfTail, IsDueOfRead, IsDueOfDocument, IsDueOfInput, IsDue, Stands, IsBroken, Gives}
-use Rattle.wm_run.specs.declared.due.Due.{Due}
-use Rattle.wm_run.specs.declared.due.Due.TheVariants as dues
-use Rattle.wm_run.specs.declared.due.Cause.TheVariants as causes
+use Rattle.face_api.specs.Faces.{faces_of}
+use Rattle.face_api.specs.declared.face.Face.{Ghosts}
+use Rattle.wm_units.specs.declared.view.View.{View}
+use Rattle.cascade.specs.Index.{index_rules}
+use Rattle.dom_store.specs.State.{State, state_of}
+use Rattle.edit_script.specs.declared.step.ScriptLine.{ScriptLine}
+use Rattle.edit_script.specs.Views.{steps_of}
+use Rattle.edit_job.specs.Steps.{AreStepsIn, HaveOneEnd}
+use Rattle.generator.specs.Generator.{gen_input}
+use Rattle.input_due.specs.Due.{End, IsDueBy, IsOf}
+use Rattle.input_due.specs.Input.{IsDueOfDocument}
+use Rattle.input_due.specs.declared.due.Due.{Due}
+use Rattle.input_due.specs.declared.due.Due.TheVariants as dues
+use Rattle.command_line.specs.Command.{IsJob}
+use Rattle.command_line.specs.declared.job.Job.{Job}
+use Rattle.wm_run.specs.Job.{IsDue, IsDueOfGenerated, IsDueOfJob, IsNoJob, counted, usage_line, with_status}
+use Rattle.wm_run.specs.Standing.{Stands, ended}
+use Rattle.session.specs.declared.session.Session.{Session}
 use Rattle.wm_run.specs.declared.status.Status.{Status}
-use Rattle.wm_run.specs.declared.status.Status.TheVariants.{Done, Usage, Refused, Memory, ReadFault, WriteFault}
+use Rattle.wm_run.specs.declared.status.Status.TheVariants.{Done, Usage}
+use Rattle.wm_run.proofs.StandingLaws.{IsOnly, on_ok, stands_told}
 
--- ---- what is written
+-- ---- the generated input
 
--- where nothing was written, a front of anything was
-pub nothing_written : (D : Status → List ℕ → Type 0) (sink : Option (List ℕ)) → Stands D sink sink Memory
-nothing_written D sink status due d = front_of_kept sink sink due (Keeps-refl sink)
+module _ {I : Type 0} {D : I → Type 0} (members : (x : I) → Ghosts (D x)) where
+  -- what is due is one text
+  pub one_text : HaveOneEnd → (due : Due I D) (end_ other_end : End) (one other : List ℕ) → IsOf members due end_ one → IsOf members due other_end other → other ≡ one
+  one_text ends (dues.Steps session script) end_ other_end one other (is, last, steps) (is', last', steps') =
+      (ends (faces_of members session.faces) session.view (index_rules session.rules) (state_of session.document) (steps_of script.items) last last' one other steps steps').1
+  one_text ends (dues.Refused cause place) end_ other_end one other (is, d) (is', d') = d' ∙ sym d
 
--- a status that is no broken one is that of the answer
-pub whole_answer : (status : Status) (due : List ℕ) (old new : Option (List ℕ)) (result : Status) → Gives status due old new result → (IsBroken result → ⊥) → (result ≡ status) × Appends old new due
-whole_answer status due old new result (inl g) b = g
-whole_answer status due old new result (inr g) b = absurd (b g.0)
+  -- what was told of it is that
+  pub told_text : HaveOneEnd → (IsDueWith : End → List ℕ → Type 0) (due : Due I D) (end_ : End) (told : List ℕ) → IsDueBy members IsDueWith due → IsOf members due end_ told
+      → (other_end : End) (other : List ℕ) → IsDueWith other_end other → other ≡ told
+  told_text ends IsDueWith due end_ told by is other_end other also = one_text ends due end_ other_end told other is ((by other_end other).0 also)
 
-pub broken_answer : (status : Status) (due : List ℕ) (old new : Option (List ℕ)) (result : Status) → Gives status due old new result → (result ≡ status → ⊥) → AppendsFront old new due
-broken_answer status due old new result (inl g) n = absurd (n g.0)
-broken_answer status due old new result (inr g) n = g.1
+  -- a run that went through steps stands
+  pub stands_steps : (due : Due I D) (session : Session I D) (script : Vec ScriptLine) (lines : List ScriptLine) (state : State) (old new : Option (List ℕ)) (written : Result ⊤ WriteError)
+      → due ≡ dues.Steps session script → lines ≡ script.items
+      → OnOk written ((told : List ℕ) × AreStepsIn (faces_of members session.faces) session (steps_of lines) state told × Appends old new told)
+      → ((last : State) (told : List ℕ) → AreStepsIn (faces_of members session.faces) session (steps_of lines) last told → AppendsFront old new told)
+      → Stands (with_status (IsOf members due)) old new (ended written Done)
+  stands_steps due session script lines state old new written is same whole front =
+      subst (λ (d : Due I D). Stands (with_status (IsOf members d)) old new (ended written Done)) (sym is)
+      (stands_told (IsOf members (dues.Steps session script)) old new written
+      (on_ok written whole (λ w. (w.0, (refl, state, subst (λ (l : List ScriptLine). AreStepsIn (faces_of members session.faces) session (steps_of l) state w.0) same w.1), w.2)))
+      (λ end_ told q. front q.1 told (subst (λ (l : List ScriptLine). AreStepsIn (faces_of members session.faces) session (steps_of l) q.1 told) (sym same) q.2)))
 
--- a status that goes with bytes that are due
-abbrev pub IsSettled : Status → Type 0
-IsSettled Done = ⊤
-IsSettled Usage = ⊤
-IsSettled Refused = ⊤
-IsSettled Memory = ⊥
-IsSettled ReadFault = ⊥
-IsSettled WriteFault = ⊥
-
--- an answer stands where it alone is due
-pub stands_only : (D : Status → List ℕ → Type 0) (status : Status) (due : List ℕ) (old new : Option (List ℕ)) (result : Status)
-    → IsSettled status → IsOnly D status due → Gives status due old new result → Stands D old new result
-stands_only D status due old new Done w o g = let a = whole_answer status due old new Done g (λ b. b) in (due, subst (λ (s : Status). D s due) (sym a.0) o.is, a.1)
-stands_only D status due old new Usage w o g = let a = whole_answer status due old new Usage g (λ b. b) in (due, subst (λ (s : Status). D s due) (sym a.0) o.is, a.1)
-stands_only D status due old new Refused w o g = let a = whole_answer status due old new Refused g (λ b. b) in (due, subst (λ (s : Status). D s due) (sym a.0) o.is, a.1)
-stands_only D status due old new ReadFault w o g = absurd (subst IsSettled (sym (whole_answer status due old new ReadFault g (λ b. b)).0) w)
-stands_only D status due old new WriteFault w o g = λ s d q. subst (λ (l : List ℕ). AppendsFront old new l) (sym (o.only s d q)) (broken_answer status due old new WriteFault g (λ e. subst IsSettled (sym e) w))
-stands_only D status due old new Memory w o g = λ s d q. subst (λ (l : List ℕ). AppendsFront old new l) (sym (o.only s d q)) (broken_answer status due old new Memory g (λ e. subst IsSettled (sym e) w))
-
-settled : (due : Due) → IsSettled (status_of due)
-settled (dues.Page placed) = tt
-settled (dues.Refused cause place) = tt
-
-pub stands_due : (D : Status → List ℕ → Type 0) (due : Due) (old new : Option (List ℕ)) (result : Status) → IsDueAlone D due → Gives (status_of due) (bytes_of due) old new result → Stands D old new result
-stands_due D due old new result o g = stands_only D (status_of due) (bytes_of due) old new result (settled due) o g
-
--- a status that isn't broken is that of what is due
-pub ends_so : (status : Status) (due : List ℕ) (old new : Option (List ℕ)) (result : Status) → Gives status due old new result → (IsBroken result → ⊥) → result ≡ status
-ends_so status due old new result g b = (whole_answer status due old new result g b).0
-
--- what is due is never a usage line, nor a read fault
-pub no_usage : (due : Due) → status_of due ≡ Usage → ⊥
-no_usage (dues.Page placed) e = absurd (cc)
-no_usage (dues.Refused cause place) e = absurd (cc)
-
-pub no_read_fault : (due : Due) → status_of due ≡ ReadFault → ⊥
-no_read_fault (dues.Page placed) e = absurd (cc)
-no_read_fault (dues.Refused cause place) e = absurd (cc)
-
--- ---- a document
-
--- a document that can be opened gives the listing of its page, and nothing else is due for it
-pub only_page : (faces : List (Option Table)) (view : View) (nodes : List Node) (styles : Styling) (page : Page) → CanOpen nodes styles.own styles.rules → HasOneAnswer
-    → page ≡ page_of faces view (styled_as_read nodes styles.own styles.rules) → IsOnly (IsDueOfStyles faces view nodes styles) Done (listing page)
-only_page faces view nodes styles page can one is = record { is = (can, ap listing is); only = only } where
-  only : (s : Status) (d : List ℕ) → IsDueOfStyles faces view nodes styles s d → d ≡ listing page
-  only Done d q = q.1 ∙ ap listing (sym is)
-  only Refused d q = absurd ((one nodes styles.own styles.rules q.0 q.1).0 can)
-  only Usage d q = absurd q
-  only Memory d q = absurd q
-  only ReadFault d q = absurd q
-  only WriteFault d q = absurd q
-
--- a document that is refused gives its line
-pub only_not_opened : (faces : List (Option Table)) (view : View) (nodes : List Node) (styles : Styling) (error : OpenError) → IsRefused nodes styles.own styles.rules error → HasOneAnswer
-    → IsOnly (IsDueOfStyles faces view nodes styles) Refused (refusal (cause_word (causes.Opening error)) (node_of error))
-unfolding cause_word
-only_not_opened faces view nodes styles error refused one = record { is = (error, refused, refl); only = only } where
-  only : (s : Status) (d : List ℕ) → IsDueOfStyles faces view nodes styles s d → d ≡ refusal (open_word error) (node_of error)
-  only Done d q = absurd ((one nodes styles.own styles.rules error refused).0 q.0)
-  only Refused d q = q.2 ∙ ap (λ (e : OpenError). refusal (open_word e) (node_of e)) ((one nodes styles.own styles.rules error refused).1 q.0 q.1)
-  only Usage d q = absurd q
-  only Memory d q = absurd q
-  only ReadFault d q = absurd q
-  only WriteFault d q = absurd q
-
--- what is told of a document that can't be opened is due for it
-pub due_of_error : (faces : List (Option Table)) (view : View) (nodes : List Node) (styles : Styling) (error : OpenError) (due : Due) → not_opened error ≡ Some due
-    → (error ≡ open_errors.Memory) ⊎ IsRefused nodes styles.own styles.rules error → HasOneAnswer → IsDueAlone (IsDueOfStyles faces view nodes styles) due
-due_of_error faces view nodes styles error due is opens one = by error is opens
-  where
-    told : (e : OpenError) → dues.Refused (causes.Opening e) (node_of e) ≡ due → IsRefused nodes styles.own styles.rules e → IsDueAlone (IsDueOfStyles faces view nodes styles) due
-    told e same refused = subst (λ (d : Due). IsDueAlone (IsDueOfStyles faces view nodes styles) d) same (only_not_opened faces view nodes styles e refused one)
-
-    by : (e : OpenError) → not_opened e ≡ Some due → (e ≡ open_errors.Memory) ⊎ IsRefused nodes styles.own styles.rules e → IsDueAlone (IsDueOfStyles faces view nodes styles) due
-    by open_errors.Memory is' opens' = absurd cc
-    by (open_errors.TooManyNodes n) is' (inl memory) = absurd cc
-    by (open_errors.TooManyNodes n) is' (inr refused) = told (open_errors.TooManyNodes n) (same_Some _ due is') refused
-    by (open_errors.TooDeep n) is' (inl memory) = absurd cc
-    by (open_errors.TooDeep n) is' (inr refused) = told (open_errors.TooDeep n) (same_Some _ due is') refused
-    by (open_errors.TooManyOrthogonal n) is' (inl memory) = absurd cc
-    by (open_errors.TooManyOrthogonal n) is' (inr refused) = told (open_errors.TooManyOrthogonal n) (same_Some _ due is') refused
-    by (open_errors.BlockInInline n) is' (inl memory) = absurd cc
-    by (open_errors.BlockInInline n) is' (inr refused) = told (open_errors.BlockInInline n) (same_Some _ due is') refused
-
--- ---- its styles
-
-pub only_no_styles : (faces : List (Option Table)) (view : View) (document : Whole) (kind k : css.Refusal) (place p : ℕ) → styling document ≡ Err (k, p) → kind ≡ k → place ≡ p
-    → IsOnly (IsDueOfWhole faces view document) Refused (refusal (cause_word (causes.Style kind)) place)
-unfolding cause_word
-only_no_styles faces view document kind k place p e is at =
-    subst (λ (r : Placed Styling). IsOnly (IsDueOfStyling faces view document.nodes r) Refused (refusal (style_word kind) place))
-    (sym (e ∙ ap (λ (r : css.Refusal). Err (r, p)) (sym is) ∙ ap (λ (n : ℕ). Err (kind, n)) (sym at)))
-    (record { is = (refl, refl); only = λ s d q. q.1 })
-
-pub styles_read : (faces : List (Option Table)) (view : View) (document : Whole) (styles : Styling) (due : Due) → styling document ≡ Ok styles → IsDueAlone (IsDueOfStyles faces view document.nodes styles) due
-    → IsDueAlone (IsDueOfWhole faces view document) due
-styles_read faces view document styles due e o = subst (λ (p : Placed Styling). IsDueAlone (IsDueOfStyling faces view document.nodes p) due) (sym e) o
-
--- a fault gives its line
-only_fault : (size : ℕ) (kind : Refusal) (left : List ℕ) (place : ℕ) → place ≡ place_in size left → IsOnly (IsDueOfFault size (kind, left)) Refused (refusal (cause_word (causes.Document kind)) place)
-unfolding cause_word
-only_fault size kind left place e = record {
-  is = (refl, ap (λ (p : ℕ). refusal (kind_word kind) p) e);
-  only = λ s d q. q.1 ∙ ap (λ (p : ℕ). refusal (kind_word kind) p) (sym e);
-}
-
--- what is read behind a document, and of an input
-pub only_tail : (faces : List (Option Table)) (view : View) (size : ℕ) (document : Whole) (read : Read ⊤) (kind : Refusal) (left : List ℕ) (place : ℕ) → kind ≡ Syntax → read ≡ Err left → place ≡ place_in size left
-    → IsOnly (IsDueOfTail faces view size document read) Refused (refusal (cause_word (causes.Document kind)) place)
-only_tail faces view size document read kind left place is e at =
-    subst (λ (k : Refusal). IsOnly (IsDueOfTail faces view size document read) Refused (refusal (cause_word (causes.Document k)) place)) (sym is)
-    (subst (λ (r : Read ⊤). IsOnly (IsDueOfTail faces view size document r) Refused (refusal (cause_word (causes.Document Syntax)) place)) (sym e)
-    (only_fault size Syntax left place at))
-
-pub tail_read : (faces : List (Option Table)) (view : View) (size : ℕ) (document : Whole) (read : Read ⊤) (rest : List ℕ) (due : Due) → read ≡ Ok (tt, rest) → IsDueAlone (IsDueOfWhole faces view document) due → IsDueAlone (IsDueOfTail faces view size document read) due
-tail_read faces view size document read rest due e o = subst (λ (r : Read ⊤). IsDueAlone (IsDueOfTail faces view size document r) due) (sym e) o
-
-pub only_refused : (faces : List (Option Table)) (view : View) (bytes : List ℕ) (kind : Refusal) (left : List ℕ) (place : ℕ) → reading.input bytes ≡ Err (kind, left) → place ≡ place_in (length bytes) left
-    → IsOnly (IsDueOfDocument faces view bytes) Refused (refusal (cause_word (causes.Document kind)) place)
-only_refused faces view bytes kind left place e at =
-    subst (λ (r : ReadOr Fault Whole). IsOnly (IsDueOfRead faces view bytes r) Refused (refusal (cause_word (causes.Document kind)) place)) (sym e) (only_fault (length bytes) kind left place at)
-
-pub document_read : (faces : List (Option Table)) (view : View) (bytes : List ℕ) (read : Whole × List ℕ) (due : Due) → reading.input bytes ≡ Ok read → IsDueAlone (IsDueOfRead faces view bytes (Ok read)) due → IsDueAlone (IsDueOfDocument faces view bytes) due
-document_read faces view bytes read due e o = subst (λ (r : ReadOr Fault Whole). IsDueAlone (IsDueOfRead faces view bytes r) due) (sym e) o
-
--- ---- an input
-
--- an input that is too long is refused
-pub only_too_long : (faces : List (Option Table)) (view : View) (input : List ℕ) → longest_input < length input → IsOnly (IsDueOfInput faces view input) Refused (refusal (cause_word causes.TooLong) longest_input)
-unfolding cause_word
-only_too_long faces view input long = record { is = inl (long, refl, refl); only = only } where
-  only : (s : Status) (d : List ℕ) → IsDueOfInput faces view input s d → d ≡ refusal (codes "TooLong") longest_input
-  only s d (inl q) = q.2
-  only s d (inr q) = absurd (let short = q.0 in omega arith)
-
--- for an input that isn't too long what is due is what is due for the document
-pub only_short : (faces : List (Option Table)) (view : View) (input : List ℕ) (due : Due) → length input ≤ longest_input → IsDueAlone (IsDueOfDocument faces view input) due → IsDueAlone (IsDueOfInput faces view input) due
-only_short faces view input due short o = record { is = inr (short, o.is); only = only } where
-  only : (s : Status) (d : List ℕ) → IsDueOfInput faces view input s d → d ≡ bytes_of due
-  only s d (inl q) = absurd (let long = q.0 in omega arith)
-  only s d (inr q) = o.only s d q.1
-
--- what was taken of a source that tells its bytes begins them; taken to the end, they are all of them
-pub taken_front : (input taken : List ℕ) (new : Option (List ℕ)) → Consumes (Some input) new taken → length taken ≤ length input
-taken_front input taken None c = absurd c
-taken_front input taken (Some rest) c = let long = ap (λ (l : List ℕ). length l) c ∙ length-append taken rest in omega (arith, long)
-
-pub taken_all : (input taken : List ℕ) (new : Option (List ℕ)) → Consumes (Some input) new taken → IsAtEnd new → input ≡ taken
-taken_all input taken None c e = absurd c
-taken_all input taken (Some rest) c e = c ∙ ap (λ (l : List ℕ). taken ++ l) e ∙ append-nil taken
+-- the line of counts
+pub only_counted : (faces : List (Option Table)) (view : View) (count : ℕ) (written line : List ℕ) → (end_ : End) × IsDueOfDocument faces view true (gen_input count) end_ written
+    → ((end_ : End) (other : List ℕ) → IsDueOfDocument faces view true (gen_input count) end_ other → other ≡ written) → line ≡ counted count written → IsOnly (IsDueOfGenerated faces view count) Done line
+only_counted faces view count written line is one same = record { is = (refl, is.0, written, is.1, same); only = only } where
+  only : (s : Status) (d : List ℕ) → IsDueOfGenerated faces view count s d → d ≡ line
+  only s d q = q.4 ∙ ap (counted count) (one q.1 q.2 q.3) ∙ sym same
 
 -- ---- the words
 
--- words that are no command give the usage line
-pub only_usage : (faces : List (Option Table)) (words : List (List ℕ)) (input : List ℕ) → IsNoCommand words → IsOnly (IsDue faces words input) Usage usage_line
+-- words that give no job give the usage line
+pub only_usage : (faces : List (Option Table)) (words : List (List ℕ)) (input : List ℕ) → IsNoJob words → IsOnly (IsDue faces words input) Usage usage_line
 only_usage faces words input never = record { is = inl (never, refl, refl); only = only } where
   only : (s : Status) (d : List ℕ) → IsDue faces words input s d → d ≡ usage_line
   only s d (inl q) = q.2
   only s d (inr q) = absurd (never q.0 q.1)
 
--- for a command what is due is what is due for the input
-pub only_command : (faces : List (Option Table)) (words : List (List ℕ)) (view : View) (input : List ℕ) (due : Due)
-    → IsCommand words view → ((other : View) → IsCommand words other → other ≡ view)
-    → IsDueAlone (IsDueOfInput faces view input) due → IsDueAlone (IsDue faces words input) due
-only_command faces words view input due is one o = record { is = inr (view, is, o.is); only = only } where
-  only : (s : Status) (d : List ℕ) → IsDue faces words input s d → d ≡ bytes_of due
-  only s d (inl q) = absurd (q.0 view is)
-  only s d (inr q) = o.only s d (subst (λ (v : View). IsDueOfInput faces v input s d) (one q.0 q.1) q.2)
-
--- a run that ends with Usage wrote the whole usage line
-pub usage_given : (old new : Option (List ℕ)) (result : Status) → result ≡ Usage → Gives Usage usage_line old new result → Appends old new usage_line
-usage_given old new result e (inl g) = g.1
-usage_given old new result e (inr g) = absurd (subst IsBroken e g.0)
+-- for words that give a job what is due is what is due for that
+pub same_job : (faces : List (Option Table)) (words : List (List ℕ)) (job : Job) (input : List ℕ) → IsJob words job → ((other : Job) → IsJob words other → other ≡ job)
+    → (status : Status) (due : List ℕ) → IsDueOfJob faces job input status due ↔ IsDue faces words input status due
+same_job faces words job input is only status due = ((λ d. inr (job, is, d)), back) where
+  back : IsDue faces words input status due → IsDueOfJob faces job input status due
+  back (inl q) = absurd (q.0 job is)
+  back (inr q) = subst (λ (j : Job). IsDueOfJob faces j input status due) (only q.0 q.1) q.2

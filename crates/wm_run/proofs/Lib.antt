@@ -1,2 +1,2 @@
-pub mod CommandLaws
 pub mod JobLaws
+pub mod StandingLaws

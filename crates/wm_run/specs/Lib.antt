@@ -1,5 +1,2 @@
-pub mod Command
-pub mod Due
 pub mod Job
-pub mod Layout
-pub mod Reading
+pub mod Standing

@@ -2,14 +2,11 @@
 //! sink and a status.
 #![tactic(auto)]
 
-mod command;
-mod due;
+mod generated;
 mod job;
-mod layout;
 mod status;
 mod tell;
-mod words;
 
+pub use command_line::Words;
 pub use job::run;
 pub use status::Status;
-pub use words::Words;

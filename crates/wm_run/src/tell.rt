@@ -1,31 +1,48 @@
 //! What is due, written to a sink. Nothing else in this crate writes.
 
-ghost use Rattle.std.specs.Prelude.{◌≡◌, ◌≢◌, ◌++◌};
+ghost use Rattle.std.specs.Prelude.{◌≡◌};
 ghost use Rattle.io_edge.specs.Edge.{Rose};
-ghost use Rattle.wm_run.specs.Due.{status_of, bytes_of, refusal, cause_word};
-ghost use Rattle.wm_run.specs.Job.{usage_line, Gives, ended};
+ghost use Rattle.input_due.specs.Due.{HasSteps, IsOf, IsReady};
+ghost use Rattle.wm_run.specs.Job.{usage_line, with_status};
+ghost use Rattle.wm_run.specs.Standing.{Gives, IsEndOrBroken, IsSettled, Stands, ended};
 
-use crate::due::{Cause, Due};
 use crate::status::Status;
-use arrayvec::ArrayString;
+use edit_job::{refusal_line, tell_steps};
+use face_api::Face;
+use input_due::Due;
 use io_edge::{Sink, WriteError, write_all_of};
-use itoa::Buffer;
-use listing::write_listing;
+use std::sync::ledger::Ledger;
+use wm_units::Steps;
 
 const USAGE: &[u8] =
     b"usage: wm_layout layout|edit|modes|gen [--view-inline N] [--view-block N] [--count N]\n";
 
 /// Writes what is due, and answers how the run ends.
-pub(crate) fn tell<K: Sink>(due: &Due, sink: &mut K) -> Status
-    ensures gives { Gives (status_of due.now) (bytes_of due.now) (K.held sink.old) (K.held sink.new) result }
+pub(crate) fn tell<K: Sink, L: Ledger, M: Ledger>(
+    due: Due,
+    sink: &mut K,
+    prepared: &mut Steps<L>,
+    arranged: &mut Steps<M>,
+) -> Status
+    requires ready { IsReady ⟦<dyn Face as Face>⟧ due }
+    ensures stands { Stands (with_status (IsOf ⟦<dyn Face as Face>⟧ due)) (K.held sink.old) (K.held sink.new) result }
+    ensures ends { IsEndOrBroken result }
+    ensures done { result ≡ Status.Done → HasSteps due }
     ensures write_fault { result ≡ Status.WriteFault → Rose (K.faults sink.old) (K.faults sink.new) }
 {
     match due {
-        Due::Page(placed) => ended(write_listing(placed, sink), Status::Done),
-        Due::Refused { cause, place } => {
-            let line = refusal_line(*cause, *place);
-            ended(write_all_of(sink, line.as_bytes()), Status::Refused)
+        Due::Steps {
+            mut session,
+            script,
+        } => {
+            let written = tell_steps(&mut session, &script, sink, prepared, arranged);
+            ended(written, Status::Done)
         }
+        Due::Refused { cause, place } => tell_line(
+            refusal_line(cause.word(), place).as_bytes(),
+            sink,
+            Status::Refused,
+        ),
     }
 }
 
@@ -35,20 +52,16 @@ pub(crate) fn tell_usage<K: Sink>(sink: &mut K) -> Status
     ensures gives { Gives Status.Usage usage_line (K.held sink.old) (K.held sink.new) result }
     ensures write_fault { result ≡ Status.WriteFault → Rose (K.faults sink.old) (K.faults sink.new) }
 {
-    ended(write_all_of(sink, USAGE), Status::Usage)
+    tell_line(USAGE, sink, Status::Usage)
 }
 
-#[tactic(auto, unfolding(crate::specs::Due::refusal))]
-fn refusal_line(cause: Cause, place: usize) -> ArrayString<64>
-    ensures { result.bytes ≡ refusal (cause_word cause) place }
+/// Writes a line with which a run ends so.
+pub(crate) fn tell_line<K: Sink>(line: &[u8], sink: &mut K, status: Status) -> Status
+    requires settled { IsSettled status }
+    ensures gives { Gives status line.now (K.held sink.old) (K.held sink.new) result }
+    ensures write_fault { result ≡ Status.WriteFault → Rose (K.faults sink.old) (K.faults sink.new) }
 {
-    let mut line = ArrayString::new();
-    line.push_str("refused ");
-    line.push_str(cause.word());
-    line.push_str(" ");
-    line.push_str(Buffer::new().format(place));
-    line.push_str("\n");
-    line
+    ended(write_all_of(sink, line), status)
 }
 
 // How a run ends once its bytes are written.

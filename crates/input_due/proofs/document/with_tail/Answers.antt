@@ -1,5 +1,4 @@
-use Rattle.std.proofs.Common.{rules, ◌≡◌, ◌∙◌, ap, subst, sym, length, drop, true, false, Bool, Err, Some, None}
-use Rattle.std.specs.Prelude.{Option}
+use Rattle.std.proofs.Common.{rules, ◌≡◌, ◌∙◌, subst, sym, length, drop, Err}
 use Rattle.face_api.specs.Faces.{faces_of}
 use Rattle.html_read.specs.declared.error.HtmlError.{HtmlError}
 use Rattle.html_read.specs.Error.{TellsTail}

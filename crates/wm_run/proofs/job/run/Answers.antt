@@ -1,53 +1,46 @@
-use Rattle.std.proofs.Common.{◌≡◌, ◌∙◌, refl, sym, ap, subst, List, Option, Some, None, Err}
-use Rattle.std.proofs.KnownBytes.{Keeps-refl}
-use Rattle.wm_run.specs.declared.job.Failure.{Failure}
-use Rattle.wm_run.specs.Reading.{view_of}
+use Rattle.std.proofs.Common.{refl, sym, ap, subst, List, Option, Err}
 use Rattle.face_api.specs.Faces.{all_living}
 use Rattle.face_api.specs.Table.{Table}
-use Rattle.wm_run.specs.Due.{IsDueAlone}
-use Rattle.wm_run.specs.Job.{usage_line, IsDue, IsDueOfInput}
+use Rattle.command_line.specs.declared.error.WordsError.{WordsError}
+use Rattle.command_line.specs.declared.job.Job.{Job}
+use Rattle.wm_run.specs.Job.{IsDue, IsDueOfJob, Reads, usage_line}
+use Rattle.wm_run.specs.Standing.{Stands}
 use Rattle.wm_run.specs.declared.status.Status.TheVariants.{Usage}
-use Rattle.wm_run.proofs.CommandLaws.{command_takes, command_only, no_command}
-use Rattle.wm_run.proofs.JobLaws.{stands_only, stands_due, only_usage, only_command, usage_given, nothing_written}
+use Rattle.wm_run.proofs.JobLaws.{only_usage, same_job}
+use Rattle.wm_run.proofs.StandingLaws.{line_given, nothing_written, stands_by, stands_only}
 use Rattle.wm_run.proofs.job.run.Goals as goal
 
 pub returns-in_default-clause-job : goal.returns-in_default-clause-job
 returns-in_default-clause-job g c = λ input told. nothing_written (IsDue (all_living (λ vtable. (g.dyn-1.0.entry vtable).1) c.args.faces.items) c.args.words.now input) (g.K.Sink.held c.args.sink.now)
 
-pub returns-in_default-view_of-clause-job : goal.returns-in_default-view_of-clause-job
-returns-in_default-view_of-clause-job g c = λ input told.
-    let none : view_of c.args.words.now ≡ None = ap view_of (sym c.as_slice.ensures) ∙ sym c.in_default-view_of.ensures in
-    stands_only (IsDue (all_living (λ vtable. (g.dyn-1.0.entry vtable).1) c.args.faces.items) c.args.words.now input) Usage usage_line (g.K.Sink.held c.args.sink.now) (g.K.Sink.held c.tell_usage.new.sink) c.tell_usage.result
-    tt (only_usage (all_living (λ vtable. (g.dyn-1.0.entry vtable).1) c.args.faces.items) c.args.words.now input (no_command c.args.words.now none)) c.tell_usage.ensures.gives
-
-pub returns-in_default-view_of-clause-usage : goal.returns-in_default-view_of-clause-usage
-returns-in_default-view_of-clause-usage g c = λ e.
-    let none : view_of c.args.words.now ≡ None = ap view_of (sym c.as_slice.ensures) ∙ sym c.in_default-view_of.ensures in
-    (no_command c.args.words.now none, usage_given (g.K.Sink.held c.args.sink.now) (g.K.Sink.held c.tell_usage.new.sink) c.tell_usage.result e c.tell_usage.ensures.gives, refl)
-
-pub returns-in-Ok-due_of-clause-job : goal.returns-in-Ok-due_of-clause-job
-returns-in-Ok-due_of-clause-job g c = λ input told.
-    let found : view_of c.args.words.now ≡ Some c.in-Some.view = ap view_of (sym c.as_slice.ensures) ∙ sym c.in-Some.ensures in
+pub returns-in-Ok-read_words-clause-job : goal.returns-in-Ok-read_words-clause-job
+returns-in-Ok-read_words-clause-job g c = λ input told.
     let faces = all_living (λ vtable. (g.dyn-1.0.entry vtable).1) c.args.faces.items in
-    let P : List (Option Table) → Type 0 = λ own. IsDueAlone (IsDueOfInput own c.in-Some.view input) c.in-Ok-due_of.due in
-    stands_due (IsDue faces c.args.words.now input) c.in-Ok-due_of.due (g.K.Sink.held c.args.sink.now) (g.K.Sink.held c.tell.new.sink) c.tell.result
-    (only_command faces c.args.words.now c.in-Some.view input c.in-Ok-due_of.due (command_takes c.args.words.now c.in-Some.view found) (λ other is. command_only c.args.words.now c.in-Some.view other found is)
-    (subst P c.in-Ok.ensures (c.in-Ok-due_of.ensures.due input told))) c.tell.ensures.gives
+    let job = c.in-Ok-read_words.job in
+    let words = c.in-Ok-read_words.ensures in
+    let P : List (Option Table) → Type 0 = λ own. Stands (IsDueOfJob own job input) (g.K.Sink.held c.args.sink.now) (g.K.Sink.held c.tell_job.new.sink) c.tell_job.result in
+    stands_by (IsDueOfJob faces job input) (IsDue faces c.args.words.now input) (g.K.Sink.held c.args.sink.now) (g.K.Sink.held c.tell_job.new.sink) c.tell_job.result
+    (same_job faces c.args.words.now job input words.read words.only) (subst P c.in-Ok.ensures (c.tell_job.ensures.stands input told))
 
-pub returns-in-Ok-due_of-clause-no_command : goal.returns-in-Ok-due_of-clause-no_command
-returns-in-Ok-due_of-clause-no_command g c = λ never.
-    let found : view_of c.args.words.now ≡ Some c.in-Some.view = ap view_of (sym c.as_slice.ensures) ∙ sym c.in-Some.ensures in
-    absurd (never c.in-Some.view (command_takes c.args.words.now c.in-Some.view found))
+pub returns-in-Ok-read_words-clause-done : goal.returns-in-Ok-read_words-clause-done
+returns-in-Ok-read_words-clause-done g c = λ job is reads done.
+    c.tell_job.ensures.done (subst (λ (j : Job). Reads j.command) (c.in-Ok-read_words.ensures.only job is) reads) done
 
-pub returns-in-Err-ReadFault-clause-no_command : goal.returns-in-Err-ReadFault-clause-no_command
-returns-in-Err-ReadFault-clause-no_command g c = λ never.
-    let found : view_of c.args.words.now ≡ Some c.in-Some.view = ap view_of (sym c.as_slice.ensures) ∙ sym c.in-Some.ensures in
-    absurd (never c.in-Some.view (command_takes c.args.words.now c.in-Some.view found))
+pub returns-in-Ok-read_words-clause-untouched : goal.returns-in-Ok-read_words-clause-untouched
+returns-in-Ok-read_words-clause-untouched g c = λ job is none.
+    c.tell_job.ensures.untouched (λ reads. none (subst (λ (j : Job). Reads j.command) (sym (c.in-Ok-read_words.ensures.only job is)) reads))
 
-pub returns-in-Err-ReadFault-clause-read_fault : goal.returns-in-Err-ReadFault-clause-read_fault
-returns-in-Err-ReadFault-clause-read_fault g c = λ e.
-    let found : view_of c.args.words.now ≡ Some c.in-Some.view = ap view_of (sym c.as_slice.ensures) ∙ sym c.in-Some.ensures in
-    ((c.in-Some.view, command_takes c.args.words.now c.in-Some.view found), c.in-Err-ReadFault.ensures.fault (ap (λ (f : Failure). Err f) c.in-Err-ReadFault.field-0-is), Keeps-refl (g.K.Sink.held c.args.sink.now))
+pub returns-in-Err-Usage-clause-job : goal.returns-in-Err-Usage-clause-job
+returns-in-Err-Usage-clause-job g c = λ input told.
+    let faces = all_living (λ vtable. (g.dyn-1.0.entry vtable).1) c.args.faces.items in
+    let never = c.in-Err-Usage.ensures.usage (ap (λ (e : WordsError). Err e) c.in-Err-Usage.field-0-is) in
+    stands_only Usage usage_line (g.K.Sink.held c.args.sink.now) (g.K.Sink.held c.tell_usage.new.sink) (IsDue faces c.args.words.now input) c.tell_usage.result tt
+    (only_usage faces c.args.words.now input never) c.tell_usage.ensures.gives
 
-pub returns-in-Err-Memory-clause-job : goal.returns-in-Err-Memory-clause-job
-returns-in-Err-Memory-clause-job g c = λ input told. nothing_written (IsDue (all_living (λ vtable. (g.dyn-1.0.entry vtable).1) c.args.faces.items) c.args.words.now input) (g.K.Sink.held c.args.sink.now)
+pub returns-in-Err-Usage-clause-usage : goal.returns-in-Err-Usage-clause-usage
+returns-in-Err-Usage-clause-usage g c = λ e.
+    let never = c.in-Err-Usage.ensures.usage (ap (λ (e : WordsError). Err e) c.in-Err-Usage.field-0-is) in
+    (never, line_given Usage usage_line (g.K.Sink.held c.args.sink.now) (g.K.Sink.held c.tell_usage.new.sink) c.tell_usage.result tt e c.tell_usage.ensures.gives, refl)
+
+pub returns-clause-job : goal.returns-clause-job
+returns-clause-job g c = λ input told. nothing_written (IsDue (all_living (λ vtable. (g.dyn-1.0.entry vtable).1) c.args.faces.items) c.args.words.now input) (g.K.Sink.held c.args.sink.now)

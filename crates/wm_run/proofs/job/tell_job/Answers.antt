@@ -1,0 +1,24 @@
+use Rattle.std.proofs.Common.{subst, sym}
+use Rattle.face_api.specs.Faces.{faces_of}
+use Rattle.command_line.specs.declared.job.Command.{Command}
+use Rattle.wm_run.specs.Job.{IsDueOfCommand}
+use Rattle.wm_run.specs.Standing.{Stands}
+use Rattle.wm_run.proofs.job.tell_job.Goals as goal
+
+pub returns-in-Layout-clause-stands : goal.returns-in-Layout-clause-stands
+returns-in-Layout-clause-stands g c = λ input told.
+    let faces = faces_of (λ vtable. (g.dyn-1.0.entry vtable).1) c.args.faces in
+    let P : Command → Type 0 = λ command. Stands (IsDueOfCommand command faces c.args.job.view c.args.job.count input) (g.K.Sink.held c.args.sink.now) (g.K.Sink.held c.tell_input.new.sink) c.tell_input.result in
+    subst P (sym c.in-Layout.is) (c.tell_input.ensures.stands input told)
+
+pub returns-in-Edit-clause-stands : goal.returns-in-Edit-clause-stands
+returns-in-Edit-clause-stands g c = λ input told.
+    let faces = faces_of (λ vtable. (g.dyn-1.0.entry vtable).1) c.args.faces in
+    let P : Command → Type 0 = λ command. Stands (IsDueOfCommand command faces c.args.job.view c.args.job.count input) (g.K.Sink.held c.args.sink.now) (g.K.Sink.held c.tell_input-in-Edit.new.sink) c.tell_input-in-Edit.result in
+    subst P (sym c.in-Edit.is) (c.tell_input-in-Edit.ensures.stands input told)
+
+pub returns-in-Gen-clause-stands : goal.returns-in-Gen-clause-stands
+returns-in-Gen-clause-stands g c = λ input told.
+    let faces = faces_of (λ vtable. (g.dyn-1.0.entry vtable).1) c.args.faces in
+    let P : Command → Type 0 = λ command. Stands (IsDueOfCommand command faces c.args.job.view c.args.job.count input) (g.K.Sink.held c.args.sink.now) (g.K.Sink.held c.tell_generated.new.sink) c.tell_generated.result in
+    subst P (sym c.in-Gen.is) c.tell_generated.ensures.stands
