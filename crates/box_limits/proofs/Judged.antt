@@ -1,0 +1,219 @@
+-- The boxes of a document break a limit exactly where the line of a node says so.
+use Rattle.std.proofs.Common.{◌≡◌, ◌∙◌, ℕ, zero, suc, ◌<◌, ◌≤◌, Bool, true, false, List, [], ◌∷◌, ◌++◌, append-nil, refl, ap, sym, subst, arith, Option, Some, None, inl, inr}
+use Rattle.std.specs.Prelude.{flat_map, filter, option_map, unwrap_or, is_some}
+use Rattle.wm_modes.specs.declared.mode.WritingMode.{WritingMode}
+use Rattle.wm_modes.specs.declared.mode.WritingMode.TheVariants.{HorizontalTb, VerticalRl, VerticalLr, SidewaysRl, SidewaysLr}
+use Rattle.style_types.specs.declared.style.Style.{Style}
+use Rattle.style_types.specs.Initial.{initial}
+use Rattle.style_types.specs.Rule.{Ruling}
+use Rattle.style_types.specs.Tree as styled
+use Rattle.style_types.specs.Tree.{Nodes}
+use Rattle.dom_store.specs.State as dom
+use Rattle.dom_store.specs.State.{What, Entry, State, IsRooted, line, tree_of, tree_to, tree_with}
+use Rattle.dom_store.specs.Standing.{below_levels, children_at, lives}
+use Rattle.tree_laws.specs.Reached.{IsAtLevel, IsReached}
+use Rattle.tree_laws.specs.Wholeness.{IsWhole}
+use Rattle.cascade.specs.Winners.{winners}
+use Rattle.computed.specs.Step.{style_of}
+use Rattle.style_tree.specs.Styling.{body_style, from_html, html_style, kind_of, root_style, styled_document, styled_in, unturned, winners_at}
+use Rattle.box_gen.specs.Boxes.{Role, atom, block_level, inline_box, line_break, nothing, put_if, role_of, root_caught, words}
+use Rattle.box_gen.specs.Orthogonal.{root_past, turns_in}
+use Rattle.box_limits.specs.Limits.{AreThoseWhere, DocumentsAreJudgedByLines}
+use Rattle.box_limits.specs.Lines.{Site, body_style_on, html_style_on, is_caught, is_past, site_by, site_in_body, site_on}
+use Rattle.box_limits.specs.Walking.{caught_from, past_from}
+use Rattle.box_limits.proofs.Among.{IsIn, contained, found, in_all, kept, of_one, passes}
+use Rattle.box_limits.proofs.Levels.{child_below, first_below, line_is, no_line, up_to}
+use Rattle.box_limits.proofs.Walks.{Ends, HasTwo, SaysBy, Steps, caught_ends, caught_steps, own_style, past_ends, past_steps, tests_caught, tests_past, walks}
+
+-- ---- `body`
+
+-- where `body` stands
+abbrev pub site_of_body : Style → Site
+site_of_body style = record { style = style; mode = style.mode; turns = 0; inside = false; shown = true }
+
+no_turns : (mode : WritingMode) → turns_in mode mode 0 ≡ 0
+no_turns HorizontalTb = refl
+no_turns VerticalRl = refl
+no_turns VerticalLr = refl
+no_turns SidewaysRl = refl
+no_turns SidewaysLr = refl
+
+body_past : (role : Role) (style : Style) → tests_past role style (site_of_body style) ≡ false
+body_past nothing style = refl
+body_past (words letters) style = refl
+body_past line_break style = refl
+body_past inline_box style = refl
+body_past atom style = rw (no_turns style.mode) refl
+body_past block_level style = rw (no_turns style.mode) refl
+
+body_caught : (role : Role) (style : Style) → tests_caught role style (site_of_body style) ≡ false
+body_caught nothing style = refl
+body_caught (words letters) style = refl
+body_caught line_break style = refl
+body_caught inline_box style = refl
+body_caught atom style = refl
+body_caught block_level style = refl
+
+-- ---- what the lines say
+
+pub says_past : (rules : List Ruling) → SaysBy rules tests_past (is_past rules)
+says_past rules what above = refl
+
+pub says_caught : (rules : List Ruling) → SaysBy rules tests_caught (is_caught rules)
+says_caught rules what above = refl
+
+-- it says nothing of `html` and `body`, nor where no node lives
+pub record SaysBelow (says : List What → Bool) : Type 0 where
+  pub nowhere : says [] ≡ false
+  pub html : (html : What) → says (html ∷ []) ≡ false
+  pub body : (body html : What) → says (body ∷ html ∷ []) ≡ false
+
+pub past_below : (rules : List Ruling) → SaysBelow (is_past rules)
+unfolding site_on
+past_below rules = record { nowhere = refl; html = λ html. refl; body = λ body html. refl }
+
+pub caught_below : (rules : List Ruling) → SaysBelow (is_caught rules)
+unfolding site_on
+caught_below rules = record { nowhere = refl; html = λ html. refl; body = λ body html. refl }
+
+-- ---- a document
+
+module _ (rules : List Ruling) (state : State) (rooted : IsRooted state) where
+  pub html : Entry
+  html = rooted.html.0
+
+  pub body : Entry
+  body = rooted.body.0
+
+  body_children : children_at state 1 ≡ body.children
+  unfolding body
+  body_children = ap (λ (o : Option Entry). unwrap_or (option_map (λ entry. entry.children) o) []) rooted.body.1
+
+  pub html_children : children_at state 0 ≡ 1 ∷ []
+  html_children = ap (λ (o : Option Entry). unwrap_or (option_map (λ entry. entry.children) o) []) rooted.html.1 ∙ rooted.html.4
+
+  -- the tree begins with the two
+  two : tree_of state ≡ dom.node 0 html.what (dom.node 1 body.what (tree_to 62 state body.children) dom.none) dom.none
+  unfolding tree_to html body
+  two =
+      ap (λ (o : Option Entry). tree_with o 0 (tree_to 63 state) dom.none) rooted.html.1
+      ∙ ap (λ (l : List ℕ). dom.node 0 html.what (tree_to 63 state l) dom.none) rooted.html.4
+      ∙ ap (λ (o : Option Entry). dom.node 0 html.what (tree_with o 1 (tree_to 62 state) dom.none) dom.none) rooted.body.1
+
+  module _ (whole : IsWhole state) (reached : IsReached state) where
+    html_line : line state 0 ≡ html.what ∷ []
+    unfolding html
+    html_line = line_is state whole 63 0 html rooted.html.1 ∙ ap (λ (l : List What). html.what ∷ l) (ap (dom.line_to 63 state) rooted.html.3 ∙ no_line state whole 63)
+
+    body_line : line state 1 ≡ body.what ∷ html.what ∷ []
+    unfolding html body
+    body_line =
+        line_is state whole 63 1 body rooted.body.1
+        ∙ ap (λ (l : List What). body.what ∷ l) (ap (dom.line_to 63 state) rooted.body.3 ∙ line_is state whole 62 0 html rooted.html.1 ∙ ap (λ (l : List What). html.what ∷ l) (ap (dom.line_to 62 state) rooted.html.3 ∙ no_line state whole 62))
+
+    html_style_is : html_style rules state ≡ html_style_on rules html.what
+    html_style_is = ap (λ (l : List What). style_of initial (winners rules l initial)) html_line
+
+    body_style_is : body_style rules state ≡ body_style_on rules body.what html.what
+    body_style_is =
+        ap (λ (s : Style). unturned s (winners_at rules state 1 s)) html_style_is
+        ∙ ap (λ (l : List What). unturned (html_style_on rules html.what) (winners rules l (html_style_on rules html.what))) body_line
+
+    abbrev pub own : Style
+    own = body_style rules state
+
+    abbrev pub role : Role
+    role = role_of (kind_of body.what) own
+
+    abbrev pub body_site : Site
+    body_site = site_by role own (site_of_body own)
+
+    pub body_site_is : body_site ≡ site_on rules (line state 1)
+    unfolding site_on
+    body_site_is = ap (site_in_body body.what) body_style_is ∙ ap (site_on rules) (sym body_line)
+
+    body_at : IsAtLevel state 1 1
+    body_at = (0, refl, contained 1 (children_at state 0) (subst (IsIn 1) (sym html_children) (inl refl)))
+
+    body_has_two : HasTwo (line state 1)
+    body_has_two = subst HasTwo (sym body_line) tt
+
+    module _ (walk : Site → Nodes → List ℕ) (test : Role → Style → Site → Bool) (says : List What → Bool) (steps : Steps walk test) (ends : Ends walk) (by : SaysBy rules test says)
+        (body_passes : (role : Role) (style : Style) → test role style (site_of_body style) ≡ false) (below : SaysBelow says) where
+      abbrev pub inner : Nodes
+      inner = styled_in rules state own (tree_to 62 state body.children)
+
+      -- what is walked from `body` on
+      pub walked : walk (site_of_body own) (styled.node 1 (kind_of body.what) own inner styled.none) ≡ filter (λ number. says (line state number)) (flat_map (below_levels 0 62 state) (children_at state 1))
+      walked =
+          steps (site_of_body own) 1 (kind_of body.what) own inner styled.none
+          ∙ ap (λ (l : List ℕ). put_if (test role own (site_of_body own)) 1 (walk body_site inner) ++ l) (ends (site_of_body own))
+          ∙ append-nil _
+          ∙ ap (λ (b : Bool). put_if b 1 (walk body_site inner)) (body_passes role own)
+          ∙ ap (λ (l : List ℕ). walk body_site (styled_in rules state own (tree_to 62 state l))) (sym body_children)
+          ∙ walks rules state whole reached walk test says steps ends by 62 1 1 body_site own (children_at state 1) body_at body_has_two body_site_is (own_style role own (site_of_body own)) (λ number among. among)
+
+      -- a node of which the line says so
+      alive : (number : ℕ) (o : Option Entry) → state.node_at number ≡ o → says (line state number) ≡ true → is_some o ≡ true
+      unfolding dom.line_to
+      alive number None is good = absurd (let none : line state number ≡ [] = ap (dom.line_with (dom.line_to 63 state)) is in let both : false ≡ true = sym below.nowhere ∙ ap says (sym none) ∙ good in cc)
+      alive number (Some entry) is good = refl
+
+      only_body : (number : ℕ) → IsIn number (1 ∷ []) → number ≡ 1
+      only_body number (inl same) = sym same
+      only_body number (inr later) = absurd later
+
+      first_level : (parent number : ℕ) → parent ≡ 0 → IsIn number (children_at state parent) → number ≡ 1
+      first_level parent number is there = only_body number (subst (IsIn number) html_children (subst (λ (n : ℕ). IsIn number (children_at state n)) is there))
+
+      under : (level number : ℕ) → IsAtLevel state (suc (suc level)) number → IsIn number (flat_map (below_levels 0 (suc level) state) (children_at state 1))
+      under zero number (parent, (root, is, there), here) =
+          let second : parent ≡ 1 = first_level root parent is (found parent (children_at state root) there) in
+          in_all (below_levels 0 1 state) number number (children_at state 1) (subst (λ (n : ℕ). IsIn number (children_at state n)) second (found number (children_at state parent) here)) (first_below state 0 number)
+      under (suc level) number (parent, above, here) =
+          let (first, among, at) = of_one (below_levels 0 (suc level) state) parent (children_at state 1) (under level parent above) in
+          in_all (below_levels 0 (suc (suc level)) state) number first (children_at state 1) among (child_below state (suc level) first parent number at (found number (children_at state parent) here))
+
+      further : (most level number : ℕ) → level ≤ most → IsIn number (flat_map (below_levels 0 level state) (children_at state 1)) → IsIn number (flat_map (below_levels 0 most state) (children_at state 1))
+      further most level number within there =
+          let (first, among, at) = of_one (below_levels 0 level state) number (children_at state 1) there in
+          in_all (below_levels 0 most state) number first (children_at state 1) among (up_to state most level first number within at)
+
+      -- it stands in `body`
+      placed : (level number : ℕ) → level < 64 → IsAtLevel state level number → says (line state number) ≡ true → IsIn number (flat_map (below_levels 0 62 state) (children_at state 1))
+      placed zero number within at good =
+          absurd (let both : false ≡ true = sym (below.html html.what) ∙ ap says (sym html_line) ∙ ap (λ (n : ℕ). says (line state n)) (sym at) ∙ good in cc)
+      placed (suc zero) number within (root, is, there) good =
+          let second : number ≡ 1 = first_level root number is (found number (children_at state root) there) in
+          absurd (let both : false ≡ true = sym (below.body body.what html.what) ∙ ap says (sym body_line) ∙ ap (λ (n : ℕ). says (line state n)) (sym second) ∙ good in cc)
+      placed (suc (suc level)) number within at good = further 62 (suc level) number (omega (arith, within)) (under level number at)
+
+      pub placed_at : (number : ℕ) → lives state number ≡ true → says (line state number) ≡ true → IsIn number (flat_map (below_levels 0 62 state) (children_at state 1))
+      placed_at number living good = let (level, within, at) = reached.reached number living in placed level number within at good
+
+      -- and in `body` with all levels
+      pub placed_below : (number : ℕ) → lives state number ≡ true → says (line state number) ≡ true → IsIn number (flat_map (below_levels 0 64 state) (children_at state 1))
+      placed_below number living good = further 64 62 number (omega arith) (placed_at number living good)
+
+      pub those : (numbers : List ℕ) → numbers ≡ walk (site_of_body own) (styled.node 1 (kind_of body.what) own inner styled.none) → AreThoseWhere says state numbers
+      those numbers are number =
+          let as_listed : numbers ≡ filter (λ number. says (line state number)) (flat_map (below_levels 0 62 state) (children_at state 1)) = are ∙ walked in (
+            λ there.
+                let good : says (line state number) ≡ true = passes (λ number. says (line state number)) number (flat_map (below_levels 0 62 state) (children_at state 1)) (subst (IsIn number) as_listed (found number numbers there)) in
+                (alive number (state.node_at number) refl good, good),
+            λ (living, good).
+                contained number numbers (subst (IsIn number) (sym as_listed) (kept (λ number. says (line state number)) number (flat_map (below_levels 0 62 state) (children_at state 1)) (placed_at number living good) good)),
+          )
+
+    styled_as : styled_document rules state
+        ≡ styled.node 0 (kind_of html.what) (root_style (html_style rules state) own) (styled.node 1 (kind_of body.what) own (styled_in rules state own (tree_to 62 state body.children)) styled.none) styled.none
+    styled_as = ap (from_html rules state) two
+
+    pub past_are : AreThoseWhere (is_past rules) state (root_past (styled_document rules state))
+    past_are = those past_from tests_past (is_past rules) past_steps past_ends (says_past rules) body_past (past_below rules) (root_past (styled_document rules state)) (ap root_past styled_as)
+
+    pub caught_are : AreThoseWhere (is_caught rules) state (root_caught (styled_document rules state))
+    caught_are = those caught_from tests_caught (is_caught rules) caught_steps caught_ends (says_caught rules) body_caught (caught_below rules) (root_caught (styled_document rules state)) (ap root_caught styled_as)
+
+pub documents_are_judged_by_lines : DocumentsAreJudgedByLines
+documents_are_judged_by_lines rules state rooted whole reached = (past_are rules state rooted whole reached, caught_are rules state rooted whole reached)

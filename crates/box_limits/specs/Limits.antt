@@ -1,0 +1,90 @@
+-- Which nodes of a document break a limit of boxes, and which of them is told.
+use Rattle.std.specs.Prelude.{◌≡◌, ◌↔◌, ℕ, ◌≤◌, Bool, true, false, List, [], ◌∷◌, flat_map, Option, Some, None, Result, Ok, Err, ⊤}
+use Rattle.std.specs.List.{Contains}
+use Rattle.style_types.specs.Rule.{Ruling}
+use Rattle.dom_store.specs.State.{What, State, IsRooted, greatest_depth, line}
+use Rattle.dom_store.specs.Standing.{below_levels, lives}
+use Rattle.dom_store.specs.Edits.{EditOf, set_text, set_style, set_class, insert, remove, move_to, after}
+use Rattle.dom_store.specs.Building.{tops_from}
+use Rattle.dom_store.specs.Refusals.{refusal}
+use Rattle.style_tree.specs.Styling.{styled_document}
+use Rattle.box_gen.specs.Boxes.{root_caught}
+use Rattle.box_gen.specs.Orthogonal.{IsLeastOf, root_past}
+use Rattle.tree_laws.specs.Wholeness.{IsWhole}
+use Rattle.tree_laws.specs.Reached.{IsReached}
+use Rattle.box_limits.specs.declared.error.LimitError.{LimitError}
+use Rattle.box_limits.specs.declared.error.LimitError.TheVariants.{TooManyOrthogonal, BlockInInline, Memory}
+use Rattle.box_limits.specs.Lines.{is_caught, is_past}
+
+-- ---- some nodes
+
+-- the nodes of these numbers and all below them
+abbrev pub all_below : State → (numbers : List ℕ) → List ℕ
+all_below state numbers = flat_map (below_levels 0 greatest_depth state) numbers
+
+-- the least of these nodes whose lines pass the test; none where there is none
+abbrev pub IsLeastWhere : (test : List What → Bool) → State → (among : List ℕ) → Option ℕ → Type 0
+IsLeastWhere test state among None = (number : ℕ) → Contains among number → test (line state number) ≡ false
+IsLeastWhere test state among (Some number) = Contains among number × (test (line state number) ≡ true)
+    × ((other : ℕ) → Contains among other → test (line state other) ≡ true → number ≤ other)
+
+-- their boxes are within both limits, or not: boxes that turn are judged first
+abbrev pub Judges : List Ruling → State → (among : List ℕ) → Result ⊤ LimitError → Type 0
+Judges rules state among (Ok done) = IsLeastWhere (is_past rules) state among None × IsLeastWhere (is_caught rules) state among None
+Judges rules state among (Err (TooManyOrthogonal number)) = IsLeastWhere (is_past rules) state among (Some number)
+Judges rules state among (Err (BlockInInline number)) = IsLeastWhere (is_past rules) state among None × IsLeastWhere (is_caught rules) state among (Some number)
+Judges rules state among (Err Memory) = ⊤
+
+-- ---- a whole document
+
+-- these are the nodes that live and whose lines pass the test
+abbrev pub AreThoseWhere : (test : List What → Bool) → State → List ℕ → Type 0
+AreThoseWhere test state numbers = (number : ℕ) → Contains numbers number ↔ ((lives state number ≡ true) × (test (line state number) ≡ true))
+
+-- the boxes of a document break a limit exactly where the line of a node says so
+abbrev pub DocumentsAreJudgedByLines : Type 0
+DocumentsAreJudgedByLines = (rules : List Ruling) (state : State) → IsRooted state → IsWhole state → IsReached state
+    → AreThoseWhere (is_past rules) state (root_past (styled_document rules state)) × AreThoseWhere (is_caught rules) state (root_caught (styled_document rules state))
+
+-- ---- edits
+
+-- the topmost of the nodes on which the boxes hang that an edit makes or changes
+abbrev pub touched : State → EditOf → List ℕ
+touched state (set_text number letters) = []
+touched state (set_style number own) = number ∷ []
+touched state (set_class number words) = number ∷ []
+touched state (insert parent index nodes own) = tops_from state.next nodes
+touched state (remove number) = []
+touched state (move_to number parent index) = number ∷ []
+
+-- those and all below them, after the edit
+abbrev pub part : State → EditOf → List ℕ
+part state edit = all_below (after state edit) (touched state edit)
+
+-- where no node broke a limit, only such a node can break one after an edit that the document takes
+abbrev pub EditsAreJudgedByTheirParts : Type 0
+EditsAreJudgedByTheirParts = (rules : List Ruling) (state : State) (edit : EditOf) → IsRooted state → IsWhole state → IsReached state → refusal state edit ≡ None
+    → root_past (styled_document rules state) ≡ [] → root_caught (styled_document rules state) ≡ []
+    → (number : ℕ) → lives (after state edit) number ≡ true
+    → (is_past rules (line (after state edit) number) ≡ true → Contains (part state edit) number) × (is_caught rules (line (after state edit) number) ≡ true → Contains (part state edit) number)
+
+-- no box of a document breaks a limit
+pub record AreWithin (rules : List Ruling) (state : State) : Type 0 where
+  pub turns : root_past (styled_document rules state) ≡ []
+  pub blocks : root_caught (styled_document rules state) ≡ []
+
+-- a document is what this edit made of one whose boxes were within both limits
+pub record IsEditedFrom (rules : List Ruling) (edit : EditOf) (next state : State) : Type 0 where
+  pub rooted : IsRooted state
+  pub whole : IsWhole state
+  pub reached : IsReached state
+  pub taken : refusal state edit ≡ None
+  pub within : AreWithin rules state
+  pub is : next ≡ after state edit
+
+-- the boxes of a document are within both limits, or not: boxes that turn are judged first
+abbrev pub Answers : List Ruling → State → Result ⊤ LimitError → Type 0
+Answers rules state (Ok done) = AreWithin rules state
+Answers rules state (Err (TooManyOrthogonal number)) = IsLeastOf (root_past (styled_document rules state)) (Some number)
+Answers rules state (Err (BlockInInline number)) = (root_past (styled_document rules state) ≡ []) × IsLeastOf (root_caught (styled_document rules state)) (Some number)
+Answers rules state (Err Memory) = ⊤
