@@ -1,4 +1,6 @@
 pub mod Among
 pub mod Judged
 pub mod Levels
+pub mod Origins
+pub mod Parts
 pub mod Walks

@@ -4,6 +4,7 @@ use Rattle.std.specs.List.{Contains}
 use Rattle.style_types.specs.Rule.{Ruling}
 use Rattle.dom_store.specs.State.{What, State, IsRooted, greatest_depth, line}
 use Rattle.dom_store.specs.Standing.{below_levels, lives}
+use Rattle.dom_store.specs.Edited.{IsFitting}
 use Rattle.dom_store.specs.Edits.{EditOf, set_text, set_style, set_class, insert, remove, move_to, after}
 use Rattle.dom_store.specs.Building.{tops_from}
 use Rattle.dom_store.specs.Refusals.{refusal}
@@ -63,7 +64,7 @@ part state edit = all_below (after state edit) (touched state edit)
 
 -- where no node broke a limit, only such a node can break one after an edit that the document takes
 abbrev pub EditsAreJudgedByTheirParts : Type 0
-EditsAreJudgedByTheirParts = (rules : List Ruling) (state : State) (edit : EditOf) → IsRooted state → IsWhole state → IsReached state → refusal state edit ≡ None
+EditsAreJudgedByTheirParts = (rules : List Ruling) (state : State) (edit : EditOf) → IsFitting edit → IsRooted state → IsWhole state → IsReached state → refusal state edit ≡ None
     → root_past (styled_document rules state) ≡ [] → root_caught (styled_document rules state) ≡ []
     → (number : ℕ) → lives (after state edit) number ≡ true
     → (is_past rules (line (after state edit) number) ≡ true → Contains (part state edit) number) × (is_caught rules (line (after state edit) number) ≡ true → Contains (part state edit) number)
@@ -75,6 +76,7 @@ pub record AreWithin (rules : List Ruling) (state : State) : Type 0 where
 
 -- a document is what this edit made of one whose boxes were within both limits
 pub record IsEditedFrom (rules : List Ruling) (edit : EditOf) (next state : State) : Type 0 where
+  pub fitting : IsFitting edit
   pub rooted : IsRooted state
   pub whole : IsWhole state
   pub reached : IsReached state
