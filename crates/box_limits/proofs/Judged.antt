@@ -20,16 +20,12 @@ use Rattle.box_gen.specs.Boxes.{Role, atom, block_level, inline_box, line_break,
 use Rattle.box_gen.specs.Orthogonal.{root_past, turns_in}
 use Rattle.box_limits.specs.Limits.{AreThoseWhere, DocumentsAreJudgedByLines}
 use Rattle.box_limits.specs.Lines.{Site, body_style_on, html_style_on, is_caught, is_past, site_by, site_in_body, site_on}
-use Rattle.box_limits.specs.Walking.{caught_from, past_from}
+use Rattle.box_limits.specs.Walking.{caught_from, past_from, site_of_body, tests_caught, tests_past}
 use Rattle.box_limits.proofs.Among.{IsIn, contained, found, in_all, kept, of_one, passes}
 use Rattle.box_limits.proofs.Levels.{child_below, first_below, line_is, no_line, up_to}
-use Rattle.box_limits.proofs.Walks.{Ends, HasTwo, SaysBy, Steps, caught_ends, caught_steps, own_style, past_ends, past_steps, tests_caught, tests_past, walks}
+use Rattle.box_limits.proofs.Walks.{Ends, HasTwo, SaysBy, Steps, caught_ends, caught_steps, own_style, past_ends, past_steps, walks}
 
 -- ---- `body`
-
--- where `body` stands
-abbrev pub site_of_body : Style → Site
-site_of_body style = record { style = style; mode = style.mode; turns = 0; inside = false; shown = true }
 
 no_turns : (mode : WritingMode) → turns_in mode mode 0 ≡ 0
 no_turns HorizontalTb = refl
@@ -79,10 +75,10 @@ caught_below rules = record { nowhere = refl; html = λ html. refl; body = λ bo
 -- ---- a document
 
 module _ (rules : List Ruling) (state : State) (rooted : IsRooted state) where
-  pub html : Entry
+  unfoldable pub html : Entry
   html = rooted.html.0
 
-  pub body : Entry
+  unfoldable pub body : Entry
   body = rooted.body.0
 
   body_children : children_at state 1 ≡ body.children

@@ -1,6 +1,9 @@
 pub mod Among
+pub mod Finding
 pub mod Judged
+pub mod Leasts
 pub mod Levels
 pub mod Origins
 pub mod Parts
+pub mod Placing
 pub mod Walks

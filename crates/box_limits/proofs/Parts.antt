@@ -95,7 +95,7 @@ module _ (next : State) (rooted : IsRooted next) (whole : IsWhole next) (reached
   one_in number child there = let (entry, here) = holder (next.node_at number) child there in subst HasOne (sym (line_is next whole 63 number entry here)) tt
 
   -- below `html` a line has two
-  two_at : (level number : ℕ) → IsAtLevel next (suc level) number → HasTwo (line next number)
+  pub two_at : (level number : ℕ) → IsAtLevel next (suc level) number → HasTwo (line next number)
   two_at level number (parent, above, there) =
       let among = found number (children_at next parent) there in
       let (entry, here, stands, lines) = child_line next whole reached level parent number above among in

@@ -14,7 +14,7 @@ use Rattle.style_tree.specs.Styling.{kind_of, style_at, styled_in}
 use Rattle.box_gen.specs.Boxes.{Role, atom, block_level, caught, caught_by, inline_box, line_break, nothing, put_if, role_of, words}
 use Rattle.box_gen.specs.Orthogonal.{past, past_by}
 use Rattle.box_limits.specs.Lines.{Site, container_at, is_caught_by, is_past_by, site_by, site_in, site_on, style_on}
-use Rattle.box_limits.specs.Walking.{caught_from, if_shown, past_from}
+use Rattle.box_limits.specs.Walking.{caught_from, if_shown, past_from, tests_caught, tests_past}
 use Rattle.box_limits.proofs.Among.{IsIn, contained, filter_both, filter_put}
 use Rattle.box_limits.proofs.Levels.{below_is, child_line}
 
@@ -23,18 +23,6 @@ use Rattle.box_limits.proofs.Levels.{below_is, child_line}
 shown_both : (shown : Bool) (one two : List ℕ) → if_shown shown (one ++ two) ≡ if_shown shown one ++ if_shown shown two
 shown_both true one two = refl
 shown_both false one two = refl
-
-abbrev pub tests_past : Role → Style → Site → Bool
-tests_past role style site = site.shown && is_past_by role style site
-
-abbrev pub tests_caught : Role → Style → Site → Bool
-tests_caught role style site = site.shown && is_caught_by role site
-
-shown_as : (one two : Bool) (number : ℕ) (passes : Bool) (inner : List ℕ) → one ≡ two → put_if passes number (if_shown two inner) ≡ put_if passes number (if_shown one inner)
-shown_as one two number passes inner is = ap (λ (b : Bool). put_if passes number (if_shown b inner)) (sym is)
-
-hidden_as : (one : Bool) (number : ℕ) (inner : List ℕ) → one ≡ false → [] ≡ put_if false number (if_shown one inner)
-hidden_as one number inner is = ap (λ (b : Bool). if_shown b inner) (sym is)
 
 past_one : (role : Role) (style : Style) (site : Site) (number : ℕ) (inner : Nodes) (shown : Bool) → site.shown ≡ shown
     → if_shown shown (past_by role number site.mode style.mode site.turns (past inner)) ≡ put_if (shown && is_past_by role style site) number (past_from (site_by role style site) inner)

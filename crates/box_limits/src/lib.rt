@@ -2,7 +2,12 @@
 //! stands in an inline box (docs/PROFILE/boxes.md).
 #![tactic(auto)]
 
+mod above;
 mod error;
+mod found;
+mod judging;
 pub mod laws;
+mod role;
+mod site;
 
 pub use error::LimitError;

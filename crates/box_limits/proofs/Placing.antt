@@ -1,0 +1,132 @@
+-- Where nodes stand, from the node that they stand in.
+use Rattle.std.proofs.Common.{◌≡◌, ◌∙◌, ◌⊎◌, ℕ, zero, suc, ◌-◌, ◌<◌, Bool, true, false, List, [], ◌∷◌, refl, ap, sym, subst, arith, Option, Some, None, option_map, inl, inr}
+use Rattle.std.specs.Prelude.{unwrap_or, option_and_then, IsSome}
+use Rattle.std.proofs.lemmas.Option.{none-some}
+use Rattle.std.specs.Borrow.{Bor}
+use Rattle.style_types.specs.declared.style.Style.{Style}
+use Rattle.style_types.specs.Rule.{Ruling}
+use Rattle.dom_store.specs.declared.node.Node.{Node}
+use Rattle.dom_store.specs.State.{What, Entry, State, entry_of, line, line_to, line_with, what_of}
+use Rattle.dom_store.specs.Standing.{children_at, parent_at}
+use Rattle.tree_laws.specs.Reached.{IsAtLevel}
+use Rattle.style_tree.specs.Styling.{body_style, kind_of, style_at}
+use Rattle.box_gen.specs.Boxes.{Role, atom, block_level, inline_box, line_break, nothing, role_of, words}
+use Rattle.box_limits.specs.declared.role.Role as code_role
+use Rattle.box_limits.specs.declared.role.Role.TheVariants as code_roles
+use Rattle.box_limits.specs.Lines.{Site, container_at, outside, site_by, site_in, site_on, style_on}
+use Rattle.box_limits.specs.Walking.{IsTree, code_of, site_of_body}
+use Rattle.box_limits.proofs.Among.{IsIn, found}
+use Rattle.box_limits.proofs.Judged.{body, body_site, body_site_is, html_children}
+use Rattle.box_limits.proofs.Levels.{child_line, line_is, no_line}
+use Rattle.box_limits.proofs.Parts.{two_at}
+use Rattle.box_limits.proofs.Walks.{HasTwo, site_below, style_at_is}
+
+-- ---- by the code's role
+
+abbrev hidden_at : Style → Site → Site
+hidden_at style site = record { style = style; mode = site.mode; turns = site.turns; inside = site.inside; shown = false }
+
+abbrev inline_at : Style → Site → Site
+inline_at style site = record { style = style; mode = site.mode; turns = site.turns; inside = true; shown = site.shown }
+
+pub as_nothing : (role : Role) (style : Style) (site : Site) (code : code_role.Role) → code ≡ code_of role → code ≡ code_roles.Nothing → hidden_at style site ≡ site_by role style site
+as_nothing nothing style site code is so = refl
+as_nothing (words letters) style site code is so = refl
+as_nothing line_break style site code is so = refl
+as_nothing inline_box style site code is so = absurd (let other : code_roles.InlineBox ≡ code_roles.Nothing = sym is ∙ so in cc)
+as_nothing atom style site code is so = absurd (let other : code_roles.Atom ≡ code_roles.Nothing = sym is ∙ so in cc)
+as_nothing block_level style site code is so = absurd (let other : code_roles.BlockLevel ≡ code_roles.Nothing = sym is ∙ so in cc)
+
+pub as_inline : (role : Role) (style : Style) (site : Site) (code : code_role.Role) → code ≡ code_of role → code ≡ code_roles.InlineBox → inline_at style site ≡ site_by role style site
+as_inline nothing style site code is so = absurd (let other : code_roles.Nothing ≡ code_roles.InlineBox = sym is ∙ so in cc)
+as_inline (words letters) style site code is so = absurd (let other : code_roles.Nothing ≡ code_roles.InlineBox = sym is ∙ so in cc)
+as_inline line_break style site code is so = absurd (let other : code_roles.Nothing ≡ code_roles.InlineBox = sym is ∙ so in cc)
+as_inline inline_box style site code is so = refl
+as_inline atom style site code is so = absurd (let other : code_roles.Atom ≡ code_roles.InlineBox = sym is ∙ so in cc)
+as_inline block_level style site code is so = absurd (let other : code_roles.BlockLevel ≡ code_roles.InlineBox = sym is ∙ so in cc)
+
+as_atom : (role : Role) (style : Style) (site : Site) → code_roles.Atom ≡ code_of role → container_at style site ≡ site_by role style site
+as_atom nothing style site is = absurd cc
+as_atom (words letters) style site is = absurd cc
+as_atom line_break style site is = absurd cc
+as_atom inline_box style site is = absurd cc
+as_atom atom style site is = refl
+as_atom block_level style site is = refl
+
+as_block : (role : Role) (style : Style) (site : Site) → code_roles.BlockLevel ≡ code_of role → container_at style site ≡ site_by role style site
+as_block nothing style site is = absurd cc
+as_block (words letters) style site is = absurd cc
+as_block line_break style site is = absurd cc
+as_block inline_box style site is = absurd cc
+as_block atom style site is = refl
+as_block block_level style site is = refl
+
+pub as_container : (role : Role) (style : Style) (site : Site) (code : code_role.Role) → code ≡ code_of role → (code ≡ code_roles.Atom) ⊎ (code ≡ code_roles.BlockLevel) → container_at style site ≡ site_by role style site
+as_container role style site code is (inl so) = as_atom role style site (sym so ∙ is)
+as_container role style site code is (inr so) = as_block role style site (sym so ∙ is)
+
+-- ---- the node that was found
+
+pub same_entry : (entry other : Entry) → Some entry ≡ Some other → entry ≡ other
+same_entry entry other is = ap (λ (o : Option Entry). unwrap_or o entry) is
+
+pub some_from : (entry : Entry) (found : Option (Bor Node)) → option_map (λ n. entry_of n.now) found ≡ Some entry → IsSome found
+some_from entry None is = absurd (let none : None ≡ Some entry = is in cc)
+some_from entry (Some node) is = refl
+
+module _ (rules : List Ruling) (state : State) (tree : IsTree state) where
+  pub body_lives : (found : Option (Bor Node)) → option_map (λ n. entry_of n.now) found ≡ state.node_at 1 → IsSome found
+  body_lives found at = some_from tree.rooted.body.0 found (at ∙ tree.rooted.body.1)
+
+  pub body_placed : (found : Option (Bor Node)) (node : Bor Node) → found ≡ Some node → option_map (λ n. entry_of n.now) found ≡ state.node_at 1
+      → (style : Style) → style ≡ body_style rules state → (outer made : Site) → outer ≡ site_of_body style → made ≡ site_in (what_of node.now.kind) style outer → made ≡ site_on rules (line state 1)
+  unfolding body
+  body_placed found node is at style styled_ outer made around here =
+      let entry : entry_of node.now ≡ tree.rooted.body.0 = same_entry (entry_of node.now) tree.rooted.body.0 (sym (ap (option_map (λ (n : Bor Node). entry_of n.now)) is) ∙ at ∙ tree.rooted.body.1) in
+      here ∙ ap (site_in (what_of node.now.kind) style) around
+      ∙ ap (λ (e : Entry). site_in e.what style (site_of_body style)) entry
+      ∙ ap (λ (s : Style). site_in tree.rooted.body.0.what s (site_of_body s)) styled_
+      ∙ body_site_is rules state tree.rooted tree.whole tree.reached
+
+  -- ---- the site in a node
+
+  pub nowhere : (number : ℕ) → None ≡ state.node_at number → (made : Site) → made ≡ outside → made ≡ site_on rules (line state number)
+  unfolding line_to site_on
+  nowhere number is made here = here ∙ sym (ap (λ (o : Option Entry). site_on rules (line_with (line_to 63 state) o)) (sym is))
+
+  pub nothing_above : (number : ℕ) (entry : Entry) → Some entry ≡ state.node_at number → entry.parent ≡ None → (made : Site) → made ≡ outside → made ≡ site_on rules (line state number)
+  unfolding site_on
+  nothing_above number entry is top made here =
+      let lines : line state number ≡ entry.what ∷ [] = line_is state tree.whole 63 number entry (sym is) ∙ ap (λ (l : List What). entry.what ∷ l) (ap (line_to 63 state) top ∙ no_line state tree.whole 63) in
+      here ∙ sym (ap (site_on rules) lines)
+
+  only_one : (number : ℕ) → IsIn number (1 ∷ []) → number ≡ 1
+  only_one number (inl same) = sym same
+  only_one number (inr later) = absurd later
+
+  has_two : (level parent number : ℕ) → IsAtLevel state level parent → IsIn number (children_at state parent) → (number ≡ 1 → ⊥) → HasTwo (line state parent)
+  has_two zero parent number at there apart =
+      absurd (apart (only_one number (subst (IsIn number) (html_children rules state tree.rooted) (subst (λ (n : ℕ). IsIn number (children_at state n)) at there))))
+  has_two (suc level) parent number at there apart = two_at state tree.rooted tree.whole tree.reached level parent at
+
+  pub site_placed : (number parent most : ℕ) (entry : Entry) → Some entry ≡ state.node_at number → entry.parent ≡ Some parent → (number ≡ 1 → ⊥)
+      → (above : Site) → ((level : ℕ) → IsAtLevel state level parent → level < most - 1 → above ≡ site_on rules (line state parent))
+      → (style : Style) → style ≡ style_at rules state number entry.what above.style → (made : Site) → made ≡ site_in entry.what style above
+      → (level : ℕ) → IsAtLevel state level number → level < most → made ≡ site_on rules (line state number)
+  site_placed number parent most entry is stands apart above before style styled_ made here zero at within =
+      let html : parent_at state number ≡ None = ap (parent_at state) at ∙ tree.whole.html in
+      let its : parent_at state number ≡ Some parent = ap (λ (o : Option Entry). option_and_then (λ entry. entry.parent) o) (sym is) ∙ stands in
+      absurd (none-some parent (sym html ∙ its))
+  site_placed number parent most entry is stands apart above before style styled_ made here (suc level) (upper, at, contains) within =
+      let there = found number (children_at state upper) contains in
+      let (child, lives_, under, lines) = child_line state tree.whole tree.reached level upper number at there in
+      let same : child ≡ entry = same_entry child entry (sym lives_ ∙ sym is) in
+      let upper_is : upper ≡ parent = ap (λ (o : Option ℕ). unwrap_or o upper) (sym under ∙ ap (λ (e : Entry). e.parent) same ∙ stands) in
+      let site_is : above ≡ site_on rules (line state upper) = before level (subst (IsAtLevel state level) upper_is at) (omega (arith, within)) ∙ ap (λ (n : ℕ). site_on rules (line state n)) (sym upper_is) in
+      let line_is_ : line state number ≡ entry.what ∷ line state upper = lines ∙ ap (λ (e : Entry). e.what ∷ line state upper) same in
+      let as_line = style_on rules (entry.what ∷ line state upper) entry.what (site_on rules (line state upper)).style in
+      let style_is : style ≡ as_line =
+      styled_ ∙ style_at_is rules state number entry.what above.style ∙ ap (λ (l : List What). style_on rules l entry.what above.style) line_is_
+      ∙ ap (λ (s : Site). style_on rules (entry.what ∷ line state upper) entry.what s.style) site_is in
+      here ∙ ap (λ (s : Style). site_in entry.what s above) style_is ∙ ap (site_in entry.what as_line) site_is
+      ∙ sym (site_below rules entry.what (line state upper) (has_two level upper number at there apart)) ∙ ap (site_on rules) (sym line_is_)

@@ -1,0 +1,10 @@
+use Rattle.dom_store.specs.State.{state_of}
+use Rattle.cascade.specs.Index.{index_rules}
+use Rattle.box_limits.specs.Walking.{site_of}
+use Rattle.box_limits.proofs.Leasts.{finds_below}
+use Rattle.box_limits.proofs.judging.Judging.children.Goals as goal
+
+pub returns : goal.returns
+returns c =
+    finds_below (index_rules c.args.self.now.rules.now) (state_of c.args.self.now.document.now) c.requires.tree c.args.parent c.args.numbers.now c.requires.inside (site_of c.in_ok-site.site) c.in_ok-site.ensures.site
+    c.in_ok-found.found c.in_ok-found.ensures

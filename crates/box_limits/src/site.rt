@@ -1,0 +1,140 @@
+//! Where nodes stand: what their boxes have of the boxes above them.
+
+ghost use Rattle.std.specs.Prelude.{◌≡◌, ◌≤◌};
+ghost use Rattle.style_types.specs.Style.{IsBounded};
+ghost use Rattle.dom_store.specs.State.{what_of};
+ghost use Rattle.style_tree.specs.Styling.{kind_of};
+ghost use Rattle.box_gen.specs.Boxes as boxes;
+ghost use Rattle.box_gen.specs.Orthogonal as orthogonal;
+ghost use Rattle.box_limits.specs.Lines as lines;
+ghost use Rattle.box_limits.specs.Walking as walking;
+ghost use Rattle.box_limits.specs.Walking.{IsFit, site_of};
+
+use crate::role::{Role, role_of};
+use dom_store::NodeKind;
+use style_types::Style;
+use wm_modes::WritingMode;
+
+/// How many boxes on a line of ancestors may be orthogonal to their containing blocks.
+const MOST_ORTHOGONAL: u32 = 6;
+
+/// Where those nodes stand that are in an element.
+#[derive(Clone, Copy)]
+pub(crate) struct Site {
+    /// The element's style.
+    pub style: Style,
+    /// The mode of their containing block.
+    pub mode: WritingMode,
+    /// How many boxes from the root down to their containing block are orthogonal to theirs; seven stand for more.
+    pub turns: u32,
+    /// They stand in an inline box.
+    pub inside: bool,
+    /// They make boxes at all.
+    pub shown: bool,
+}
+
+impl Site {
+    /// Beside `body`, where nothing stands.
+    pub(crate) fn outside() -> Site
+        ensures value { site_of result ≡ lines.outside }
+        ensures fit { IsFit result }
+    {
+        let style = Style::initial();
+        Site {
+            style,
+            mode: style.mode,
+            turns: 0,
+            inside: false,
+            shown: false,
+        }
+    }
+
+    /// Where `body` stands, which has this style.
+    pub(crate) fn of_body(style: &Style) -> Site
+        requires { IsBounded style.now }
+        ensures value { site_of result ≡ walking.site_of_body style.now }
+        ensures fit { IsFit result }
+    {
+        Site {
+            style: *style,
+            mode: style.mode,
+            turns: 0,
+            inside: false,
+            shown: true,
+        }
+    }
+
+    /// In a node of this style that stands here.
+    pub(crate) fn in_node(&self, kind: &NodeKind, style: &Style) -> Site
+        requires fit { IsFit self.now }
+        requires style { IsBounded style.now }
+        ensures value { site_of result ≡ lines.site_in (what_of kind.now) style.now (site_of self.now) }
+        ensures fit { IsFit result }
+    {
+        match role_of(kind, style) {
+            Role::Nothing => Site {
+                style: *style,
+                shown: false,
+                ..*self
+            },
+            Role::InlineBox => Site {
+                style: *style,
+                inside: true,
+                ..*self
+            },
+            Role::Atom | Role::BlockLevel => self.in_container(style),
+        }
+    }
+
+    // In a box of this style that stands here, and that is a container anew.
+    fn in_container(&self, style: &Style) -> Site
+        requires fit { IsFit self.now }
+        requires style { IsBounded style.now }
+        ensures value { site_of result ≡ lines.container_at style.now (site_of self.now) }
+        ensures fit { IsFit result }
+    {
+        Site {
+            style: *style,
+            mode: style.mode,
+            turns: self.turns_with(style.mode),
+            inside: false,
+            shown: self.shown,
+        }
+    }
+
+    // How many are orthogonal with a box of this mode that stands here.
+    fn turns_with(&self, mode: WritingMode) -> u32
+        requires { self.now.turns ≤ 7 }
+        ensures value { result ≡ orthogonal.turns_in self.now.mode mode self.now.turns }
+        ensures most { result ≤ 7 }
+    {
+        if self.mode.is_parallel(mode) {
+            self.turns
+        } else {
+            (self.turns + 1).min(7)
+        }
+    }
+
+    /// Whether too many are orthogonal with the box of a node of this style that stands here.
+    pub(crate) fn is_past(&self, kind: &NodeKind, style: &Style) -> bool
+        requires { IsFit self.now }
+        ensures { result ≡ walking.tests_past (boxes.role_of (kind_of (what_of kind.now)) style.now) style.now (site_of self.now) }
+    {
+        match role_of(kind, style) {
+            Role::Atom | Role::BlockLevel => {
+                self.shown && self.turns_with(style.mode) > MOST_ORTHOGONAL
+            }
+            Role::Nothing | Role::InlineBox => false,
+        }
+    }
+
+    /// Whether a node of this style that stands here is a block-level box in an inline box.
+    pub(crate) fn is_caught(&self, kind: &NodeKind, style: &Style) -> bool
+        ensures { result ≡ walking.tests_caught (boxes.role_of (kind_of (what_of kind.now)) style.now) style.now (site_of self.now) }
+    {
+        match role_of(kind, style) {
+            Role::BlockLevel => self.shown && self.inside,
+            Role::Nothing | Role::InlineBox | Role::Atom => false,
+        }
+    }
+}
