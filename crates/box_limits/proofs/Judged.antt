@@ -34,7 +34,7 @@ no_turns VerticalLr = refl
 no_turns SidewaysRl = refl
 no_turns SidewaysLr = refl
 
-body_past : (role : Role) (style : Style) → tests_past role style (site_of_body style) ≡ false
+pub body_past : (role : Role) (style : Style) → tests_past role style (site_of_body style) ≡ false
 body_past nothing style = refl
 body_past (words letters) style = refl
 body_past line_break style = refl
@@ -42,7 +42,7 @@ body_past inline_box style = refl
 body_past atom style = rw (no_turns style.mode) refl
 body_past block_level style = rw (no_turns style.mode) refl
 
-body_caught : (role : Role) (style : Style) → tests_caught role style (site_of_body style) ≡ false
+pub body_caught : (role : Role) (style : Style) → tests_caught role style (site_of_body style) ≡ false
 body_caught nothing style = refl
 body_caught (words letters) style = refl
 body_caught line_break style = refl

@@ -1,5 +1,5 @@
 -- The least of some nodes, and of all.
-use Rattle.std.proofs.Common.{◌≡◌, ◌∙◌, ℕ, zero, suc, ◌+◌, ◌<◌, ◌≤◌, Bool, true, false, List, [], ◌∷◌, refl, ap, sym, subst, arith, Option, Some, None, inl, inr}
+use Rattle.std.proofs.Common.{◌≡◌, ◌∙◌, ℕ, suc, ◌+◌, ◌<◌, Bool, true, false, List, [], ◌∷◌, refl, ap, sym, subst, arith, Option, Some, None, inl}
 use Rattle.std.specs.Prelude.{filter, is_some}
 use Rattle.std.specs.List.{Contains}
 use Rattle.style_types.specs.Rule.{Ruling}
@@ -18,7 +18,7 @@ use Rattle.box_limits.specs.Limits.{AreThoseWhere, IsLeastWhere, all_below}
 use Rattle.box_limits.specs.Lines.{Site, is_caught, is_past, site_on}
 use Rattle.box_limits.specs.Walking.{AreInside, FindsAll, FindsBelow, IsTree, caught_from, found_from, past_from, tests_caught, tests_past}
 use Rattle.box_limits.proofs.Among.{IsIn, contained, found, from_all, kept, passes}
-use Rattle.box_limits.proofs.Judged.{SaysBelow, caught_are, caught_below, past_are, past_below, says_caught, says_past}
+use Rattle.box_limits.proofs.Judged.{caught_are, caught_below, past_are, past_below, says_caught, says_past}
 use Rattle.box_limits.proofs.Levels.{child_lives, one_level}
 use Rattle.box_limits.proofs.Parts.{two_at}
 use Rattle.box_limits.proofs.Walks.{Ends, SaysBy, Steps, caught_ends, caught_steps, past_ends, past_steps, walks}

@@ -1,4 +1,5 @@
 pub mod Among
+pub mod Editing
 pub mod Finding
 pub mod Judged
 pub mod Leasts

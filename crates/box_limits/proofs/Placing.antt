@@ -1,5 +1,5 @@
 -- Where nodes stand, from the node that they stand in.
-use Rattle.std.proofs.Common.{◌≡◌, ◌∙◌, ◌⊎◌, ℕ, zero, suc, ◌-◌, ◌<◌, Bool, true, false, List, [], ◌∷◌, refl, ap, sym, subst, arith, Option, Some, None, option_map, inl, inr}
+use Rattle.std.proofs.Common.{◌≡◌, ◌∙◌, ◌⊎◌, ℕ, zero, suc, ◌-◌, ◌<◌, true, false, List, [], ◌∷◌, refl, ap, sym, subst, arith, Option, Some, None, option_map, inl, inr}
 use Rattle.std.specs.Prelude.{unwrap_or, option_and_then, IsSome}
 use Rattle.std.proofs.lemmas.Option.{none-some}
 use Rattle.std.specs.Borrow.{Bor}
@@ -9,14 +9,14 @@ use Rattle.dom_store.specs.declared.node.Node.{Node}
 use Rattle.dom_store.specs.State.{What, Entry, State, entry_of, line, line_to, line_with, what_of}
 use Rattle.dom_store.specs.Standing.{children_at, parent_at}
 use Rattle.tree_laws.specs.Reached.{IsAtLevel}
-use Rattle.style_tree.specs.Styling.{body_style, kind_of, style_at}
-use Rattle.box_gen.specs.Boxes.{Role, atom, block_level, inline_box, line_break, nothing, role_of, words}
+use Rattle.style_tree.specs.Styling.{body_style, style_at}
+use Rattle.box_gen.specs.Boxes.{Role, atom, block_level, inline_box, line_break, nothing, words}
 use Rattle.box_limits.specs.declared.role.Role as code_role
 use Rattle.box_limits.specs.declared.role.Role.TheVariants as code_roles
 use Rattle.box_limits.specs.Lines.{Site, container_at, outside, site_by, site_in, site_on, style_on}
 use Rattle.box_limits.specs.Walking.{IsTree, code_of, site_of_body}
 use Rattle.box_limits.proofs.Among.{IsIn, found}
-use Rattle.box_limits.proofs.Judged.{body, body_site, body_site_is, html_children}
+use Rattle.box_limits.proofs.Judged.{body, body_site_is, html_children}
 use Rattle.box_limits.proofs.Levels.{child_line, line_is, no_line}
 use Rattle.box_limits.proofs.Parts.{two_at}
 use Rattle.box_limits.proofs.Walks.{HasTwo, site_below, style_at_is}
@@ -130,3 +130,7 @@ module _ (rules : List Ruling) (state : State) (tree : IsTree state) where
       ∙ ap (λ (s : Site). style_on rules (entry.what ∷ line state upper) entry.what s.style) site_is in
       here ∙ ap (λ (s : Style). site_in entry.what s above) style_is ∙ ap (site_in entry.what as_line) site_is
       ∙ sym (site_below rules entry.what (line state upper) (has_two level upper number at there apart)) ∙ ap (site_on rules) (sym line_is_)
+
+pub children_found : (state : State) (number : ℕ) (found : Option (Bor Node)) (node : Bor Node) → found ≡ Some node → option_map (λ n. entry_of n.now) found ≡ state.node_at number → node.now.children.items ≡ children_at state number
+children_found state number found node is at =
+    ap (λ (o : Option Entry). unwrap_or (option_map (λ entry. entry.children) o) []) (sym (ap (option_map (λ (n : Bor Node). entry_of n.now)) is) ∙ at)

@@ -29,13 +29,6 @@ IsLeastWhere test state among None = (number : ℕ) → Contains among number �
 IsLeastWhere test state among (Some number) = Contains among number × (test (line state number) ≡ true)
     × ((other : ℕ) → Contains among other → test (line state other) ≡ true → number ≤ other)
 
--- their boxes are within both limits, or not: boxes that turn are judged first
-abbrev pub Judges : List Ruling → State → (among : List ℕ) → Result ⊤ LimitError → Type 0
-Judges rules state among (Ok done) = IsLeastWhere (is_past rules) state among None × IsLeastWhere (is_caught rules) state among None
-Judges rules state among (Err (TooManyOrthogonal number)) = IsLeastWhere (is_past rules) state among (Some number)
-Judges rules state among (Err (BlockInInline number)) = IsLeastWhere (is_past rules) state among None × IsLeastWhere (is_caught rules) state among (Some number)
-Judges rules state among (Err Memory) = ⊤
-
 -- ---- a whole document
 
 -- these are the nodes that live and whose lines pass the test

@@ -1,15 +1,16 @@
 -- What is found among styled nodes that stand at a site.
-use Rattle.std.specs.Prelude.{◌≡◌, ℕ, ◌+◌, ◌≤◌, ◌&&◌, Bool, true, false, List, [], Option, Some, None}
+use Rattle.std.specs.Prelude.{◌≡◌, ℕ, ◌+◌, ◌≤◌, ◌&&◌, Bool, true, false, List, [], ◌∷◌, Option, Some, None}
 use Rattle.std.specs.List.{Contains}
 use Rattle.style_types.specs.declared.style.Style.{Style}
 use Rattle.style_types.specs.Rule.{Ruling}
 use Rattle.style_types.specs.Style.{IsBounded}
 use Rattle.style_types.specs.Tree.{Nodes}
-use Rattle.dom_store.specs.State.{Entry, State, IsEntryAt, IsRooted}
-use Rattle.dom_store.specs.Standing.{children_at}
+use Rattle.html_read.specs.Values.{Node}
+use Rattle.dom_store.specs.State.{State, IsRooted, line}
+use Rattle.dom_store.specs.Standing.{children_at, lives}
 use Rattle.tree_laws.specs.Reached.{IsAtLevel, IsReached}
 use Rattle.tree_laws.specs.Wholeness.{IsWhole}
-use Rattle.style_tree.specs.Styling.{body_style, styled_document}
+use Rattle.style_tree.specs.Styling.{styled_document}
 use Rattle.box_gen.specs.Boxes.{Role, atom, block_level, caught, inline_box, line_break, nothing, root_caught, words}
 use Rattle.box_gen.specs.Building.{least, lesser}
 use Rattle.box_gen.specs.Orthogonal.{IsLeastOf, past, root_past}
@@ -104,3 +105,17 @@ pub record FindsBelow (rules : List Ruling) (state : State) (numbers : List ℕ)
 pub record FindsAll (rules : List Ruling) (state : State) (found : Found) : Type 0 where
   pub past : IsLeastOf (root_past (styled_document rules state)) found.past
   pub caught : IsLeastOf (root_caught (styled_document rules state)) found.caught
+
+-- no other node breaks a limit
+pub record AreCovered (rules : List Ruling) (state : State) (among : List ℕ) : Type 0 where
+  pub past : (number : ℕ) → lives state number ≡ true → is_past rules (line state number) ≡ true → Contains among number
+  pub caught : (number : ℕ) → lives state number ≡ true → is_caught rules (line state number) ≡ true → Contains among number
+
+abbrev pub one_unless : Option ℕ → ℕ
+one_unless None = 1
+one_unless (Some parent) = 0
+
+-- how many nodes stand in no other
+abbrev pub count_of_tops : List Node → ℕ
+count_of_tops [] = 0
+count_of_tops (node ∷ nodes) = one_unless node.parent + count_of_tops nodes

@@ -16,8 +16,8 @@ use computed::compute;
 use std::alloc::{AllocError, Global};
 use style_types::{Style, Winners};
 
-// The number of `body`.
-const BODY: u32 = 1;
+/// The number of `body`.
+pub(crate) const BODY: u32 = 1;
 
 impl<'a> Judging<'a> {
     /// Where the nodes stand that are in the node of this number, which stands at most so deep.

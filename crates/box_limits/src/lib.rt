@@ -3,6 +3,7 @@
 #![tactic(auto)]
 
 mod above;
+mod edited;
 mod error;
 mod found;
 mod judging;
@@ -10,4 +11,5 @@ pub mod laws;
 mod role;
 mod site;
 
+pub use edited::check_edited;
 pub use error::LimitError;

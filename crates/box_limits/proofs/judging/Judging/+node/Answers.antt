@@ -1,4 +1,4 @@
-use Rattle.std.proofs.Common.{◌∙◌, ◌-◌, List, sym, ap, arith}
+use Rattle.std.proofs.Common.{◌∙◌, ◌-◌, arith}
 use Rattle.dom_store.specs.State.{state_of, what_of}
 use Rattle.cascade.specs.Index.{index_rules}
 use Rattle.box_limits.specs.Walking.{site_of}
