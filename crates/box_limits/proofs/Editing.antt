@@ -27,7 +27,7 @@ use Rattle.tree_laws.proofs.Refusing.{insert_passes, lives_below}
 use Rattle.box_limits.specs.declared.found.Found.{Found}
 use Rattle.box_limits.specs.Limits.{EditsAreJudgedByTheirParts, IsEditedFrom, all_below, touched}
 use Rattle.box_limits.specs.Lines.{is_caught, is_past}
-use Rattle.box_limits.specs.Walking.{AreCovered, AreInside, FindsAll, FindsBelow, IsTree, count_of_tops, nothing_found, one_unless, tests_caught, tests_past, caught_from, past_from}
+use Rattle.box_limits.specs.Judging.{AreCovered, AreInside, FindsAll, FindsBelow, IsTree, count_of_tops, nothing_found, one_unless, tests_caught, tests_past, caught_from, past_from}
 use Rattle.box_limits.proofs.Among.{IsIn, contained, found, in_first, in_second, of_one}
 use Rattle.box_limits.proofs.Judged.{body_caught, body_past, caught_below, html_children, past_below, placed_below, says_caught, says_past}
 use Rattle.box_limits.proofs.Leasts.{finds_all}

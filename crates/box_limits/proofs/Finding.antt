@@ -13,7 +13,7 @@ use Rattle.box_gen.specs.Building.{least, lesser}
 use Rattle.box_gen.proofs.CaughtNodes.{least_append, lesser_assoc, lesser_none}
 use Rattle.box_limits.specs.declared.found.Found.{Found}
 use Rattle.box_limits.specs.Lines.{Site, site_by, site_in}
-use Rattle.box_limits.specs.Walking.{both, caught_from, found_at, found_from, nothing_found, number_if, past_from, tests_caught, tests_past}
+use Rattle.box_limits.specs.Judging.{both, caught_from, found_at, found_from, nothing_found, number_if, past_from, tests_caught, tests_past}
 use Rattle.box_limits.proofs.Walks.{caught_ends, caught_steps, own_style, past_ends, past_steps}
 
 pub same_found : (past past_too caught caught_too : Option ℕ) → past ≡ past_too → caught ≡ caught_too → (let one : Found = record { past = past; caught = caught } in one) ≡ record { past = past_too; caught = caught_too }

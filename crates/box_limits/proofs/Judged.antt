@@ -20,7 +20,7 @@ use Rattle.box_gen.specs.Boxes.{Role, atom, block_level, inline_box, line_break,
 use Rattle.box_gen.specs.Orthogonal.{root_past, turns_in}
 use Rattle.box_limits.specs.Limits.{AreThoseWhere, DocumentsAreJudgedByLines}
 use Rattle.box_limits.specs.Lines.{Site, body_style_on, html_style_on, is_caught, is_past, site_by, site_in_body, site_on}
-use Rattle.box_limits.specs.Walking.{caught_from, past_from, site_of_body, tests_caught, tests_past}
+use Rattle.box_limits.specs.Judging.{caught_from, past_from, site_of_body, tests_caught, tests_past}
 use Rattle.box_limits.proofs.Among.{IsIn, contained, found, in_all, kept, of_one, passes}
 use Rattle.box_limits.proofs.Levels.{child_below, first_below, line_is, no_line, up_to}
 use Rattle.box_limits.proofs.Walks.{Ends, HasTwo, SaysBy, Steps, caught_ends, caught_steps, own_style, past_ends, past_steps, walks}

@@ -16,7 +16,7 @@ use Rattle.box_gen.proofs.Least.{least_is, none_least}
 use Rattle.box_limits.specs.declared.found.Found.{Found}
 use Rattle.box_limits.specs.Limits.{AreThoseWhere, IsLeastWhere, all_below}
 use Rattle.box_limits.specs.Lines.{Site, is_caught, is_past, site_on}
-use Rattle.box_limits.specs.Walking.{AreInside, FindsAll, FindsBelow, IsTree, caught_from, found_from, past_from, tests_caught, tests_past}
+use Rattle.box_limits.specs.Judging.{AreInside, FindsAll, FindsBelow, IsTree, caught_from, found_from, past_from, tests_caught, tests_past}
 use Rattle.box_limits.proofs.Among.{IsIn, contained, found, from_all, kept, passes}
 use Rattle.box_limits.proofs.Judged.{caught_are, caught_below, past_are, past_below, says_caught, says_past}
 use Rattle.box_limits.proofs.Levels.{child_lives, one_level}

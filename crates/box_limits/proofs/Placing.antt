@@ -14,7 +14,7 @@ use Rattle.box_gen.specs.Boxes.{Role, atom, block_level, inline_box, line_break,
 use Rattle.box_limits.specs.declared.role.Role as code_role
 use Rattle.box_limits.specs.declared.role.Role.TheVariants as code_roles
 use Rattle.box_limits.specs.Lines.{Site, container_at, outside, site_by, site_in, site_on, style_on}
-use Rattle.box_limits.specs.Walking.{IsTree, code_of, site_of_body}
+use Rattle.box_limits.specs.Judging.{IsTree, code_of, site_of_body}
 use Rattle.box_limits.proofs.Among.{IsIn, found}
 use Rattle.box_limits.proofs.Judged.{body, body_site_is, html_children}
 use Rattle.box_limits.proofs.Levels.{child_line, line_is, no_line}

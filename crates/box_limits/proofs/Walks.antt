@@ -14,7 +14,7 @@ use Rattle.style_tree.specs.Styling.{kind_of, style_at, styled_in}
 use Rattle.box_gen.specs.Boxes.{Role, atom, block_level, caught, caught_by, inline_box, line_break, nothing, put_if, role_of, words}
 use Rattle.box_gen.specs.Orthogonal.{past, past_by}
 use Rattle.box_limits.specs.Lines.{Site, container_at, is_caught_by, is_past_by, site_by, site_in, site_on, style_on}
-use Rattle.box_limits.specs.Walking.{caught_from, if_shown, past_from, tests_caught, tests_past}
+use Rattle.box_limits.specs.Judging.{caught_from, if_shown, past_from, tests_caught, tests_past}
 use Rattle.box_limits.proofs.Among.{IsIn, contained, filter_both, filter_put}
 use Rattle.box_limits.proofs.Levels.{below_is, child_line}
 

@@ -1,3 +1,3 @@
+pub mod Judging
 pub mod Limits
 pub mod Lines
-pub mod Walking

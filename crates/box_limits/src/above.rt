@@ -8,7 +8,7 @@ ghost use Rattle.cascade.specs.Winners.{AreSaidRules, AreSaidWinners};
 ghost use Rattle.tree_laws.specs.Reached.{IsAtLevel};
 ghost use Rattle.style_tree.specs.Styling as styling;
 ghost use Rattle.box_limits.specs.Lines.{site_on};
-ghost use Rattle.box_limits.specs.Walking.{IsFit, IsTree, site_of};
+ghost use Rattle.box_limits.specs.Judging.{IsFit, IsTree, site_of};
 
 use crate::judging::Judging;
 use crate::site::Site;

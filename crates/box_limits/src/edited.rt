@@ -9,8 +9,8 @@ ghost use Rattle.cascade.specs.Index.{index_rules};
 ghost use Rattle.cascade.specs.Winners.{AreSaidRules};
 ghost use Rattle.tree_laws.specs.Reached.{IsAtLevel};
 ghost use Rattle.box_limits.specs.Limits.{Answers, IsEditedFrom, all_below};
-ghost use Rattle.box_limits.specs.Walking as walking;
-ghost use Rattle.box_limits.specs.Walking.{AreCovered, FindsAll, FindsBelow, IsTree};
+ghost use Rattle.box_limits.specs.Judging as definitions;
+ghost use Rattle.box_limits.specs.Judging.{AreCovered, FindsAll, FindsBelow, IsTree};
 
 use crate::above::BODY;
 use crate::error::LimitError;
@@ -148,7 +148,7 @@ impl<'a> Judging<'a> {
 
 // How many of these nodes stand in no other.
 fn count_of_tops(nodes: &[ReadNode]) -> usize
-    ensures value { result ≡ walking.count_of_tops (nodes_of nodes.now) }
+    ensures value { result ≡ definitions.count_of_tops (nodes_of nodes.now) }
     ensures most { result ≤ length nodes.now }
 {
     let mut count = 0;

@@ -2,7 +2,7 @@
 
 ghost use Rattle.std.specs.Prelude.{◌≡◌};
 ghost use Rattle.box_gen.specs.Building as building;
-ghost use Rattle.box_limits.specs.Walking as walking;
+ghost use Rattle.box_limits.specs.Judging as definitions;
 
 /// Of some nodes the least number of one that breaks each limit.
 #[derive(Clone, Copy)]
@@ -16,7 +16,7 @@ pub(crate) struct Found {
 impl Found {
     /// None breaks one.
     pub(crate) fn nothing() -> Found
-        ensures { result ≡ walking.nothing_found }
+        ensures { result ≡ definitions.nothing_found }
     {
         Found {
             past: None,
@@ -26,7 +26,7 @@ impl Found {
 
     /// One node, which breaks them or not.
     pub(crate) fn at(number: u32, past: bool, caught: bool) -> Found
-        ensures { result ≡ walking.found_at number past caught }
+        ensures { result ≡ definitions.found_at number past caught }
     {
         Found {
             past: number_if(past, number),
@@ -36,7 +36,7 @@ impl Found {
 
     /// These nodes and others.
     pub(crate) fn and(self, other: Found) -> Found
-        ensures { result ≡ walking.both self other }
+        ensures { result ≡ definitions.both self other }
     {
         Found {
             past: lesser(self.past, other.past),
@@ -46,7 +46,7 @@ impl Found {
 }
 
 fn number_if(is: bool, number: u32) -> Option<u32>
-    ensures { result ≡ walking.number_if is number }
+    ensures { result ≡ definitions.number_if is number }
 {
     if is { Some(number) } else { None }
 }

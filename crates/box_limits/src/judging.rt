@@ -8,7 +8,7 @@ ghost use Rattle.cascade.specs.Index.{index_rules};
 ghost use Rattle.cascade.specs.Winners.{AreSaidRules};
 ghost use Rattle.style_tree.specs.Styling as styling;
 ghost use Rattle.style_tree.specs.Styling.{styled_in};
-ghost use Rattle.box_limits.specs.Walking.{AreInside, FindsBelow, IsFit, IsTree, found_from, site_of};
+ghost use Rattle.box_limits.specs.Judging.{AreInside, FindsBelow, IsFit, IsTree, found_from, site_of};
 
 use crate::found::Found;
 use crate::site::Site;

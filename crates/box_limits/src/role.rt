@@ -4,7 +4,7 @@ ghost use Rattle.std.specs.Prelude.{◌≡◌};
 ghost use Rattle.dom_store.specs.State.{what_of};
 ghost use Rattle.style_tree.specs.Styling.{kind_of};
 ghost use Rattle.box_gen.specs.Boxes as boxes;
-ghost use Rattle.box_limits.specs.Walking.{code_of};
+ghost use Rattle.box_limits.specs.Judging.{code_of};
 
 use dom_store::NodeKind;
 use html_tokens::Tag;

@@ -7,8 +7,8 @@ ghost use Rattle.style_tree.specs.Styling.{kind_of};
 ghost use Rattle.box_gen.specs.Boxes as boxes;
 ghost use Rattle.box_gen.specs.Orthogonal as orthogonal;
 ghost use Rattle.box_limits.specs.Lines as lines;
-ghost use Rattle.box_limits.specs.Walking as walking;
-ghost use Rattle.box_limits.specs.Walking.{IsFit, site_of};
+ghost use Rattle.box_limits.specs.Judging as definitions;
+ghost use Rattle.box_limits.specs.Judging.{IsFit, site_of};
 
 use crate::role::{Role, role_of};
 use dom_store::NodeKind;
@@ -52,7 +52,7 @@ impl Site {
     /// Where `body` stands, which has this style.
     pub(crate) fn of_body(style: &Style) -> Site
         requires { IsBounded style.now }
-        ensures value { site_of result ≡ walking.site_of_body style.now }
+        ensures value { site_of result ≡ definitions.site_of_body style.now }
         ensures fit { IsFit result }
     {
         Site {
@@ -118,7 +118,7 @@ impl Site {
     /// Whether too many are orthogonal with the box of a node of this style that stands here.
     pub(crate) fn is_past(&self, kind: &NodeKind, style: &Style) -> bool
         requires { IsFit self.now }
-        ensures { result ≡ walking.tests_past (boxes.role_of (kind_of (what_of kind.now)) style.now) style.now (site_of self.now) }
+        ensures { result ≡ definitions.tests_past (boxes.role_of (kind_of (what_of kind.now)) style.now) style.now (site_of self.now) }
     {
         match role_of(kind, style) {
             Role::Atom | Role::BlockLevel => {
@@ -130,7 +130,7 @@ impl Site {
 
     /// Whether a node of this style that stands here is a block-level box in an inline box.
     pub(crate) fn is_caught(&self, kind: &NodeKind, style: &Style) -> bool
-        ensures { result ≡ walking.tests_caught (boxes.role_of (kind_of (what_of kind.now)) style.now) style.now (site_of self.now) }
+        ensures { result ≡ definitions.tests_caught (boxes.role_of (kind_of (what_of kind.now)) style.now) style.now (site_of self.now) }
     {
         match role_of(kind, style) {
             Role::BlockLevel => self.shown && self.inside,

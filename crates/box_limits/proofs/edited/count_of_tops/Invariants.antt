@@ -1,6 +1,6 @@
 use Rattle.std.proofs.Common.{◌≡◌, ◌+◌, ◌≤◌, drop}
 use Rattle.html_read.specs.Values.{nodes_of}
-use Rattle.box_limits.specs.Walking.{count_of_tops}
+use Rattle.box_limits.specs.Judging.{count_of_tops}
 use Rattle.box_limits.proofs.edited.count_of_tops.Given as goal
 
 abbrev pub invariant-loop-node : goal.invariant-loop-node

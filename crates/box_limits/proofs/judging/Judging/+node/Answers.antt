@@ -1,7 +1,7 @@
 use Rattle.std.proofs.Common.{◌∙◌, ◌-◌, arith}
 use Rattle.dom_store.specs.State.{state_of, what_of}
 use Rattle.cascade.specs.Index.{index_rules}
-use Rattle.box_limits.specs.Walking.{site_of}
+use Rattle.box_limits.specs.Judging.{site_of}
 use Rattle.box_limits.proofs.Finding.{ends, node_found, none_goes_on, some_goes_on, used_up}
 use Rattle.box_limits.proofs.judging.Judging.+node.Goals as goal
 use Rattle.box_limits.proofs.judging.Judging.+node.Goals.{nodes-in-Some+in_ok-node, nodes-in_default}

@@ -1,7 +1,7 @@
 use Rattle.std.proofs.Common.{◌+◌, ◌*◌}
 use Rattle.dom_store.specs.State.{state_of}
 use Rattle.cascade.specs.Index.{index_rules}
-use Rattle.box_limits.specs.Walking.{site_of}
+use Rattle.box_limits.specs.Judging.{site_of}
 use Rattle.box_limits.proofs.Finding.{IsGoing}
 use Rattle.box_limits.proofs.judging.Judging.+node.Given as goal
 

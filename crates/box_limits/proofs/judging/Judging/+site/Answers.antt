@@ -1,6 +1,6 @@
 use Rattle.dom_store.specs.State.{entry_of, state_of}
 use Rattle.cascade.specs.Index.{index_rules}
-use Rattle.box_limits.specs.Walking.{site_of}
+use Rattle.box_limits.specs.Judging.{site_of}
 use Rattle.box_limits.proofs.Placing.{nothing_above, nowhere, site_placed}
 use Rattle.box_limits.proofs.judging.Judging.+site.Goals as goal
 

@@ -1,6 +1,6 @@
 use Rattle.dom_store.specs.State.{state_of}
 use Rattle.cascade.specs.Index.{index_rules}
-use Rattle.box_limits.specs.Walking.{site_of}
+use Rattle.box_limits.specs.Judging.{site_of}
 use Rattle.box_limits.proofs.Leasts.{finds_below}
 use Rattle.box_limits.proofs.judging.Judging.children.Goals as goal
 

@@ -6,7 +6,7 @@ use Rattle.dom_store.specs.State.{state_of}
 use Rattle.dom_store.specs.Edited.{edit_of}
 use Rattle.cascade.specs.Index.{index_rules}
 use Rattle.box_limits.specs.Limits.{IsEditedFrom, touched}
-use Rattle.box_limits.specs.Walking.{count_of_tops}
+use Rattle.box_limits.specs.Judging.{count_of_tops}
 use Rattle.box_limits.proofs.Editing.{edited_tree, new_all, new_below, new_within, one_touched, untouched_all}
 use Rattle.box_limits.proofs.judging.Judging.edited.Goals as goal
 

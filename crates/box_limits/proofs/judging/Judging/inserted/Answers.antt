@@ -2,7 +2,7 @@ use Rattle.std.proofs.Common.{◌≡◌, ◌+◌, ◌-◌, ◌∙◌, ℕ, List,
 use Rattle.dom_store.specs.State.{state_of}
 use Rattle.dom_store.specs.Standing.{children_at}
 use Rattle.cascade.specs.Index.{index_rules}
-use Rattle.box_limits.specs.Walking.{FindsBelow}
+use Rattle.box_limits.specs.Judging.{FindsBelow}
 use Rattle.box_limits.proofs.Editing.{part_inside}
 use Rattle.box_limits.proofs.judging.Judging.inserted.Goals as goal
 

@@ -2,7 +2,7 @@ use Rattle.std.proofs.Common.{◌∙◌}
 use Rattle.dom_store.specs.State.{what_of}
 use Rattle.style_tree.specs.Styling.{kind_of}
 use Rattle.box_gen.specs.Boxes.{role_of}
-use Rattle.box_limits.specs.Walking.{site_of}
+use Rattle.box_limits.specs.Judging.{site_of}
 use Rattle.box_limits.proofs.Placing.{as_container, as_inline, as_nothing}
 use Rattle.box_limits.proofs.site.Site.in_node.Goals as goal
 
