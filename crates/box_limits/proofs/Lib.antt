@@ -1,5 +1,6 @@
 pub mod Among
 pub mod Editing
+mod Examples
 pub mod Finding
 pub mod Judged
 pub mod Leasts
