@@ -1,9 +1,11 @@
 pub mod AddLaws
 pub mod ApplyLaws
+pub mod BackLaws
 pub mod ChildLaws
 pub mod CopyLaws
 pub mod CountLaws
 pub mod DepthLaws
+pub mod DropLaws
 pub mod FillLaws
 pub mod InsertLaws
 pub mod JudgeLaws

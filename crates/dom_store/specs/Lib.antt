@@ -7,4 +7,5 @@ pub mod Opening
 pub mod Refusals
 pub mod Standing
 pub mod State
+pub mod Taking
 pub mod Whole

@@ -1,6 +1,6 @@
 //! Edits of the tree (DOM, 4.2 and 4.5, narrowed).
 
-use crate::node::NodeNumbers;
+use crate::node::{NodeKind, NodeNumbers};
 use html_read::ReadNodes;
 use style_types::{Declarations, LetterList, Letters, Styles};
 
@@ -47,8 +47,44 @@ pub struct NewNodes {
     pub styles: Styles,
 }
 
-/// What an edit concerned: elements whose children or whose own styles are other than before, each once.
+/// What an edit concerned: elements whose children or whose own styles are other than before, each once; and what stood
+/// before.
 #[derive(Debug, Drop)]
 pub struct Change {
     pub elements: NodeNumbers,
+    pub before: Before,
+}
+
+/// What stood before an edit, so that it can be taken back.
+#[derive(Debug, Drop)]
+pub enum Before {
+    /// What a node was.
+    Text {
+        node: u32,
+        kind: NodeKind,
+    },
+    Style {
+        node: u32,
+        declarations: Declarations,
+    },
+    Class {
+        node: u32,
+        words: LetterList,
+    },
+    /// The children of the parent, and the number that was given next.
+    Insert {
+        parent: u32,
+        children: NodeNumbers,
+        next: u32,
+    },
+    /// The parent of the node, where it had one, and that one's children; then those of the new one.
+    Move {
+        node: u32,
+        from: Option<u32>,
+        left: NodeNumbers,
+        parent: u32,
+        children: NodeNumbers,
+    },
+    /// Nodes that went are not kept.
+    Remove,
 }

@@ -6,11 +6,13 @@ ghost use Rattle.dom_store.specs.Edited.{Applies, IsFitting, edit_of};
 ghost use Rattle.dom_store.specs.Edits.{set_class, set_style, set_text};
 ghost use Rattle.dom_store.specs.Standing.{parent_at};
 ghost use Rattle.dom_store.specs.State.{state_of};
+ghost use Rattle.dom_store.specs.Taking.{LeadsBack, before_of, taken_back};
 
 use crate::copies::{copy_of_declarations, copy_of_text, copy_of_texts};
 use crate::document::Document;
-use crate::edit::{Change, Edit};
+use crate::edit::{Before, Change, Edit};
 use crate::error::EditError;
+use crate::node::{NodeKind, NodeNumbers};
 use std::alloc::{AllocError, Global};
 use style_types::{Declaration, Letters};
 
@@ -30,12 +32,13 @@ impl Document {
     ///    number past the limit.
     /// 8. `TooDeep`: a node would stand deeper than 64, where `html` is at 1: the least such number.
     ///
-    /// `Memory` may be answered in place of any of them, and of a change. The cost: what is copied out of the edit, the
-    /// children of the parents that change, the nodes below one that goes or moves, 64 parents at most; each node takes
-    /// the logarithm of their count.
+    /// `Memory` may be answered in place of any of them, and of a change. Any edit but a removal can be taken back. The
+    /// cost: what is copied out of the edit, the numbers of the children of the parents that change, the nodes below one
+    /// that goes or moves, 64 parents at most; each node takes the logarithm of their count.
     pub fn apply(&mut self, alloc: Global, edit: &Edit) -> Result<Change, EditError>
         requires fitting { IsFitting (edit_of edit.now) }
         ensures applies { Applies (state_of self.old) (state_of self.new) (edit_of edit.now) result }
+        ensures back { IfOk result (λ change. LeadsBack (edit_of edit.now) (before_of change.before) (state_of self.new) (state_of self.old)) }
     {
         match edit {
             Edit::Text { node, text } => self.set_text(alloc, *node, text),
@@ -62,13 +65,15 @@ impl Document {
         n: u32,
         text: &Letters,
     ) -> Result<Change, EditError>
-        ensures { Applies (state_of self.old) (state_of self.new) (set_text n (string_bytes text.now)) result }
+        ensures applies { Applies (state_of self.old) (state_of self.new) (set_text n (string_bytes text.now)) result }
+        ensures back { IfOk result (λ change. taken_back (before_of change.before) (state_of self.new) ≡ state_of self.old) }
     {
         self.check_text(n)?;
-        let change = self.change_above(alloc, n)?;
+        let elements = self.concerned_above(alloc, n)?;
         let text = copy_of_text(text)?;
-        self.put_text(n, text);
-        Ok(change)
+        let kind = self.put_kind(n, NodeKind::Text { text });
+        let before = Before::Text { node: n, kind };
+        Ok(Change { elements, before })
     }
 
     /// Sets an element's own declarations.
@@ -78,13 +83,18 @@ impl Document {
         n: u32,
         own: &[Declaration],
     ) -> Result<Change, EditError>
-        ensures { Applies (state_of self.old) (state_of self.new) (set_style n own.now) result }
+        ensures applies { Applies (state_of self.old) (state_of self.new) (set_style n own.now) result }
+        ensures back { IfOk result (λ change. taken_back (before_of change.before) (state_of self.new) ≡ state_of self.old) }
     {
         self.check_element(n)?;
-        let change = change_of(alloc, n)?;
+        let elements = concerned_alone(alloc, n)?;
         let own = copy_of_declarations(alloc, own)?;
-        self.put_own(n, own);
-        Ok(change)
+        let declarations = self.put_own(n, own);
+        let before = Before::Style {
+            node: n,
+            declarations,
+        };
+        Ok(Change { elements, before })
     }
 
     /// Sets an element's class words.
@@ -94,32 +104,34 @@ impl Document {
         n: u32,
         words: &[Letters],
     ) -> Result<Change, EditError>
-        ensures { Applies (state_of self.old) (state_of self.new) (set_class n (map (λ word. string_bytes word) words.now)) result }
+        ensures applies { Applies (state_of self.old) (state_of self.new) (set_class n (map (λ word. string_bytes word) words.now)) result }
+        ensures back { IfOk result (λ change. taken_back (before_of change.before) (state_of self.new) ≡ state_of self.old) }
     {
         self.check_element(n)?;
-        let change = change_of(alloc, n)?;
+        let elements = concerned_alone(alloc, n)?;
         let words = copy_of_texts(alloc, words)?;
-        self.put_classes(n, words);
-        Ok(change)
+        let words = self.put_classes(n, words);
+        let before = Before::Class { node: n, words };
+        Ok(Change { elements, before })
     }
 
     /// What concerns the node's parent.
-    pub(crate) fn change_above(&self, alloc: Global, n: u32) -> Result<Change, AllocError>
-        ensures { IfOk result (λ change. change.elements.items ≡ option_to_list (parent_at (state_of self.now) n)) }
+    pub(crate) fn concerned_above(&self, alloc: Global, n: u32) -> Result<NodeNumbers, AllocError>
+        ensures { IfOk result (λ elements. elements.items ≡ option_to_list (parent_at (state_of self.now) n)) }
     {
         let mut elements = Vec::new(alloc);
         if let Some(parent) = self.parent(n) {
             elements.push(parent)?;
         }
-        Ok(Change { elements })
+        Ok(elements)
     }
 }
 
 /// What concerns this element alone.
-pub(crate) fn change_of(alloc: Global, n: u32) -> Result<Change, AllocError>
-    ensures { IfOk result (λ change. change.elements.items ≡ n ∷ []) }
+pub(crate) fn concerned_alone(alloc: Global, n: u32) -> Result<NodeNumbers, AllocError>
+    ensures { IfOk result (λ elements. elements.items ≡ n ∷ []) }
 {
     let mut elements = Vec::new(alloc);
     elements.push(n)?;
-    Ok(Change { elements })
+    Ok(elements)
 }

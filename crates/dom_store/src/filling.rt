@@ -45,9 +45,8 @@ impl Document {
         self.next = next;
     }
 
-    /// The nodes from this number on go, and it is given next.
-    pub(crate) fn take_back(&mut self, first: u32)
-        requires { first ≤ self.old.next }
+    /// The nodes from this number on go, and it is given next. It takes no memory.
+    pub(crate) fn give_back(&mut self, first: u32)
         ensures filled { IsFilledFrom (state_of self.old) (state_of self.new) }
         ensures next { self.new.next ≡ first }
     {

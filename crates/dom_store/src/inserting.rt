@@ -1,6 +1,6 @@
 //! Nodes are inserted (DOM, 4.2.3, narrowed).
 
-ghost use Rattle.std.specs.Prelude.{◌≡◌, ◌+◌, ◌<◌, ◌≤◌, ◌^◌, ℕ, [], length, map, IfSome, OnErr, OnOk};
+ghost use Rattle.std.specs.Prelude.{◌≡◌, ◌+◌, ◌<◌, ◌≤◌, ◌^◌, ℕ, [], length, map, IfOk, IfSome, OnErr, OnOk};
 ghost use Rattle.html_read.specs.Values.{nodes_of};
 ghost use Rattle.dom_store.specs.Building.{Grows, FollowParents, added_under, numbers_at};
 ghost use Rattle.dom_store.specs.Edited.{Applies, IsFitting, Judges, refused_for};
@@ -8,13 +8,14 @@ ghost use Rattle.dom_store.specs.Edits.{insert, parent_under};
 ghost use Rattle.dom_store.specs.Opening.{children_from, greatest_count};
 ghost use Rattle.dom_store.specs.Refusals.{entering, first_of, refusal, room_left, too_deep_under, too_many};
 ghost use Rattle.dom_store.specs.State.{state_of};
+ghost use Rattle.dom_store.specs.Taking.{before_of, taken_back};
 
 use crate::children::{children_of, tops_of};
 use crate::copies::node_of;
 use crate::depths::first_too_deep;
 use crate::document::Document;
-use crate::edit::{Change, NewNodes};
-use crate::editing::change_of;
+use crate::edit::{Before, Change, NewNodes};
+use crate::editing::concerned_alone;
 use crate::error::EditError;
 use crate::moving::may_hold;
 use crate::node::NodeNumbers;
@@ -34,15 +35,22 @@ impl Document {
         nodes: &NewNodes,
     ) -> Result<Change, EditError>
         requires fitting { IsFitting (insert parent index (nodes_of nodes.now.read.items) (map (λ own. own.items) nodes.now.styles.items)) }
-        ensures { Applies (state_of self.old) (state_of self.new) (insert parent index (nodes_of nodes.now.read.items) (map (λ own. own.items) nodes.now.styles.items)) result }
+        ensures applies { Applies (state_of self.old) (state_of self.new) (insert parent index (nodes_of nodes.now.read.items) (map (λ own. own.items) nodes.now.styles.items)) result }
+        ensures back { IfOk result (λ change. taken_back (before_of change.before) (state_of self.new) ≡ state_of self.old) }
     {
         self.check_insert(alloc, parent, index, &nodes.read)?;
-        let change = change_of(alloc, parent)?;
-        let tops = tops_of(alloc, &nodes.read, self.next)?;
+        let elements = concerned_alone(alloc, parent)?;
+        let next = self.next;
+        let tops = tops_of(alloc, &nodes.read, next)?;
         let children = with_put(alloc, self.children(parent), index as usize, &tops)?;
         self.add_all(alloc, parent, &nodes.read, &nodes.styles)?;
-        self.put_children(parent, children);
-        Ok(change)
+        let children = self.put_children(parent, children);
+        let before = Before::Insert {
+            parent,
+            children,
+            next,
+        };
+        Ok(Change { elements, before })
     }
 
     /// Gives the next numbers to these nodes, in order, or to none. Those that stand in no other of them stand in this
@@ -66,7 +74,7 @@ impl Document {
         let lists = children_of(alloc, nodes, first)?;
         let added = self.add_each(alloc, parent, nodes, styles, lists);
         if added.is_err() {
-            self.take_back(first);
+            self.give_back(first);
         }
         added
     }

@@ -19,9 +19,10 @@ mod refusals;
 mod removing;
 mod siblings;
 mod standing;
+mod taking;
 mod writing;
 
 pub use document::Document;
-pub use edit::{Change, Edit, NewNodes};
+pub use edit::{Before, Change, Edit, NewNodes};
 pub use error::EditError;
 pub use node::{Node, NodeKind, NodeNumbers};

@@ -2,14 +2,15 @@
 
 ghost use Rattle.std.specs.Prelude.{◌≡◌, ◌≤◌, length, IfOk};
 ghost use Rattle.dom_store.specs.Edited.{Applies, Judges, refused_for};
-ghost use Rattle.dom_store.specs.Edits.{both, move_to, without};
+ghost use Rattle.dom_store.specs.Edits.{both, changed_if, move_to, with_children, without};
 ghost use Rattle.dom_store.specs.Refusals.{first_of, may_hold, placing, refusal, too_deep_moved};
 ghost use Rattle.dom_store.specs.Standing.{children_at, parent_at};
 ghost use Rattle.dom_store.specs.State.{state_of, what_of};
+ghost use Rattle.dom_store.specs.Taking.{before_of, taken_back};
 
 use crate::depths::GREATEST_DEPTH;
 use crate::document::Document;
-use crate::edit::Change;
+use crate::edit::{Before, Change};
 use crate::error::EditError;
 use crate::node::{NodeKind, NodeNumbers};
 use crate::siblings::{least, without};
@@ -25,15 +26,58 @@ impl Document {
         parent: u32,
         index: u32,
     ) -> Result<Change, EditError>
-        ensures { Applies (state_of self.old) (state_of self.new) (move_to n parent index) result }
+        ensures applies { Applies (state_of self.old) (state_of self.new) (move_to n parent index) result }
+        ensures back { IfOk result (λ change. taken_back (before_of change.before) (state_of self.new) ≡ state_of self.old) }
     {
         let mut children = self.check_move(alloc, n, parent, index)?;
-        let change = self.change_of_both(alloc, n, parent)?;
+        let elements = self.concerned_both(alloc, n, parent)?;
         children.insert(index as usize, n)?;
-        self.leave_parent(n);
-        self.put_children(parent, children);
-        self.put_parent(n, parent);
-        Ok(change)
+        let from = self.parent(n);
+        let others = self.others_in(alloc, from, n)?;
+        let left = self.put_children_if(from, others);
+        let children = self.put_children(parent, children);
+        self.put_parent(n, Some(parent));
+        let before = Before::Move {
+            node: n,
+            from,
+            left,
+            parent,
+            children,
+        };
+        Ok(Change { elements, before })
+    }
+
+    /// The children of this node, where there is one, but for this child.
+    fn others_in(
+        &self,
+        alloc: Global,
+        parent: Option<u32>,
+        child: u32,
+    ) -> Result<NodeNumbers, AllocError>
+        ensures { IfOk result (λ others. changed_if (state_of self.now) parent (with_children (λ before. others.items)) ≡ changed_if (state_of self.now) parent (with_children (without child))) }
+    {
+        match parent {
+            Some(parent) => {
+                let others = without(alloc, self.children(parent), child)?;
+                Ok(others)
+            }
+            None => Ok(Vec::new(alloc)),
+        }
+    }
+
+    /// The children of this node, where there is one, are these from now on.
+    pub(crate) fn put_children_if(
+        &mut self,
+        parent: Option<u32>,
+        children: NodeNumbers,
+    ) -> NodeNumbers
+        ensures put { state_of self.new ≡ changed_if (state_of self.old) parent (with_children (λ before. children.items)) }
+        ensures back { changed_if (state_of self.new) parent (with_children (λ now. result.items)) ≡ state_of self.old }
+    {
+        match parent {
+            Some(parent) => self.put_children(parent, children),
+            None => children,
+        }
     }
 
     /// Whether a node may be moved there, and the children among which it would stand.
@@ -96,8 +140,8 @@ impl Document {
     }
 
     /// What concerns the node's parent and this one.
-    fn change_of_both(&self, alloc: Global, n: u32, parent: u32) -> Result<Change, AllocError>
-        ensures { IfOk result (λ change. change.elements.items ≡ both (parent_at (state_of self.now) n) parent) }
+    fn concerned_both(&self, alloc: Global, n: u32, parent: u32) -> Result<NodeNumbers, AllocError>
+        ensures { IfOk result (λ elements. elements.items ≡ both (parent_at (state_of self.now) n) parent) }
     {
         let mut elements = Vec::new(alloc);
         if let Some(old) = self.parent(n) {
@@ -106,7 +150,7 @@ impl Document {
             }
         }
         elements.push(parent)?;
-        Ok(Change { elements })
+        Ok(elements)
     }
 }
 

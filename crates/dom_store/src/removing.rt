@@ -7,7 +7,7 @@ ghost use Rattle.dom_store.specs.Standing.{parent_at};
 ghost use Rattle.dom_store.specs.State.{state_of};
 
 use crate::document::Document;
-use crate::edit::Change;
+use crate::edit::{Before, Change};
 use crate::error::EditError;
 use std::alloc::Global;
 
@@ -17,15 +17,18 @@ impl Document {
         ensures { Applies (state_of self.old) (state_of self.new) (remove n) result }
     {
         self.check_removal(n)?;
-        let change = self.change_above(alloc, n)?;
+        let elements = self.concerned_above(alloc, n)?;
         let gone = self.descendants(alloc, n)?;
         self.leave_parent(n);
         self.take_all_out(&gone);
-        Ok(change)
+        Ok(Change {
+            elements,
+            before: Before::Remove,
+        })
     }
 
     /// Takes a node from its parent's children. It takes no memory.
-    pub(crate) fn leave_parent(&mut self, n: u32)
+    fn leave_parent(&mut self, n: u32)
         ensures { state_of self.new ≡ changed_if (state_of self.old) (parent_at (state_of self.old) n) (with_children (without n)) }
     {
         if let Some(parent) = self.parent(n) {

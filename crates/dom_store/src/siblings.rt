@@ -1,6 +1,7 @@
 //! Lists of nodes' numbers.
 
-ghost use Rattle.std.specs.Prelude.{◌≡◌, ◌≤◌, length, Some, IfOk};
+ghost use Rattle.std.specs.Prelude.{◌≡◌, ◌≤◌, length, nat_eq, Some, IfOk};
+ghost use Rattle.std.specs.List.{position};
 ghost use Rattle.dom_store.specs.Edits.{with_put, without};
 ghost use Rattle.dom_store.specs.Refusals.{least, lesser};
 
@@ -16,12 +17,25 @@ pub(crate) fn without(
     ensures { IfOk result (λ rest. rest.items ≡ without number children.now) }
 {
     let mut rest = Vec::new(alloc);
-    for child in children {
-        if *child != number {
-            rest.push(*child)?;
-        }
-    }
+    rest.extend_from_slice(children)?;
+    drop_from(&mut rest, number);
     Ok(rest)
+}
+
+/// Takes this one out of the children.
+pub(crate) fn drop_from(children: &mut NodeNumbers, number: u32)
+    ensures { children.new.items ≡ without number children.old.items }
+{
+    while let Some(place) = place_of(children, number) {
+        children.remove(place);
+    }
+}
+
+/// The first place of this number.
+fn place_of(numbers: &[u32], number: u32) -> Option<usize>
+    ensures { result ≡ position (λ other. nat_eq other number) numbers.now }
+{
+    numbers.iter().position(|other| *other == number)
 }
 
 /// The children with these numbers at the index.

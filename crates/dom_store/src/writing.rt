@@ -1,30 +1,38 @@
-//! Changes of one node. They take no memory.
+//! Changes of one node. They take no memory. What stood before is answered, and put again takes them back.
 
 ghost use Rattle.std.specs.Prelude.{◌≡◌, ◌∷◌, [], map};
 ghost use Rattle.std.specs.String.{string_bytes};
-ghost use Rattle.dom_store.specs.Edits.{changed, with_children, with_classes, with_own, with_parent, with_what, without, without_nodes};
-ghost use Rattle.dom_store.specs.State.{state_of, text};
+ghost use Rattle.dom_store.specs.Edits.{changed, with_children, with_classes, with_own, with_what, without, without_nodes};
+ghost use Rattle.dom_store.specs.Standing.{parent_at};
+ghost use Rattle.dom_store.specs.State.{state_of, what_of};
+ghost use Rattle.dom_store.specs.Taking.{standing_in};
 
 use crate::document::Document;
 use crate::node::{NodeKind, NodeNumbers};
-use style_types::{Declarations, LetterList, Letters};
+use crate::siblings::drop_from;
+use std::mem::replace;
+use style_types::{Declarations, LetterList};
 
 impl Document {
-    /// A node is this text from now on.
-    pub(crate) fn put_text(&mut self, n: u32, letters: Letters)
-        ensures { state_of self.new ≡ changed (state_of self.old) n (with_what (λ what. text (string_bytes letters))) }
+    /// A node is this from now on.
+    pub(crate) fn put_kind(&mut self, n: u32, kind: NodeKind) -> NodeKind
+        ensures put { state_of self.new ≡ changed (state_of self.old) n (with_what (λ what. what_of kind)) }
+        ensures back { changed (state_of self.new) n (with_what (λ what. what_of result)) ≡ state_of self.old }
     {
-        if let Some(key) = self.keys.get(&n) {
-            self.nodes[*key].kind = NodeKind::Text { text: letters };
+        match self.keys.get(&n) {
+            Some(key) => replace(&mut self.nodes[*key].kind, kind),
+            None => kind,
         }
     }
 
     /// The node's children are these from now on.
-    pub(crate) fn put_children(&mut self, n: u32, children: NodeNumbers)
-        ensures { state_of self.new ≡ changed (state_of self.old) n (with_children (λ before. children.items)) }
+    pub(crate) fn put_children(&mut self, n: u32, children: NodeNumbers) -> NodeNumbers
+        ensures put { state_of self.new ≡ changed (state_of self.old) n (with_children (λ before. children.items)) }
+        ensures back { changed (state_of self.new) n (with_children (λ now. result.items)) ≡ state_of self.old }
     {
-        if let Some(key) = self.keys.get(&n) {
-            self.nodes[*key].children = children;
+        match self.keys.get(&n) {
+            Some(key) => replace(&mut self.nodes[*key].children, children),
+            None => children,
         }
     }
 
@@ -33,38 +41,45 @@ impl Document {
         ensures { state_of self.new ≡ changed (state_of self.old) n (with_children (without child)) }
     {
         if let Some(key) = self.keys.get(&n) {
-            self.nodes[*key].children.retain(|number| *number != child);
+            drop_from(&mut self.nodes[*key].children, child);
         }
     }
 
     /// The node stands in this parent from now on.
-    pub(crate) fn put_parent(&mut self, n: u32, parent: u32)
-        ensures { state_of self.new ≡ changed (state_of self.old) n (with_parent parent) }
+    pub(crate) fn put_parent(&mut self, n: u32, parent: Option<u32>)
+        ensures put { state_of self.new ≡ changed (state_of self.old) n (standing_in parent) }
+        ensures back { changed (state_of self.new) n (standing_in (parent_at (state_of self.old) n)) ≡ state_of self.old }
     {
         if let Some(key) = self.keys.get(&n) {
-            self.nodes[*key].parent = Some(parent);
+            self.nodes[*key].parent = parent;
         }
     }
 
     /// An element's own declarations are these from now on.
-    pub(crate) fn put_own(&mut self, n: u32, own: Declarations)
-        ensures { state_of self.new ≡ changed (state_of self.old) n (with_what (with_own own.items)) }
+    pub(crate) fn put_own(&mut self, n: u32, own: Declarations) -> Declarations
+        ensures put { state_of self.new ≡ changed (state_of self.old) n (with_what (with_own own.items)) }
+        ensures back { changed (state_of self.new) n (with_what (with_own result.items)) ≡ state_of self.old }
     {
-        if let Some(key) = self.keys.get(&n) {
-            if let NodeKind::Element { declarations, .. } = &mut self.nodes[*key].kind {
-                *declarations = own;
-            }
+        match self.keys.get(&n) {
+            Some(key) => match &mut self.nodes[*key].kind {
+                NodeKind::Element { declarations, .. } => replace(declarations, own),
+                NodeKind::Text { .. } => own,
+            },
+            None => own,
         }
     }
 
     /// An element's class words are these from now on.
-    pub(crate) fn put_classes(&mut self, n: u32, words: LetterList)
-        ensures { state_of self.new ≡ changed (state_of self.old) n (with_what (with_classes (map (λ word. string_bytes word) words.items))) }
+    pub(crate) fn put_classes(&mut self, n: u32, words: LetterList) -> LetterList
+        ensures put { state_of self.new ≡ changed (state_of self.old) n (with_what (with_classes (map (λ word. string_bytes word) words.items))) }
+        ensures back { changed (state_of self.new) n (with_what (with_classes (map (λ word. string_bytes word) result.items))) ≡ state_of self.old }
     {
-        if let Some(key) = self.keys.get(&n) {
-            if let NodeKind::Element { classes, .. } = &mut self.nodes[*key].kind {
-                *classes = words;
-            }
+        match self.keys.get(&n) {
+            Some(key) => match &mut self.nodes[*key].kind {
+                NodeKind::Element { classes, .. } => replace(classes, words),
+                NodeKind::Text { .. } => words,
+            },
+            None => words,
         }
     }
 

@@ -9,5 +9,5 @@ use Rattle.dom_store.proofs.document.Document.add_all.Goals as goal
 pub returns-then-is_err-clause-same : goal.returns-then-is_err-clause-same
 returns-then-is_err-clause-same c =
     let old = c.args.self.now in
-    on_err_so c.add_each-added.result c.add_each-added.ensures.grown (λ grows. taken_back (state_of old) (state_of c.add_each-added.new.self) (state_of c.take_back.new.self)
-    (none_past (keyed.get nat_cmp old.keys) (slots.get old.nodes) old.next old.sound) grows c.take_back.ensures.filled c.take_back.ensures.next)
+    on_err_so c.add_each-added.result c.add_each-added.ensures.grown (λ grows. taken_back (state_of old) (state_of c.add_each-added.new.self) (state_of c.give_back.new.self)
+    (none_past (keyed.get nat_cmp old.keys) (slots.get old.nodes) old.next old.sound) grows c.give_back.ensures.filled c.give_back.ensures.next)

@@ -1,5 +1,4 @@
-use Rattle.std.proofs.Common.{rules, ◌≡◌, ℕ, List, ap, sym}
-use Rattle.std.proofs.lemmas.Fn.{filter_same}
+use Rattle.std.proofs.Common.{ℕ, List, ap, sym}
 use Rattle.dom_store.specs.Edits.{with_children, without}
 use Rattle.dom_store.specs.State.{Entry, entry_of}
 use Rattle.dom_store.proofs.WriteLaws.{put_under}
@@ -8,6 +7,5 @@ use Rattle.dom_store.proofs.document.Document.drop_child.Goals as goal
 pub returns-in-Some : goal.returns-in-Some
 returns-in-Some c =
     let was = c.index_mut.result.now in
-    let left : c.retain.new.self.items ≡ without c.args.child was.children.items = filter_same _ _ _ (λ x b f' k. search rules) _ _ c.retain.ensures.filtered in
     let put : List ℕ → Entry = λ children. with_children (λ before. children) (entry_of was) in
-    put_under c.args.self.now.nodes c.args.self.now.keys c.args.self.now.next c.args.n c.in-Some.key.now was _ (with_children (without c.args.child)) c.args.self.now.sound (sym c.in-Some.ensures.value) c.index_mut.ensures.value (ap put left)
+    put_under c.args.self.now.nodes c.args.self.now.keys c.args.self.now.next c.args.n c.in-Some.key.now was _ (with_children (without c.args.child)) c.args.self.now.sound (sym c.in-Some.ensures.value) c.index_mut.ensures.value (ap put c.drop_from.ensures)

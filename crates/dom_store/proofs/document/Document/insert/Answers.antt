@@ -12,9 +12,11 @@ use Rattle.dom_store.specs.Edits.{changed, insert, with_children, with_put}
 use Rattle.dom_store.specs.Refusals.{refusal}
 use Rattle.dom_store.specs.State.{State, state_of}
 use Rattle.dom_store.proofs.ApplyLaws.{accepts}
-use Rattle.dom_store.proofs.CountLaws.{lives_below}
+use Rattle.dom_store.proofs.BackLaws.{added_back}
+use Rattle.dom_store.proofs.CountLaws.{lives_below, none_past}
 use Rattle.dom_store.proofs.InsertLaws.{fragment_follows, inserted_under, may_enter}
 use Rattle.dom_store.proofs.JudgeLaws.{fits}
+use Rattle.dom_store.specs.Taking.{up_to}
 use Rattle.dom_store.proofs.document.Document.insert.Goals as goal
 
 pub check_insert-requires : goal.check_insert-requires
@@ -54,8 +56,8 @@ add_all-requires c =
       parent = lives_below (keyed.get nat_cmp old.keys) (slots.get old.nodes) old.next old.sound c.args.parent entered.lives;
     }
 
-pub returns : goal.returns
-returns c =
+pub returns-clause-applies : goal.returns-clause-applies
+returns-clause-applies c =
     let old = c.args.self.now in
     let state = state_of old in
     let parent = c.args.parent in
@@ -72,9 +74,15 @@ returns c =
     let are_children = c.in_ok-children.ensures
     ∙ (ap (λ (l : List ℕ). with_put index l c.children.result.now) c.deref-3.ensures.value ∙ ap (with_put index tops) c.children.ensures) in
     let put = λ (s : State). changed s parent (with_children (λ before. children)) in
-    accepts state (state_of c.put_children.new.self) (insert parent index (nodes_of reads) (map owns styles)) c.in_ok-change.change.elements.items (sym none) c.in_ok-change.ensures
-    (c.put_children.ensures
+    accepts state (state_of c.put_children-children.new.self) (insert parent index (nodes_of reads) (map owns styles)) c.in_ok-elements.elements.items (sym none) c.in_ok-elements.ensures
+    (c.put_children-children.ensures.put
     ∙ (ap put (c.in_ok-add_all.ensures.added
     ∙ (ap (λ (known : List ReadNode). added_under state parent (nodes_of known) (map owns c.deref-5.result.now)) c.deref-4.ensures.value
     ∙ ap (λ (known : List (Vec Declaration)). added_under state parent (nodes_of reads) (map owns known)) c.deref-5.ensures.value))
     ∙ inserted_under state parent (nodes_of reads) (map owns styles) low index tops children are_tops are_children))
+
+pub returns-clause-back : goal.returns-clause-back
+returns-clause-back c =
+    let old = c.args.self.now in
+    ap (up_to old.next) (c.put_children-children.ensures.back ∙ c.in_ok-add_all.ensures.added)
+    ∙ added_back (state_of old) c.args.parent (nodes_of c.deref-4.result.now) _ (none_past (keyed.get nat_cmp old.keys) (slots.get old.nodes) old.next old.sound)

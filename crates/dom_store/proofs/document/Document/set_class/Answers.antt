@@ -5,8 +5,8 @@ use Rattle.dom_store.specs.State.{state_of}
 use Rattle.dom_store.proofs.ApplyLaws.{accepts}
 use Rattle.dom_store.proofs.document.Document.set_class.Goals as goal
 
-pub returns : goal.returns
-returns c =
+pub returns-clause-applies : goal.returns-clause-applies
+returns-clause-applies c =
     let old = state_of c.args.self.now in
-    accepts old (state_of c.put_classes.new.self) (set_class c.args.n (map (λ word. string_bytes word) c.args.words.now)) c.in_ok-change.change.elements.items c.in_ok-check_element.ensures c.in_ok-change.ensures
-    (c.put_classes.ensures ∙ ap (λ (words : List (List ℕ)). changed old c.args.n (with_what (with_classes words))) c.in_ok-words.ensures)
+    accepts old (state_of c.put_classes-words.new.self) (set_class c.args.n (map (λ word. string_bytes word) c.args.words.now)) c.in_ok-elements.elements.items c.in_ok-check_element.ensures c.in_ok-elements.ensures
+    (c.put_classes-words.ensures.put ∙ ap (λ (words : List (List ℕ)). changed old c.args.n (with_what (with_classes words))) c.in_ok-words.ensures)

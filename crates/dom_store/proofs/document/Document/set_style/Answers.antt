@@ -5,8 +5,8 @@ use Rattle.dom_store.specs.State.{state_of}
 use Rattle.dom_store.proofs.ApplyLaws.{accepts}
 use Rattle.dom_store.proofs.document.Document.set_style.Goals as goal
 
-pub returns : goal.returns
-returns c =
+pub returns-clause-applies : goal.returns-clause-applies
+returns-clause-applies c =
     let old = state_of c.args.self.now in
-    accepts old (state_of c.put_own.new.self) (set_style c.args.n c.args.own.now) c.in_ok-change.change.elements.items c.in_ok-check_element.ensures c.in_ok-change.ensures
-    (c.put_own.ensures ∙ ap (λ (own : List Declaration). changed old c.args.n (with_what (with_own own))) c.in_ok-own.ensures)
+    accepts old (state_of c.put_own-declarations.new.self) (set_style c.args.n c.args.own.now) c.in_ok-elements.elements.items c.in_ok-check_element.ensures c.in_ok-elements.ensures
+    (c.put_own-declarations.ensures.put ∙ ap (λ (own : List Declaration). changed old c.args.n (with_what (with_own own))) c.in_ok-own.ensures)

@@ -5,8 +5,8 @@ use Rattle.dom_store.specs.State.{state_of, text}
 use Rattle.dom_store.proofs.ApplyLaws.{accepts}
 use Rattle.dom_store.proofs.document.Document.set_text.Goals as goal
 
-pub returns : goal.returns
-returns c =
+pub returns-clause-applies : goal.returns-clause-applies
+returns-clause-applies c =
     let old = state_of c.args.self.now in
-    accepts old (state_of c.put_text.new.self) (set_text c.args.n (string_bytes c.args.text.now)) c.in_ok-change.change.elements.items c.in_ok-check_text.ensures c.in_ok-change.ensures
-    (c.put_text.ensures ∙ ap (λ (letters : List ℕ). changed old c.args.n (with_what (λ what. text letters))) c.in_ok-text.ensures)
+    accepts old (state_of c.put_kind-kind.new.self) (set_text c.args.n (string_bytes c.args.text.now)) c.in_ok-elements.elements.items c.in_ok-check_text.ensures c.in_ok-elements.ensures
+    (c.put_kind-kind.ensures.put ∙ ap (λ (letters : List ℕ). changed old c.args.n (with_what (λ what. text letters))) c.in_ok-text.ensures)

@@ -1,26 +1,19 @@
-use Rattle.std.proofs.Common.{arith}
-use Rattle.std.specs.Ordering.{nat_cmp}
-use Rattle.std.specs.BTreeMap as keyed
-use Rattle.slab.specs.Slab as slots
-use Rattle.dom_store.specs.State.{state_of}
-use Rattle.dom_store.proofs.CountLaws.{none_past}
-use Rattle.dom_store.proofs.InsertLaws.{all_gone, gone_back, none_goes, one_goes}
+use Rattle.std.proofs.Common.{◌∙◌, ap}
+use Rattle.dom_store.specs.Edits.{changed, changed_if, with_children}
+use Rattle.dom_store.specs.State.{State, state_of}
+use Rattle.dom_store.specs.Taking.{up_to}
+use Rattle.dom_store.proofs.BackLaws.{given_back}
 use Rattle.dom_store.proofs.document.Document.take_back.Goals as goal
 
-pub loop-n-init : goal.loop-n-init
-loop-n-init c = none_goes (state_of c.args.self.now) c.args.first
+pub returns-in-Insert : goal.returns-in-Insert
+returns-in-Insert c =
+    let old = state_of c.args.self.now in
+    rw c.in-Insert.is (given_back (state_of c.put_children.new.self) (state_of c.give_back.new.self) c.in-Insert.next c.give_back.ensures.filled c.give_back.ensures.next
+    ∙ ap (up_to c.in-Insert.next) c.put_children.ensures.put)
 
-pub loop-n-preserved : goal.loop-n-preserved
-loop-n-preserved c = one_goes (state_of c.args.self.now) (state_of c.loop-n.self) (state_of c.take_out.new.self) c.args.first c.loop-n.n c.loop-n.auto.n c.loop-n.invariant c.take_out.ensures
-
-pub set_next-requires : goal.set_next-requires
-set_next-requires c =
-    let mid = c.loop-n.self in
-    all_gone (state_of c.args.self.now) (state_of mid) c.args.first c.loop-n.n c.loop-n.invariant (omega (arith, c.loop-n.invariant.next, c.loop-n-test.false))
-    (none_past (keyed.get nat_cmp mid.keys) (slots.get mid.nodes) mid.next mid.sound)
-
-pub returns-clause-filled : goal.returns-clause-filled
-returns-clause-filled c =
-    let mid = c.loop-n.self in
-    gone_back (state_of c.args.self.now) (state_of mid) (state_of c.set_next.new.self) c.args.first c.loop-n.n c.loop-n.invariant (omega (arith, c.loop-n.invariant.next, c.loop-n-test.false))
-    (none_past (keyed.get nat_cmp mid.keys) (slots.get mid.nodes) mid.next mid.sound) c.set_next.ensures
+pub returns-in-Move : goal.returns-in-Move
+returns-in-Move c =
+    let left = with_children (λ now. c.in-Move.left.items) in
+    let children = with_children (λ now. c.in-Move.children.items) in
+    rw c.in-Move.is (c.put_children_if.ensures.put
+    ∙ ap (λ (s : State). changed_if s c.in-Move.from left) (c.put_children-in-Move.ensures.put ∙ ap (λ (s : State). changed s c.in-Move.parent children) c.put_parent.ensures.put))

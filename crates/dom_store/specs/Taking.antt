@@ -1,0 +1,52 @@
+-- Edits that are taken back.
+use Rattle.std.specs.Prelude.{◌≡◌, ℕ, List, map, nat_lt, if◌then◌else◌, Option, None, string_bytes, ⊤}
+use Rattle.style_types.specs.declared.value.Declaration.{Declaration}
+use Rattle.dom_store.specs.declared.edit.Before as code
+use Rattle.dom_store.specs.declared.edit.Before.TheVariants as stood
+use Rattle.dom_store.specs.State.{What, Entry, State, what_of}
+use Rattle.dom_store.specs.Edits.{EditOf, set_text, set_style, set_class, insert, remove, move_to, changed, changed_if, with_children, with_classes, with_own, with_what}
+
+-- what stood before an edit, without where it lies in memory
+pub data BeforeOf : Type 0 where
+  what_was : (number : ℕ) (what : What) → BeforeOf
+  style_was : (number : ℕ) (own : List Declaration) → BeforeOf
+  class_was : (number : ℕ) (words : List (List ℕ)) → BeforeOf
+  inserted_in : (parent : ℕ) (children : List ℕ) (next : ℕ) → BeforeOf
+  moved_from : (number : ℕ) (from : Option ℕ) (left : List ℕ) (parent : ℕ) (children : List ℕ) → BeforeOf
+  not_kept : BeforeOf
+
+abbrev pub before_of : code.Before → BeforeOf
+before_of (stood.Text number kind) = what_was number (what_of kind)
+before_of (stood.Style number own) = style_was number own.items
+before_of (stood.Class number words) = class_was number (map (λ word. string_bytes word) words.items)
+before_of (stood.Insert parent children next) = inserted_in parent children.items next
+before_of (stood.Move number from left parent children) = moved_from number from left.items parent children.items
+before_of stood.Remove = not_kept
+
+-- a node stands in this one
+abbrev pub standing_in : Option ℕ → Entry → Entry
+standing_in parent entry = record entry { parent = parent }
+
+-- the nodes from this number on are gone, and it is given next
+abbrev pub up_to : (next : ℕ) → State → State
+up_to next state = record { node_at = λ number. if nat_lt number next then state.node_at number else None; next = next }
+
+-- the state in which this stands again
+abbrev pub taken_back : BeforeOf → State → State
+taken_back (what_was number what) state = changed state number (with_what (λ now. what))
+taken_back (style_was number own) state = changed state number (with_what (with_own own))
+taken_back (class_was number words) state = changed state number (with_what (with_classes words))
+taken_back (inserted_in parent children next) state = up_to next (changed state parent (with_children (λ now. children)))
+taken_back (moved_from number from left parent children) state =
+    let unplaced = changed state number (standing_in from) in
+    changed_if (changed unplaced parent (with_children (λ now. children))) from (with_children (λ now. left))
+taken_back not_kept state = state
+
+-- what is kept of an edit leads back to the state before, but for a removal
+abbrev pub LeadsBack : EditOf → BeforeOf → (new old : State) → Type 0
+LeadsBack (set_text number letters) before new old = taken_back before new ≡ old
+LeadsBack (set_style number own) before new old = taken_back before new ≡ old
+LeadsBack (set_class number words) before new old = taken_back before new ≡ old
+LeadsBack (insert parent index nodes own) before new old = taken_back before new ≡ old
+LeadsBack (remove number) before new old = ⊤
+LeadsBack (move_to number parent index) before new old = taken_back before new ≡ old
