@@ -19,12 +19,10 @@ use Rattle.std.specs.Prelude.{OnOk, Result, ⊤, Ok, Err}
 use Rattle.std.proofs.lemmas.List.{drop_all, get_or-map, length-map}
 use Rattle.face_api.specs.Faces.{faces_of}
 use Rattle.face_api.specs.declared.face.Face.{Ghosts}
-use Rattle.slab.specs.Slab.{Slab}
-use Rattle.box_arena.specs.declared.entry.Entry.{Entry}
-use Rattle.para_prepare.specs.Preparation.{Preparation}
 use Rattle.cascade.specs.Index.{index_rules}
 use Rattle.dom_store.specs.State.{state_of}
 use Rattle.dom_store.specs.declared.document.Document.{Document}
+use Rattle.session.specs.declared.planting.Rooted.{Rooted}
 use Rattle.session.specs.declared.session.Session.{Session}
 use Rattle.edit_job.specs.Steps.{IsStepIn}
 use Rattle.session.specs.declared.error.ApplyError.{ApplyError}
@@ -182,13 +180,13 @@ none_on lines k all = ap steps_of (drop_all k lines all)
 
 module _ {I : Type 0} {D : I → Type 0} (members : (x : I) → Ghosts (D x)) where
   -- a step over a session that has the faces, the view and the rules of this one
-  pub step_over : (first now : Session I D) (document : Document) (arena : Slab (Entry Preparation)) (root : ℕ) → now ≡ record first { document = document; arena = arena; root = root } → (what : Step) (line : ℕ) (next : State) (due : List ℕ)
+  pub step_over : (first now : Session I D) (document : Document) (boxes : Option Rooted) → now ≡ record first { document = document; boxes = boxes } → (what : Step) (line : ℕ) (next : State) (due : List ℕ)
       → IsStepIn (faces_of members now.faces) now what line next due ≡ IsStep (faces_of members first.faces) first.view (index_rules first.rules) (state_of now.document) what line next due
-  step_over first now document arena root same what line next due =
+  step_over first now document boxes same what line next due =
       ap (λ (s : Session I D). IsStep (faces_of members s.faces) s.view (index_rules s.rules) (state_of now.document) what line next due) same
 
 module _ {I : Type 0} {D : I → Type 0} where
   -- its faces, view and rules stay
-  pub still : (first now new : Session I D) (document : Document) (arena : Slab (Entry Preparation)) (root : ℕ) → now ≡ record first { document = document; arena = arena; root = root }
-      → new ≡ record now { document = new.document; arena = new.arena; root = new.root } → new ≡ record first { document = new.document; arena = new.arena; root = new.root }
-  still first now new document arena root same rest = rest ∙ ap (λ (s : Session I D). record s { document = new.document; arena = new.arena; root = new.root }) same
+  pub still : (first now new : Session I D) (document : Document) (boxes : Option Rooted) → now ≡ record first { document = document; boxes = boxes }
+      → new ≡ record now { document = new.document; boxes = new.boxes } → new ≡ record first { document = new.document; boxes = new.boxes }
+  still first now new document boxes same rest = rest ∙ ap (λ (s : Session I D). record s { document = new.document; boxes = new.boxes }) same

@@ -74,7 +74,7 @@ fn tell_step<K: Sink, L: Ledger, M: Ledger>(
     ensures front { (next : State) (due : List ℕ)
         → IsStepIn (faces_of ⟦<dyn Face as Face>⟧ session.old.faces) session.old (step_of line.now.what) line.now.line next due
         → AppendsFront (K.held sink.old) (K.held sink.new) due }
-    ensures rest { session.new ≡ record session.old { document = session.new.document; arena = session.new.arena; root = session.new.root } }
+    ensures rest { session.new ≡ record session.old { document = session.new.document; boxes = session.new.boxes } }
     ensures sound { IsSound (faces_of ⟦<dyn Face as Face>⟧ session.new.faces) session.new }
     ensures bytes { total bytes (state_of session.new.document) ≤ total bytes (state_of session.old.document) + bytes_in (step_of line.now.what) }
     ensures later { K.faults sink.old ≤ K.faults sink.new }
@@ -96,7 +96,7 @@ fn tell_page<K: Sink, L: Ledger, M: Ledger>(
     requires sound { IsSound (faces_of ⟦<dyn Face as Face>⟧ session.old.faces) session.old }
     ensures whole { OnOk result (Appends (K.held sink.old) (K.held sink.new) (listing (page_in (faces_of ⟦<dyn Face as Face>⟧ session.old.faces) session.old))) }
     ensures front { AppendsFront (K.held sink.old) (K.held sink.new) (listing (page_in (faces_of ⟦<dyn Face as Face>⟧ session.old.faces) session.old)) }
-    ensures rest { session.new ≡ record session.old { arena = session.new.arena } }
+    ensures rest { session.new ≡ record session.old { boxes = session.new.boxes } }
     ensures sound { IsSound (faces_of ⟦<dyn Face as Face>⟧ session.new.faces) session.new }
     ensures later { K.faults sink.old ≤ K.faults sink.new }
     ensures fault { IsErrOf result WriteError.WriteFault → Rose (K.faults sink.old) (K.faults sink.new) }
@@ -122,7 +122,7 @@ fn tell_edit<K: Sink>(
     ensures front { (next : State) (due : List ℕ)
         → IsStepIn (faces_of ⟦<dyn Face as Face>⟧ session.old.faces) session.old (steps.edit (edit_of edit.now)) line next due
         → AppendsFront (K.held sink.old) (K.held sink.new) due }
-    ensures rest { session.new ≡ record session.old { document = session.new.document; arena = session.new.arena; root = session.new.root } }
+    ensures rest { session.new ≡ record session.old { document = session.new.document; boxes = session.new.boxes } }
     ensures sound { IsSound (faces_of ⟦<dyn Face as Face>⟧ session.new.faces) session.new }
     ensures bytes { total bytes (state_of session.new.document) ≤ total bytes (state_of session.old.document) + bytes_brought (edit_of edit.now) }
     ensures later { K.faults sink.old ≤ K.faults sink.new }

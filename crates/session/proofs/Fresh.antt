@@ -1,5 +1,5 @@
 -- Boxes that were made anew.
-use Rattle.std.proofs.Common.{◌≡◌, subst, ap, sym, ◌≤◌, ◌^◌, ℕ, List, [], Option, Some, None, Ok}
+use Rattle.std.proofs.Common.{◌≡◌, subst, ap, sym, ◌≤◌, ◌^◌, ℕ, List, Option, Ok}
 use Rattle.face_api.specs.Table.{Table}
 use Rattle.wm_units.specs.declared.view.View.{View}
 use Rattle.style_types.specs.Rule.{Ruling}

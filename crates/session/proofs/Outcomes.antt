@@ -1,11 +1,9 @@
 -- What an edit of an open document leads to, by what the document and its boxes answer.
-use Rattle.std.proofs.Common.{◌≡◌, ◌⊎◌, ◌∙◌, ◌+◌, ◌≤◌, sym, ap, subst, refl, inl, inr, ℕ, List, [], Option, Some, None, Ok, Err, arith}
-use Rattle.std.specs.List.{Contains}
+use Rattle.std.proofs.Common.{◌≡◌, ◌⊎◌, ◌+◌, ◌≤◌, sym, ap, subst, refl, inl, inr, ℕ, List, Option, Some, None, Ok, Err}
 use Rattle.style_types.specs.Rule.{Ruling}
-use Rattle.style_types.specs.Tree.{Nodes}
 use Rattle.dom_store.specs.declared.error.EditError.{EditError}
 use Rattle.dom_store.specs.declared.error.EditError.TheVariants as refusals
-use Rattle.dom_store.specs.Edited.{IsSaidEdit, accepted, bytes_brought, edited, refused, unless}
+use Rattle.dom_store.specs.Edited.{IsFitting, IsSaidEdit, accepted, bytes_brought, edited, refused, unless}
 use Rattle.dom_store.specs.Edits.{EditOf, after, concerned}
 use Rattle.dom_store.specs.Refusals.{refusal}
 use Rattle.dom_store.specs.Laws.{KeepRoots, KeepSaid}
@@ -13,6 +11,7 @@ use Rattle.dom_store.specs.Opening.{greatest_count}
 use Rattle.dom_store.specs.Standing.{live_count}
 use Rattle.dom_store.specs.State.{IsRooted, IsSaidState, State}
 use Rattle.tree_laws.specs.Laws.{AcceptedAreDone, ChildrenHaveParents, EditsKeepWhole, EditsWeigh}
+use Rattle.tree_laws.specs.Reached.{FittingEditsKeepReached, IsReached}
 use Rattle.tree_laws.specs.Weight.{bytes, total}
 use Rattle.tree_laws.specs.Wholeness.{IsWhole}
 use Rattle.style_tree.specs.Styling.{styled_document}
@@ -117,6 +116,9 @@ module _ (rules : List Ruling) (old next : State) (edit : EditOf) (done : (refus
 
   pub whole_after : EditsKeepWhole → IsWhole old → IsWhole next
   whole_after keep whole = subst IsWhole (sym done.1) (keep old edit whole done.0)
+
+  pub reached_after : FittingEditsKeepReached → IsFitting edit → IsRooted old → IsWhole old → IsReached old → IsReached next
+  reached_after keep fitting rooted whole reached = subst IsReached (sym done.1) (keep old edit fitting rooted whole reached done.0)
 
   pub few_after : EditsWeigh → live_count old ≤ greatest_count → live_count next ≤ greatest_count
   few_after weigh few = subst (λ (s : State). live_count s ≤ greatest_count) (sym done.1) ((weigh old edit done.0).0 few)

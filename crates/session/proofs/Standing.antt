@@ -1,5 +1,5 @@
 -- The boxes of a session stand in its arena through all that is laid out and forgotten.
-use Rattle.std.proofs.Common.{◌≡◌, ◌∙◌, sym, ap, subst, ℕ, List, Option, Some, None}
+use Rattle.std.proofs.Common.{◌≡◌, ◌∙◌, sym, ap, subst, ℕ, List, Option, Some, None, IfSome}
 use Rattle.box_gen.specs.Tree.{Boxes, box, none}
 use Rattle.box_arena.specs.Arena.{SameLinks, SameNodes}
 use Rattle.box_arena.specs.At.{Node, Slots, first_at, next_at, node_at, parent_at}
@@ -9,7 +9,8 @@ use Rattle.box_arena.specs.declared.entry.Entry.{Entry}
 use Rattle.face_api.specs.Table.{Table}
 use Rattle.para_prepare.specs.Preparation.{Preparation}
 use Rattle.relayout.specs.Relayout.{AreRightUnder, IsSteadyUnder}
-use Rattle.session.specs.State.{IsSound, boxes_of}
+use Rattle.session.specs.State.{AreReady, IsSound, boxes_of}
+use Rattle.session.specs.declared.planting.Rooted.{Rooted}
 use Rattle.session.specs.declared.session.Session.{Session}
 use Rattle.slab.specs.Slab.{Slab}
 use Rattle.wm_units.specs.declared.view.View.{View}
@@ -53,26 +54,31 @@ steady faces view old new root tree stands free under =
       λ node is. (under node (sym (same.nodes root) ∙ is)).right,
     )
 
+-- what was ready is ready after a layout
+pub steady_ready : (faces : List (Option Table)) (view : View) (tree : Boxes) (made : Rooted) (arena : Slab (Entry Preparation)) → AreReady faces view tree made → IsSteadyUnder faces view made.arena arena made.root
+    → AreReady faces view tree (record made { arena = arena })
+steady_ready faces view tree made arena ready under =
+    let all = steady faces view made.arena arena made.root tree ready.stands ready.free under in
+    record { stands = all.0; free = all.1; fit = ready.fit; right = all.2 }
+
 module _ {I : Type 0} {D : I → Type 0} where
-  -- a session with another arena is sound where its boxes stand in that and what is kept there is right
-  pub sound_on : (faces : List (Option Table)) (session : Session I D) (arena : Slab (Entry Preparation)) → IsSound faces session → Stands arena.slots session.root (boxes_of session)
-      → parent_at arena.slots session.root ≡ None → AreRightUnder faces session.view arena.slots session.root → IsSound faces (record session { arena = arena })
-  sound_on faces session arena sound stands free right = record {
+  -- a session with other boxes is sound where those are ready
+  pub sound_on : (faces : List (Option Table)) (session : Session I D) (boxes : Option Rooted) → IsSound faces session → IfSome boxes (AreReady faces session.view (boxes_of session)) → IsSound faces (record session { boxes = boxes })
+  sound_on faces session boxes sound ready = record {
     rooted = sound.rooted;
     said = sound.said;
     whole = sound.whole;
+    reached = sound.reached;
     few = sound.few;
+    short = sound.short;
     rules = sound.rules;
-    stands = stands;
-    free = free;
-    fit = sound.fit;
+    turns = sound.turns;
+    blocks = sound.blocks;
     view = sound.view;
-    right = right;
+    ready = ready;
   }
 
   -- so it is after a layout
-  pub steady_sound : (faces : List (Option Table)) (session : Session I D) (arena : Slab (Entry Preparation)) → IsSound faces session
-      → IsSteadyUnder faces session.view session.arena arena session.root → IsSound faces (record session { arena = arena })
-  steady_sound faces session arena sound under =
-      let all = steady faces session.view session.arena arena session.root (boxes_of session) sound.stands sound.free under in
-      sound_on faces session arena sound all.0 all.1 all.2
+  pub steady_sound : (faces : List (Option Table)) (session : Session I D) (made : Rooted) (arena : Slab (Entry Preparation)) → IsSound faces session → AreReady faces session.view (boxes_of session) made
+      → IsSteadyUnder faces session.view made.arena arena made.root → IsSound faces (record session { boxes = Some (record made { arena = arena }) })
+  steady_sound faces session made arena sound ready under = sound_on faces session (Some (record made { arena = arena })) sound (steady_ready faces session.view (boxes_of session) made arena ready under)

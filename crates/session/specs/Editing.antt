@@ -1,5 +1,5 @@
 -- What an edit of an open document leads to.
-use Rattle.std.specs.Prelude.{◌≡◌, ◌⊎◌, ℕ, List, [], Option, Some, None, Result, Ok, Err, ⊤}
+use Rattle.std.specs.Prelude.{◌≡◌, ◌⊎◌, List, [], Some, None, Result, Ok, Err, ⊤}
 use Rattle.style_types.specs.Rule.{Ruling}
 use Rattle.dom_store.specs.declared.error.EditError.{EditError}
 use Rattle.dom_store.specs.declared.error.EditError.TheVariants as refusals
@@ -52,7 +52,8 @@ HasOneOutcome = (rules : List Ruling) (state : State) (edit : EditOf) (error : A
     → (CanApply rules state edit → ⊥) × ((other : ApplyError) → IsRefusedEdit rules state edit other → other ≡ error)
 
 module _ {I : Type 0} {D : I → Type 0} where
-  -- it is done whole, or refused with nothing changed
+  -- it is done whole, or refused; then the document has the state that it had, and nothing else is changed
   abbrev pub Applies : (old new : Session I D) → EditOf → Result ⊤ ApplyError → Type 0
   Applies old new edit (Ok done) = CanApply (index_rules old.rules) (state_of old.document) edit × (state_of new.document ≡ after (state_of old.document) edit)
-  Applies old new edit (Err error) = ((error ≡ Memory) ⊎ IsRefusedEdit (index_rules old.rules) (state_of old.document) edit error) × (new ≡ old)
+  Applies old new edit (Err error) = ((error ≡ Memory) ⊎ IsRefusedEdit (index_rules old.rules) (state_of old.document) edit error)
+      × (new ≡ record old { document = new.document }) × (state_of new.document ≡ state_of old.document)

@@ -1,5 +1,5 @@
 -- What a session holds, and the page that it shows.
-use Rattle.std.specs.Prelude.{◌≡◌, ◌≤◌, ◌⊎◌, List, None, Option, Result, Ok, Err}
+use Rattle.std.specs.Prelude.{◌≡◌, ◌≤◌, ◌⊎◌, List, [], None, Option, IfSome, Result, Ok, Err}
 use Rattle.face_api.specs.Table.{Table}
 use Rattle.style_types.specs.declared.value.Declaration.{Declaration}
 use Rattle.style_types.specs.Rule.{Ruling}
@@ -10,11 +10,14 @@ use Rattle.html_read.specs.Values.{Node}
 use Rattle.dom_store.specs.State.{IsRooted, IsSaidState, state_of}
 use Rattle.dom_store.specs.Opening.{greatest_count, opened}
 use Rattle.dom_store.specs.Standing.{live_count}
+use Rattle.tree_laws.specs.Reached.{IsReached}
+use Rattle.tree_laws.specs.Weight.{bytes, total}
 use Rattle.tree_laws.specs.Wholeness.{IsWhole}
 use Rattle.cascade.specs.Index.{index_rules}
 use Rattle.cascade.specs.Winners.{AreSaidRules}
 use Rattle.style_tree.specs.Styling.{styled_document}
-use Rattle.box_gen.specs.Boxes.{root_boxes}
+use Rattle.box_gen.specs.Boxes.{root_boxes, root_caught}
+use Rattle.box_gen.specs.Orthogonal.{root_past}
 use Rattle.box_gen.specs.Tree.{Boxes}
 use Rattle.box_arena.specs.At.{parent_at}
 use Rattle.box_arena.specs.Boxes.{Stands}
@@ -24,6 +27,7 @@ use Rattle.place_map.specs.Placed.{Page}
 use Rattle.place_map.specs.Placing.{place}
 use Rattle.session.specs.declared.error.OpenError.{OpenError}
 use Rattle.session.specs.declared.error.OpenError.TheVariants.{Memory}
+use Rattle.session.specs.declared.planting.Rooted.{Rooted}
 use Rattle.session.specs.declared.session.Session.{Session}
 use Rattle.session.specs.Limits.{CanBeLaidOut}
 use Rattle.session.specs.Opening.{CanOpen, IsRefused}
@@ -31,6 +35,13 @@ use Rattle.session.specs.Opening.{CanOpen, IsRefused}
 -- the page of a styled tree: its flow from nothing, carried to the page
 abbrev pub page_of : (faces : List (Option Table)) → View → Nodes → Page
 page_of faces view nodes = place view (layout faces view.inline view.block (root_boxes nodes))
+
+-- boxes that were made stand in their arena and can be laid out, and what is kept there is right
+pub record AreReady (faces : List (Option Table)) (view : View) (boxes : Boxes) (made : Rooted) : Type 0 where
+  pub stands : Stands made.arena.slots made.root boxes
+  pub free : parent_at made.arena.slots made.root ≡ None
+  pub fit : CanBeLaidOut boxes
+  pub right : AreRightUnder faces view made.arena.slots made.root
 
 module _ {I : Type 0} {D : I → Type 0} where
   -- its document as a styled tree, and the boxes of that
@@ -43,18 +54,19 @@ module _ {I : Type 0} {D : I → Type 0} where
   abbrev pub page_in : (faces : List (Option Table)) → Session I D → Page
   page_in faces session = page_of faces session.view (styled_in session)
 
-  -- what holds of a session with these faces: its boxes stand in its arena and can be laid out, and what is kept there is right
+  -- what holds of a session with these faces: its boxes can be made, and those that were made are ready
   pub record IsSound (faces : List (Option Table)) (session : Session I D) : Type 0 where
     pub rooted : IsRooted (state_of session.document)
     pub said : IsSaidState (state_of session.document)
     pub whole : IsWhole (state_of session.document)
+    pub reached : IsReached (state_of session.document)
     pub few : live_count (state_of session.document) ≤ greatest_count
+    pub short : total bytes (state_of session.document) ≤ 1048576
     pub rules : AreSaidRules (index_rules session.rules)
-    pub stands : Stands session.arena.slots session.root (boxes_of session)
-    pub free : parent_at session.arena.slots session.root ≡ None
-    pub fit : CanBeLaidOut (boxes_of session)
+    pub turns : root_past (styled_in session) ≡ []
+    pub blocks : root_caught (styled_in session) ≡ []
     pub view : IsView session.view
-    pub right : AreRightUnder faces session.view session.arena.slots session.root
+    pub ready : IfSome session.boxes (AreReady faces session.view (boxes_of session))
 
   -- the session of a document, or why there is none
   abbrev pub Opens : List Node → List (List Declaration) → List Ruling → Result (Session I D) OpenError → Type 0

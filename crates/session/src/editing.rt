@@ -10,16 +10,13 @@ ghost use Rattle.session.specs.State.{IsSound};
 
 use crate::boxes::boxes_in;
 use crate::error::ApplyError;
-use crate::laws::{boxes_within_limits_fit, documents_within_limits_fit};
-use crate::planting::grown;
 use crate::session::Session;
 use dom_store::Edit;
 use dom_store::laws::{accepted_edits_keep_roots, accepted_edits_stay_said};
 use face_api::Face;
-use relayout::laws::what_is_not_kept_is_right;
 use tree_laws::laws::{
-    accepted_edits_are_done, accepted_edits_keep_documents_whole, accepted_edits_weigh,
-    children_have_parents,
+    accepted_edits_are_done, accepted_edits_keep_documents_reached,
+    accepted_edits_keep_documents_whole, accepted_edits_weigh, children_have_parents,
 };
 
 impl Session {
@@ -34,7 +31,7 @@ impl Session {
         requires said { IsSaidEdit (edit_of edit.now) }
         requires room { total bytes (state_of self.old.document) + bytes_brought (edit_of edit.now) ≤ 1048576 }
         ensures applies { Applies self.old self.new (edit_of edit.now) result }
-        ensures rest { self.new ≡ record self.old { document = self.new.document; arena = self.new.arena; root = self.new.root } }
+        ensures rest { self.new ≡ record self.old { document = self.new.document; boxes = self.new.boxes } }
         ensures bytes { total bytes (state_of self.new.document) ≤ total bytes (state_of self.old.document) + bytes_brought (edit_of edit.now) }
         ensures sound { IsSound (faces_of ⟦<dyn Face as Face>⟧ self.new.faces) self.new }
     {
@@ -44,16 +41,12 @@ impl Session {
         children_have_parents();
         accepted_edits_keep_roots();
         accepted_edits_stay_said();
-        documents_within_limits_fit();
-        boxes_within_limits_fit();
-        what_is_not_kept_is_right();
+        accepted_edits_keep_documents_reached();
         let mut next = self.document.copy(self.alloc)?;
         next.apply(self.alloc, edit)?;
-        let boxes = boxes_in(self.alloc, &next, &self.rules)?;
-        let grown = grown(self.alloc, boxes)?;
+        boxes_in(self.alloc, &next, &self.rules)?;
         self.document = next;
-        self.arena = grown.arena;
-        self.root = grown.root;
+        self.boxes = None;
         Ok(())
     }
 }

@@ -1,6 +1,6 @@
 //! A document that is open: its nodes and styles, its faces, and its boxes with what is kept of them.
 
-ghost use Rattle.std.specs.Prelude.{◌≡◌, ◌≤◌, IfErr, IfOk, length, map};
+ghost use Rattle.std.specs.Prelude.{◌≡◌, ◌≤◌, IfErr, IfOk, None, length, map};
 ghost use Rattle.std.specs.List.{All};
 ghost use Rattle.face_api.specs.Faces.{faces_of};
 ghost use Rattle.style_types.specs.Rule.{rulings_of};
@@ -10,30 +10,29 @@ ghost use Rattle.html_read.specs.Values.{nodes_of};
 ghost use Rattle.dom_store.specs.State.{AreSaid, state_of};
 ghost use Rattle.tree_laws.specs.Weight.{bytes, total};
 ghost use Rattle.cascade.specs.Winners.{AreSaidRules};
-ghost use Rattle.relayout.specs.Laws.{IsBare};
 ghost use Rattle.place_map.specs.Placed.{placed_of};
-ghost use Rattle.session.specs.State.{IsSound, Opens, page_in};
+ghost use Rattle.session.specs.State.{AreReady, IsSound, Opens, boxes_of, page_in};
 
-use crate::boxes::boxes_in;
+use crate::boxes::{boxes_in, made_boxes};
 use crate::error::OpenError;
 use crate::laws::{
     boxes_within_limits_fit, documents_within_limits_fit, what_does_not_spread_is_near,
 };
-use crate::planting::grown;
+use crate::planting::{Rooted, grown};
 use crate::stored::stored;
-use box_arena::{BoxArena, BoxKey};
 use cascade::RuleIndex;
 use dom_store::Document;
 use face_api::{Face, Faces};
 use html_read::ReadDocument;
-use para_prepare::Prepared;
 use place_map::{Placed, place};
 use relayout::laws::what_is_not_kept_is_right;
 use relayout::relayout;
 use std::alloc::{AllocError, Global};
 use std::sync::ledger::Ledger;
 use style_types::Styled;
-use tree_laws::laws::{live_counts_are_totals, opened_documents_are_whole};
+use tree_laws::laws::{
+    live_counts_are_totals, opened_documents_are_reached, opened_documents_are_whole,
+};
 use wm_units::{Steps, View};
 
 /// A document that is open in a view, and ready to be shown.
@@ -45,9 +44,8 @@ pub struct Session {
     pub(crate) faces: Faces,
     /// The sizes of the view, told in the root's mode.
     pub(crate) view: View,
-    pub(crate) arena: BoxArena<Prepared>,
-    /// The box of `html`.
-    pub(crate) root: BoxKey,
+    /// The boxes, with what is kept of them; none where they are still to be made.
+    pub(crate) boxes: Option<Rooted>,
 }
 
 impl Session {
@@ -76,6 +74,7 @@ impl Session {
         ensures sound { IfOk result (λ session. IsSound (faces_of ⟦<dyn Face as Face>⟧ session.faces) session) }
     {
         opened_documents_are_whole();
+        opened_documents_are_reached();
         live_counts_are_totals();
         documents_within_limits_fit();
         boxes_within_limits_fit();
@@ -90,13 +89,12 @@ impl Session {
             rules,
             faces,
             view,
-            arena: grown.arena,
-            root: grown.root,
+            boxes: Some(grown),
         })
     }
 
-    /// The page: the flow of the document as it is now, carried to the page. What is kept of boxes is used, and all that is laid out
-    /// is kept. Where memory runs out all that is kept is dropped, and the page can be asked for again.
+    /// The page: the flow of the document as it is now, carried to the page. Boxes are made where there are none; what is kept of
+    /// them is used, and all that is laid out is kept. Where memory runs out they are dropped, and the page can be asked for again.
     pub fn show<L: Ledger, M: Ledger>(
         &mut self,
         prepared: &mut Steps<L>,
@@ -104,50 +102,40 @@ impl Session {
     ) -> Result<Placed, AllocError>
         requires sound { IsSound (faces_of ⟦<dyn Face as Face>⟧ self.old.faces) self.old }
         ensures page { IfOk result (λ placed. placed_of placed ≡ page_in (faces_of ⟦<dyn Face as Face>⟧ self.old.faces) self.old) }
-        ensures rest { self.new ≡ record self.old { arena = self.new.arena } }
+        ensures rest { self.new ≡ record self.old { boxes = self.new.boxes } }
         ensures sound { IsSound (faces_of ⟦<dyn Face as Face>⟧ self.new.faces) self.new }
-        ensures dropped { IfErr result (λ _. IsBare self.new.arena.slots) }
-    {
-        let shown = self.page(prepared, arranged);
-        if shown.is_err() {
-            self.forget();
-        }
-        shown
-    }
-
-    // The same, where all that was laid out is kept whatever comes.
-    fn page<L: Ledger, M: Ledger>(
-        &mut self,
-        prepared: &mut Steps<L>,
-        arranged: &mut Steps<M>,
-    ) -> Result<Placed, AllocError>
-        requires sound { IsSound (faces_of ⟦<dyn Face as Face>⟧ self.old.faces) self.old }
-        ensures page { IfOk result (λ placed. placed_of placed ≡ page_in (faces_of ⟦<dyn Face as Face>⟧ self.old.faces) self.old) }
-        ensures rest { self.new ≡ record self.old { arena = self.new.arena } }
-        ensures sound { IsSound (faces_of ⟦<dyn Face as Face>⟧ self.new.faces) self.new }
+        ensures dropped { IfErr result (λ _. self.new.boxes ≡ None) }
     {
         what_does_not_spread_is_near();
+        let mut made = self.take_boxes()?;
         let root = relayout(
             self.alloc,
-            &mut self.arena,
-            self.root,
+            &mut made.arena,
+            made.root,
             self.view,
             &self.faces,
             prepared,
             arranged,
         )?;
         let placed = place(self.alloc, &root, self.view)?;
+        self.boxes = Some(made);
         Ok(placed)
     }
 
-    // Drops all that is kept of boxes.
-    fn forget(&mut self)
+    // Takes its boxes out; makes them where there are none.
+    fn take_boxes(&mut self) -> Result<Rooted, AllocError>
         requires sound { IsSound (faces_of ⟦<dyn Face as Face>⟧ self.old.faces) self.old }
-        ensures rest { self.new ≡ record self.old { arena = self.new.arena } }
+        ensures rest { self.new ≡ record self.old { boxes = None } }
         ensures sound { IsSound (faces_of ⟦<dyn Face as Face>⟧ self.new.faces) self.new }
-        ensures dropped { IsBare self.new.arena.slots }
+        ensures ready { IfOk result (λ made. AreReady (faces_of ⟦<dyn Face as Face>⟧ self.new.faces) self.new.view (boxes_of self.new) made) }
     {
         what_is_not_kept_is_right();
-        self.arena.forget();
+        match self.boxes.take() {
+            Some(made) => Ok(made),
+            None => {
+                let made = made_boxes(self.alloc, &self.document, &self.rules)?;
+                Ok(made)
+            }
+        }
     }
 }

@@ -24,7 +24,7 @@ returns-in-Err-clause-whole g c =
     on_ok c.tell_refusal.result c.tell_refusal.ensures.whole
     (λ told. edit_refused (faces_of (λ vtable. (g.dyn-1.0.entry vtable).1) session.faces) session.view (index_rules session.rules) (state_of session.document) (edit_of c.args.edit.now) c.args.line
     c.in-Err.error (state_of c.apply.new.self.document) (g.K.Sink.held c.args.sink.now) (g.K.Sink.held c.tell_refusal.new.sink) c.in-Err.ensures.applies.0 told.0
-    (ap (λ s. state_of s.document) c.in-Err.ensures.applies.1) told.1)
+    c.in-Err.ensures.applies.2 told.1)
 
 pub returns-in-Err-clause-front : goal.returns-in-Err-clause-front
 returns-in-Err-clause-front g c =

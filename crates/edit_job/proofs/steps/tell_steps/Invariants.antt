@@ -17,7 +17,7 @@ invariant-loop-line g l =
           HaveGone faces l.initial.session.view (index_rules l.initial.session.rules) (state_of l.initial.session.document) (state_of l.session.document) (g.K.Sink.held l.initial.sink) (g.K.Sink.held l.sink)
           (steps_of l.script) (steps_of (drop l.line-index l.script));
       sound : IsSound (faces_of (λ vtable. (g.dyn-1.0.entry vtable).1) l.session.faces) l.session;
-      same : l.session ≡ record l.initial.session { document = l.session.document; arena = l.session.arena; root = l.session.root };
+      same : l.session ≡ record l.initial.session { document = l.session.document; boxes = l.session.boxes };
       room : total bytes (state_of l.session.document) + bytes_of (steps_of (drop l.line-index l.script)) ≤ 1048576;
       later : g.K.Sink.faults l.initial.sink ≤ g.K.Sink.faults l.sink;
     }

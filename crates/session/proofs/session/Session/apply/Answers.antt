@@ -1,19 +1,17 @@
-use Rattle.std.proofs.Common.{◌+◌, ◌≤◌, refl, arith}
+use Rattle.std.proofs.Common.{◌≤◌, refl, arith}
 use Rattle.std.proofs.lemmas.Result.{err_from_is_err_and}
-use Rattle.face_api.specs.Faces.{faces_of}
-use Rattle.dom_store.specs.Edited.{bytes_brought, edit_of}
+use Rattle.dom_store.specs.Edited.{edit_of}
 use Rattle.dom_store.specs.State.{state_of}
 use Rattle.tree_laws.specs.Weight.{bytes, total}
 use Rattle.cascade.specs.Index.{index_rules}
-use Rattle.session.proofs.Fresh.{few_boxes, fits, right, stand}
-use Rattle.session.proofs.Outcomes.{boxes_refuse, bytes_after, can_apply, done_by, few_after, refused_by_copy, rooted_after, said_after, whole_after}
+use Rattle.session.proofs.Outcomes.{boxes_refuse, bytes_after, can_apply, done_by, few_after, reached_after, refused_by_copy, rooted_after, said_after, whole_after}
 use Rattle.session.proofs.session.Session.apply.Goals as goal
 
 pub returns-in_err-apply-clause-applies : goal.returns-in_err-apply-clause-applies
 returns-in_err-apply-clause-applies g c =
     let old = state_of c.args.self.now.document in
     let p = err_from_is_err_and c.from_residual-in_err-apply.result c.from_residual-in_err-apply.ensures.1 in
-    rw (p.1, p.2) (refused_by_copy (index_rules c.args.self.now.rules) old (state_of c.in_ok-next.next) (edit_of c.args.edit.now) c.in_err-apply.field-0.0 c.in_ok-next.ensures c.in_err-apply.ensures.applies.0, refl)
+    rw (p.1, p.2) (refused_by_copy (index_rules c.args.self.now.rules) old (state_of c.in_ok-next.next) (edit_of c.args.edit.now) c.in_err-apply.field-0.0 c.in_ok-next.ensures c.in_err-apply.ensures.applies.0, refl, refl)
 
 pub boxes_in-requires-clause-rooted : goal.boxes_in-requires-clause-rooted
 boxes_in-requires-clause-rooted g c =
@@ -29,39 +27,20 @@ boxes_in-requires-clause-own g c =
     let done = done_by c.accepted_edits_are_done.ensures old (state_of c.in_ok-next.next) (state_of c.apply.new.self) edit c.in_ok-apply.field-0.elements.items c.in_ok-next.ensures c.in_ok-apply.ensures.applies in
     said_after (index_rules c.args.self.now.rules) old (state_of c.apply.new.self) edit done c.accepted_edits_stay_said.ensures c.requires.said c.requires.sound.said
 
-pub returns-in_err-boxes-clause-applies : goal.returns-in_err-boxes-clause-applies
-returns-in_err-boxes-clause-applies g c =
+pub returns-in_err-boxes_in-clause-applies : goal.returns-in_err-boxes_in-clause-applies
+returns-in_err-boxes_in-clause-applies g c =
     let old = state_of c.args.self.now.document in
     let edit = edit_of c.args.edit.now in
     let done = done_by c.accepted_edits_are_done.ensures old (state_of c.in_ok-next.next) (state_of c.apply.new.self) edit c.in_ok-apply.field-0.elements.items c.in_ok-next.ensures c.in_ok-apply.ensures.applies in
-    let p = err_from_is_err_and c.from_residual-in_err-boxes.result c.from_residual-in_err-boxes.ensures.1 in
-    rw (p.1, p.2) (boxes_refuse (index_rules c.args.self.now.rules) old (state_of c.apply.new.self) edit done c.in_err-boxes.field-0.0 c.in_err-boxes.ensures.makes, refl)
-
-pub grown-requires : goal.grown-requires
-grown-requires g c =
-    let old = state_of c.args.self.now.document in
-    let next = state_of c.apply.new.self in
-    let rules = index_rules c.args.self.now.rules in
-    let edit = edit_of c.args.edit.now in
-    let sound = c.requires.sound in
-    let done = done_by c.accepted_edits_are_done.ensures old (state_of c.in_ok-next.next) next edit c.in_ok-apply.field-0.elements.items c.in_ok-next.ensures c.in_ok-apply.ensures.applies in
-    let weigh = c.accepted_edits_weigh.ensures in
-    let room = c.requires.room in
-    let more = bytes_after rules old next edit done weigh in
-    let short : total bytes next ≤ 1048576 = omega (arith, room, more) in
-    record {
-      few =
-          few_boxes _ c.in_ok-boxes.boxes c.in_ok-boxes.ensures.makes
-          (fits c.documents_within_limits_fit.ensures c.boxes_within_limits_fit.ensures rules next (whole_after rules old next edit done c.accepted_edits_keep_documents_whole.ensures sound.whole)
-          (few_after rules old next edit done weigh sound.few) short c.in_ok-boxes.ensures.bounded);
-    }
+    let p = err_from_is_err_and c.from_residual-in_err-boxes_in.result c.from_residual-in_err-boxes_in.ensures.1 in
+    rw (p.1, p.2) (boxes_refuse (index_rules c.args.self.now.rules) old (state_of c.apply.new.self) edit done c.in_err-boxes_in.field-0.0 c.in_err-boxes_in.ensures.makes, refl, refl)
 
 pub returns-clause-applies : goal.returns-clause-applies
 returns-clause-applies g c =
     let old = state_of c.args.self.now.document in
     let edit = edit_of c.args.edit.now in
     let done = done_by c.accepted_edits_are_done.ensures old (state_of c.in_ok-next.next) (state_of c.apply.new.self) edit c.in_ok-apply.field-0.elements.items c.in_ok-next.ensures c.in_ok-apply.ensures.applies in
-    (can_apply (index_rules c.args.self.now.rules) old (state_of c.apply.new.self) edit done c.in_ok-boxes.boxes c.in_ok-boxes.ensures.makes, done.1)
+    (can_apply (index_rules c.args.self.now.rules) old (state_of c.apply.new.self) edit done c.in_ok-boxes_in.field-0 c.in_ok-boxes_in.ensures.makes, done.1)
 
 pub returns-clause-bytes : goal.returns-clause-bytes
 returns-clause-bytes g c =
@@ -88,11 +67,12 @@ returns-clause-sound g c =
       rooted = rooted_after rules old next edit done c.accepted_edits_keep_roots.ensures c.children_have_parents.ensures sound.whole sound.rooted;
       said = said_after rules old next edit done c.accepted_edits_stay_said.ensures c.requires.said sound.said;
       whole = whole;
+      reached = reached_after rules old next edit done c.accepted_edits_keep_documents_reached.ensures c.requires.fitting sound.rooted sound.whole sound.reached;
       few = few;
+      short = short;
       rules = sound.rules;
-      stands = stand _ c.in_ok-boxes.boxes c.in_ok-grown.grown.arena.slots c.in_ok-grown.grown.root c.in_ok-boxes.ensures.makes c.in_ok-grown.ensures.stands;
-      free = c.in_ok-grown.ensures.free;
-      fit = fits c.documents_within_limits_fit.ensures c.boxes_within_limits_fit.ensures rules next whole few short c.in_ok-boxes.ensures.bounded;
+      turns = c.in_ok-boxes_in.ensures.makes.0;
+      blocks = c.in_ok-boxes_in.ensures.makes.1;
       view = sound.view;
-      right = right c.what_is_not_kept_is_right.ensures.bare (faces_of (λ vtable. (g.dyn-1.0.entry vtable).1) c.args.self.now.faces) c.args.self.now.view c.in_ok-grown.grown.arena.slots c.in_ok-grown.grown.root c.in_ok-grown.ensures.bare;
+      ready = tt;
     }

@@ -4,7 +4,6 @@ use Rattle.face_api.specs.Faces.{faces_of}
 use Rattle.style_types.specs.Rule.{Ruling, rulings_of}
 use Rattle.html_read.specs.Values.{nodes_of}
 use Rattle.dom_store.specs.State.{State, state_of}
-use Rattle.tree_laws.specs.Weight.{bytes, total}
 use Rattle.style_tree.specs.Styling.{styled_document}
 use Rattle.cascade.specs.Index.{index_rules}
 use Rattle.cascade.specs.Winners.{AreSaidRules}
@@ -56,7 +55,8 @@ returns-clause-sound g c =
     let own = map (λ own. own.items) c.args.styled.now.styles.items in
     let state = state_of c.in_ok-document.document in
     let stores = c.in_ok-document.ensures.stores in
-    let opened = c.opened_documents_are_whole.ensures nodes own state c.requires.shaped (same_opened state (opened nodes own) stores.1) in
+    let same = same_opened state (opened nodes own) stores.1 in
+    let opened = c.opened_documents_are_whole.ensures nodes own state c.requires.shaped same in
     let counts = c.live_counts_are_totals.ensures state in
     let number = opened.1 in
     let few = stores.0.few in
@@ -66,11 +66,17 @@ returns-clause-sound g c =
       rooted = c.in_ok-document.ensures.rooted;
       said = c.in_ok-document.ensures.said;
       whole = opened.0;
+      reached = c.opened_documents_are_reached.ensures nodes own state c.requires.shaped c.requires.ordered stores.0.low same;
       few = omega (arith, counts, number, few);
+      short = omega (arith, letters, short);
       rules = subst AreSaidRules (sym (c.in_ok-rules.ensures ∙ ap rulings_of c.deref.ensures.value)) c.requires.rules;
-      stands = stand _ c.in_ok-boxes.boxes c.in_ok-grown.grown.arena.slots c.in_ok-grown.grown.root c.in_ok-boxes.ensures.makes c.in_ok-grown.ensures.stands;
-      free = c.in_ok-grown.ensures.free;
-      fit = fits c.documents_within_limits_fit.ensures c.boxes_within_limits_fit.ensures (index_rules c.in_ok-rules.rules) state opened.0 (omega (arith, counts, number, few)) (omega (arith, letters, short)) c.in_ok-boxes.ensures.bounded;
+      turns = c.in_ok-boxes.ensures.makes.0;
+      blocks = c.in_ok-boxes.ensures.makes.1;
       view = c.requires.view;
-      right = right c.what_is_not_kept_is_right.ensures.bare (faces_of (λ vtable. (g.dyn-1.0.entry vtable).1) c.args.faces) c.args.view c.in_ok-grown.grown.arena.slots c.in_ok-grown.grown.root c.in_ok-grown.ensures.bare;
+      ready = record {
+        stands = stand _ c.in_ok-boxes.boxes c.in_ok-grown.grown.arena.slots c.in_ok-grown.grown.root c.in_ok-boxes.ensures.makes c.in_ok-grown.ensures.stands;
+        free = c.in_ok-grown.ensures.free;
+        fit = fits c.documents_within_limits_fit.ensures c.boxes_within_limits_fit.ensures (index_rules c.in_ok-rules.rules) state opened.0 (omega (arith, counts, number, few)) (omega (arith, letters, short)) c.in_ok-boxes.ensures.bounded;
+        right = right c.what_is_not_kept_is_right.ensures.bare (faces_of (λ vtable. (g.dyn-1.0.entry vtable).1) c.args.faces) c.args.view c.in_ok-grown.grown.arena.slots c.in_ok-grown.grown.root c.in_ok-grown.ensures.bare;
+      };
     }
