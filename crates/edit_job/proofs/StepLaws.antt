@@ -1,11 +1,11 @@
 -- Steps one after the other, and what is written of them.
-use Rattle.std.proofs.Common.{◌≡◌, ◌⊎◌, ◌∙◌, refl, sym, ap, subst, arith, inl, inr, ℕ, suc, ◌+◌, ◌<◌, ◌≤◌, List, [], ◌∷◌, ◌++◌, append_assoc, append-nil, length, map, drop, get_or, Option}
+use Rattle.std.proofs.Common.{◌≡◌, ◌⊎◌, ◌∙◌, refl, sym, ap, subst, arith, inl, inr, ℕ, suc, ◌+◌, ◌<◌, ◌≤◌, List, [], ◌∷◌, ◌++◌, append_assoc, append-nil, length, drop, get_or, Option}
 use Rattle.std.specs.Io.KnownBytes.{Appends}
 use Rattle.std.proofs.KnownBytes.{Appends-nil, Appends-trans}
 use Rattle.std.proofs.Math.Seq.{drop-cons}
 use Rattle.face_api.specs.Table.{Table}
 use Rattle.wm_units.specs.declared.view.View.{View}
-use Rattle.io_edge.specs.Edge.{AppendsFront, AppendsUpTo}
+use Rattle.io_edge.specs.Edge.{AppendsFront}
 use Rattle.io_edge.proofs.Growth.{next_front, nothing_yet}
 use Rattle.style_types.specs.Rule.{Ruling}
 use Rattle.dom_store.specs.Edits.{EditOf, after}

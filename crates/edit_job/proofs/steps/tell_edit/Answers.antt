@@ -1,4 +1,3 @@
-use Rattle.std.proofs.Common.{ap}
 use Rattle.face_api.specs.Faces.{faces_of}
 use Rattle.dom_store.specs.Edited.{edit_of}
 use Rattle.dom_store.specs.State.{state_of}

@@ -1,9 +1,9 @@
-use Rattle.std.proofs.Common.{◌≡◌, ◌∙◌, ◌+◌, ◌≤◌, ap, sym, subst, arith, suc, drop, length, List, ℕ}
+use Rattle.std.proofs.Common.{◌+◌, sym, subst, arith, drop, List}
 use Rattle.face_api.specs.Faces.{faces_of}
-use Rattle.dom_store.specs.State.{State, state_of}
+use Rattle.dom_store.specs.State.{state_of}
 use Rattle.cascade.specs.Index.{index_rules}
 use Rattle.edit_script.specs.Script.{StepAt}
-use Rattle.edit_script.specs.Views.{step_at, step_of, steps_of}
+use Rattle.edit_script.specs.Views.{step_at, steps_of}
 use Rattle.edit_job.proofs.StepLaws.{HaveGone, broken, bytes_on, finished, gone_on, line_fits, line_on, none_on, step_over, still}
 use Rattle.edit_job.proofs.steps.tell_steps.Goals as goal
 
@@ -22,7 +22,7 @@ returns-in_err-tell_step-clause-front g c =
     broken faces first.view (index_rules first.rules) c.steps_have_one_end.ensures (state_of first.document) (state_of now.document) old mid (g.K.Sink.held c.tell_step.new.sink) all
     (step_at c.line-item.result) (steps_of (drop (c.loop-line.line-index + 1) c.args.script.now))
     (subst P (line_on c.args.script.now c.loop-line.line-index c.line-item.result c.loop-line-test.true c.line-item.is) c.loop-line.invariant.gone)
-    (λ next due step. c.in_err-tell_step.ensures.front next due (subst (λ (X : Type 0). X) (sym (step_over (λ vtable. (g.dyn-1.0.entry vtable).1) first now _ _ _ c.loop-line.invariant.same _ _ next due)) step))
+    (λ next due step. c.in_err-tell_step.ensures.front next due (subst (λ (X : Type 0). X) (sym (step_over (λ vtable. (g.dyn-1.0.entry vtable).1) first now _ _ c.loop-line.invariant.same _ _ next due)) step))
 
 pub loop-line-preserved : goal.loop-line-preserved
 loop-line-preserved g c =
@@ -45,9 +45,9 @@ loop-line-preserved g c =
           gone_on faces first.view (index_rules first.rules) (state_of first.document) (state_of now.document) (state_of new.document) old mid (g.K.Sink.held c.tell_step.new.sink) all
           (step_at c.line-item.result) (steps_of (drop (c.loop-line.line-index + 1) c.args.script.now)) whole.0
           (subst P (line_on c.args.script.now c.loop-line.line-index c.line-item.result c.loop-line-test.true c.line-item.is) c.loop-line.invariant.gone)
-          (subst (λ (X : Type 0). X) (step_over (λ vtable. (g.dyn-1.0.entry vtable).1) first now _ _ _ c.loop-line.invariant.same _ _ (state_of new.document) whole.0) whole.1) whole.2;
+          (subst (λ (X : Type 0). X) (step_over (λ vtable. (g.dyn-1.0.entry vtable).1) first now _ _ c.loop-line.invariant.same _ _ (state_of new.document) whole.0) whole.1) whole.2;
       sound = c.in_ok-tell_step.ensures.sound;
-      same = still first now new _ _ _ c.loop-line.invariant.same c.tell_step.ensures.rest;
+      same = still first now new _ _ c.loop-line.invariant.same c.tell_step.ensures.rest;
       room = omega (arith, more, room, cut);
       later = omega (arith, later, also);
     }
