@@ -7,3 +7,4 @@ pub mod Refusals
 pub mod Standing
 pub mod Styled
 pub mod Weighing
+pub mod Within

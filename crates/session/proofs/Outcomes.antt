@@ -1,5 +1,5 @@
 -- What an edit of an open document leads to, by what the document and its boxes answer.
-use Rattle.std.proofs.Common.{◌≡◌, ◌⊎◌, ◌+◌, ◌≤◌, sym, ap, subst, refl, inl, inr, ℕ, List, Option, Some, None, Ok, Err}
+use Rattle.std.proofs.Common.{◌≡◌, ◌⊎◌, ◌+◌, ◌≤◌, sym, ap, subst, refl, inl, inr, ℕ, List, [], Option, Some, None, Err}
 use Rattle.style_types.specs.Rule.{Ruling}
 use Rattle.dom_store.specs.declared.error.EditError.{EditError}
 use Rattle.dom_store.specs.declared.error.EditError.TheVariants as refusals
@@ -15,13 +15,14 @@ use Rattle.tree_laws.specs.Reached.{FittingEditsKeepReached, IsReached}
 use Rattle.tree_laws.specs.Weight.{bytes, total}
 use Rattle.tree_laws.specs.Wholeness.{IsWhole}
 use Rattle.style_tree.specs.Styling.{styled_document}
-use Rattle.box_gen.specs.declared.tree.BoxTree.{BoxTree}
+use Rattle.box_gen.specs.Boxes.{root_caught}
+use Rattle.box_gen.specs.Orthogonal.{IsLeastOf, root_past}
+use Rattle.box_limits.specs.declared.error.LimitError.{LimitError}
+use Rattle.box_limits.specs.declared.error.LimitError.TheVariants as limits
+use Rattle.box_limits.specs.Limits.{Answers, AreWithin, IsEditedFrom}
 use Rattle.session.specs.declared.error.ApplyError.{ApplyError}
 use Rattle.session.specs.declared.error.ApplyError.TheVariants as applying
-use Rattle.session.specs.declared.error.OpenError.{OpenError}
-use Rattle.session.specs.declared.error.OpenError.TheVariants as opening
-use Rattle.session.specs.Editing.{CanApply, HasOneOutcome, IsRefusedEdit, of_open_error, of_refusal, styled_after}
-use Rattle.session.specs.Opening.{MakesBoxes}
+use Rattle.session.specs.Editing.{CanApply, HasOneOutcome, IsRefusedEdit, of_limit_error, of_refusal}
 use Rattle.session.proofs.Answering.{least_one, none_there}
 
 -- ---- one outcome
@@ -79,34 +80,25 @@ pub refused_edit : (rules : List Ruling) (state : State) (edit : EditOf) (error 
 refused_edit rules state edit error (inl is) = inl (ap of_refusal is)
 refused_edit rules state edit error (inr is) = told rules state edit error (refused_by (refusal state edit) (after state edit) (concerned state edit) error is)
 
--- ---- what its boxes refuse
-
-pub refused_boxes_after : (rules : List Ruling) (state : State) (edit : EditOf) (error : OpenError) → refusal state edit ≡ None → MakesBoxes (styled_after rules state edit) (Err error)
-    → (of_open_error error ≡ applying.Memory) ⊎ IsRefusedEdit rules state edit (of_open_error error)
-refused_boxes_after rules state edit (opening.TooManyNodes number) none makes = absurd makes
-refused_boxes_after rules state edit (opening.TooDeep number) none makes = absurd makes
-refused_boxes_after rules state edit (opening.TooManyOrthogonal number) none makes = inr (none, makes)
-refused_boxes_after rules state edit (opening.BlockInInline number) none makes = inr (none, makes.0, makes.1)
-refused_boxes_after rules state edit opening.Memory none makes = inl refl
-
 -- ---- an edit that the document takes
 
--- of a document whose state is this one
-pub done_by : AcceptedAreDone → (old copy next : State) (edit : EditOf) (elements : List ℕ) → copy ≡ old → edited copy edit ≡ accepted next elements → (refusal old edit ≡ None) × (next ≡ after old edit)
-done_by done old copy next edit elements same is = done old next edit elements (subst (λ (s : State). edited s edit ≡ accepted next elements) same is)
-
-pub refused_by_copy : (rules : List Ruling) (old copy : State) (edit : EditOf) (error : EditError) → copy ≡ old → (error ≡ refusals.Memory) ⊎ (edited copy edit ≡ refused error)
-    → (of_refusal error ≡ applying.Memory) ⊎ IsRefusedEdit rules old edit (of_refusal error)
-refused_by_copy rules old copy edit error same is = refused_edit rules old edit error (subst (λ (s : State). (error ≡ refusals.Memory) ⊎ (edited s edit ≡ refused error)) same is)
+pub done_by : AcceptedAreDone → (old next : State) (edit : EditOf) (elements : List ℕ) → edited old edit ≡ accepted next elements → (refusal old edit ≡ None) × (next ≡ after old edit)
+done_by done old next edit elements is = done old next edit elements is
 
 module _ (rules : List Ruling) (old next : State) (edit : EditOf) (done : (refusal old edit ≡ None) × (next ≡ after old edit)) where
-  pub boxes_refuse : (error : OpenError) → MakesBoxes (styled_document rules next) (Err error) → (of_open_error error ≡ applying.Memory) ⊎ IsRefusedEdit rules old edit (of_open_error error)
-  boxes_refuse error makes = refused_boxes_after rules old edit error done.0 (subst (λ (s : State). MakesBoxes (styled_document rules s) (Err error)) done.1 makes)
+  -- what its boxes are refused for is what it is refused for
+  pub boxes_refuse : (error : LimitError) → Answers rules next (Err error) → (of_limit_error error ≡ applying.Memory) ⊎ IsRefusedEdit rules old edit (of_limit_error error)
+  boxes_refuse (limits.TooManyOrthogonal number) least = inr (done.0, subst (λ (s : State). IsLeastOf (root_past (styled_document rules s)) (Some number)) done.1 least)
+  boxes_refuse (limits.BlockInInline number) (turns, least) =
+      inr (done.0, subst (λ (s : State). root_past (styled_document rules s) ≡ []) done.1 turns, subst (λ (s : State). IsLeastOf (root_caught (styled_document rules s)) (Some number)) done.1 least)
+  boxes_refuse limits.Memory answers = inl refl
 
-  pub can_apply : (tree : BoxTree) → MakesBoxes (styled_document rules next) (Ok tree) → CanApply rules old edit
-  can_apply tree makes =
-      let there = subst (λ (s : State). MakesBoxes (styled_document rules s) (Ok tree)) done.1 makes in
-      record { taken = done.0; turns = there.0; blocks = there.1 }
+  pub can_apply : AreWithin rules next → CanApply rules old edit
+  can_apply within = let there = subst (AreWithin rules) done.1 within in record { taken = done.0; turns = there.turns; blocks = there.blocks }
+
+  -- its boxes may be judged
+  pub edited_from : IsFitting edit → IsRooted old → IsWhole old → IsReached old → AreWithin rules old → IsEditedFrom rules edit next old
+  edited_from fitting rooted whole reached within = record { fitting = fitting; rooted = rooted; whole = whole; reached = reached; taken = done.0; within = within; is = done.1 }
 
   pub rooted_after : KeepRoots → ChildrenHaveParents → IsWhole old → IsRooted old → IsRooted next
   rooted_after keep parents whole rooted = subst IsRooted (sym done.1) (keep old edit rooted (parents old whole) done.0)

@@ -1,5 +1,16 @@
 -- The boxes of a session stand in its arena through all that is laid out and forgotten.
-use Rattle.std.proofs.Common.{◌≡◌, ◌∙◌, sym, ap, subst, ℕ, List, Option, Some, None, IfSome}
+use Rattle.std.proofs.Common.{◌≡◌, ◌≤◌, [], ◌∙◌, sym, ap, subst, ℕ, List, Option, Some, None, IfSome}
+use Rattle.dom_store.specs.declared.document.Document.{Document}
+use Rattle.dom_store.specs.Opening.{greatest_count}
+use Rattle.dom_store.specs.Standing.{live_count}
+use Rattle.dom_store.specs.State.{IsRooted, IsSaidState, State, state_of}
+use Rattle.tree_laws.specs.Reached.{IsReached}
+use Rattle.tree_laws.specs.Weight.{bytes, total}
+use Rattle.tree_laws.specs.Wholeness.{IsWhole}
+use Rattle.cascade.specs.Index.{index_rules}
+use Rattle.style_tree.specs.Styling.{styled_document}
+use Rattle.box_gen.specs.Boxes.{root_boxes, root_caught}
+use Rattle.box_gen.specs.Orthogonal.{root_past}
 use Rattle.box_gen.specs.Tree.{Boxes, box, none}
 use Rattle.box_arena.specs.Arena.{SameLinks, SameNodes}
 use Rattle.box_arena.specs.At.{Node, Slots, first_at, next_at, node_at, parent_at}
@@ -82,3 +93,21 @@ module _ {I : Type 0} {D : I → Type 0} where
   pub steady_sound : (faces : List (Option Table)) (session : Session I D) (made : Rooted) (arena : Slab (Entry Preparation)) → IsSound faces session → AreReady faces session.view (boxes_of session) made
       → IsSteadyUnder faces session.view made.arena arena made.root → IsSound faces (record session { boxes = Some (record made { arena = arena }) })
   steady_sound faces session made arena sound ready under = sound_on faces session (Some (record made { arena = arena })) sound (steady_ready faces session.view (boxes_of session) made arena ready under)
+
+  -- and where its document has the same state
+  pub sound_in : (faces : List (Option Table)) (session : Session I D) (document : Document) → state_of document ≡ state_of session.document → IsSound faces session → IsSound faces (record session { document = document })
+  sound_in faces session document same sound =
+      let styled = λ (state : State). styled_document (index_rules session.rules) state in
+      record {
+        rooted = subst IsRooted (sym same) sound.rooted;
+        said = subst IsSaidState (sym same) sound.said;
+        whole = subst IsWhole (sym same) sound.whole;
+        reached = subst IsReached (sym same) sound.reached;
+        few = subst (λ (state : State). live_count state ≤ greatest_count) (sym same) sound.few;
+        short = subst (λ (state : State). total bytes state ≤ 1048576) (sym same) sound.short;
+        rules = sound.rules;
+        turns = subst (λ (state : State). root_past (styled state) ≡ []) (sym same) sound.turns;
+        blocks = subst (λ (state : State). root_caught (styled state) ≡ []) (sym same) sound.blocks;
+        view = sound.view;
+        ready = subst (λ (state : State). IfSome session.boxes (AreReady faces session.view (root_boxes (styled state)))) (sym same) sound.ready;
+      }

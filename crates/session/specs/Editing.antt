@@ -3,7 +3,7 @@ use Rattle.std.specs.Prelude.{◌≡◌, ◌⊎◌, List, [], Some, None, Result
 use Rattle.style_types.specs.Rule.{Ruling}
 use Rattle.dom_store.specs.declared.error.EditError.{EditError}
 use Rattle.dom_store.specs.declared.error.EditError.TheVariants as refusals
-use Rattle.dom_store.specs.Edits.{EditOf, after}
+use Rattle.dom_store.specs.Edits.{EditOf, remove, after}
 use Rattle.dom_store.specs.Refusals.{refusal}
 use Rattle.dom_store.specs.State.{State, state_of}
 use Rattle.cascade.specs.Index.{index_rules}
@@ -11,10 +11,10 @@ use Rattle.style_tree.specs.Styling.{styled_document}
 use Rattle.style_types.specs.Tree.{Nodes}
 use Rattle.box_gen.specs.Boxes.{root_caught}
 use Rattle.box_gen.specs.Orthogonal.{IsLeastOf, root_past}
+use Rattle.box_limits.specs.declared.error.LimitError.{LimitError}
+use Rattle.box_limits.specs.declared.error.LimitError.TheVariants as limits
 use Rattle.session.specs.declared.error.ApplyError.{ApplyError}
 use Rattle.session.specs.declared.error.ApplyError.TheVariants.{Document, TooManyOrthogonal, BlockInInline, Memory}
-use Rattle.session.specs.declared.error.OpenError.{OpenError}
-use Rattle.session.specs.declared.error.OpenError.TheVariants as opening
 use Rattle.session.specs.declared.session.Session.{Session}
 
 -- want of memory is no refusal
@@ -22,11 +22,15 @@ abbrev pub of_refusal : EditError → ApplyError
 of_refusal refusals.Memory = Memory
 of_refusal other = Document other
 
--- of boxes; the others are never answered for them
-abbrev pub of_open_error : OpenError → ApplyError
-of_open_error (opening.TooManyOrthogonal number) = TooManyOrthogonal number
-of_open_error (opening.BlockInInline number) = BlockInInline number
-of_open_error other = Memory
+abbrev pub of_limit_error : LimitError → ApplyError
+of_limit_error (limits.TooManyOrthogonal number) = TooManyOrthogonal number
+of_limit_error (limits.BlockInInline number) = BlockInInline number
+of_limit_error limits.Memory = Memory
+
+-- a removal can't be taken back
+abbrev pub CanBeTakenBack : EditOf → Type 0
+CanBeTakenBack (remove number) = ⊥
+CanBeTakenBack other = ⊤
 
 -- the state after the edit as a styled tree
 abbrev pub styled_after : List Ruling → State → EditOf → Nodes

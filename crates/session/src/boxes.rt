@@ -1,7 +1,8 @@
 //! The boxes of a document (docs/PROFILE/boxes.md).
 
-ghost use Rattle.std.specs.Prelude.{◌≡◌, ◌≤◌, ℕ, [], IfOk, None};
-ghost use Rattle.dom_store.specs.State.{IsRooted, IsSaidState, state_of};
+ghost use Rattle.std.specs.Prelude.{◌≡◌, ◌≤◌, ℕ, [], IfErr, IfOk, None};
+ghost use Rattle.dom_store.specs.Edited.{edit_of};
+ghost use Rattle.dom_store.specs.State.{IsRooted, IsSaidState, State, state_of};
 ghost use Rattle.cascade.specs.Index.{index_rules};
 ghost use Rattle.cascade.specs.Winners.{AreSaidRules};
 ghost use Rattle.style_tree.specs.Styling.{AreBounded, styled_document};
@@ -14,6 +15,8 @@ ghost use Rattle.box_gen.specs.Orthogonal.{root_past};
 ghost use Rattle.box_arena.specs.At.{parent_at};
 ghost use Rattle.box_arena.specs.Boxes.{Stands};
 ghost use Rattle.box_arena.specs.Planting.{IsBare};
+ghost use Rattle.box_limits.specs.Limits.{Answers, IsEditedFrom};
+ghost use Rattle.session.specs.Editing.{CanBeTakenBack};
 ghost use Rattle.session.specs.Limits.{CanBeLaidOut};
 ghost use Rattle.session.specs.Opening.{MakesBoxes};
 ghost use Rattle.session.specs.declared.error.OpenError.TheVariants.{Memory};
@@ -22,10 +25,17 @@ use crate::error::OpenError;
 use crate::laws::{boxes_within_limits_fit, documents_within_limits_fit};
 use crate::planting::{Rooted, grown};
 use box_gen::{BoxTree, boxes, too_many_orthogonal};
+use box_limits::laws::{documents_are_judged_by_lines, edits_are_judged_by_their_parts};
+use box_limits::{LimitError, check_edited};
 use cascade::RuleIndex;
-use dom_store::Document;
+use dom_store::laws::accepted_edits_keep_roots;
+use dom_store::{Document, Edit};
 use std::alloc::{AllocError, Global};
 use style_tree::styled;
+use tree_laws::laws::{
+    accepted_edits_keep_documents_reached, accepted_edits_keep_documents_whole,
+    children_have_parents,
+};
 
 /// The boxes of a document by these rules.
 pub(crate) fn boxes_in(
@@ -45,6 +55,39 @@ pub(crate) fn boxes_in(
     }
     let tree = boxes(alloc, &root)?;
     Ok(tree)
+}
+
+/// Whether the boxes of a document can stand after this edit, where they could before it. After a removal, which can't be taken
+/// back, they can.
+pub(crate) fn check_boxes(
+    alloc: Global,
+    document: &Document,
+    rules: &RuleIndex,
+    edit: &Edit,
+) -> Result<(), LimitError>
+    requires rules { AreSaidRules (index_rules rules.now) }
+    requires own { IsSaidState (state_of document.now) }
+    requires edited { (state : State) × IsEditedFrom (index_rules rules.now) (edit_of edit.now) (state_of document.now) state }
+    ensures answers { Answers (index_rules rules.now) (state_of document.now) result }
+    ensures back { IfErr result (λ _. CanBeTakenBack (edit_of edit.now)) }
+{
+    documents_are_judged_by_lines();
+    edits_are_judged_by_their_parts();
+    accepted_edits_keep_roots();
+    accepted_edits_keep_documents_whole();
+    accepted_edits_keep_documents_reached();
+    children_have_parents();
+    match edit {
+        Edit::Remove { .. } => Ok(()),
+        Edit::Text { .. }
+        | Edit::Style { .. }
+        | Edit::Class { .. }
+        | Edit::Insert { .. }
+        | Edit::Move { .. } => {
+            check_edited(alloc, document, rules, edit)?;
+            Ok(())
+        }
+    }
 }
 
 /// The boxes of a document where they can stand, in an arena of their own in which nothing is kept.

@@ -8,7 +8,7 @@ ghost use Rattle.tree_laws.specs.Weight.{bytes, total};
 ghost use Rattle.session.specs.Editing.{Applies};
 ghost use Rattle.session.specs.State.{IsSound};
 
-use crate::boxes::boxes_in;
+use crate::boxes::check_boxes;
 use crate::error::ApplyError;
 use crate::session::Session;
 use dom_store::Edit;
@@ -22,9 +22,11 @@ use tree_laws::laws::{
 impl Session {
     /// Applies an edit. Refused is first what the document refuses (`Document::apply`), then a state with more than six boxes on
     /// a line of ancestors that are orthogonal to their containing blocks, then one with a block-level box in an inline box, both
-    /// with the least number of such a node. A refused edit changes nothing: the document, the faces and all that is kept of boxes
-    /// stay as they were. After one that is accepted nothing is kept. The texts of the document and of the edit together hold at
-    /// most 1,048,576 bytes. Costs as much as the whole document: the next state is made beside the old one.
+    /// with the least number of such a node. A refused edit changes nothing: the state of the document, the faces and all that is
+    /// kept of boxes stay as they were. After one that is accepted nothing is kept. The texts of the document and of the edit
+    /// together hold at most 1,048,576 bytes. Costs what the edit of the document costs (`Document::apply`), and the styles of the
+    /// nodes on which the boxes hang that it makes or changes, of all below these and of those above; boxes are made at the next
+    /// page.
     pub fn apply(&mut self, edit: &Edit) -> Result<(), ApplyError>
         requires sound { IsSound (faces_of ⟦<dyn Face as Face>⟧ self.old.faces) self.old }
         requires fitting { IsFitting (edit_of edit.now) }
@@ -42,11 +44,16 @@ impl Session {
         accepted_edits_keep_roots();
         accepted_edits_stay_said();
         accepted_edits_keep_documents_reached();
-        let mut next = self.document.copy(self.alloc)?;
-        next.apply(self.alloc, edit)?;
-        boxes_in(self.alloc, &next, &self.rules)?;
-        self.document = next;
-        self.boxes = None;
-        Ok(())
+        let change = self.document.apply(self.alloc, edit)?;
+        match check_boxes(self.alloc, &self.document, &self.rules, edit) {
+            Ok(()) => {
+                self.boxes = None;
+                Ok(())
+            }
+            Err(error) => {
+                self.document.take_back(change);
+                Err(ApplyError::from(error))
+            }
+        }
     }
 }

@@ -5,10 +5,11 @@ ghost use Rattle.dom_store.specs.declared.error.EditError as edit;
 ghost use Rattle.box_gen.specs.declared.error.BoxError as boxes;
 ghost use Rattle.session.specs.Opening.{of_box_error, of_edit_error};
 ghost use Rattle.session.specs.declared.error.OpenError.TheVariants.{Memory};
-ghost use Rattle.session.specs.declared.error.ApplyError.TheVariants as applying;
-ghost use Rattle.session.specs.Editing.{of_open_error, of_refusal};
+ghost use Rattle.box_limits.specs.declared.error.LimitError as limits;
+ghost use Rattle.session.specs.Editing.{of_limit_error, of_refusal};
 
 use box_gen::BoxError;
+use box_limits::LimitError;
 use dom_store::EditError;
 use std::alloc::AllocError;
 use thiserror::Error;
@@ -106,25 +107,14 @@ impl From<EditError> for ApplyError {
     }
 }
 
-impl From<OpenError> for ApplyError {
-    ghost from_gives = { λ error own. own ≡ of_open_error error };
+impl From<LimitError> for ApplyError {
+    ghost from_gives = { λ error own. own ≡ of_limit_error error };
 
-    fn from(error: OpenError) -> ApplyError {
+    fn from(error: LimitError) -> ApplyError {
         match error {
-            OpenError::TooManyOrthogonal(number) => ApplyError::TooManyOrthogonal(number),
-            OpenError::BlockInInline(number) => ApplyError::BlockInInline(number),
-            // The others are never answered for boxes.
-            OpenError::TooManyNodes(_) | OpenError::TooDeep(_) | OpenError::Memory => {
-                ApplyError::Memory
-            }
+            LimitError::TooManyOrthogonal(number) => ApplyError::TooManyOrthogonal(number),
+            LimitError::BlockInInline(number) => ApplyError::BlockInInline(number),
+            LimitError::Memory => ApplyError::Memory,
         }
-    }
-}
-
-impl From<AllocError> for ApplyError {
-    ghost from_gives = { λ _ own. own ≡ applying.Memory };
-
-    fn from(_: AllocError) -> ApplyError {
-        ApplyError::Memory
     }
 }

@@ -1,0 +1,40 @@
+-- Boxes stay within their limits where a node goes, and other edits are taken back.
+use Rattle.std.proofs.Common.{◌≡◌, ℕ, List, [], ◌∷◌, refl, sym, subst, arith}
+use Rattle.std.specs.List.{Contains}
+use Rattle.style_types.specs.Rule.{Ruling}
+use Rattle.dom_store.specs.State.{State}
+use Rattle.dom_store.specs.Edits.{EditOf, set_text, set_style, set_class, insert, remove, move_to, after}
+use Rattle.dom_store.specs.Laws.{KeepRoots}
+use Rattle.dom_store.specs.Taking.{BeforeOf, LeadsBack, taken_back}
+use Rattle.tree_laws.specs.Laws.{ChildrenHaveParents, EditsKeepWhole}
+use Rattle.tree_laws.specs.Reached.{FittingEditsKeepReached}
+use Rattle.box_limits.specs.Limits.{AreWithin, DocumentsAreJudgedByLines, EditsAreJudgedByTheirParts, IsEditedFrom}
+use Rattle.session.specs.Editing.{CanBeTakenBack}
+use Rattle.session.proofs.Answering.{none_there}
+
+-- a list of no number
+empty : (numbers : List ℕ) → ((number : ℕ) → Contains numbers number → ⊥) → numbers ≡ []
+empty [] none = refl
+empty (number ∷ numbers) none = absurd (none number (0, omega arith, refl))
+
+-- after a removal no box breaks a limit
+pub removed_within : DocumentsAreJudgedByLines → EditsAreJudgedByTheirParts → KeepRoots → ChildrenHaveParents → EditsKeepWhole → FittingEditsKeepReached
+    → (rules : List Ruling) (next state : State) (number : ℕ) → IsEditedFrom rules (remove number) next state → AreWithin rules next
+removed_within by_lines by_parts roots parents whole reached rules next state number edited =
+    let edit = remove number in
+    let judged = by_lines rules (after state edit) (roots state edit edited.rooted (parents state edited.whole) edited.taken) (whole state edit edited.whole edited.taken)
+    (reached state edit tt edited.rooted edited.whole edited.reached edited.taken) in
+    let stay = by_parts rules state edit tt edited.rooted edited.whole edited.reached edited.taken edited.within.turns edited.within.blocks in
+    subst (AreWithin rules) (sym edited.is) (record {
+      turns = empty _ (λ other held. let told = (judged.0 other).0 held in none_there [] other refl ((stay other told.0).0 told.1));
+      blocks = empty _ (λ other held. let told = (judged.1 other).0 held in none_there [] other refl ((stay other told.0).1 told.1));
+    })
+
+-- what is kept of another edit leads back
+pub leads_back : (edit : EditOf) (before : BeforeOf) (new old : State) → CanBeTakenBack edit → LeadsBack edit before new old → taken_back before new ≡ old
+leads_back (set_text number letters) before new old can leads = leads
+leads_back (set_style number own) before new old can leads = leads
+leads_back (set_class number words) before new old can leads = leads
+leads_back (insert parent index nodes own) before new old can leads = leads
+leads_back (remove number) before new old can leads = absurd can
+leads_back (move_to number parent index) before new old can leads = leads
