@@ -29,7 +29,7 @@ pub(crate) struct Judging<'a> {
 }
 
 impl<'a> Judging<'a> {
-    // The style of the node of this number.
+    /// The style of the node of this number.
     pub(crate) fn own_style(
         &self,
         alloc: Global,
