@@ -21,7 +21,7 @@ use Rattle.dom_store.specs.Standing.{below_levels, children_at, lives, parent_at
 use Rattle.dom_store.specs.Edits.{EditOf, after, insert, inserted_at, under, with_children, with_put}
 use Rattle.dom_store.proofs.InsertLaws.{tops_under}
 use Rattle.tree_laws.specs.Laws.{EditsKeepWhole}
-use Rattle.tree_laws.specs.Reached.{FittingEditsKeepReached, IsAtLevel}
+use Rattle.tree_laws.specs.Reached.{EditsKeepReached, IsAtLevel}
 use Rattle.tree_laws.proofs.Parents.{children_have_parents}
 use Rattle.tree_laws.proofs.Refusing.{insert_passes, lives_below}
 use Rattle.box_limits.specs.declared.found.Found.{Found}
@@ -177,7 +177,7 @@ module _ (rules : List Ruling) (state : State) (tree : IsTree state) where
 -- ---- after an edit
 
 module _ (rules : List Ruling) (edit : EditOf) (next state : State) (edited : IsEditedFrom rules edit next state) where
-  pub edited_tree : KeepRoots → EditsKeepWhole → FittingEditsKeepReached → IsTree next
+  pub edited_tree : KeepRoots → EditsKeepWhole → EditsKeepReached → IsTree next
   edited_tree keep_roots keep_whole keep_reached = subst IsTree (sym edited.is) (record {
     rooted = keep_roots state edit edited.rooted (children_have_parents state edited.whole) edited.taken;
     whole = keep_whole state edit edited.whole edited.taken;

@@ -9,7 +9,7 @@ use Rattle.dom_store.specs.Standing.{below_levels, children_at, lives}
 use Rattle.dom_store.specs.Edits.{EditOf, after}
 use Rattle.dom_store.specs.Laws.{KeepRoots}
 use Rattle.tree_laws.specs.Laws.{EditsKeepWhole}
-use Rattle.tree_laws.specs.Reached.{FittingEditsKeepReached, IsAtLevel, IsReached}
+use Rattle.tree_laws.specs.Reached.{EditsKeepReached, IsAtLevel, IsReached}
 use Rattle.tree_laws.specs.Wholeness.{IsWhole}
 use Rattle.tree_laws.proofs.Parents.{children_have_parents}
 use Rattle.tree_laws.proofs.Refusing.{lives_below}
@@ -201,7 +201,7 @@ module _ (rules : List Ruling) (state : State) (edit : EditOf) (rooted_before : 
             absurd (subst (IsIn number) empty there)
       ]
 
-pub edits_are_judged : KeepRoots → EditsKeepWhole → FittingEditsKeepReached → EditsAreJudgedByTheirParts
+pub edits_are_judged : KeepRoots → EditsKeepWhole → EditsKeepReached → EditsAreJudgedByTheirParts
 edits_are_judged keep_roots keep_whole keep_reached rules state edit fitting rooted whole reached accepted no_past no_caught number living =
     let next_rooted = keep_roots state edit rooted (children_have_parents state whole) accepted in
     let next_whole = keep_whole state edit whole accepted in

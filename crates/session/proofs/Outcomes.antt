@@ -11,7 +11,7 @@ use Rattle.dom_store.specs.Opening.{greatest_count}
 use Rattle.dom_store.specs.Standing.{live_count}
 use Rattle.dom_store.specs.State.{IsRooted, IsSaidState, State}
 use Rattle.tree_laws.specs.Laws.{AcceptedAreDone, ChildrenHaveParents, EditsKeepWhole, EditsWeigh}
-use Rattle.tree_laws.specs.Reached.{FittingEditsKeepReached, IsReached}
+use Rattle.tree_laws.specs.Reached.{EditsKeepReached, IsReached}
 use Rattle.tree_laws.specs.Weight.{bytes, total}
 use Rattle.tree_laws.specs.Wholeness.{IsWhole}
 use Rattle.style_tree.specs.Styling.{styled_document}
@@ -109,7 +109,7 @@ module _ (rules : List Ruling) (old next : State) (edit : EditOf) (done : (refus
   pub whole_after : EditsKeepWhole → IsWhole old → IsWhole next
   whole_after keep whole = subst IsWhole (sym done.1) (keep old edit whole done.0)
 
-  pub reached_after : FittingEditsKeepReached → IsFitting edit → IsRooted old → IsWhole old → IsReached old → IsReached next
+  pub reached_after : EditsKeepReached → IsFitting edit → IsRooted old → IsWhole old → IsReached old → IsReached next
   reached_after keep fitting rooted whole reached = subst IsReached (sym done.1) (keep old edit fitting rooted whole reached done.0)
 
   pub few_after : EditsWeigh → live_count old ≤ greatest_count → live_count next ≤ greatest_count

@@ -7,7 +7,7 @@ use Rattle.dom_store.specs.Edits.{EditOf, set_text, set_style, set_class, insert
 use Rattle.dom_store.specs.Laws.{KeepRoots}
 use Rattle.dom_store.specs.Taking.{BeforeOf, LeadsBack, taken_back}
 use Rattle.tree_laws.specs.Laws.{ChildrenHaveParents, EditsKeepWhole}
-use Rattle.tree_laws.specs.Reached.{FittingEditsKeepReached}
+use Rattle.tree_laws.specs.Reached.{EditsKeepReached}
 use Rattle.box_limits.specs.Limits.{AreWithin, DocumentsAreJudgedByLines, EditsAreJudgedByTheirParts, IsEditedFrom}
 use Rattle.session.specs.Editing.{CanBeTakenBack}
 use Rattle.session.proofs.Answering.{none_there}
@@ -18,7 +18,7 @@ empty [] none = refl
 empty (number ∷ numbers) none = absurd (none number (0, omega arith, refl))
 
 -- after a removal no box breaks a limit
-pub removed_within : DocumentsAreJudgedByLines → EditsAreJudgedByTheirParts → KeepRoots → ChildrenHaveParents → EditsKeepWhole → FittingEditsKeepReached
+pub removed_within : DocumentsAreJudgedByLines → EditsAreJudgedByTheirParts → KeepRoots → ChildrenHaveParents → EditsKeepWhole → EditsKeepReached
     → (rules : List Ruling) (next state : State) (number : ℕ) → IsEditedFrom rules (remove number) next state → AreWithin rules next
 removed_within by_lines by_parts roots parents whole reached rules next state number edited =
     let edit = remove number in
