@@ -1,0 +1,432 @@
+"""Reads the listings that wm_layout writes, for the tools beside this file.
+
+A text may have several listings in a row, with lines `refused KIND NUMBER` between them, as the command `edit` writes them.
+`read` gives them as a list of `Page` and `Refusal`, or raises one `ListingError` with the line at which the text is no listing.
+Every word of a listing is said in docs/PROFILE/listing.md.
+
+A listing doesn't say which fragment stands in which. `owners` finds it out, from the order of the lines, from places, and from the
+document where there is one.
+"""
+import argparse
+import dataclasses
+import os
+import re
+import sys
+
+MODES = ("horizontal-tb", "vertical-rl", "vertical-lr", "sideways-rl", "sideways-lr")
+UNITS_PER_PIXEL = 64
+# The characters that take each other's places in text from right to left (docs/PROFILE/characters.md, "Mirrors").
+MIRROR_PAIRS = ("()", "[]", "{}", "<>", "\u00ab\u00bb", "〈〉", "《》", "「」", "『』", "【】", "（）")
+MIRRORS = {pair[side]: pair[1 - side] for pair in MIRROR_PAIRS for side in (0, 1)}
+
+
+class ListingError(Exception):
+    """The text is no listing: the number of the line, from 1, and what is wrong there."""
+
+    def __init__(self, line, what):
+        super().__init__(f"line {line}: {what}")
+        self.line = line
+        self.what = what
+
+
+class InputError(Exception):
+    """What a tool was given can't be taken, for another reason than that it is no listing."""
+
+
+@dataclasses.dataclass(frozen=True)
+class Rect:
+    """A rectangle on the page, in 1/64 px."""
+
+    x: int
+    y: int
+    width: int
+    height: int
+
+    @property
+    def right(self):
+        return self.x + self.width
+
+    @property
+    def bottom(self):
+        return self.y + self.height
+
+    def upright(self):
+        """The same area with extents of at least zero. A span may end before it begins, where margins in it are below zero."""
+        left, top = min(self.x, self.right), min(self.y, self.bottom)
+        return Rect(left, top, abs(self.width), abs(self.height))
+
+
+@dataclasses.dataclass(frozen=True)
+class Box:
+    """The border box of a block container or an inline-block; with an ordinal above 0 it is anonymous."""
+
+    node: int
+    box: int
+    rect: Rect
+    kind = "box"
+
+    def words(self):
+        return (self.node, self.box, *dataclasses.astuple(self.rect))
+
+
+@dataclasses.dataclass(frozen=True)
+class Line:
+    """A line of the paragraph of a box; the baseline is counted from its line-over edge."""
+
+    node: int
+    box: int
+    line: int
+    rect: Rect
+    baseline: int
+    kind = "line"
+
+    def words(self):
+        return (self.node, self.box, self.line, *dataclasses.astuple(self.rect), self.baseline)
+
+
+@dataclasses.dataclass(frozen=True)
+class Span:
+    """A fragment of an inline box."""
+
+    node: int
+    box: int
+    rect: Rect
+    kind = "span"
+
+    def words(self):
+        return (self.node, self.box, *dataclasses.astuple(self.rect))
+
+
+@dataclasses.dataclass(frozen=True)
+class Run:
+    """Characters of a text node that stand side by side. Clusters are texts, one for each unit from line-left."""
+
+    node: int
+    begin: int
+    end: int
+    rect: Rect
+    orientation: str
+    natural: int | None
+    level: int
+    clusters: tuple
+    kind = "run"
+
+    def words(self):
+        stands = self.orientation if self.natural is None else f"c{self.natural}"
+        clusters = ",".join("+".join(f"{ord(character):04X}" for character in cluster) for cluster in self.clusters)
+        return (self.node, self.begin, self.end, *dataclasses.astuple(self.rect), stands, self.level, clusters)
+
+    def logical(self):
+        """The characters of the run in the order of the text, each as it was written."""
+        if self.natural is not None or self.level % 2 == 0:
+            # What is in a combined run is ordered by levels of its own, which the listing doesn't tell.
+            return "".join(self.clusters)
+        return "".join(MIRRORS.get(cluster[0], cluster[0]) + cluster[1:] for cluster in reversed(self.clusters))
+
+
+@dataclasses.dataclass(frozen=True)
+class Page:
+    """One listing."""
+
+    width: int
+    height: int
+    mode: str
+    direction: str
+    fragments: tuple
+
+    def text(self):
+        """The listing as the program writes it."""
+        head = f"page {self.width} {self.height} {self.mode} {self.direction}"
+        rows = (" ".join(map(str, (fragment.kind, *fragment.words()))) for fragment in self.fragments)
+        return "\n".join((head, *rows, "end")) + "\n"
+
+
+@dataclasses.dataclass(frozen=True)
+class Refusal:
+    """A document or an edit that was refused: the kind, and the place, the node or the line of the script."""
+
+    kind: str
+    number: int
+
+
+# Reading. Each kind of line has a pattern of its words, and a function from their match to the fragment.
+
+NUMBER, SIGNED = r"(0|[1-9]\d*)", r"(0|-?[1-9]\d*)"
+# The extent of a span may be below zero, where margins in it are.
+RECT = rf"{SIGNED} {SIGNED} {SIGNED} {SIGNED}"
+CHARACTER = r"(?:[0-9A-F]{4}|[1-9A-F][0-9A-F]{4,5})"
+CLUSTER = rf"{CHARACTER}(?:\+{CHARACTER})*"
+PAGE_LINE = re.compile(rf"page {NUMBER} {NUMBER} ({'|'.join(MODES)}) (ltr|rtl)", re.ASCII)
+REFUSED_LINE = re.compile(rf"refused ([A-Za-z0-9]+) {NUMBER}", re.ASCII)
+FRAGMENT_LINES = {
+    "box": re.compile(rf"box {NUMBER} {NUMBER} {RECT}", re.ASCII),
+    "line": re.compile(rf"line {NUMBER} {NUMBER} {NUMBER} {RECT} {SIGNED}", re.ASCII),
+    "span": re.compile(rf"span {NUMBER} {NUMBER} {RECT}", re.ASCII),
+    "run": re.compile(rf"run {NUMBER} {NUMBER} {NUMBER} {RECT} (?:([husl])|c{NUMBER}) {NUMBER} ({CLUSTER}(?:,{CLUSTER})*)", re.ASCII),
+}
+
+
+def rect_of(words):
+    return Rect(*map(int, words))
+
+
+def clusters_of(text):
+    """The clusters of a run as texts."""
+    return tuple("".join(chr(int(digits, 16)) for digits in cluster.split("+")) for cluster in text.split(","))
+
+
+def box_of(words):
+    return Box(int(words[0]), int(words[1]), rect_of(words[2:6]))
+
+
+def line_of(words):
+    return Line(int(words[0]), int(words[1]), int(words[2]), rect_of(words[3:7]), int(words[7]))
+
+
+def span_of(words):
+    return Span(int(words[0]), int(words[1]), rect_of(words[2:6]))
+
+
+def run_of(words):
+    plain, natural, level, clusters = words[7:11]
+    stands = ("c", int(natural)) if plain is None else (plain, None)
+    return Run(int(words[0]), int(words[1]), int(words[2]), rect_of(words[3:7]), *stands, int(level), clusters_of(clusters))
+
+
+MAKERS = {"box": box_of, "line": line_of, "span": span_of, "run": run_of}
+
+
+def read_fragment(line, number):
+    """The fragment that a line of a listing tells."""
+    kind = line.split(" ", 1)[0]
+    if kind not in MAKERS:
+        raise ListingError(number, "no word of a listing stands at its start")
+    found = FRAGMENT_LINES[kind].fullmatch(line)
+    if found is None:
+        raise ListingError(number, f"these are not the words of a line `{kind}`")
+    try:
+        return MAKERS[kind](found.groups())
+    except ValueError:
+        raise ListingError(number, "a character past the end of Unicode") from None
+
+
+def read_page(lines, at):
+    """The listing that begins with the line at this place, and the place behind its `end`."""
+    head = PAGE_LINE.fullmatch(lines[at])
+    if head is None:
+        raise ListingError(at + 1, "a listing begins with a line `page`")
+    fragments = []
+    for place in range(at + 1, len(lines)):
+        if lines[place] == "end":
+            width, height, mode, direction = head.groups()
+            return Page(int(width), int(height), mode, direction, tuple(fragments)), place + 1
+        fragments.append(read_fragment(lines[place], place + 1))
+    raise ListingError(len(lines), "the listing was cut off: it has no `end`")
+
+
+def read(text):
+    """All listings and refusals of a text, in order."""
+    if not text:
+        raise ListingError(1, "nothing stands here")
+    *lines, rest = text.split("\n")
+    if rest:
+        raise ListingError(len(lines) + 1, "the listing was cut off within a line" if lines else "this is no listing")
+    parts, at = [], 0
+    while at < len(lines):
+        refused = REFUSED_LINE.fullmatch(lines[at])
+        if refused:
+            parts.append(Refusal(refused[1], int(refused[2])))
+            at += 1
+        else:
+            page, at = read_page(lines, at)
+            parts.append(page)
+    return parts
+
+
+# What stands in what.
+
+def between(low, high, begin, end):
+    """How much of a length from `low` to `high` lies from `begin` to `end`, from 0 to 1. One without extent has to lie inside."""
+    if low == high:
+        return 1.0 if begin < low < end or begin == low == end else 0.0
+    return max(0, min(high, end) - max(low, begin)) / (high - low)
+
+
+def share(inner, outer):
+    """How much of a rectangle lies in another, from 0 to 1."""
+    inner, outer = inner.upright(), outer.upright()
+    across = between(inner.x, inner.right, outer.x, outer.right)
+    return across * between(inner.y, inner.bottom, outer.y, outer.bottom)
+
+
+def touches(inner, outer):
+    """Whether a rectangle lies in another, its edges included."""
+    across = outer.x <= inner.x and inner.right <= outer.right
+    return across and outer.y <= inner.y and inner.bottom <= outer.bottom
+
+
+class Owners:
+    """Finds for each fragment of a page the one in which it stands.
+
+    The fragments come in tree order, so a fragment stands in the last one or in one round that. A line is known by its box, an
+    anonymous box by its element's, and a box stays open up to its last line. What this leaves open is settled by `parents`, the
+    parent of each node in the document, where it is given, and else by the place: the innermost in which most of it lies.
+    """
+
+    def __init__(self, page, parents=None):
+        self.fragments = page.fragments
+        self.parents = parents
+        self.open = []
+        self.owners = []
+        self.with_lines = {(each.node, each.box) for each in self.fragments if each.kind == "line"}
+        self.last = self.last_places()
+
+    def last_places(self):
+        """For each box the place of the last line or anonymous box that is known to stand in it."""
+        last = {}
+        for place, each in enumerate(self.fragments):
+            if each.kind == "line":
+                last[each.node, each.box] = place
+            elif each.kind == "box":
+                last[each.node, 0] = place
+        # A line of an anonymous block keeps its element's box open too.
+        for (node, box), place in list(last.items()):
+            if box:
+                last[node, 0] = max(last.get((node, 0), 0), place)
+        return last
+
+    def find(self):
+        for place, each in enumerate(self.fragments):
+            owner = self.owner_of(place, each)
+            while self.open and self.open[-1] != owner:
+                self.open.pop()
+            self.owners.append(owner)
+            if each.kind != "run":
+                self.open.append(place)
+        return self.owners
+
+    def owner_of(self, place, each):
+        if each.kind == "line":
+            return self.named(each.node, each.box)
+        if each.kind == "box" and each.box:
+            return self.named(each.node, 0)
+        candidates = self.by_document(each, [at for at in self.still_open(place) if self.may_hold(at, each)])
+        if not candidates:
+            return None
+        return max(candidates, key=lambda at: (self.fit(each, self.fragments[at]), at))
+
+    def named(self, node, box):
+        """The open box of this name."""
+        for at in reversed(self.open):
+            if self.fragments[at].kind == "box" and (self.fragments[at].node, self.fragments[at].box) == (node, box):
+                return at
+        return None
+
+    def still_open(self, place):
+        """The open fragments from the innermost out to the first that can't be closed yet."""
+        for at in reversed(self.open):
+            yield at
+            if self.reaches(at) > place:
+                return
+
+    def reaches(self, at):
+        """The place up to which a fragment is known to stay open. All before the next line of a box stands in this one."""
+        each = self.fragments[at]
+        return self.last.get((each.node, each.box), at) if each.kind in ("box", "line") else at
+
+    def may_hold(self, at, each):
+        holder = self.fragments[at]
+        if each.kind == "box":
+            return holder.kind in ("line", "span") or (holder.box == 0 and (holder.node, 0) not in self.with_lines)
+        return holder.kind in ("line", "span")
+
+    def by_document(self, each, candidates):
+        """Those of the candidates whose node is the nearest round the fragment's, by the document where it is there."""
+        node = each.node
+        while self.parents is not None and node is not None and candidates:
+            node = self.parents.get(node)
+            nearest = [at for at in candidates if self.fragments[at].node == node]
+            if nearest:
+                return nearest
+        return candidates
+
+    def fit(self, each, holder):
+        if each.kind == "box" and holder.kind == "box" and touches(each.rect, holder.rect):
+            return 1.0
+        return share(each.rect, holder.rect)
+
+
+def owners(page, parents=None):
+    """For each fragment of a page the place in `fragments` of the one in which it stands, or nothing for the outermost."""
+    return Owners(page, parents).find()
+
+
+# What all tools share.
+
+class Parser(argparse.ArgumentParser):
+    """Words of the command line, refused by one line."""
+
+    def __init__(self, description, **more):
+        super().__init__(description=description, formatter_class=argparse.RawDescriptionHelpFormatter, **more)
+
+    def error(self, message):
+        self.exit(2, f"{self.prog}: {message} (--help says more)\n")
+
+
+def read_bytes(path):
+    """What a file holds, or standard input where it is `-`."""
+    if path == "-":
+        return sys.stdin.buffer.read()
+    with open(path, "rb") as file:
+        return file.read()
+
+
+def read_file(path):
+    """The listings and refusals of a file, or of standard input where it is `-`."""
+    return read_listing_bytes(read_bytes(path))
+
+
+def read_listing_bytes(data):
+    try:
+        return read(data.decode("ascii"))
+    except UnicodeDecodeError as error:
+        raise ListingError(data.count(b"\n", 0, error.start) + 1, "a byte that no listing has") from None
+
+
+def pages_of(parts):
+    """The pages among what was read; at least one."""
+    pages = [part for part in parts if isinstance(part, Page)]
+    if not pages:
+        raise InputError(f"there is no page: refused {parts[0].kind} {parts[0].number}")
+    return pages
+
+
+def put(text, path="-"):
+    """Writes the whole of a text to a new file, or to standard output. A file that is there stays as it is."""
+    data = text.encode("utf-8")
+    if path == "-":
+        sys.stdout.buffer.write(data)
+        sys.stdout.buffer.flush()
+        return
+    with open(path, "xb") as file:
+        file.write(data)
+
+
+def run_tool(main):
+    """Runs a tool. What it can't take ends it with one line on standard error and the status 1."""
+    name = os.path.basename(sys.argv[0])
+    try:
+        main()
+    except BrokenPipeError:
+        # Whoever reads has seen enough. Nothing more may go out, not even as the interpreter ends.
+        os.dup2(os.open(os.devnull, os.O_WRONLY), sys.stdout.fileno())
+        sys.exit(1)
+    except OSError as error:
+        sys.exit(f"{name}: {error.filename or 'standard output'}: {error.strerror}")
+    except (ListingError, InputError) as error:
+        sys.exit(f"{name}: {error}")
+
+
+def pixels(units):
+    """A length in px, as short as it is exact."""
+    return f"{units / UNITS_PER_PIXEL:.6f}".rstrip("0").rstrip(".")

@@ -1,0 +1,106 @@
+"""Reads the nodes of a document, for the tools beside this file: their numbers, their parents, and where they are written.
+
+It takes documents that wm_layout lays out (docs/PROFILE/html.md and nodes.md) and judges nothing but how tags nest.
+"""
+import dataclasses
+import re
+
+import listing
+
+TOKEN = re.compile(r"<!--.*?-->|<[^>\"']*(?:(?:\"[^\"]*\"|'[^']*')[^>\"']*)*>|[^<]+", re.DOTALL)
+TAG = re.compile(r"<(/?)([A-Za-z][A-Za-z0-9_-]*)")
+HEAD = re.compile(r"<head[\s>].*?</head\s*>", re.DOTALL | re.IGNORECASE)
+
+
+@dataclasses.dataclass
+class Node:
+    """A node: its parent's number, its tag or nothing where it is a text, and the places of its characters in the document."""
+
+    parent: int | None
+    tag: str | None
+    begin: int
+    end: int
+
+
+class Nodes:
+    """Finds the nodes of a document from left to right."""
+
+    def __init__(self):
+        self.nodes = []
+        self.open = []
+
+    def add(self, tag, begin, end):
+        self.nodes.append(Node(self.open[-1] if self.open else None, tag, begin, end))
+        return len(self.nodes) - 1
+
+    def text(self, begin, end):
+        # Text on both sides of a comment is one node.
+        last = self.nodes[-1]
+        if last.tag is None and last.parent == self.open[-1]:
+            last.end = end
+        else:
+            self.add(None, begin, end)
+
+    def start(self, tag, begin, end):
+        number = self.add(tag, begin, end)
+        if tag != "br":
+            self.open.append(number)
+
+    def stop(self, tag, begin, end):
+        if not self.open or self.nodes[self.open[-1]].tag != tag:
+            raise listing.InputError(f"the document's tags don't nest at character {begin}")
+        self.nodes[self.open.pop()].end = end
+
+    def in_body(self):
+        return len(self.open) > 1
+
+
+def read_nodes(text):
+    """The nodes of a document by their numbers. What follows `</html>` is no part of it."""
+    found, head = Nodes(), HEAD.search(text)
+    at = 0
+    while at < len(text) and not (found.nodes and not found.open):
+        at = step(found, text, at, head)
+    if found.open or len(found.nodes) < 2:
+        raise listing.InputError("this is no whole document")
+    return found.nodes
+
+
+def step(found, text, at, head):
+    """Reads one token and gives the place behind it."""
+    if head and at == head.start():
+        return head.end()
+    token = TOKEN.match(text, at)
+    if token is None:
+        raise listing.InputError(f"the document breaks off at character {at}")
+    tag = TAG.match(token[0])
+    if tag is None:
+        if found.in_body() and not token[0].startswith("<!"):
+            found.text(at, token.end())
+    elif tag[1]:
+        found.stop(tag[2].lower(), at, token.end())
+    else:
+        found.start(tag[2].lower(), at, token.end())
+    return token.end()
+
+
+def decoded(data):
+    """The text of a document's bytes, without the mark that may stand at its start."""
+    try:
+        return data.decode("utf-8").removeprefix("\ufeff")
+    except UnicodeDecodeError as error:
+        raise listing.InputError(f"the document is no UTF-8 at byte {error.start}") from None
+
+
+def parents_of(nodes):
+    return {number: node.parent for number, node in enumerate(nodes)}
+
+
+def parents_in(path):
+    """The parent of each node of the document in a file; nothing where no file is given."""
+    return None if path is None else parents_of(read_nodes(decoded(listing.read_bytes(path))))
+
+
+def add_document(parser):
+    """The option for the document of the listing."""
+    parser.add_argument("--document", metavar="DOCUMENT", help="the document of the listing, which settles what stands in what")
