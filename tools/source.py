@@ -96,9 +96,14 @@ def parents_of(nodes):
     return {number: node.parent for number, node in enumerate(nodes)}
 
 
+def nodes_in(path):
+    """The nodes of the document in a file; nothing where no file is given."""
+    return None if path is None else read_nodes(decoded(listing.read_bytes(path)))
+
+
 def parents_in(path):
     """The parent of each node of the document in a file; nothing where no file is given."""
-    return None if path is None else parents_of(read_nodes(decoded(listing.read_bytes(path))))
+    return None if path is None else parents_of(nodes_in(path))
 
 
 def add_document(parser):

@@ -23,19 +23,19 @@ class Texts:
         if lines:
             yield lines
 
-    def line(self, place):
-        """The text of a line, by the order of nodes and characters."""
-        return "".join(text for _, _, text in sorted(self.pieces(place), key=lambda piece: piece[:2]))
+    def line(self, place, atoms=True):
+        """The text of a line, by the order of nodes and characters, with its inline-blocks or without."""
+        return "".join(text for _, _, text in sorted(self.pieces(place, atoms), key=lambda piece: piece[:2]))
 
-    def pieces(self, place):
+    def pieces(self, place, atoms):
         """What stands on a line or in a span of it, each with its node and its place in the node's text."""
         for at in self.inside[place]:
             each = self.fragments[at]
             if each.kind == "run":
                 yield each.node, each.begin, each.logical()
             elif each.kind == "span":
-                yield from self.pieces(at)
-            else:
+                yield from self.pieces(at, atoms)
+            elif atoms:
                 yield each.node, 0, self.atom(at)
 
     def atom(self, place):
