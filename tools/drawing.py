@@ -29,15 +29,15 @@ COLOURS = (
     (".paper", "fill", "#ffffff", "#24262a"),
     (".words", "fill", "#3a3834", "#d4d1ca"),
     (".box", "stroke", "#2f5f9e", "#86b4f0"),
-    (".box", "fill", "#2f5f9e0d", "#86b4f012"),
-    (".line", "fill", "#d6961422", "#f0be5024"),
+    (".box", "fill", "#2f5f9e0c", "#86b4f012"),
+    (".line", "fill", "#ffd04a40", "#f0be502c"),
     (".baseline", "stroke", "#c47f00", "#e0a83a"),
     (".span", "stroke", "#1f8a55", "#63c795"),
-    (".span", "fill", "#1f8a551c", "#63c7951f"),
-    (".level0", "fill", "#0000000d", "#ffffff12"),
-    (".level1", "fill", "#c81e3226", "#ff5a6438"),
-    (".level2", "fill", "#3c3cdc26", "#7882ff40"),
-    (".level3", "fill", "#961eaa2b", "#d26eeb40"),
+    (".span", "fill", "#1f8a5526", "#63c79526"),
+    (".level0", "fill", "#ffffffb0", "#191a1db0"),
+    (".level1", "fill", "#ffdcdfd8", "#54262cd8"),
+    (".level2", "fill", "#dfe0ffd8", "#2b2f66d8"),
+    (".level3", "fill", "#f2d8f7d8", "#4b2956d8"),
     (".even", "fill", "#1c1b19", "#f2f0ea"),
     (".odd", "fill", "#9c1c2a", "#ffa3a3"),
     (".name", "fill", "#2f5f9e", "#86b4f0"),
@@ -53,8 +53,9 @@ text { white-space: pre; pointer-events: none; font-family: FONTS }
 .odd { direction: rtl; unicode-bidi: bidi-override }
 .even { direction: ltr; unicode-bidi: bidi-override }
 .upright { text-anchor: middle }
+.vertical { font-feature-settings: "vert" }
 .words { font-family: sans-serif; font-size: 11px }
-.name { font-size: 8px; paint-order: stroke; stroke-width: 2 }
+.name { font-size: 8px; font-weight: bold; paint-order: stroke; stroke-width: 2.5 }
 """.replace("FONTS", FONTS)
 LEGEND = (
     ("box", "box", "box"),
@@ -76,7 +77,8 @@ Area = collections.namedtuple("Area", "left top right bottom")
 
 def number(value):
     """A length in px as short as can be, to a thousandth."""
-    return f"{value:.3f}".rstrip("0").rstrip(".").replace("-0", "0") if abs(value) < 0.001 else f"{value:.3f}".rstrip("0").rstrip(".")
+    told = f"{value:.3f}".rstrip("0").rstrip(".")
+    return "0" if told == "-0" else told
 
 
 def element(name, attributes, content=None):
@@ -114,13 +116,19 @@ def rectangle(fragment, classes):
     return element("rect", attributes, title(fragment))
 
 
-def box_rectangle(box, names):
-    drawn = rectangle(box, "box anonymous" if box.box else "box")
-    if not names:
-        return drawn
-    rect = box.rect.upright()
-    attributes = {"class": "name", "x": number(rect.x / 64 + 2), "y": number(rect.y / 64 + 8)}
-    return drawn + element("text", attributes, f"{box.node}" if box.box == 0 else f"{box.node} {box.box}")
+def box_name(box):
+    return str(box.node) if box.box == 0 else f"{box.node}.{box.box}"
+
+
+def names_drawn(boxes):
+    """The names of boxes over all else, at their left top corners; boxes that share one have their names side by side."""
+    corners = {}
+    for box in boxes:
+        rect = box.rect.upright()
+        corners.setdefault((rect.x, rect.y), []).append(box_name(box))
+    for (x, y), names in corners.items():
+        attributes = {"class": "name", "x": number(x / 64 + 2), "y": number(y / 64 + 3)}
+        yield element("text", attributes, " ".join(names))
 
 
 # Lines. Their mode is that of the runs on them; the listing says no more.
@@ -250,9 +258,10 @@ def along_text(run, size):
 
 def upright_cluster(run, cluster, middle, size, length):
     """One unit with its middle at this height, as wide as `length`."""
+    vertical = " vertical" if run.orientation == "u" else ""
     return text(
         {
-            "class": "even upright" if not is_odd(run) else "odd upright",
+            "class": ("odd" if is_odd(run) else "even") + " upright" + vertical,
             "x": number((run.rect.x + run.rect.width / 2) / 64),
             "y": number(middle + UPRIGHT_MIDDLE * size),
             "font-size": number(size),
@@ -330,11 +339,13 @@ def fragments_drawn(drawn, choices):
         if fragment.kind not in choices.kinds:
             continue
         if fragment.kind == "box":
-            yield box_rectangle(fragment, choices.names)
+            yield rectangle(fragment, "box anonymous" if fragment.box else "box")
         elif fragment.kind == "line":
             yield line_rectangle(fragment, sides[place])
         else:
             yield rectangle(fragment, "span") if fragment.kind == "span" else run_drawn(fragment)
+    if choices.names and "box" in choices.kinds:
+        yield from names_drawn(drawn.page.fragments[place] for place in drawn.places if drawn.page.fragments[place].kind == "box")
 
 
 def paper(drawn):
