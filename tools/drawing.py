@@ -1,9 +1,11 @@
 """Draws pages as one SVG picture, for tools/picture.
 
-All lengths in the picture are px, a sixty-fourth of those of the listing, so each rectangle is exactly that of its fragment. What is
-drawn later lies over what was drawn before, in the order of the listing. Colours stand in one table, for light and for dark.
+All lengths in the picture are px, a sixty-fourth of those of the listing, so each rectangle is exactly that of its fragment.
+What is drawn later lies over what was drawn before, in the order of the listing. Colours stand in one table, for light and
+for dark.
 """
 import collections
+import dataclasses
 import html
 import itertools
 import unicodedata
@@ -17,8 +19,8 @@ LEGEND_SIZE, LEGEND_LETTER, SWATCH = 11, 6.2, 14
 # Nothing is drawn further out than this many px.
 FURTHEST = 100000
 FONTS = "'DejaVu Sans Mono', 'Noto Sans Mono CJK JP', 'Noto Sans CJK JP', monospace"
-# Where a text's baseline lies in a run, from line-over: of narrow characters as the engine's first face has it, of wide ones so that
-# their square is inside. An upright character has its middle this far over its baseline.
+# Where a text's baseline lies in a run, from line-over: of narrow characters as the engine's first face has it, of wide ones so
+# that their square is inside. An upright character has its middle this far over its baseline.
 NARROW_BASELINE, WIDE_BASELINE, UPRIGHT_MIDDLE = 0.75, 0.84, 0.37
 # From this advance on, in parts of the font size, narrow letters are spaced and not stretched.
 STRETCHED = 0.7
@@ -104,8 +106,8 @@ def rect_attributes(rect):
 
 def title(fragment):
     """What is told of a fragment where one points at it: its words in the listing, and the same in px."""
-    rect = fragment.rect
-    place = f"at {listing.pixels(rect.x)}, {listing.pixels(rect.y)}: {listing.pixels(rect.width)} x {listing.pixels(rect.height)} px"
+    x, y, width, height = map(listing.pixels, dataclasses.astuple(fragment.rect))
+    place = f"at {x}, {y}: {width} x {height} px"
     said = " ".join(map(str, (fragment.kind, *fragment.words())))
     text = f"\n\u201c{fragment.logical()}\u201d" if fragment.kind == "run" else ""
     return element("title", {}, html.escape(f"{said}\n{place}{text}"))
@@ -134,11 +136,18 @@ def names_drawn(boxes):
 # Lines. Their mode is that of the runs on them; the listing says no more.
 
 OVER_BY_ORIENTATION = {"h": "top", "u": "right", "s": "right", "c": "right", "l": "left"}
-OVER_BY_MODE = {"horizontal-tb": "top", "vertical-rl": "right", "vertical-lr": "right", "sideways-rl": "right", "sideways-lr": "left"}
+OVER_BY_MODE = {
+    "horizontal-tb": "top",
+    "vertical-rl": "right",
+    "vertical-lr": "right",
+    "sideways-rl": "right",
+    "sideways-lr": "left",
+}
 
 
 def line_over_sides(page, owners):
-    """For each line, by its place, the side that is line-over: by a run on it, else by its box's other lines, else by what is round."""
+    """For each line, by its place, the side that is line-over: by a run on it, else by other lines of its box, else by what is
+    round it."""
     by_line, by_box = {}, {}
     for place, fragment in enumerate(page.fragments):
         if fragment.kind == "run":
@@ -283,7 +292,8 @@ def upright_text(run):
 
 def combined_text(run):
     """Units side by side in the square of one."""
-    return upright_cluster(run, "".join(run.clusters), (run.rect.y + run.rect.height / 2) / 64, run.rect.height / 64, run.natural / 64)
+    middle = (run.rect.y + run.rect.height / 2) / 64
+    return upright_cluster(run, "".join(run.clusters), middle, run.rect.height / 64, run.natural / 64)
 
 
 def run_text(run):
@@ -368,7 +378,8 @@ def page_group(drawn, choices, left, top, identity):
         content.insert(0, cut_to(drawn.area, identity))
         clip = f"url(#{identity})"
     moved = f"translate({number(left - drawn.area.left)} {number(top - drawn.area.top)})"
-    return element("g", {"class": "page", "transform": moved}, element("g", {"clip-path": clip}, "\n" + "\n".join(content) + "\n"))
+    drawing = element("g", {"clip-path": clip}, "\n".join(["", *content, ""]))
+    return element("g", {"class": "page", "transform": moved}, drawing)
 
 
 def legend_entries(all_drawn, choices):
@@ -395,9 +406,13 @@ def legend_drawn(entries, width, top):
         extent = SWATCH + 5 + LEGEND_LETTER * len(words) + 12
         if x > MARGIN and x + extent > width:
             x, y = MARGIN, y + LEGEND_ROW
-        drawn.append(swatch(classes, x, y) + element("text", {"class": "words", "x": number(x + SWATCH + 5), "y": number(y + 9)}, words))
+        drawn.append(swatch(classes, x, y) + plain_words(x + SWATCH + 5, y + 9, words))
         x += extent
     return "\n".join(drawn), y + LEGEND_ROW - top if entries else 0
+
+
+def plain_words(x, y, words):
+    return element("text", {"class": "words", "x": number(x), "y": number(y)}, html.escape(words))
 
 
 def swatch(classes, x, y):
@@ -423,7 +438,7 @@ def svg_of(all_drawn, choices, scale):
     groups, right, bottom = [], 0, 0
     for place, (drawn, left, top, width, height) in enumerate(placed(all_drawn)):
         if drawn.caption:
-            groups.append(element("text", {"class": "words", "x": number(left), "y": number(top - 5)}, html.escape(drawn.caption)))
+            groups.append(plain_words(left, top - 5, drawn.caption))
         groups.append(page_group(drawn, choices, left, top, f"part{place}"))
         right, bottom = max(right, left + width + MARGIN), max(bottom, top + height + MARGIN)
     entries = legend_entries(all_drawn, choices) if choices.legend else []

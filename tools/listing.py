@@ -4,8 +4,8 @@ A text may have several listings in a row, with lines `refused KIND NUMBER` betw
 `read` gives them as a list of `Page` and `Refusal`, or raises one `ListingError` with the line at which the text is no listing.
 Every word of a listing is said in docs/PROFILE/listing.md.
 
-A listing doesn't say which fragment stands in which. `owners` finds it out, from the order of the lines, from places, and from the
-document where there is one.
+A listing doesn't say which fragment stands in which. `owners` finds it out, from the order of the lines, from places, and
+from the document where there is one.
 """
 import argparse
 import dataclasses
@@ -156,13 +156,14 @@ NUMBER, SIGNED = r"(0|[1-9]\d*)", r"(0|-?[1-9]\d*)"
 RECT = rf"{SIGNED} {SIGNED} {SIGNED} {SIGNED}"
 CHARACTER = r"(?:[0-9A-F]{4}|[1-9A-F][0-9A-F]{4,5})"
 CLUSTER = rf"{CHARACTER}(?:\+{CHARACTER})*"
+CLUSTERS = rf"({CLUSTER}(?:,{CLUSTER})*)"
 PAGE_LINE = re.compile(rf"page {NUMBER} {NUMBER} ({'|'.join(MODES)}) (ltr|rtl)", re.ASCII)
 REFUSED_LINE = re.compile(rf"refused ([A-Za-z0-9]+) {NUMBER}", re.ASCII)
 FRAGMENT_LINES = {
     "box": re.compile(rf"box {NUMBER} {NUMBER} {RECT}", re.ASCII),
     "line": re.compile(rf"line {NUMBER} {NUMBER} {NUMBER} {RECT} {SIGNED}", re.ASCII),
     "span": re.compile(rf"span {NUMBER} {NUMBER} {RECT}", re.ASCII),
-    "run": re.compile(rf"run {NUMBER} {NUMBER} {NUMBER} {RECT} (?:([husl])|c{NUMBER}) {NUMBER} ({CLUSTER}(?:,{CLUSTER})*)", re.ASCII),
+    "run": re.compile(rf"run {NUMBER} {NUMBER} {NUMBER} {RECT} (?:([husl])|c{NUMBER}) {NUMBER} {CLUSTERS}", re.ASCII),
 }
 
 
