@@ -281,6 +281,7 @@ class Owners:
         self.owners = []
         self.with_lines = {(each.node, each.box) for each in self.fragments if each.kind == "line"}
         self.last = self.last_places()
+        self.needs_line = self.places_before_text()
 
     def last_places(self):
         """For each box the place of the last line or anonymous box that is known to stand in it."""
@@ -295,6 +296,14 @@ class Owners:
             if box:
                 last[node, 0] = max(last.get((node, 0), 0), place)
         return last
+
+    def places_before_text(self):
+        """For each place whether text or an inline box comes behind it with no line of its own before: then a line stays open."""
+        needs, found = [], False
+        for each in reversed(self.fragments):
+            needs.append(found)
+            found = each.kind in ("run", "span") or (found and each.kind != "line")
+        return needs[::-1]
 
     def find(self):
         for place, each in enumerate(self.fragments):
@@ -325,10 +334,14 @@ class Owners:
 
     def still_open(self, place):
         """The open fragments from the innermost out to the first that can't be closed yet."""
+        last_line = self.outermost_line() if self.needs_line[place] else None
         for at in reversed(self.open):
             yield at
-            if self.reaches(at) > place:
+            if at == last_line or self.reaches(at) > place:
                 return
+
+    def outermost_line(self):
+        return next((at for at in self.open if self.fragments[at].kind == "line"), None)
 
     def reaches(self, at):
         """The place up to which a fragment is known to stay open. All before the next line of a box stands in this one."""
@@ -352,9 +365,11 @@ class Owners:
         return candidates
 
     def fit(self, each, holder):
+        """How well a fragment stands in another, by their places. Things reach out of boxes and lines, hardly out of inline boxes."""
         if each.kind == "box" and holder.kind == "box" and touches(each.rect, holder.rect):
             return 1.0
-        return share(each.rect, holder.rect)
+        found = share(each.rect, holder.rect)
+        return -1.0 if holder.kind == "span" and found == 0 else found
 
 
 def owners(page, parents=None):
