@@ -9,7 +9,6 @@ import listing
 
 TOKEN = re.compile(r"<!--.*?-->|<[^>\"']*(?:(?:\"[^\"]*\"|'[^']*')[^>\"']*)*>|[^<]+", re.DOTALL)
 TAG = re.compile(r"<(/?)([A-Za-z][A-Za-z0-9_-]*)")
-HEAD = re.compile(r"<head[\s>].*?</head\s*>", re.DOTALL | re.IGNORECASE)
 
 
 @dataclasses.dataclass
@@ -57,31 +56,40 @@ class Nodes:
 
 def read_nodes(text):
     """The nodes of a document by their numbers. What follows `</html>` is no part of it."""
-    found, head = Nodes(), HEAD.search(text)
-    at = 0
+    found, at = Nodes(), 0
     while at < len(text) and not (found.nodes and not found.open):
-        at = step(found, text, at, head)
+        at = step(found, text, at)
     if found.open or len(found.nodes) < 2:
         raise listing.InputError("this is no whole document")
     return found.nodes
 
 
-def step(found, text, at, head):
+def step(found, text, at):
     """Reads one token and gives the place behind it."""
-    if head and at == head.start():
-        return head.end()
     token = TOKEN.match(text, at)
     if token is None:
         raise listing.InputError(f"the document breaks off at character {at}")
-    tag = TAG.match(token[0])
+    tag, end = TAG.match(token[0]), token.end()
     if tag is None:
         if found.in_body() and not token[0].startswith("<!"):
-            found.text(at, token.end())
-    elif tag[1]:
-        found.stop(tag[2].lower(), at, token.end())
+            found.text(at, end)
+        return end
+    name = tag[2].lower()
+    if not found.in_body() and name not in ("html", "body"):
+        return behind_head_tag(text, tag[1], name, end)
+    if tag[1]:
+        found.stop(name, at, end)
     else:
-        found.start(tag[2].lower(), at, token.end())
-    return token.end()
+        found.start(name, at, end)
+    return end
+
+
+def behind_head_tag(text, slash, name, end):
+    """The place behind a tag of the head, and behind the text of a title or a style sheet, which may look like anything."""
+    if slash or name not in ("title", "style"):
+        return end
+    closed = re.compile(rf"</{name}\s*>", re.IGNORECASE).search(text, end)
+    return closed.end() if closed else len(text)
 
 
 def decoded(data):
