@@ -235,10 +235,15 @@ def joins(content):
     return any("\u0600" <= character <= "\u06ff" for character in content)
 
 
+def is_spaced(piece, content, size):
+    """Whether space goes between the letters of a piece, since stretched letters would be too wide. One letter has no between."""
+    several = len(piece.clusters) > 1 and piece.length / len(piece.clusters) > STRETCHED * size
+    return several and not piece.wide and not joins(content)
+
+
 def piece_text(run, piece, size):
     """The text of a piece, in coordinates along the run and across it from line-over."""
     content = in_order(run, piece.clusters)
-    spaced = not piece.wide and not joins(content) and piece.length / len(piece.clusters) > STRETCHED * size
     return text(
         {
             "class": "odd" if is_odd(run) else "even",
@@ -246,7 +251,7 @@ def piece_text(run, piece, size):
             "y": number(size * (WIDE_BASELINE if piece.wide else NARROW_BASELINE)),
             "font-size": number(size),
             "textLength": number(piece.length),
-            "lengthAdjust": "spacing" if spaced else "spacingAndGlyphs",
+            "lengthAdjust": "spacing" if is_spaced(piece, content, size) else "spacingAndGlyphs",
         },
         content,
     )
