@@ -42,6 +42,7 @@ COLOURS = (
     (".level3", "fill", "#f2d8f7d8", "#4b2956d8"),
     (".even", "fill", "#1c1b19", "#f2f0ea"),
     (".odd", "fill", "#9c1c2a", "#ffa3a3"),
+    (".swatch", "stroke", "#3a383459", "#d4d1ca59"),
     (".name", "fill", "#2f5f9e", "#86b4f0"),
     (".name", "stroke", "#ffffff", "#24262a"),
 )
@@ -421,7 +422,9 @@ def plain_words(x, y, words):
 
 
 def swatch(classes, x, y):
-    drawn = element("rect", {"class": classes, "x": number(x), "y": number(y), "width": SWATCH, "height": 10})
+    # Boxes have an edge of their own; on the ground the others would hardly be seen without one.
+    edged = classes if classes.startswith(("box", "span")) else f"{classes} swatch"
+    drawn = element("rect", {"class": edged, "x": number(x), "y": number(y), "width": SWATCH, "height": 10})
     if classes == "line":
         drawn += element("path", {"class": "baseline", "d": f"M{number(x)} {number(y + 7)}h{SWATCH}"})
     return drawn
