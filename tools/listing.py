@@ -148,6 +148,10 @@ class Refusal:
     kind: str
     number: int
 
+    def text(self):
+        """The line as the program writes it."""
+        return f"refused {self.kind} {self.number}\n"
+
 
 # Reading. Each kind of line has a pattern of its words, and a function from their match to the fragment.
 
