@@ -1,5 +1,7 @@
-//! Tests of the reader of scripts, by its public call alone.
+//! Tests of the reader of scripts, and of a document's copy, by public calls alone.
 #![tactic(auto)]
 
+#[cfg(test)]
+mod copies;
 #[cfg(test)]
 mod scripts;
