@@ -16,7 +16,7 @@ use Rattle.dom_store.specs.Keys.{IsKeyed}
 use Rattle.dom_store.specs.State.{Entry, State, entry_of}
 use Rattle.dom_store.specs.Edits.{changed, changed_if, with_children, without}
 use Rattle.dom_store.specs.Standing.{children_at, parent_at}
-use Rattle.dom_store.specs.Taking.{moved_from, standing_in, taken_back, up_to}
+use Rattle.dom_store.specs.Taking.{moved_from, parent_left, standing_in, taken_back, up_to}
 use Rattle.dom_store.proofs.RemoveLaws.{put_as_changed}
 use Rattle.dom_store.proofs.SameLaws.{are_equal}
 use Rattle.dom_store.proofs.WriteLaws.{none_written, put_under, state_with}
@@ -72,16 +72,16 @@ module _ (change : List ℕ → List ℕ) where
 
 -- a node that was moved stands again where it stood
 pub moved_back : (old out put new : State) (number : ℕ) (from : Option ℕ) (parent : ℕ) (others children left before : List ℕ) → from ≡ parent_at old number
-    → out ≡ changed_if old from (with_children (λ before. others)) → changed_if out from (with_children (λ now. left)) ≡ old
+    → out ≡ changed_if old (parent_left from parent) (with_children (λ before. others)) → changed_if out (parent_left from parent) (with_children (λ now. left)) ≡ old
     → put ≡ changed out parent (with_children (λ before. children)) → changed put parent (with_children (λ now. before)) ≡ out
     → changed new number (standing_in (parent_at put number)) ≡ put
     → taken_back (moved_from number from left parent before) new ≡ old
 moved_back old out put new number from parent others children left before is went back came again stands =
     let stood : parent_at put number ≡ from =
     ap (λ (s : State). parent_at s number) came ∙ (parent_stays (λ before. children) out parent number
-    ∙ (ap (λ (s : State). parent_at s number) went ∙ (parent_stays_if (λ before. others) old from number ∙ sym is))) in
+    ∙ (ap (λ (s : State). parent_at s number) went ∙ (parent_stays_if (λ before. others) old (parent_left from parent) number ∙ sym is))) in
     let again_in : State → State = λ s. changed s parent (with_children (λ now. before)) in
-    ap (λ (s : State). changed_if s from (with_children (λ now. left)))
+    ap (λ (s : State). changed_if s (parent_left from parent) (with_children (λ now. left)))
     (ap again_in (ap (λ (o : Option ℕ). changed new number (standing_in o)) (sym stood) ∙ stands) ∙ again)
     ∙ back
 

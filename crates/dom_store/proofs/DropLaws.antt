@@ -1,10 +1,11 @@
 -- Lists from which a number goes.
-use Rattle.std.proofs.Common.{◌≡◌, ◌∙◌, ℕ, suc, ◌+◌, ◌<◌, Bool, true, false, cond, List, [], ◌∷◌, ◌++◌, length, length-append, get_or, take, drop, filter, refl, ap, sym, arith, Some, None}
+use Rattle.std.proofs.Common.{◌≡◌, ◌∙◌, ℕ, suc, ◌+◌, ◌<◌, Bool, true, false, cond, List, [], ◌∷◌, ◌++◌, ◌||◌, ◌≤◌, ◌-◌, length, length-append, get_or, take, drop, filter, refl, ap, sym, arith, Option, Some, None, option_map}
 use Rattle.std.specs.Prelude.{nat_eq, not}
-use Rattle.std.specs.List.{position, position_from, remove}
+use Rattle.std.specs.List.{list_any, position, position_from, remove, slice_range}
 use Rattle.std.proofs.lemmas.Iterator.Adapters.{position_from-zero}
 use Rattle.std.proofs.lemmas.List.{drop_more, length-drop, length-take-le, take-append-drop}
 use Rattle.std.proofs.lemmas.List.Elements.{filter-append}
+use Rattle.std.proofs.lemmas.List.Folds.{drop_split}
 use Rattle.std.proofs.lemmas.List.Quantifiers.{position-Some}
 use Rattle.std.proofs.lemmas.Option.{none-some}
 use Rattle.dom_store.specs.Edits.{without}
@@ -50,3 +51,45 @@ none_from number at (child ∷ children) none = more (nat_eq child number) refl 
 -- a number that is nowhere
 pub none_dropped : (number : ℕ) (children : List ℕ) → position (is_it number) children ≡ None → without number children ≡ children
 none_dropped number children none = none_from number 0 children (sym (position_from-zero (is_it number) children) ∙ none)
+
+-- ---- blocks
+
+-- further on, places are greater by as much
+pub shifted : (number by at : ℕ) (numbers : List ℕ) → position_from (is_it number) (by + at) numbers ≡ option_map (λ place. by + place) (position_from (is_it number) at numbers)
+shifted number by at [] = refl
+shifted number by at (other ∷ others) = here (nat_eq other number) (ap (λ (n : ℕ). position_from (is_it number) n others) (omega arith) ∙ shifted number by (at + 1) others)
+  where
+    here : (b : Bool) → position_from (is_it number) (by + at + 1) others ≡ option_map (λ place. by + place) (position_from (is_it number) (at + 1) others)
+        → cond b (Some (by + at)) (position_from (is_it number) (by + at + 1) others) ≡ option_map (λ place. by + place) (cond b (Some at) (position_from (is_it number) (at + 1) others))
+    here true more = refl
+    here false more = more
+
+-- numbers among which it isn't are passed over
+pub passed_over : (number at : ℕ) (numbers others : List ℕ) → list_any (is_it number) numbers ≡ false → position_from (is_it number) at (numbers ++ others) ≡ position_from (is_it number) (at + length numbers) others
+passed_over number at [] others none = ap (λ (n : ℕ). position_from (is_it number) n others) (omega arith)
+passed_over number at (other ∷ numbers) others none = here (nat_eq other number) none (λ rest. passed_over number (at + 1) numbers others rest ∙ ap (λ (n : ℕ). position_from (is_it number) n others) (omega arith))
+  where
+    here : (b : Bool) → (b || list_any (is_it number) numbers) ≡ false → (list_any (is_it number) numbers ≡ false → position_from (is_it number) (at + 1) (numbers ++ others) ≡ position_from (is_it number) (at + suc (length numbers)) others)
+        → cond b (Some at) (position_from (is_it number) (at + 1) (numbers ++ others)) ≡ position_from (is_it number) (at + suc (length numbers)) others
+    here true none more = absurd cc
+    here false none more = more none
+
+-- the same as of a whole list
+pub whole_position : (number : ℕ) (numbers : List ℕ) → position (is_it number) numbers ≡ position_from (is_it number) 0 numbers
+whole_position number numbers = position_from-zero (is_it number) numbers
+
+-- a block is passed over
+pub block_passed : (number start size : ℕ) (numbers : List ℕ) → start + size ≤ length numbers → list_any (is_it number) (slice_range numbers start (start + size)) ≡ false
+    → position_from (is_it number) start (drop start numbers) ≡ position_from (is_it number) (start + size) (drop (start + size) numbers)
+block_passed number start size numbers within none =
+    let block = slice_range numbers start (start + size) in
+    let long : length block ≡ size = length-take-le (start + size - start) (drop start numbers) (let left = length-drop start numbers in omega (arith, left, within)) ∙ omega arith in
+    ap (position_from (is_it number) start) (drop_split numbers start (start + size) (omega arith))
+    ∙ (passed_over number start block (drop (start + size) numbers) none ∙ ap (λ (n : ℕ). position_from (is_it number) (start + n) (drop (start + size) numbers)) long)
+
+-- a place behind those that are passed over
+pub place_behind : (number start : ℕ) (numbers : List ℕ) (place : Option ℕ) → position (is_it number) numbers ≡ position_from (is_it number) start (drop start numbers) → place ≡ position (is_it number) (drop start numbers)
+    → option_map (λ p. start + p) place ≡ position (is_it number) numbers
+place_behind number start numbers place passed is =
+    ap (option_map (λ p. start + p)) (is ∙ whole_position number (drop start numbers))
+    ∙ (sym (shifted number start 0 (drop start numbers)) ∙ (ap (λ (n : ℕ). position_from (is_it number) n (drop start numbers)) (omega arith) ∙ sym passed))

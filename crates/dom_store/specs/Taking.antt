@@ -1,5 +1,5 @@
 -- Edits that are taken back.
-use Rattle.std.specs.Prelude.{◌≡◌, ℕ, List, map, nat_lt, if◌then◌else◌, Option, None, string_bytes, ⊤}
+use Rattle.std.specs.Prelude.{◌≡◌, ℕ, List, map, nat_eq, nat_lt, if◌then◌else◌, Option, Some, None, string_bytes, ⊤}
 use Rattle.style_types.specs.declared.value.Declaration.{Declaration}
 use Rattle.dom_store.specs.declared.edit.Before as code
 use Rattle.dom_store.specs.declared.edit.Before.TheVariants as stood
@@ -23,6 +23,11 @@ before_of (stood.Insert parent children next) = inserted_in parent children.item
 before_of (stood.Move number from left parent children) = moved_from number from left.items parent children.items
 before_of stood.Remove = not_kept
 
+-- the parent that a node leaves where it moves into this one
+abbrev pub parent_left : (from : Option ℕ) → (parent : ℕ) → Option ℕ
+parent_left None parent = None
+parent_left (Some old) parent = if nat_eq old parent then None else Some old
+
 -- a node stands in this one
 abbrev pub standing_in : Option ℕ → Entry → Entry
 standing_in parent entry = record entry { parent = parent }
@@ -39,7 +44,7 @@ taken_back (class_was number words) state = changed state number (with_what (wit
 taken_back (inserted_in parent children next) state = up_to next (changed state parent (with_children (λ now. children)))
 taken_back (moved_from number from left parent children) state =
     let unplaced = changed state number (standing_in from) in
-    changed_if (changed unplaced parent (with_children (λ now. children))) from (with_children (λ now. left))
+    changed_if (changed unplaced parent (with_children (λ now. children))) (parent_left from parent) (with_children (λ now. left))
 taken_back not_kept state = state
 
 -- what is kept of an edit leads back to the state before, but for a removal

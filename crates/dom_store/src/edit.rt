@@ -77,7 +77,7 @@ pub enum Before {
         children: NodeNumbers,
         next: u32,
     },
-    /// The parent of the node, where it had one, and that one's children; then those of the new one.
+    /// The parent of the node, where it had one, and that one's children, where it isn't the new one; then those of the new one.
     Move {
         node: u32,
         from: Option<u32>,

@@ -1,12 +1,12 @@
 //! Nodes are moved, with all below them (DOM, 4.2.3, narrowed).
 
-ghost use Rattle.std.specs.Prelude.{◌≡◌, ◌≤◌, length, IfOk};
+ghost use Rattle.std.specs.Prelude.{◌≡◌, ◌≤◌, if◌then◌else◌, length, nat_eq, None, Some, IfOk};
 ghost use Rattle.dom_store.specs.Edited.{Applies, Judges, refused_for};
 ghost use Rattle.dom_store.specs.Edits.{both, changed_if, move_to, with_children, without};
 ghost use Rattle.dom_store.specs.Refusals.{first_of, may_hold, placing, refusal, too_deep_moved};
 ghost use Rattle.dom_store.specs.Standing.{children_at, parent_at};
 ghost use Rattle.dom_store.specs.State.{state_of, what_of};
-ghost use Rattle.dom_store.specs.Taking.{before_of, taken_back};
+ghost use Rattle.dom_store.specs.Taking.{before_of, parent_left, taken_back};
 
 use crate::depths::GREATEST_DEPTH;
 use crate::document::Document;
@@ -33,8 +33,9 @@ impl Document {
         let elements = self.concerned_both(alloc, n, parent)?;
         children.insert(index as usize, n)?;
         let from = self.parent(n);
-        let others = self.others_in(alloc, from, n)?;
-        let left = self.put_children_if(from, others);
+        let old = parent_left(from, parent);
+        let others = self.others_in(alloc, old, n)?;
+        let left = self.put_children_if(old, others);
         let children = self.put_children(parent, children);
         self.put_parent(n, Some(parent));
         let before = Before::Move {
@@ -152,6 +153,22 @@ impl Document {
         elements.push(parent)?;
         Ok(elements)
     }
+}
+
+/// The parent that a node leaves where it moves into this one.
+pub(crate) fn parent_left(from: Option<u32>, parent: u32) -> Option<u32>
+    ensures { result ≡ parent_left from parent }
+{
+    match from {
+        Some(old) => other_than(parent, old),
+        None => None,
+    }
+}
+
+fn other_than(parent: u32, old: u32) -> Option<u32>
+    ensures { result ≡ if nat_eq old parent then None else Some old }
+{
+    if old == parent { None } else { Some(old) }
 }
 
 /// Whether nodes may stand in such a node.

@@ -6,6 +6,7 @@ ghost use Rattle.dom_store.specs.Taking.{before_of, taken_back};
 
 use crate::document::Document;
 use crate::edit::{Before, Change};
+use crate::moving::parent_left;
 
 impl Document {
     /// Takes back what was done last: what stood before it stands again, and the numbers that it drew are given again.
@@ -44,7 +45,7 @@ impl Document {
             } => {
                 self.put_parent(node, from);
                 self.put_children(parent, children);
-                self.put_children_if(from, left);
+                self.put_children_if(parent_left(from, parent), left);
             }
             Before::Remove => {}
         }

@@ -1,7 +1,7 @@
-use Rattle.std.proofs.Common.{◌∙◌, ap}
+use Rattle.std.proofs.Common.{◌∙◌, ap, ℕ, Option}
 use Rattle.dom_store.specs.Edits.{changed, changed_if, with_children}
 use Rattle.dom_store.specs.State.{State, state_of}
-use Rattle.dom_store.specs.Taking.{up_to}
+use Rattle.dom_store.specs.Taking.{parent_left, up_to}
 use Rattle.dom_store.proofs.BackLaws.{given_back}
 use Rattle.dom_store.proofs.document.Document.take_back.Goals as goal
 
@@ -16,4 +16,5 @@ returns-in-Move c =
     let left = with_children (λ now. c.in-Move.left.items) in
     let children = with_children (λ now. c.in-Move.children.items) in
     rw c.in-Move.is (c.put_children_if.ensures.put
-    ∙ ap (λ (s : State). changed_if s c.in-Move.from left) (c.put_children-in-Move.ensures.put ∙ ap (λ (s : State). changed s c.in-Move.parent children) c.put_parent.ensures.put))
+    ∙ ap (λ (o : Option ℕ). changed_if (state_of c.put_children-in-Move.new.self) o left) c.parent_left.ensures
+    ∙ ap (λ (s : State). changed_if s (parent_left c.in-Move.from c.in-Move.parent) left) (c.put_children-in-Move.ensures.put ∙ ap (λ (s : State). changed s c.in-Move.parent children) c.put_parent.ensures.put))
