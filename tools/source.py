@@ -7,7 +7,7 @@ import re
 
 import listing
 
-TOKEN = re.compile(r"<!--.*?-->|<[^>\"']*(?:(?:\"[^\"]*\"|'[^']*')[^>\"']*)*>|[^<]+", re.DOTALL)
+TOKEN = re.compile(r"<!--.*?-->|<(?!!--)[^>\"']*(?:(?:\"[^\"]*\"|'[^']*')[^>\"']*)*>|[^<]+", re.DOTALL)
 TAG = re.compile(r"<(/?)([A-Za-z][A-Za-z0-9_-]*)")
 
 
@@ -27,6 +27,8 @@ class Nodes:
     def __init__(self):
         self.nodes = []
         self.open = []
+        # Where the text of each style sheet begins and ends.
+        self.sheets = []
 
     def add(self, tag, begin, end):
         self.nodes.append(Node(self.open[-1] if self.open else None, tag, begin, end))
@@ -54,13 +56,19 @@ class Nodes:
         return len(self.open) > 1
 
 
-def read_nodes(text):
-    """The nodes of a document by their numbers. What follows `</html>` is no part of it."""
-    found, at = Nodes(), 0
+def walk(found, text):
+    """Finds the nodes and sheets of a document, up to where it breaks off. What follows `</html>` is no part of it."""
+    at = 0
     while at < len(text) and not (found.nodes and not found.open):
         at = step(found, text, at)
     if found.open or len(found.nodes) < 2:
         raise listing.InputError("this is no whole document")
+
+
+def read_nodes(text):
+    """The nodes of a document by their numbers."""
+    found = Nodes()
+    walk(found, text)
     return found.nodes
 
 
@@ -76,7 +84,7 @@ def step(found, text, at):
         return end
     name = tag[2].lower()
     if not found.in_body() and name not in ("html", "body"):
-        return behind_head_tag(text, tag[1], name, end)
+        return behind_head_tag(found, text, tag[1], name, end)
     if tag[1]:
         found.stop(name, at, end)
     else:
@@ -84,12 +92,28 @@ def step(found, text, at):
     return end
 
 
-def behind_head_tag(text, slash, name, end):
+def behind_head_tag(found, text, slash, name, end):
     """The place behind a tag of the head, and behind the text of a title or a style sheet, which may look like anything."""
     if slash or name not in ("title", "style"):
         return end
-    closed = re.compile(rf"</{name}\s*>", re.IGNORECASE).search(text, end)
+    closed = re.compile(rf"</{name}[\t\n\f\r ]*>", re.IGNORECASE | re.ASCII).search(text, end)
+    if name == "style":
+        found.sheets.append((end, closed.start() if closed else len(text)))
     return closed.end() if closed else len(text)
+
+
+def script_begin(text, nodes):
+    """Where the script behind a document begins: on the line after the one on which the document ends."""
+    line_feed = text.find("\n", nodes[0].end)
+    return len(text) if line_feed < 0 else line_feed + 1
+
+
+def depth_of(nodes, number):
+    """How deep a node stands, where `html` is at 1."""
+    depth = 0
+    while number is not None:
+        number, depth = nodes[number].parent, depth + 1
+    return depth
 
 
 def decoded(data):
