@@ -1,0 +1,288 @@
+"""Finds where in an input a refusal stands, and which row of docs/REFUSALS.md tells of it, for tools/where.
+
+Places are counted in characters. The engine tells a byte, a node or a line of a script; of a `style` attribute and of a line of
+a script that isn't read it tells the start alone. There the part that was refused is given to the program by itself, in a small
+document, and its place counts where it is refused by the same kind.
+"""
+import dataclasses
+import re
+import typing
+import unicodedata
+
+import listing
+import source
+
+MOST_NODES, MOST_LEVELS = 65_536, 64
+SIGNS = "@:[+~"
+# Which words of a script's line are numbers of nodes.
+NAMED = {"text": 1, "style": 1, "class": 1, "insert": 1, "remove": 1, "move": 2}
+# Which kinds of the reading of a script are about the whole line.
+WHOLE_LINES = ("ScriptSyntax", "TooManyEdits", "TooManyShows")
+REFERENCE = re.compile(r"&#(?:[xX]([0-9A-Fa-f]{1,6})|([0-9]{1,7}));")
+SPACE = "[\t\n\f\r ]*"
+STYLE = re.compile(rf"style{SPACE}={SPACE}(?:\"([^\"]*)\"|'([^']*)')", re.IGNORECASE)
+BRINGING_LINE = re.compile(r"(?:(text|style) \d{1,7}|(insert) \d{1,7} \d{1,7}) ", re.ASCII)
+# What stands round declarations and round content in a small document, and what means something else there than in an attribute.
+SHEET = ("<html><head><style>x{", "}</style></head><body></body></html>")
+CONTENT = ("<html><body>", "</body></html>")
+OTHERWISE = set("@{}<&")
+
+
+@dataclasses.dataclass(frozen=True)
+class Place:
+    """A place of the input in characters, and what is to be said of it."""
+
+    at: int
+    facts: tuple
+    notes: tuple = ()
+
+
+@dataclasses.dataclass(frozen=True)
+class Known:
+    """What is known of the run: its command, whether edits were refused, and the program as a function from an input to its
+    refusal. Each may be nothing."""
+
+    command: str | None
+    of_edit: bool | None
+    probe: typing.Callable | None
+
+
+class Input:
+    """The bytes of a file as characters, where a byte that is no UTF-8 counts as one; and the document in it, if it is whole."""
+
+    def __init__(self, name, data):
+        self.name = "standard input" if name == "-" else name
+        self.data = data
+        self.text = data.decode("utf-8", "surrogateescape")
+        self.found, self.broken = source.Nodes(), None
+        try:
+            source.walk(self.found, self.text)
+        except listing.InputError as error:
+            self.broken = error
+        self.nodes = [] if self.broken else self.found.nodes
+
+    def characters_before(self, byte):
+        """The place in characters of a byte, or of the character that it is a part of."""
+        if byte > len(self.data):
+            raise listing.InputError(f"{self.name} has {len(self.data)} bytes: another input was refused at byte {byte}")
+        front = self.data[:byte].decode("utf-8", "surrogateescape")
+        while not self.text.startswith(front):
+            byte -= 1
+            front = self.data[:byte].decode("utf-8", "surrogateescape")
+        return len(front)
+
+    def line_and_column(self, at):
+        return self.text.count("\n", 0, at) + 1, at - self.text.rfind("\n", 0, at)
+
+    def position(self, at):
+        line, column = self.line_and_column(at)
+        return f"{self.name}:{line}:{column}"
+
+    def line_round(self, at):
+        """The line of a place in two parts: before it, and from it on."""
+        begin, end = self.text.rfind("\n", 0, at) + 1, self.text.find("\n", at)
+        rest = self.text[at:] if end < 0 else self.text[at:end]
+        return self.text[begin:at], rest.removesuffix("\r")
+
+    def script_begin(self):
+        """Where a script would begin; at the end of the text where no whole document stands before it."""
+        return source.script_begin(self.text, self.nodes) if self.nodes else len(self.text)
+
+    def script_line_number(self, at):
+        return self.text.count("\n", self.script_begin(), at) + 1
+
+    def node(self, number):
+        if self.broken:
+            raise self.broken
+        if number >= len(self.nodes):
+            raise listing.InputError(f"the document in {self.name} has {len(self.nodes)} nodes, and none of the number {number}")
+        return self.nodes[number]
+
+
+# What a refusal is about.
+
+def place_of(given, refusal, facts, known):
+    """The place of a refusal, by what its number counts."""
+    rows = [fact for fact in facts if fact.kind == refusal.kind]
+    numbers = {fact.number for fact in rows}
+    if not rows:
+        raise listing.InputError(f"docs/REFUSALS.md has no refusal {refusal.kind}")
+    if numbers == {"byte"}:
+        return place_of_byte(given, refusal, rows, known)
+    of_edit = not fits_node(given, refusal) if known.of_edit is None else known.of_edit
+    if numbers == {"line"} or of_edit:
+        return place_of_edit(given, refusal.number, [fact for fact in rows if fact.number == "line"])
+    return place_of_node(given, refusal.number, [fact for fact in rows if fact.number == "node"])
+
+
+def fits_node(given, refusal):
+    """Whether the document can have been refused with this node; else the number is that of a line."""
+    if given.script_begin() == len(given.text):
+        return True
+    if refusal.number >= len(given.nodes):
+        return False
+    if refusal.kind == "TooManyNodes":
+        return refusal.number >= MOST_NODES
+    return refusal.kind != "TooDeep" or source.depth_of(given.nodes, refusal.number) > MOST_LEVELS
+
+
+def place_of_byte(given, refusal, rows, known):
+    at = given.characters_before(refusal.number)
+    if given.nodes and at >= given.nodes[0].end:
+        return place_behind_document(given, refusal, rows, known, at)
+    rows = rows_at(given, refusal.kind, rows, at)
+    if is_style_attribute(given, refusal.kind, at):
+        return place_in_attribute(given, refusal.kind, rows, known, at)
+    return Place(at, rows, notes_of_byte(given, refusal.kind, at))
+
+
+def rows_at(given, kind, rows, at):
+    """The rows of a kind for a place in a document."""
+    return tuple(row for row in rows if kind != "Unsupported" or row.of == of_what(given, at))
+
+
+def is_style_attribute(given, kind, at):
+    return kind in ("CssSyntax", "Unsupported") and not in_sheet(given, at) and STYLE.match(given.text, at) is not None
+
+
+def place_in_attribute(given, kind, rows, known, at):
+    inner = inside_attribute(given, known.probe, kind, at)
+    if inner is None:
+        return Place(at, rows, ("somewhere in this style attribute: its name is pointed at",))
+    return Place(inner, rows, (f"in the style attribute at {given.position(at)}",))
+
+
+def place_behind_document(given, refusal, rows, known, at):
+    """A place behind `</html>`: in a script, or where there should be none."""
+    if known.command != "edit" and (known.command or at < given.script_begin()):
+        return Place(at, tuple(rows), ("this stands behind the document; a script is read by the command edit alone",))
+    note = f"line {given.script_line_number(at)} of the script"
+    if refusal.kind in WHOLE_LINES:
+        return Place(at, tuple(rows), (note,))
+    return place_in_line(given, refusal.kind, rows, known, at, note)
+
+
+def place_in_line(given, kind, rows, known, at, note):
+    """A place behind the words of a script's line; its start where no more is known."""
+    inner = inside_line(given, known.probe, kind, at)
+    if inner is None:
+        line = script_line(given, at)
+        rows = [row for row in rows if row.of != "a sign" and (row.of != "dir" or line.startswith("insert "))]
+        return Place(at, tuple(rows), (f"{note}, somewhere behind its words: its start is pointed at",))
+    rows = rows_at(given, kind, rows, inner)
+    character = (name_of_character(given.text, inner),) if kind == "Character" else ()
+    return Place(inner, rows, (note, *character))
+
+
+def script_line(given, at):
+    end = given.text.find("\n", at)
+    return given.text[at:] if end < 0 else given.text[at:end]
+
+
+def in_sheet(given, at):
+    return any(begin <= at <= end for begin, end in given.found.sheets)
+
+
+def of_what(given, at):
+    """Which row of `Unsupported` a place in a document has."""
+    if in_sheet(given, at):
+        return "a sign" if given.text[at : at + 1] in tuple(SIGNS) else "a declaration"
+    return "dir" if given.text[at : at + 3].lower() == "dir" else "a declaration"
+
+
+def notes_of_byte(given, kind, at):
+    """What the input itself tells of a refusal in a document."""
+    if at == len(given.text):
+        return ("the input ends here", *told_open(given, given.found.open))
+    if kind == "Character":
+        return (name_of_character(given.text, at),)
+    return told_open(given, given.found.open[-1:]) if kind == "Nesting" else ()
+
+
+def told_open(given, numbers):
+    """The elements that are open where the document breaks off."""
+    nodes = (given.found.nodes[each] for each in numbers)
+    return tuple(f"open is the <{node.tag}> at {given.position(node.begin)}" for node in nodes)
+
+
+def name_of_character(text, at):
+    """The number and the name of a character, which may be written as a reference."""
+    reference = REFERENCE.match(text, at)
+    number = ord(text[at]) if reference is None else int(reference[1], 16) if reference[1] else int(reference[2])
+    name = unicodedata.name(chr(number), "") if number < 0x110000 else ""
+    return f"U+{number:04X} {name}".rstrip()
+
+
+def told_node(given, number):
+    """A node in words, with its place in the document."""
+    if number >= len(given.nodes):
+        return f"node {number} isn't written in the document: an edit brought it, or none has this number"
+    node = given.nodes[number]
+    return f"node {number} is {named(node)} at {given.position(node.begin)}"
+
+
+def named(node):
+    return f"a <{node.tag}>" if node.tag else "a text"
+
+
+def place_of_node(given, number, rows):
+    node = given.node(number)
+    around = (told_node(given, node.parent),) if rows[0].kind == "BlockInInline" and node.parent is not None else ()
+    return Place(node.begin, tuple(rows), (f"node {number} is {named(node)}", *around))
+
+
+def place_of_edit(given, number, rows):
+    """The line of a script, counted from 1, and the nodes that it names."""
+    at = given.script_begin()
+    for _ in range(number - 1):
+        at = given.text.find("\n", at) + 1 or len(given.text)
+    if at == len(given.text) or number < 1:
+        raise given.broken or listing.InputError(f"{given.name} has no script with a line {number}")
+    words = script_line(given, at).removesuffix("\r").split(" ")
+    numbers = words[1 : 1 + NAMED.get(words[0], 0)]
+    notes = (told_node(given, int(each)) for each in dict.fromkeys(numbers) if each.isdecimal())
+    return Place(at, tuple(rows), (f"line {number} of the script", *notes))
+
+
+# Parts that are given to the program by themselves.
+
+def inside(given, probe, kind, begin, end, around):
+    """The place at which a part of the input is refused in a small document; nothing where it isn't refused by this kind."""
+    part = given.text[begin:end].encode("utf-8", "surrogateescape")
+    found = probe(around[0].encode() + part + around[1].encode()) if probe else None
+    # An end tag too many, or one that is missing at the end, is a Syntax in what is inserted and a Nesting in a document.
+    if found is None or found.kind not in ({kind, "Nesting"} if kind == "Syntax" else {kind}):
+        return None
+    at = found.number - len(around[0])
+    return begin + len(part[:at].decode("utf-8", "surrogateescape")) if 0 <= at <= len(part) else None
+
+
+def inside_declarations(given, probe, kind, begin, end):
+    return None if OTHERWISE & set(given.text[begin:end]) else inside(given, probe, kind, begin, end, SHEET)
+
+
+def inside_attribute(given, probe, kind, at):
+    found = STYLE.match(given.text, at)
+    return inside_declarations(given, probe, kind, *found.span(1 if found[1] is not None else 2))
+
+
+def inside_line(given, probe, kind, at):
+    """The place behind the words of a line `style`, `text` or `insert`."""
+    line = script_line(given, at).removesuffix("\r")
+    words = BRINGING_LINE.match(line)
+    if words is None:
+        return None
+    begin, end = at + words.end(), at + len(line)
+    if words[1] == "style":
+        return inside_declarations(given, probe, kind, begin, end)
+    if "</body" in line.lower():
+        # This would end the small document and not what is in it.
+        return None
+    if words[1] == "text" and "<" in line and kind == "Syntax":
+        # A text has no tags, so it is read up to the first.
+        end = given.text.index("<", begin)
+        return inside(given, probe, kind, begin, end, CONTENT) or (end if probe else None)
+    inner = inside(given, probe, kind, begin, end, CONTENT)
+    if inner is not None and is_style_attribute(given, kind, inner):
+        return inside_attribute(given, probe, kind, inner) or inner
+    return inner
