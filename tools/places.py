@@ -13,6 +13,8 @@ import listing
 import source
 
 MOST_NODES, MOST_LEVELS = 65_536, 64
+# How many open elements are told of.
+MOST_OPEN = 4
 SIGNS = "@:[+~"
 # Which words of a script's line are numbers of nodes.
 NAMED = {"text": 1, "style": 1, "class": 1, "insert": 1, "remove": 1, "move": 2}
@@ -200,9 +202,10 @@ def notes_of_byte(given, kind, at):
 
 
 def told_open(given, numbers):
-    """The elements that are open where the document breaks off."""
-    nodes = (given.found.nodes[each] for each in numbers)
-    return tuple(f"open is the <{node.tag}> at {given.position(node.begin)}" for node in nodes)
+    """The elements that are open where the document breaks off, the innermost first."""
+    nodes = [given.found.nodes[each] for each in reversed(numbers)]
+    told = [f"open is the <{node.tag}> at {given.position(node.begin)}" for node in nodes[:MOST_OPEN]]
+    return (*told, f"and {len(nodes) - MOST_OPEN} more round these") if len(nodes) > MOST_OPEN else tuple(told)
 
 
 def name_of_character(text, at):
