@@ -1,0 +1,138 @@
+"""The work of tools/take-in, from files to documents."""
+import os
+import sys
+
+import intake_boxes
+import intake_document
+import intake_files
+import intake_losses
+import intake_sheets
+import intake_text
+import intake_tree
+import listing
+
+
+class Intake:
+    """Makes documents of pages, by the words of the command line."""
+
+    def __init__(self, words):
+        self.words = words
+        self.losses = intake_losses.Losses()
+        self.characters = intake_text.Characters(words.replace, self.losses)
+        self.judge = None if words.no_sheets else intake_sheets.Judge(words.judge or intake_sheets.PROGRAM)
+
+    def document(self, source):
+        """The document of a page."""
+        root = intake_tree.Builder(self.characters, self.losses, self.words.markers).build(source.tree)
+        sheet = self.styled(root, source) if self.judge else self.unstyled(root)
+        boxes = intake_boxes.Boxes(self.rules(sheet), self.judge, self.losses)
+        boxes.mend(root)
+        if boxes.most_turned > intake_document.MOST_TURNED:
+            raise listing.InputError(f"{boxes.most_turned} boxes turn within each other, where the engine takes 6")
+        return intake_document.Document(intake_tree.title_of(source.tree), sheet, root)
+
+    def styled(self, root, source):
+        """Puts in the sheets, and leaves in the style attributes what is kept of them."""
+        sheets = intake_sheets.Sheets(self.judge, self.losses)
+        sheets.collect(source.tree, source.beside)
+        intake_sheets.mark_tags(root, sheets.rules)
+        sheets.mend_attributes(root)
+        return intake_sheets.looks_of(root) + sheets.kept(root)
+
+    def unstyled(self, root):
+        intake_sheets.mark_tags(root)
+        for element in intake_tree.walk(root):
+            if element.attributes.pop("style", None) is not None:
+                self.losses.add("attributes left out", "style")
+        return intake_sheets.looks_of(root)
+
+    def rules(self, sheet):
+        """The rules of the document's sheet; none where no one judges sheets, since the looks alone make no blocks."""
+        if not self.judge:
+            return []
+        answer = self.judge.answer("sheet", sheet)
+        if answer.startswith("refused TooManyRules"):
+            raise listing.InputError("more than 4,096 rules or 65,536 declarations, which the engine doesn't take")
+        if answer.startswith("refused "):
+            raise listing.InputError(f"its sheet is refused: {answer}")
+        return intake_boxes.rules_of(answer)
+
+    def documents(self, source):
+        """The names and texts of the documents of a page, within the limits."""
+        document = self.document(source)
+        passed = list(intake_document.passed_limits(document))
+        if not passed:
+            return [(source.name, document.text())]
+        if not self.words.split:
+            raise listing.InputError(f"{' and '.join(passed)}; --split cuts it")
+        parts = intake_document.parts_of(document)
+        if any(list(intake_document.passed_limits(part)) for part in parts):
+            raise listing.InputError(f"{' and '.join(passed)}, and it can't be cut")
+        return [(f"{source.name}-part-{number}", part.text()) for number, part in enumerate(parts, 1)]
+
+
+class Folder:
+    """Where documents go: a folder, or standard output for one."""
+
+    def __init__(self, path):
+        self.path = path
+        self.count = 0
+        self.names = set()
+        if path is not None:
+            os.makedirs(path, exist_ok=True)
+
+    def write(self, name, text):
+        if self.path is None and self.count:
+            raise listing.InputError("there are several documents: --output names a folder for them")
+        listing.put(text, "-" if self.path is None else os.path.join(self.path, f"{self.free(name)}.html"))
+        self.count += 1
+
+    def free(self, name):
+        """A name that no document of this run has."""
+        found, number = name, 1
+        while found in self.names:
+            number += 1
+            found = f"{name}-{number}"
+        self.names.add(found)
+        return found
+
+
+def say(line):
+    print(f"take-in: {line}", file=sys.stderr)
+
+
+def take_in(path, intake, folder):
+    """Takes in one file, and says whether all of it was taken."""
+    complete = True
+    for source in intake_files.sources_of(path, intake.words.encoding, intake.losses):
+        try:
+            for name, text in intake.documents(source):
+                folder.write(name, text)
+        except listing.InputError as error:
+            say(f"{source.name}: {error}")
+            complete = False
+    return complete
+
+
+def run(words):
+    """Takes in all files. The status is 1 where one of them, or a part of one, wasn't taken."""
+    intake, folder = Intake(words), Folder(words.output)
+    complete = True
+    for path in words.files:
+        try:
+            complete &= take_in(path, intake, folder)
+        except listing.InputError as error:
+            say(f"{path}: {error}")
+            complete = False
+        except OSError as error:
+            say(f"{error.filename or path}: {error.strerror}")
+            complete = False
+    if not words.quiet and folder.count:
+        tell(intake.losses, folder)
+    return 0 if complete else 1
+
+
+def tell(losses, folder):
+    say(f"{folder.count} document{'s' if folder.count > 1 else ''}")
+    for line in losses.lines():
+        say(line)

@@ -1,0 +1,185 @@
+"""What boxes a document's elements make, as far as the engine may refuse them (docs/PROFILE/boxes.md), for tools/take-in.
+
+It needs `display` and `writing-mode` alone, so it finds these two for each element, from what the engine's own reader said of
+the sheets: an inline element round a block becomes a block, and boxes that turn within each other are counted.
+"""
+import dataclasses
+import re
+
+import intake_tree
+
+PROPERTIES = {"Display": "display", "WritingMode": "mode"}
+INITIAL = {"display": "inline", "mode": "horizontal-tb"}
+BLOCK_LEVEL = ("block", "flow-root")
+RULE = re.compile(r"([^{}]+) \{([^{}]*)\}")
+DECLARATION = re.compile(r"(\w+) (?:Keyword\((\w+)\)|(\w+))( important)? at ")
+MADE_BLOCK = "display: block !important"
+
+
+@dataclasses.dataclass
+class Compound:
+    """A compound of a selector: what joins it to the one on its left, its type or none, its classes and ids."""
+
+    is_child: bool
+    tag: str | None
+    classes: frozenset
+    ids: frozenset
+
+    def matches(self, known):
+        own = self.tag in (None, known.element.tag) and self.classes <= known.classes
+        return own and self.ids <= known.ids
+
+
+@dataclasses.dataclass
+class Known:
+    """An element with what selectors ask for."""
+
+    element: intake_tree.Element
+    classes: frozenset
+    ids: frozenset
+
+
+def known(element):
+    return Known(element, frozenset(element.classes()), frozenset([element.attributes.get("id")]))
+
+
+@dataclasses.dataclass
+class Rule:
+    """A rule with the declarations of the two properties."""
+
+    compounds: list
+    declared: list
+
+    def says(self, prop):
+        return any(name == prop for name, _, _ in self.declared)
+
+    def weight(self):
+        """How specific the selector is: ids, classes, types."""
+        return tuple(sum(count(each) for each in self.compounds) for count in (count_ids, count_classes, count_types))
+
+    def matches(self, line):
+        """Whether it is of the last element of a line of ancestors."""
+        # All places at which what is left of the selector may end, so that none is tried twice.
+        places = {len(line) - 1} if self.compounds[-1].matches(line[-1]) else set()
+        for right, left in zip(self.compounds[:0:-1], self.compounds[-2::-1]):
+            above = {place - 1 for place in places} if right.is_child else range(max(places, default=0))
+            places = {place for place in above if place >= 0 and left.matches(line[place])}
+        return bool(places)
+
+
+def count_ids(compound):
+    return len(compound.ids)
+
+
+def count_classes(compound):
+    return len(compound.classes)
+
+
+def count_types(compound):
+    return compound.tag is not None
+
+
+# What the reader of sheets said.
+
+def compounds_of(selector):
+    found, is_child = [], False
+    for word in selector.split():
+        if word == ">":
+            is_child = True
+            continue
+        tag, names = re.match(r"([^.#]*)(.*)", word).groups()
+        classes, ids = (frozenset(re.findall(rf"{mark}([^.#]+)", names)) for mark in (r"\.", "#"))
+        found.append(Compound(is_child, None if tag == "*" else tag, classes, ids))
+        is_child = False
+    return found
+
+
+def declared_in(text):
+    """Each declaration of the two properties with its value, and whether it is important."""
+    for name, keyword, plain, important in DECLARATION.findall(text):
+        if name in PROPERTIES:
+            prop = PROPERTIES[name]
+            word = re.sub(r"(?<=.)([A-Z])", r"-\1", keyword).lower() if keyword else plain.lower()
+            yield prop, INITIAL[prop] if word == "initial" else word, bool(important)
+
+
+def rules_of(answer):
+    """The rules of a sheet that say something about the two properties, by what the reader answered."""
+    rules = []
+    for selector, text in RULE.findall(answer):
+        if declared := list(declared_in(text)):
+            rules.append(Rule(compounds_of(selector.strip()), declared))
+    return rules
+
+
+# The elements.
+
+class Boxes:
+    """The boxes of a document's elements."""
+
+    def __init__(self, rules, judge, losses):
+        # By weight, and by place where two weigh the same: the last one wins.
+        ordered = sorted(rules, key=Rule.weight)
+        self.rules = {name: [rule for rule in ordered if rule.says(name)] for name in INITIAL}
+        self.judge = judge
+        self.losses = losses
+        self.most_turned = 0
+
+    def mend(self, root):
+        """Makes blocks of inline elements round blocks, and counts the boxes that turn within each other."""
+        above, body = known(root), known(root.elements()[0])
+        # The mode of `html` is that of `body`.
+        mode = self.value([above, body], "mode", self.value([above], "mode", INITIAL["mode"]))
+        self.holds_block([above], mode, 0)
+
+    def holds_block(self, line, mode, turned):
+        """Whether block-level boxes stand in an element, after what is in it was mended."""
+        found = [self.is_block([*line, known(child)], mode, turned) for child in line[-1].element.elements()]
+        return any(found)
+
+    def is_block(self, line, mode, turned):
+        """Whether an element makes a block-level box. An inline one round such a box is made one."""
+        element = line[-1].element
+        display = self.value(line, "display", "block" if element.tag in intake_tree.BLOCK_TAGS else "inline")
+        if element.tag == "br" or display == "none":
+            return False
+        own = self.value(line, "mode", mode)
+        turned += is_vertical(own) != is_vertical(mode)
+        self.most_turned = max(self.most_turned, turned)
+        # An inline element that turns is an atom, which may hold blocks.
+        if self.holds_block(line, own, turned) and display == "inline" and own == mode:
+            self.make_block(element)
+            return True
+        return display in BLOCK_LEVEL
+
+    def make_block(self, element):
+        self.losses.add("inline elements made blocks", element.was)
+        before = element.attributes.get("style")
+        element.attributes["style"] = f"{before}; {MADE_BLOCK}" if before else MADE_BLOCK
+
+    def value(self, line, prop, otherwise):
+        """The value that wins for the last element of a line: an important one before others, its attribute before sheets.
+        Where none is declared, or it is inherited, it is `otherwise`.
+        """
+        won = (otherwise, False)
+        for rule in self.rules[prop]:
+            if rule.matches(line):
+                won = latest(rule.declared, prop, *won)
+        word = latest(self.attribute(line[-1].element), prop, *won)[0]
+        return otherwise if word == "inherit" else word
+
+    def attribute(self, element):
+        text = element.attributes.get("style")
+        return list(declared_in(self.judge.answer("declarations", text))) if text and self.judge else []
+
+
+def latest(declared, prop, won, was_important):
+    """What wins once these declarations come behind what has won so far."""
+    for name, word, important in declared:
+        if name == prop and (important or not was_important):
+            won, was_important = word, important
+    return won, was_important
+
+
+def is_vertical(mode):
+    return mode != "horizontal-tb"

@@ -1,0 +1,23 @@
+"""What was left out or replaced, counted by kind, for tools/take-in."""
+import collections
+
+# How many of a kind are named.
+MOST_TOLD = 8
+
+
+class Losses:
+    """Counts of what was lost: by kind, and within a kind by what it was."""
+
+    def __init__(self):
+        self.counts = collections.defaultdict(collections.Counter)
+
+    def add(self, kind, what, count=1):
+        self.counts[kind][what] += count
+
+    def lines(self):
+        """A line for each kind, with what was lost most often."""
+        for kind in sorted(self.counts):
+            counts = self.counts[kind]
+            named = [f"{what} {count}" for what, count in counts.most_common(MOST_TOLD)]
+            more = [f"{len(counts) - MOST_TOLD} more"] if len(counts) > MOST_TOLD else []
+            yield f"{kind}: {sum(counts.values())} ({', '.join(named + more)})"

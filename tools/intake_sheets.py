@@ -1,0 +1,325 @@
+"""Style sheets and style attributes of a page, cut rule by rule and judged by the engine's own reader, for tools/take-in.
+
+tinycss2 cuts a sheet as CSS says. Each selector and each declaration is then put to the program check_css, which is that
+reader; what it refuses is left out, and what it passes over too, since neither would act.
+"""
+import os
+import re
+import subprocess
+
+import tinycss2
+import tinycss2.ast
+
+import intake_tree
+import listing
+from intake_files import local, path_of
+
+TOP = os.path.dirname(os.path.dirname(os.path.abspath(__file__)))
+PROGRAM = os.path.join(TOP, "crates", "check_css", "out", "check_css")
+MISSING = (
+    "there is no program {}, which judges sheets: `rt run` in crates/check_css builds it; --judge names another one,"
+    " --no-sheets goes without sheets"
+)
+# A value of `display` that the engine would refuse, and the nearest one.
+NEAREST_DISPLAY = {
+    **dict.fromkeys("flex grid table list-item run-in".split(), "block"),
+    **dict.fromkeys("table-row table-row-group table-header-group table-footer-group table-caption table-cell".split(), "block"),
+    **dict.fromkeys("inline-flex inline-grid inline-table".split(), "inline-block"),
+    **dict.fromkeys("contents ruby".split(), "inline"),
+}
+# Units of fixed size in px (CSS Values and Units 3, 6.2), and the one of the root's font size at its initial 16 px.
+PIXELS = {"pt": 4 / 3, "pc": 16, "in": 96, "cm": 96 / 2.54, "mm": 9.6 / 2.54, "q": 2.4 / 2.54, "rem": 16}
+# Media that a page is laid out for.
+TAKEN_MEDIA = frozenset(("", "all", "screen", "only screen", "only all"))
+DEEPEST_IMPORT = 8
+
+
+class Judge:
+    """Asks the engine's reader, and keeps what it said: pages of one book have their sheets in common."""
+
+    def __init__(self, program=PROGRAM):
+        self.program = program
+        self.known = {}
+
+    def ask(self, reader, texts):
+        """Reads texts together, so that the program runs once for many."""
+        new = [text for text in dict.fromkeys(texts) if (reader, text) not in self.known]
+        if not new:
+            return
+        lines = "".join(f"{reader} 0 {text.encode('utf-8', 'replace').hex() or '-'}\n" for text in new)
+        try:
+            ran = subprocess.run([self.program], input=lines, capture_output=True, text=True, check=True)
+        except (FileNotFoundError, PermissionError):
+            raise listing.InputError(MISSING.format(self.program)) from None
+        except subprocess.CalledProcessError as error:
+            raise listing.InputError(f"{self.program} ended with status {error.returncode}") from None
+        answers = ran.stdout.split("\n")[:-1]
+        if len(answers) != len(new):
+            raise listing.InputError(f"{self.program} answered {len(answers)} of {len(new)} texts")
+        self.known.update({(reader, text): answer for text, answer in zip(new, answers)})
+
+    def answer(self, reader, text):
+        self.ask(reader, [text])
+        return self.known[reader, text]
+
+
+class Rule:
+    """A rule of a sheet as it came: its selectors and declarations as texts."""
+
+    def __init__(self, selectors, declarations):
+        self.selectors = selectors
+        self.declarations = declarations
+
+
+class Sheets:
+    """The sheets of one page."""
+
+    def __init__(self, judge, losses):
+        self.judge = judge
+        self.losses = losses
+        self.rules = []
+
+    # Where sheets come from.
+
+    def collect(self, tree, beside):
+        """The rules of all sheets of a page, in their order."""
+        for element in tree.iter():
+            name = local(element)
+            if name == "style" and self.for_screens(element.get("media")):
+                self.take(tinycss2.parse_stylesheet("".join(element.itertext()), True, True), beside, 0)
+            elif name == "link" and is_sheet(element) and self.for_screens(element.get("media")):
+                self.take_file(element.get("href") or "", beside, 0)
+
+    def for_screens(self, media):
+        taken = is_for_screens(media or "")
+        if not taken:
+            self.losses.add("sheets left out", f"for {media.strip()}")
+        return taken
+
+    def take_file(self, link, beside, depth):
+        path = path_of(link)
+        data = None if path is None else beside.read(path)
+        if data is None:
+            self.losses.add("sheets left out", "not beside the page")
+        elif depth > DEEPEST_IMPORT:
+            self.losses.add("sheets left out", "imported too deep")
+        else:
+            rules, _ = tinycss2.parse_stylesheet_bytes(data, skip_comments=True, skip_whitespace=True)
+            self.take(rules, beside_sheet(beside, path), depth)
+
+    # The parts of a sheet.
+
+    def take(self, parts, beside, depth):
+        for part in parts:
+            if part.type == "qualified-rule":
+                self.rules.append(Rule(selectors_of(part.prelude), self.declarations_of(part.content)))
+            elif part.type == "at-rule":
+                self.take_at_rule(part, beside, depth)
+            else:
+                self.losses.add("rules left out", "not CSS")
+
+    def take_at_rule(self, part, beside, depth):
+        name = part.lower_at_keyword
+        if name == "import":
+            link, media = import_of(part.prelude)
+            if is_for_screens(media):
+                self.take_file(link, beside, depth + 1)
+                return
+        elif name == "media" and part.content is not None and is_for_screens(tinycss2.serialize(part.prelude)):
+            self.take(tinycss2.parse_rule_list(part.content, True, True), beside, depth)
+            return
+        if name not in ("charset", "namespace"):
+            self.losses.add("rules left out", f"@{name}")
+
+    def declarations_of(self, content):
+        found = tinycss2.parse_declaration_list(content, True, True)
+        return list(filter(None, map(self.declaration_text, found)))
+
+    def declaration_text(self, part):
+        """A declaration as text, with what is nearest in place of a few values that the profile doesn't have."""
+        if part.type != "declaration":
+            self.losses.add("declarations left out", f"@{part.lower_at_keyword}" if part.type == "at-rule" else "not CSS")
+            return None
+        value = tinycss2.serialize(list(map(self.in_pixels, part.value))).strip()
+        if part.lower_name == "display" and value.lower() in NEAREST_DISPLAY:
+            self.losses.add("declarations replaced", f"display: {value.lower()}")
+            value = NEAREST_DISPLAY[value.lower()]
+        return f"{part.name}: {value}{' !important' if part.important else ''}"
+
+    def in_pixels(self, token):
+        if token.type != "dimension" or token.lower_unit not in PIXELS:
+            return token
+        self.losses.add("declarations replaced", f"unit {token.lower_unit}")
+        size = f"{token.value * PIXELS[token.lower_unit]:.2f}".rstrip("0").rstrip(".")
+        return tinycss2.ast.DimensionToken(0, 0, float(size), None, size, "px")
+
+    # What is kept.
+
+    def kept(self, root):
+        """The sheet that is left for the document of this tree, a rule a line."""
+        names = names_of(root)
+        rules = [Rule(list(map(rewritten, rule.selectors)), rule.declarations) for rule in self.rules]
+        self.ask_all(rules)
+        return "".join(filter(None, (self.kept_rule(rule, names) for rule in rules)))
+
+    def ask_all(self, rules):
+        self.judge.ask("sheet", [f"{selector}{{}}" for rule in rules for selector in rule.selectors])
+        self.judge.ask("sheet", [f"a{{{each}}}" for rule in rules for each in rule.declarations])
+
+    def kept_rule(self, rule, names):
+        selectors = [each for each in rule.selectors if self.takes_selector(each, names)]
+        if not selectors:
+            return ""
+        declarations = [each for each in rule.declarations if self.takes("sheet", each, f"a{{{each}}}")]
+        return f"{', '.join(selectors)} {{ {'; '.join(declarations)} }}\n" if declarations else ""
+
+    def takes_selector(self, selector, names):
+        answer = self.judge.answer("sheet", f"{selector}{{}}")
+        if answer.startswith("refused "):
+            self.losses.add("selectors left out", refused_part(selector, answer))
+            return False
+        if not names_in(answer) <= names:
+            self.losses.add("selectors that nothing in the document has", "all")
+            return False
+        return True
+
+    def takes(self, reader, declaration, text):
+        """Whether a declaration is kept by the engine's reader."""
+        answer = self.judge.answer(reader, text)
+        name = declaration.partition(":")[0].lower()
+        if answer.startswith("refused ") or "</" in declaration:
+            self.losses.add("declarations left out", "--name" if name.startswith("--") else name)
+            return False
+        if answer in ("", "a {}"):
+            self.losses.add("declarations without effect", name)
+            return False
+        return True
+
+    # Style attributes.
+
+    def mend_attributes(self, root):
+        """Leaves in each style attribute what the engine's reader keeps."""
+        held = {}
+        for element in intake_tree.walk(root):
+            text = element.attributes.pop("style", None)
+            if text is not None:
+                held[id(element)] = (element, self.declarations_of(text))
+        self.judge.ask("declarations", [each for _, declarations in held.values() for each in declarations])
+        for element, declarations in held.values():
+            kept = [each for each in declarations if self.takes("declarations", each, each)]
+            if kept:
+                element.attributes["style"] = "; ".join(kept)
+        self.judge.ask("declarations", [each.attributes["style"] for each in intake_tree.walk(root) if "style" in each.attributes])
+
+
+def looks_of(root):
+    """The sheet of the looks that the document has classes for. It comes first, so that the page's own rules go before it."""
+    looks = {f"was-{name}": text for name, text in intake_tree.LOOKS.items()}
+    used = {name for element in intake_tree.walk(root) for name in element.classes() if name in looks}
+    return "".join(f".{name} {{ {looks[name]} }}\n" for name in looks if name in used)
+
+
+def mark_tags(root, rules=()):
+    """Gives elements that something else stands for the class of what they were, where a look or a selector is of it."""
+    wanted = set(intake_tree.LOOKS)
+    wanted.update(name for rule in rules for each in rule.selectors for name in replaced_types(each))
+    for element in intake_tree.walk(root):
+        if element.was != element.tag and element.was in wanted:
+            element.add_class(f"was-{element.was}")
+
+
+def is_for_screens(media):
+    """Whether a list of media has screens without a condition."""
+    return any(" ".join(each.lower().split()) in TAKEN_MEDIA for each in media.split(","))
+
+
+def is_sheet(element):
+    words = (element.get("rel") or "").lower().split()
+    return "stylesheet" in words and "alternate" not in words
+
+
+def beside_sheet(beside, path):
+    """What stands beside a sheet: a path in it is meant from the sheet on."""
+    return BesideSheet(beside, os.path.dirname(path))
+
+
+class BesideSheet:
+    """Files beside a sheet."""
+
+    def __init__(self, beside, folder):
+        self.beside = beside
+        self.folder = folder
+
+    def read(self, path):
+        return self.beside.read(os.path.join(self.folder, path))
+
+
+def import_of(prelude):
+    """The link and the media of an import."""
+    parts = [token for token in prelude if token.type != "whitespace"]
+    first = parts[0] if parts else None
+    if first is None or first.type not in ("string", "url", "function"):
+        return "", ""
+    named = first.arguments[0] if first.type == "function" and first.arguments else first
+    return getattr(named, "value", ""), tinycss2.serialize(parts[1:])
+
+
+# Selectors.
+
+def selectors_of(prelude):
+    """The selectors of a list, each as its tokens."""
+    found = [[]]
+    for token in prelude:
+        if token.type == "literal" and token.value == ",":
+            found.append([])
+        else:
+            found[-1].append(token)
+    return found
+
+
+def types_in(tokens):
+    """The places of types in a selector, and their names in small letters."""
+    for place, token in enumerate(tokens):
+        behind = tokens[place - 1] if place else None
+        if token.type == "ident" and not (behind and behind.type == "literal" and behind.value in (".", ":", "|")):
+            yield place, token.lower_value
+
+
+def replaced_types(tokens):
+    return {name for _, name in types_in(tokens) if name not in intake_tree.TAGS}
+
+
+def rewritten(tokens):
+    """A selector's text, with a class in the place of each type that the profile doesn't have."""
+    replaced = {place: name for place, name in types_in(tokens) if name not in intake_tree.TAGS}
+    texts = (f".was-{replaced[place]}" if place in replaced else selector_text(token) for place, token in enumerate(tokens))
+    return "".join(texts).strip()
+
+
+def selector_text(token):
+    # What a comment says isn't needed, but it parts what it stands between.
+    return "/**/" if token.type == "comment" else token.serialize()
+
+
+def refused_part(selector, answer):
+    """The part of a selector that the engine's reader didn't take, as far as it is a kind."""
+    place = int(answer.split()[2])
+    rest = selector.encode("utf-8", "replace")[place:].decode("utf-8", "replace")
+    found = re.match(r"::?[A-Za-z-]+|[\[+~]", rest)
+    return found[0] if found else "not of the profile"
+
+
+def names_in(answer):
+    """The types, classes and ids that an answer's one selector asks for."""
+    selector = answer.partition(" {")[0]
+    return {name for name in re.findall(r"[.#]?[^.#\s>*]+", selector)}
+
+
+def names_of(root):
+    """The types, classes and ids of a document."""
+    found = set()
+    for element in intake_tree.walk(root):
+        found.add(element.tag)
+        found.update(f".{name}" for name in element.classes())
+        found.add(f"#{element.attributes.get('id', '')}")
+    return found
