@@ -23,33 +23,36 @@ class Intake:
 
     def document(self, source):
         """The document of a page."""
+        if source.tree is None:
+            raise listing.InputError("it can't be read")
         root = intake_tree.Builder(self.characters, self.losses, self.words.markers).build(source.tree)
-        sheet = self.styled(root, source) if self.judge else self.unstyled(root)
-        boxes = intake_boxes.Boxes(self.rules(sheet), self.judge, self.losses)
+        kept = self.styled(root, source) if self.judge else self.unstyled(root)
+        looks = intake_sheets.looks_of(root)
+        boxes = intake_boxes.Boxes(self.rules(looks + kept, looks), self.judge, self.losses)
         boxes.mend(root)
         if boxes.most_turned > intake_document.MOST_TURNED:
             raise listing.InputError(f"{boxes.most_turned} boxes turn within each other, where the engine takes 6")
-        return intake_document.Document(intake_tree.title_of(source.tree), sheet, root)
+        return intake_document.Document(intake_tree.title_of(source.tree), looks + kept, root)
 
     def styled(self, root, source):
-        """Puts in the sheets, and leaves in the style attributes what is kept of them."""
+        """What is kept of the page's sheets. In the style attributes stays what is kept of them."""
         sheets = intake_sheets.Sheets(self.judge, self.losses)
         sheets.collect(source.tree, source.beside)
         intake_sheets.mark_tags(root, sheets.rules)
         sheets.mend_attributes(root)
-        return intake_sheets.looks_of(root) + sheets.kept(root)
+        return sheets.kept(root)
 
     def unstyled(self, root):
         intake_sheets.mark_tags(root)
         for element in intake_tree.walk(root):
             if element.attributes.pop("style", None) is not None:
                 self.losses.add("attributes left out", "style")
-        return intake_sheets.looks_of(root)
+        return ""
 
-    def rules(self, sheet):
-        """The rules of the document's sheet; none where no one judges sheets, since the looks alone make no blocks."""
-        if not self.judge:
-            return []
+    def rules(self, sheet, looks):
+        """The rules of the document's sheet that say what boxes there are. Of the looks alone that needs no one's judgement."""
+        if sheet == looks:
+            return [intake_boxes.HIDDEN]
         answer = self.judge.answer("sheet", sheet)
         if answer.startswith("refused TooManyRules"):
             raise listing.InputError("more than 4,096 rules or 65,536 declarations, which the engine doesn't take")
@@ -78,14 +81,26 @@ class Folder:
         self.path = path
         self.count = 0
         self.names = set()
+        self.held = None
         if path is not None:
             os.makedirs(path, exist_ok=True)
 
     def write(self, name, text):
-        if self.path is None and self.count:
-            raise listing.InputError("there are several documents: --output names a folder for them")
-        listing.put(text, "-" if self.path is None else os.path.join(self.path, f"{self.free(name)}.html"))
+        if self.path is None:
+            self.hold(text)
+        else:
+            listing.put(text, os.path.join(self.path, f"{self.free(name)}.html"))
         self.count += 1
+
+    def hold(self, text):
+        """Keeps the document for standard output: nothing goes there before it is known that there is one alone."""
+        if self.held is not None:
+            sys.exit("take-in: there are several documents: --output names a folder for them")
+        self.held = text
+
+    def close(self):
+        if self.held is not None:
+            listing.put(self.held)
 
     def free(self, name):
         """A name that no document of this run has."""
@@ -104,7 +119,7 @@ def say(line):
 def take_in(path, intake, folder):
     """Takes in one file, and says whether all of it was taken."""
     complete = True
-    for source in intake_files.sources_of(path, intake.words.encoding, intake.losses):
+    for source in intake_files.sources_of(path, intake.words.encoding):
         try:
             for name, text in intake.documents(source):
                 folder.write(name, text)
@@ -116,6 +131,7 @@ def take_in(path, intake, folder):
 
 def run(words):
     """Takes in all files. The status is 1 where one of them, or a part of one, wasn't taken."""
+    intake_files.check_encoding(words.encoding)
     intake, folder = Intake(words), Folder(words.output)
     complete = True
     for path in words.files:
@@ -127,6 +143,7 @@ def run(words):
         except OSError as error:
             say(f"{error.filename or path}: {error.strerror}")
             complete = False
+    folder.close()
     if not words.quiet and folder.count:
         tell(intake.losses, folder)
     return 0 if complete else 1

@@ -79,6 +79,10 @@ def count_types(compound):
     return compound.tag is not None
 
 
+# The one look that takes boxes away.
+HIDDEN = Rule([Compound(False, None, frozenset(["was-hidden"]), frozenset())], [("display", "none", False)])
+
+
 # What the reader of sheets said.
 
 def compounds_of(selector):

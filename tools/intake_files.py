@@ -33,30 +33,33 @@ LARGEST_PART = 1 << 26
 
 @dataclasses.dataclass
 class Source:
-    """A page as it came: the name for its document, its tree, and how a file beside it is read."""
+    """A page as it came: the name for its document, its tree or none if it can't be read, and how a file beside it is read."""
 
     name: str
-    tree: ElementTree.Element
+    tree: ElementTree.Element | None
     beside: object
 
 
-def sources_of(path, encoding, losses):
+def sources_of(path, encoding):
     """The pages of a file: one of HTML, or the chapters of a book."""
     data = listing.read_bytes(path)
     stem = "standard-input" if path == "-" else os.path.basename(path)
     stem = re.sub(r"\.(x?html?|xht|epub)$", "", stem, flags=re.IGNORECASE)
     if data.startswith(b"PK\x03\x04"):
-        yield from chapters(data, stem, encoding, losses)
+        yield from chapters(data, stem, encoding)
     else:
         yield Source(stem, tree_of(data, encoding), FolderBeside("" if path == "-" else os.path.dirname(path)))
+
+
+def check_encoding(encoding):
+    if encoding and webencodings.lookup(encoding) is None:
+        raise listing.InputError(f"there is no encoding {encoding}")
 
 
 # One page.
 
 def tree_of(data, encoding, is_xhtml=False):
     """The tree of a page's bytes."""
-    if encoding and webencodings.lookup(encoding) is None:
-        raise listing.InputError(f"there is no encoding {encoding}")
     mark = next((name for front, name in MARKS if data.startswith(front)), None)
     if not data.strip():
         raise listing.InputError("it is empty")
@@ -173,7 +176,7 @@ def xml_of(book, path):
         raise listing.InputError(f"this is no EPUB: {path} is not well formed") from None
 
 
-def chapters(data, stem, encoding, losses):
+def chapters(data, stem, encoding):
     """The chapters of a book in the order of its spine."""
     try:
         book = zipfile.ZipFile(io.BytesIO(data))
@@ -187,9 +190,6 @@ def chapters(data, stem, encoding, losses):
             tree = None if part is None else tree_of(part, encoding, is_xhtml=True)
         except listing.InputError:
             tree = None
-        if tree is None:
-            losses.add("chapters that can't be read", path)
-            continue
         yield Source(f"{stem}-{number:0{digits}}-{stem_of(path)}", tree, BookBeside(book, posixpath.dirname(path)))
 
 

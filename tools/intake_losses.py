@@ -11,13 +11,13 @@ class Losses:
     def __init__(self):
         self.counts = collections.defaultdict(collections.Counter)
 
-    def add(self, kind, what, count=1):
-        self.counts[kind][what] += count
+    def add(self, kind, what=""):
+        self.counts[kind][what] += 1
 
     def lines(self):
         """A line for each kind, with what was lost most often."""
         for kind in sorted(self.counts):
             counts = self.counts[kind]
-            named = [f"{what} {count}" for what, count in counts.most_common(MOST_TOLD)]
+            named = [f"{what} {count}" for what, count in counts.most_common(MOST_TOLD) if what]
             more = [f"{len(counts) - MOST_TOLD} more"] if len(counts) > MOST_TOLD else []
-            yield f"{kind}: {sum(counts.values())} ({', '.join(named + more)})"
+            yield f"{kind}: {sum(counts.values())}" + (f" ({', '.join(named + more)})" if named else "")

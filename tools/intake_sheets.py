@@ -6,12 +6,12 @@ reader; what it refuses is left out, and what it passes over too, since neither 
 import os
 import re
 import subprocess
+import sys
 
 import tinycss2
 import tinycss2.ast
 
 import intake_tree
-import listing
 from intake_files import local, path_of
 
 TOP = os.path.dirname(os.path.dirname(os.path.abspath(__file__)))
@@ -20,12 +20,40 @@ MISSING = (
     "there is no program {}, which judges sheets: `rt run` in crates/check_css builds it; --judge names another one,"
     " --no-sheets goes without sheets"
 )
-# A value of `display` that the engine would refuse, and the nearest one.
-NEAREST_DISPLAY = {
-    **dict.fromkeys("flex grid table list-item run-in".split(), "block"),
-    **dict.fromkeys("table-row table-row-group table-header-group table-footer-group table-caption table-cell".split(), "block"),
-    **dict.fromkeys("inline-flex inline-grid inline-table".split(), "inline-block"),
-    **dict.fromkeys("contents ruby".split(), "inline"),
+# Names that some engines gave properties before the standards had them. Books in vertical lines still use them.
+STANDARD_NAMES = {
+    "-epub-writing-mode": "writing-mode",
+    "-webkit-writing-mode": "writing-mode",
+    "-ms-writing-mode": "writing-mode",
+    "-epub-text-orientation": "text-orientation",
+    "-webkit-text-orientation": "text-orientation",
+    "-epub-text-combine": "text-combine-upright",
+    "-webkit-text-combine": "text-combine-upright",
+    "-ms-text-combine-horizontal": "text-combine-upright",
+}
+# Values that the profile doesn't have, and the nearest ones.
+NEAREST_VALUES = {
+    "display": {
+        **dict.fromkeys("flex grid table list-item run-in".split(), "block"),
+        **dict.fromkeys("table-row table-row-group table-header-group table-footer-group table-caption table-cell".split(), "block"),
+        **dict.fromkeys("inline-flex inline-grid inline-table".split(), "inline-block"),
+        **dict.fromkeys("contents ruby".split(), "inline"),
+    },
+    "font-size": {
+        "xx-small": "9px",
+        "x-small": "10px",
+        "small": "13px",
+        "medium": "16px",
+        "large": "18px",
+        "x-large": "24px",
+        "xx-large": "32px",
+        "smaller": "83%",
+        "larger": "120%",
+    },
+    "text-align": {"justify": "start"},
+    "text-combine-upright": {"horizontal": "all"},
+    "text-orientation": {"vertical-right": "mixed", "sideways-right": "sideways"},
+    "writing-mode": {"tb-rl": "vertical-rl", "tb": "vertical-rl", "tb-lr": "vertical-lr", "lr-tb": "horizontal-tb", "lr": "horizontal-tb"},
 }
 # Units of fixed size in px (CSS Values and Units 3, 6.2), and the one of the root's font size at its initial 16 px.
 PIXELS = {"pt": 4 / 3, "pc": 16, "in": 96, "cm": 96 / 2.54, "mm": 9.6 / 2.54, "q": 2.4 / 2.54, "rem": 16}
@@ -49,13 +77,14 @@ class Judge:
         lines = "".join(f"{reader} 0 {text.encode('utf-8', 'replace').hex() or '-'}\n" for text in new)
         try:
             ran = subprocess.run([self.program], input=lines, capture_output=True, text=True, check=True)
-        except (FileNotFoundError, PermissionError):
-            raise listing.InputError(MISSING.format(self.program)) from None
+        except OSError:
+            # It would be missing for each page, so the tool ends here.
+            sys.exit(f"take-in: {MISSING.format(self.program)}")
         except subprocess.CalledProcessError as error:
-            raise listing.InputError(f"{self.program} ended with status {error.returncode}") from None
+            sys.exit(f"take-in: {self.program} ended with status {error.returncode}")
         answers = ran.stdout.split("\n")[:-1]
         if len(answers) != len(new):
-            raise listing.InputError(f"{self.program} answered {len(answers)} of {len(new)} texts")
+            sys.exit(f"take-in: {self.program} answered {len(answers)} of {len(new)} texts")
         self.known.update({(reader, text): answer for text, answer in zip(new, answers)})
 
     def answer(self, reader, text):
@@ -141,10 +170,11 @@ class Sheets:
             self.losses.add("declarations left out", f"@{part.lower_at_keyword}" if part.type == "at-rule" else "not CSS")
             return None
         value = tinycss2.serialize(list(map(self.in_pixels, part.value))).strip()
-        if part.lower_name == "display" and value.lower() in NEAREST_DISPLAY:
-            self.losses.add("declarations replaced", f"display: {value.lower()}")
-            value = NEAREST_DISPLAY[value.lower()]
-        return f"{part.name}: {value}{' !important' if part.important else ''}"
+        name = STANDARD_NAMES.get(part.lower_name, part.name)
+        near = NEAREST_VALUES.get(name.lower(), {}).get(value.lower())
+        if near or name != part.name:
+            self.losses.add("declarations replaced", f"{part.lower_name}: {value.lower()}")
+        return f"{name}: {near or value}{' !important' if part.important else ''}"
 
     def in_pixels(self, token):
         if token.type != "dimension" or token.lower_unit not in PIXELS:
@@ -179,7 +209,7 @@ class Sheets:
             self.losses.add("selectors left out", refused_part(selector, answer))
             return False
         if not names_in(answer) <= names:
-            self.losses.add("selectors that nothing in the document has", "all")
+            self.losses.add("selectors that nothing in the document has")
             return False
         return True
 
