@@ -124,9 +124,16 @@ def packed(children, room):
             if groups[-1] and not size.fits(left):
                 groups.append([])
                 left = room
+                # A line break at a cut has done what it is for.
+                if is_break(piece):
+                    continue
             groups[-1].append(piece)
             left -= size
     return groups
+
+
+def is_break(part):
+    return isinstance(part, Element) and part.tag == "br"
 
 
 def pieces_of(part, room):

@@ -18,6 +18,7 @@ import html5lib
 import webencodings
 
 import listing
+from intake_tree import local
 
 XML_DECLARATION = re.compile(r"\s*<\?xml\s[^>]*?\?>")
 DECLARED_ENCODING = re.compile(rb"<\?xml\s[^>]*?encoding\s*=\s*[\"']([A-Za-z0-9._-]+)[\"']")
@@ -108,11 +109,6 @@ def is_utf_8(data):
         return True
     except UnicodeDecodeError:
         return False
-
-
-def local(element):
-    """The name of an element without its namespace, in small letters; the empty text for comments and instructions."""
-    return element.tag.rpartition("}")[2].lower() if isinstance(element.tag, str) else ""
 
 
 # What stands beside a page: the sheets that it names.

@@ -12,7 +12,8 @@ import tinycss2
 import tinycss2.ast
 
 import intake_tree
-from intake_files import local, path_of
+from intake_files import path_of
+from intake_tree import local
 
 TOP = os.path.dirname(os.path.dirname(os.path.abspath(__file__)))
 PROGRAM = os.path.join(TOP, "crates", "check_css", "out", "check_css")
@@ -35,7 +36,8 @@ STANDARD_NAMES = {
 NEAREST_VALUES = {
     "display": {
         **dict.fromkeys("flex grid table list-item run-in".split(), "block"),
-        **dict.fromkeys("table-row table-row-group table-header-group table-footer-group table-caption table-cell".split(), "block"),
+        **dict.fromkeys("table-row table-cell table-caption table-row-group".split(), "block"),
+        **dict.fromkeys("table-header-group table-footer-group".split(), "block"),
         **dict.fromkeys("inline-flex inline-grid inline-table".split(), "inline-block"),
         **dict.fromkeys("contents ruby".split(), "inline"),
     },
@@ -53,7 +55,14 @@ NEAREST_VALUES = {
     "text-align": {"justify": "start"},
     "text-combine-upright": {"horizontal": "all"},
     "text-orientation": {"vertical-right": "mixed", "sideways-right": "sideways"},
-    "writing-mode": {"tb-rl": "vertical-rl", "tb": "vertical-rl", "tb-lr": "vertical-lr", "lr-tb": "horizontal-tb", "lr": "horizontal-tb"},
+    "writing-mode": {
+        "tb-rl": "vertical-rl",
+        "tb": "vertical-rl",
+        "tb-lr": "vertical-lr",
+        "lr-tb": "horizontal-tb",
+        "lr": "horizontal-tb",
+        "rl-tb": "horizontal-tb",
+    },
 }
 # Units of fixed size in px (CSS Values and Units 3, 6.2), and the one of the root's font size at its initial 16 px.
 PIXELS = {"pt": 4 / 3, "pc": 16, "in": 96, "cm": 96 / 2.54, "mm": 9.6 / 2.54, "q": 2.4 / 2.54, "rem": 16}
@@ -239,7 +248,8 @@ class Sheets:
             kept = [each for each in declarations if self.takes("declarations", each, each)]
             if kept:
                 element.attributes["style"] = "; ".join(kept)
-        self.judge.ask("declarations", [each.attributes["style"] for each in intake_tree.walk(root) if "style" in each.attributes])
+        # All together once more, for those that ask what an attribute says.
+        self.judge.ask("declarations", filter(None, (element.attributes.get("style") for element, _ in held.values())))
 
 
 def looks_of(root):

@@ -5,8 +5,6 @@ The tables say what stands for each tag and attribute that the profile doesn't h
 import dataclasses
 import re
 
-from intake_files import local
-
 BLOCK_TAGS = frozenset(
     "html body div section article header footer main nav aside address p h1 h2 h3 h4 h5 h6 blockquote figure figcaption"
     " ul ol li".split()
@@ -313,6 +311,11 @@ class Builder:
 def shortened(spaces):
     """A run of white space as one character, which is all that is laid out of it; the lines of the source stay."""
     return "\n" if "\n" in spaces[0] else " "
+
+
+def local(element):
+    """The name of an element without its namespace, in small letters; the empty text for comments and instructions."""
+    return element.tag.rpartition("}")[2].lower() if isinstance(element.tag, str) else ""
 
 
 def attributes_of(element):
