@@ -123,6 +123,8 @@ class Sheets:
         """The rules of all sheets of a page, in their order."""
         for element in tree.iter():
             name = local(element)
+            if not is_css(element):
+                continue
             if name == "style" and self.for_screens(element.get("media")):
                 self.take(tinycss2.parse_stylesheet("".join(element.itertext()), True, True), beside, 0)
             elif name == "link" and is_sheet(element) and self.for_screens(element.get("media")):
@@ -271,6 +273,11 @@ def mark_tags(root, rules=()):
 def is_for_screens(media):
     """Whether a list of media has screens without a condition."""
     return any(" ".join(each.lower().split()) in TAKEN_MEDIA for each in media.split(","))
+
+
+def is_css(element):
+    """Whether an element holds or links CSS, by its type."""
+    return (element.get("type") or "text/css").partition(";")[0].strip().lower() == "text/css"
 
 
 def is_sheet(element):

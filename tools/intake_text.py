@@ -87,9 +87,7 @@ class Characters:
         near = self.near(character)
         if near == "?" and character in REPEATS and self.mode == "near":
             near = self.repeated(character, before)
-        # What looks like a question mark has one for a near character.
-        kind = {"?": "by near ones" if character in LIKE_A_QUESTION else "by a question mark", "": "left out"}
-        self.losses.add(f"characters {kind.get(near, 'by near ones')}", shown(character))
+        self.losses.add(f"characters {kind_of(character, near)}", shown(character))
         return near
 
     def repeated(self, character, before):
@@ -113,6 +111,15 @@ class Characters:
         if CROSSINGS[0] <= character <= CROSSINGS[1]:
             return "+"
         return "" if unicodedata.category(character) in ("Mn", "Me", "Cf", "Cc") else "?"
+
+
+def kind_of(character, near):
+    """What happened to a character, in a word for a message."""
+    if near == unicodedata.normalize("NFD", character):
+        return "written as a letter and marks"
+    if near == "?" and character not in LIKE_A_QUESTION:
+        return "by a question mark"
+    return "by near ones" if near else "left out"
 
 
 def shown(character):
