@@ -55,7 +55,7 @@ class Intake:
             return [intake_boxes.HIDDEN]
         answer = self.judge.answer("sheet", sheet)
         if answer.startswith("refused TooManyRules"):
-            raise listing.InputError("more than 4,096 rules or 65,536 declarations, which the engine doesn't take; --no-sheets does without")
+            raise listing.InputError("more than 4,096 rules or 65,536 declarations in its sheets; --no-sheets leaves them out")
         if answer.startswith("refused "):
             raise listing.InputError(f"its sheet is refused: {answer}")
         return intake_boxes.rules_of(answer)

@@ -28,7 +28,7 @@ TAG = re.compile(r"<[A-Za-z!?]")
 ENTITIES = "".join(f'<!ENTITY {name} "&#{code};">' for name, code in html.entities.name2codepoint.items() if code > 62)
 MARKS = ((b"\xef\xbb\xbf", "utf-8"), (b"\xff\xfe", "utf-16le"), (b"\xfe\xff", "utf-16be"))
 CHAPTER_TYPES = ("application/xhtml+xml", "text/html")
-# A chapter or a sheet of a book that is larger isn't read: a small file may claim to hold anything.
+# A chapter or a sheet that is larger isn't read: a small book may claim to hold anything.
 LARGEST_PART = 1 << 26
 
 
@@ -120,9 +120,12 @@ class FolderBeside:
         self.folder = folder
 
     def read(self, path):
-        """The bytes of a file, or nothing where there is none."""
+        """The bytes of a file, or nothing where there is none. A page may name anything, also what never ends."""
+        found = os.path.join(self.folder, path)
         try:
-            with open(os.path.join(self.folder, path), "rb") as file:
+            if not os.path.isfile(found) or os.path.getsize(found) > LARGEST_PART:
+                return None
+            with open(found, "rb") as file:
                 return file.read()
         except (OSError, ValueError):
             return None

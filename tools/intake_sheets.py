@@ -85,7 +85,7 @@ class Judge:
             return
         lines = "".join(f"{reader} 0 {text.encode('utf-8', 'replace').hex() or '-'}\n" for text in new)
         try:
-            ran = subprocess.run([self.program], input=lines, capture_output=True, text=True, check=True)
+            ran = subprocess.run([self.program], input=lines, capture_output=True, encoding="utf-8", check=True)
         except OSError:
             # It would be missing for each page, so the tool ends here.
             sys.exit(f"take-in: {MISSING.format(self.program)}")
@@ -122,13 +122,14 @@ class Sheets:
     def collect(self, tree, beside):
         """The rules of all sheets of a page, in their order."""
         for element in tree.iter():
-            name = local(element)
-            if not is_css(element):
-                continue
-            if name == "style" and self.for_screens(element.get("media")):
-                self.take(tinycss2.parse_stylesheet("".join(element.itertext()), True, True), beside, 0)
-            elif name == "link" and is_sheet(element) and self.for_screens(element.get("media")):
-                self.take_file(element.get("href") or "", beside, 0)
+            if is_sheet(element) and self.for_screens(element.get("media")):
+                self.take_element(element, beside)
+
+    def take_element(self, element, beside):
+        if local(element) == "style":
+            self.take(tinycss2.parse_stylesheet("".join(element.itertext()), True, True), beside, 0)
+        else:
+            self.take_file(element.get("href") or "", beside, 0)
 
     def for_screens(self, media):
         taken = is_for_screens(media or "")
@@ -145,7 +146,7 @@ class Sheets:
             self.losses.add("sheets left out", "imported too deep")
         else:
             rules, _ = tinycss2.parse_stylesheet_bytes(data, skip_comments=True, skip_whitespace=True)
-            self.take(rules, beside_sheet(beside, path), depth)
+            self.take(rules, BesideSheet(beside, os.path.dirname(path)), depth)
 
     # The parts of a sheet.
 
@@ -275,23 +276,16 @@ def is_for_screens(media):
     return any(" ".join(each.lower().split()) in TAKEN_MEDIA for each in media.split(","))
 
 
-def is_css(element):
-    """Whether an element holds or links CSS, by its type."""
-    return (element.get("type") or "text/css").partition(";")[0].strip().lower() == "text/css"
-
-
 def is_sheet(element):
+    """Whether an element holds or links a sheet of CSS that counts unless a reader chooses another."""
+    if (element.get("type") or "text/css").partition(";")[0].strip().lower() != "text/css":
+        return False
     words = (element.get("rel") or "").lower().split()
-    return "stylesheet" in words and "alternate" not in words
-
-
-def beside_sheet(beside, path):
-    """What stands beside a sheet: a path in it is meant from the sheet on."""
-    return BesideSheet(beside, os.path.dirname(path))
+    return local(element) == "style" or local(element) == "link" and "stylesheet" in words and "alternate" not in words
 
 
 class BesideSheet:
-    """Files beside a sheet."""
+    """Files beside a sheet: a path in it is meant from the sheet on."""
 
     def __init__(self, beside, folder):
         self.beside = beside

@@ -182,8 +182,7 @@ class Builder:
     def drop(self, name, attributes):
         """Leaves an element out with all in it; of a drawing its words are kept."""
         if not self.dropped and name == "svg":
-            self.losses.add("pictures by their words", "svg")
-            self.put(attributes.get("aria-label", ""))
+            self.words(name, attributes)
         elif not self.dropped and name not in UNSAID:
             self.losses.add("elements left out", name)
         self.dropped += 1
@@ -195,9 +194,13 @@ class Builder:
         self.open.append(Open(self.body, element.tag))
 
     def picture(self, name, attributes):
-        words = attributes.get("alt", "")
-        self.losses.add("pictures by their words" if words.strip() else "pictures left out", "img")
+        self.words(name, attributes)
         self.open.append(Open(self.current(), name))
+
+    def words(self, name, attributes):
+        """Puts the words that a picture has in its place."""
+        words = attributes.get("alt", "")
+        self.losses.add("pictures by their words" if words.strip() else "pictures left out", name)
         self.put(words)
 
     def unwrap(self, name, attributes):
@@ -326,7 +329,13 @@ def attributes_of(element):
             name = "lang"
         if isinstance(name, str) and not name.startswith("{"):
             found.setdefault(name.lower(), value)
-    return found
+    return found | {"alt": drawing_words(element, found)} if local(element) == "svg" else found
+
+
+def drawing_words(element, attributes):
+    """The words of a drawing: its label, or its title."""
+    titles = ("".join(child.itertext()) for child in element if local(child) == "title")
+    return attributes.get("aria-label") or next(titles, "")
 
 
 def looks_like(name, value):
