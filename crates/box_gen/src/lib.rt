@@ -10,7 +10,9 @@ mod role;
 mod run;
 mod tree;
 
+pub use caught::lesser;
 pub use error::BoxError;
 pub use generate::boxes;
-pub use orthogonal::too_many_orthogonal;
+pub use orthogonal::{MOST_ORTHOGONAL, too_many_orthogonal, turns_in};
+pub use role::{Role, role_of_break, role_of_element};
 pub use tree::{BoxNode, BoxTree, BoxTrees, Content};

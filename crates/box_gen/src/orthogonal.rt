@@ -13,7 +13,7 @@ use style_types::StyledNode;
 use wm_modes::WritingMode;
 
 /// How many boxes on a line of ancestors may be orthogonal to their containing blocks.
-const MOST_ORTHOGONAL: u32 = 6;
+pub const MOST_ORTHOGONAL: u32 = 6;
 
 /// The least number of a node whose box has, with itself, more than six boxes above that are orthogonal to their containing
 /// blocks; `None` exactly where there is no such box. Takes no memory.
@@ -52,8 +52,9 @@ fn least_past_at(node: &StyledNode, mode: WritingMode, turns: u32) -> Option<u32
     }
 }
 
-// How many there are with a box of its own mode.
-fn turns_in(mode: WritingMode, own: WritingMode, turns: u32) -> u32
+/// How many boxes are orthogonal to their containing blocks with a box of its own mode, where with its containing block of this
+/// mode so many are; seven stand for more.
+pub fn turns_in(mode: WritingMode, own: WritingMode, turns: u32) -> u32
     requires { turns ≤ 7 }
     ensures value { result ≡ rule.turns_in mode own turns }
     ensures most { result ≤ 7 }

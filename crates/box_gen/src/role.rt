@@ -30,7 +30,8 @@ pub fn role_of(node: &StyledNode) -> Role
     }
 }
 
-fn role_of_break(display: Display) -> Role
+/// What a line break of this display is.
+pub fn role_of_break(display: Display) -> Role
     ensures { result ≡ code_of (role_by display line_break) }
 {
     if display == Display::Hidden {
@@ -40,7 +41,8 @@ fn role_of_break(display: Display) -> Role
     }
 }
 
-fn role_of_element(display: Display) -> Role
+/// What an element of this display is.
+pub fn role_of_element(display: Display) -> Role
     ensures { result ≡ code_of (element_role display) }
 {
     match display {

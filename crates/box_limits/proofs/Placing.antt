@@ -1,6 +1,6 @@
 -- Where nodes stand, from the node that they stand in.
-use Rattle.std.proofs.Common.{◌≡◌, ◌∙◌, ◌⊎◌, ℕ, zero, suc, ◌-◌, ◌<◌, true, false, List, [], ◌∷◌, refl, ap, sym, subst, arith, Option, Some, None, option_map, inl, inr}
-use Rattle.std.specs.Prelude.{unwrap_or, option_and_then, IsSome}
+use Rattle.std.proofs.Common.{◌≡◌, ◌∙◌, ◌⊎◌, ℕ, zero, suc, ◌-◌, ◌<◌, Bool, true, false, List, [], ◌∷◌, refl, ap, sym, subst, arith, Option, Some, None, option_map, inl, inr}
+use Rattle.std.specs.Prelude.{◌&&◌, unwrap_or, option_and_then, IsSome}
 use Rattle.std.proofs.lemmas.Option.{none-some}
 use Rattle.std.specs.Borrow.{Bor}
 use Rattle.style_types.specs.declared.style.Style.{Style}
@@ -11,10 +11,11 @@ use Rattle.dom_store.specs.Standing.{children_at, parent_at}
 use Rattle.tree_laws.specs.Reached.{IsAtLevel}
 use Rattle.style_tree.specs.Styling.{body_style, style_at}
 use Rattle.box_gen.specs.Boxes.{Role, atom, block_level, inline_box, line_break, nothing, words}
-use Rattle.box_limits.specs.declared.role.Role as code_role
-use Rattle.box_limits.specs.declared.role.Role.TheVariants as code_roles
+use Rattle.box_gen.specs.declared.role.Role as code_role
+use Rattle.box_gen.specs.declared.role.Role.TheVariants as code_roles
+use Rattle.box_gen.specs.Building.{code_of}
 use Rattle.box_limits.specs.Lines.{Site, container_at, outside, site_by, site_in, site_on, style_on}
-use Rattle.box_limits.specs.Judging.{IsTree, code_of, site_of_body}
+use Rattle.box_limits.specs.Judging.{IsTree, site_of_body, tests_caught}
 use Rattle.box_limits.proofs.Among.{IsIn, found}
 use Rattle.box_limits.proofs.Judged.{body, body_site_is, html_children}
 use Rattle.box_limits.proofs.Levels.{child_line, line_is, no_line}
@@ -29,41 +30,85 @@ hidden_at style site = record { style = style; mode = site.mode; turns = site.tu
 abbrev inline_at : Style → Site → Site
 inline_at style site = record { style = style; mode = site.mode; turns = site.turns; inside = true; shown = site.shown }
 
-pub as_nothing : (role : Role) (style : Style) (site : Site) (code : code_role.Role) → code ≡ code_of role → code ≡ code_roles.Nothing → hidden_at style site ≡ site_by role style site
-as_nothing nothing style site code is so = refl
-as_nothing (words letters) style site code is so = refl
-as_nothing line_break style site code is so = refl
-as_nothing inline_box style site code is so = absurd (let other : code_roles.InlineBox ≡ code_roles.Nothing = sym is ∙ so in cc)
-as_nothing atom style site code is so = absurd (let other : code_roles.Atom ≡ code_roles.Nothing = sym is ∙ so in cc)
-as_nothing block_level style site code is so = absurd (let other : code_roles.BlockLevel ≡ code_roles.Nothing = sym is ∙ so in cc)
+abbrev is_empty : code_role.Role → Bool
+is_empty code_roles.Nothing = true
+is_empty code_roles.Words = true
+is_empty code_roles.LineBreak = true
+is_empty code_roles.InlineBox = false
+is_empty code_roles.Atom = false
+is_empty code_roles.BlockLevel = false
 
-pub as_inline : (role : Role) (style : Style) (site : Site) (code : code_role.Role) → code ≡ code_of role → code ≡ code_roles.InlineBox → inline_at style site ≡ site_by role style site
-as_inline nothing style site code is so = absurd (let other : code_roles.Nothing ≡ code_roles.InlineBox = sym is ∙ so in cc)
-as_inline (words letters) style site code is so = absurd (let other : code_roles.Nothing ≡ code_roles.InlineBox = sym is ∙ so in cc)
-as_inline line_break style site code is so = absurd (let other : code_roles.Nothing ≡ code_roles.InlineBox = sym is ∙ so in cc)
-as_inline inline_box style site code is so = refl
-as_inline atom style site code is so = absurd (let other : code_roles.Atom ≡ code_roles.InlineBox = sym is ∙ so in cc)
-as_inline block_level style site code is so = absurd (let other : code_roles.BlockLevel ≡ code_roles.InlineBox = sym is ∙ so in cc)
+abbrev is_container : code_role.Role → Bool
+is_container code_roles.Nothing = false
+is_container code_roles.Words = false
+is_container code_roles.LineBreak = false
+is_container code_roles.InlineBox = false
+is_container code_roles.Atom = true
+is_container code_roles.BlockLevel = true
 
-as_atom : (role : Role) (style : Style) (site : Site) → code_roles.Atom ≡ code_of role → container_at style site ≡ site_by role style site
-as_atom nothing style site is = absurd cc
-as_atom (words letters) style site is = absurd cc
-as_atom line_break style site is = absurd cc
-as_atom inline_box style site is = absurd cc
-as_atom atom style site is = refl
-as_atom block_level style site is = refl
+abbrev is_block : code_role.Role → Bool
+is_block code_roles.Nothing = false
+is_block code_roles.Words = false
+is_block code_roles.LineBreak = false
+is_block code_roles.InlineBox = false
+is_block code_roles.Atom = false
+is_block code_roles.BlockLevel = true
 
-as_block : (role : Role) (style : Style) (site : Site) → code_roles.BlockLevel ≡ code_of role → container_at style site ≡ site_by role style site
-as_block nothing style site is = absurd cc
-as_block (words letters) style site is = absurd cc
-as_block line_break style site is = absurd cc
-as_block inline_box style site is = absurd cc
-as_block atom style site is = refl
-as_block block_level style site is = refl
+empty_by : (role : Role) (style : Style) (site : Site) → is_empty (code_of role) ≡ true → hidden_at style site ≡ site_by role style site
+empty_by nothing style site so = refl
+empty_by (words letters) style site so = refl
+empty_by line_break style site so = refl
+empty_by inline_box style site so = absurd cc
+empty_by atom style site so = absurd cc
+empty_by block_level style site so = absurd cc
 
-pub as_container : (role : Role) (style : Style) (site : Site) (code : code_role.Role) → code ≡ code_of role → (code ≡ code_roles.Atom) ⊎ (code ≡ code_roles.BlockLevel) → container_at style site ≡ site_by role style site
-as_container role style site code is (inl so) = as_atom role style site (sym so ∙ is)
-as_container role style site code is (inr so) = as_block role style site (sym so ∙ is)
+container_by : (role : Role) (style : Style) (site : Site) → is_container (code_of role) ≡ true → container_at style site ≡ site_by role style site
+container_by nothing style site so = absurd cc
+container_by (words letters) style site so = absurd cc
+container_by line_break style site so = absurd cc
+container_by inline_box style site so = absurd cc
+container_by atom style site so = refl
+container_by block_level style site so = refl
+
+inline_by : (role : Role) (style : Style) (site : Site) → code_roles.InlineBox ≡ code_of role → inline_at style site ≡ site_by role style site
+inline_by nothing style site is = absurd cc
+inline_by (words letters) style site is = absurd cc
+inline_by line_break style site is = absurd cc
+inline_by inline_box style site is = refl
+inline_by atom style site is = absurd cc
+inline_by block_level style site is = absurd cc
+
+never : (is : Bool) → false ≡ (is && false)
+never true = refl
+never false = refl
+
+uncaught_by : (role : Role) (style : Style) (site : Site) → is_block (code_of role) ≡ false → false ≡ tests_caught role style site
+uncaught_by nothing style site so = never site.shown
+uncaught_by (words letters) style site so = never site.shown
+uncaught_by line_break style site so = never site.shown
+uncaught_by inline_box style site so = never site.shown
+uncaught_by atom style site so = never site.shown
+uncaught_by block_level style site so = absurd cc
+
+module _ (role : Role) (style : Style) (site : Site) (code : code_role.Role) (is : code ≡ code_of role) where
+  pub uncaught : (code ≡ code_roles.Nothing) ⊎ ((code ≡ code_roles.Words) ⊎ ((code ≡ code_roles.LineBreak) ⊎ ((code ≡ code_roles.InlineBox) ⊎ (code ≡ code_roles.Atom)))) → false ≡ tests_caught role style site
+  uncaught (inl so) = uncaught_by role style site (sym (ap is_block is) ∙ ap is_block so)
+  uncaught (inr (inl so)) = uncaught_by role style site (sym (ap is_block is) ∙ ap is_block so)
+  uncaught (inr (inr (inl so))) = uncaught_by role style site (sym (ap is_block is) ∙ ap is_block so)
+  uncaught (inr (inr (inr (inl so)))) = uncaught_by role style site (sym (ap is_block is) ∙ ap is_block so)
+  uncaught (inr (inr (inr (inr so)))) = uncaught_by role style site (sym (ap is_block is) ∙ ap is_block so)
+
+  pub as_empty : (code ≡ code_roles.Nothing) ⊎ ((code ≡ code_roles.Words) ⊎ (code ≡ code_roles.LineBreak)) → hidden_at style site ≡ site_by role style site
+  as_empty (inl so) = empty_by role style site (sym (ap is_empty is) ∙ ap is_empty so)
+  as_empty (inr (inl so)) = empty_by role style site (sym (ap is_empty is) ∙ ap is_empty so)
+  as_empty (inr (inr so)) = empty_by role style site (sym (ap is_empty is) ∙ ap is_empty so)
+
+  pub as_inline : code ≡ code_roles.InlineBox → inline_at style site ≡ site_by role style site
+  as_inline so = inline_by role style site (sym so ∙ is)
+
+  pub as_container : (code ≡ code_roles.Atom) ⊎ (code ≡ code_roles.BlockLevel) → container_at style site ≡ site_by role style site
+  as_container (inl so) = container_by role style site (sym (ap is_container is) ∙ ap is_container so)
+  as_container (inr so) = container_by role style site (sym (ap is_container is) ∙ ap is_container so)
 
 -- ---- the node that was found
 

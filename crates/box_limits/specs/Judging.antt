@@ -11,25 +11,15 @@ use Rattle.dom_store.specs.Standing.{children_at, lives}
 use Rattle.tree_laws.specs.Reached.{IsAtLevel, IsReached}
 use Rattle.tree_laws.specs.Wholeness.{IsWhole}
 use Rattle.style_tree.specs.Styling.{styled_document}
-use Rattle.box_gen.specs.Boxes.{Role, atom, block_level, caught, inline_box, line_break, nothing, root_caught, words}
+use Rattle.box_gen.specs.Boxes.{Role, caught, root_caught}
 use Rattle.box_gen.specs.Building.{least, lesser}
 use Rattle.box_gen.specs.Orthogonal.{IsLeastOf, past, root_past}
 use Rattle.box_limits.specs.declared.found.Found.{Found}
-use Rattle.box_limits.specs.declared.role.Role as code_role
-use Rattle.box_limits.specs.declared.role.Role.TheVariants as code_roles
 use Rattle.box_limits.specs.declared.site.Site as code_site
 use Rattle.box_limits.specs.Limits.{IsLeastWhere, all_below}
 use Rattle.box_limits.specs.Lines.{Site, is_caught, is_caught_by, is_past, is_past_by}
 
 -- ---- what the code has of it
-
-abbrev pub code_of : Role → code_role.Role
-code_of nothing = code_roles.Nothing
-code_of (words letters) = code_roles.Nothing
-code_of line_break = code_roles.Nothing
-code_of inline_box = code_roles.InlineBox
-code_of atom = code_roles.Atom
-code_of block_level = code_roles.BlockLevel
 
 abbrev pub site_of : code_site.Site → Site
 site_of site = record { style = site.style; mode = site.mode; turns = site.turns; inside = site.inside; shown = site.shown }

@@ -22,6 +22,7 @@ use dom_store::laws::accepted_edits_keep_roots;
 use dom_store::{Document, Edit};
 use html_read::ReadNode;
 use std::alloc::{AllocError, Global};
+use style_tree::Styling;
 use tree_laws::laws::{accepted_edits_keep_documents_reached, accepted_edits_keep_documents_whole};
 
 /// Whether the boxes of a document are within the limits after this edit, where they were before it. Looks at the nodes on which
@@ -38,7 +39,9 @@ pub fn check_edited(
     requires edited { (state : State) × IsEditedFrom (index_rules rules.now) (edit_of edit.now) (state_of document.now) state }
     ensures { Answers (index_rules rules.now) (state_of document.now) result }
 {
-    let judging = Judging { document, rules };
+    let judging = Judging {
+        styling: Styling { document, rules },
+    };
     let found = judging.edited(alloc, edit)?;
     match (found.past, found.caught) {
         (Some(number), _) => Err(LimitError::TooManyOrthogonal(number)),
@@ -50,10 +53,10 @@ pub fn check_edited(
 impl<'a> Judging<'a> {
     // Of all nodes those that break a limit after this edit.
     fn edited(&self, alloc: Global, edit: &Edit) -> Result<Found, AllocError>
-        requires rules { AreSaidRules (index_rules self.now.rules.now) }
-        requires own { IsSaidState (state_of self.now.document.now) }
-        requires edited { (state : State) × IsEditedFrom (index_rules self.now.rules.now) (edit_of edit.now) (state_of self.now.document.now) state }
-        ensures { IfOk result (λ found. FindsAll (index_rules self.now.rules.now) (state_of self.now.document.now) found) }
+        requires rules { AreSaidRules (index_rules self.now.styling.rules.now) }
+        requires own { IsSaidState (state_of self.now.styling.document.now) }
+        requires edited { (state : State) × IsEditedFrom (index_rules self.now.styling.rules.now) (edit_of edit.now) (state_of self.now.styling.document.now) state }
+        ensures { IfOk result (λ found. FindsAll (index_rules self.now.styling.rules.now) (state_of self.now.styling.document.now) found) }
     {
         edits_are_judged_by_their_parts();
         accepted_edits_keep_roots();
@@ -79,11 +82,11 @@ impl<'a> Judging<'a> {
 
     // Where the others break no limit, of all nodes those that do, after the node of this number was changed.
     fn changed(&self, alloc: Global, number: u32) -> Result<Found, AllocError>
-        requires tree { IsTree (state_of self.now.document.now) }
-        requires rules { AreSaidRules (index_rules self.now.rules.now) }
-        requires own { IsSaidState (state_of self.now.document.now) }
-        ensures { IfOk result (λ found. AreCovered (index_rules self.now.rules.now) (state_of self.now.document.now) (all_below (state_of self.now.document.now) (number ∷ []))
-            → FindsAll (index_rules self.now.rules.now) (state_of self.now.document.now) found) }
+        requires tree { IsTree (state_of self.now.styling.document.now) }
+        requires rules { AreSaidRules (index_rules self.now.styling.rules.now) }
+        requires own { IsSaidState (state_of self.now.styling.document.now) }
+        ensures { IfOk result (λ found. AreCovered (index_rules self.now.styling.rules.now) (state_of self.now.styling.document.now) (all_below (state_of self.now.styling.document.now) (number ∷ []))
+            → FindsAll (index_rules self.now.styling.rules.now) (state_of self.now.styling.document.now) found) }
     {
         if number <= BODY {
             let found = self.below_body(alloc)?;
@@ -98,12 +101,12 @@ impl<'a> Judging<'a> {
 
     // Of all nodes those that break a limit.
     fn below_body(&self, alloc: Global) -> Result<Found, AllocError>
-        requires tree { IsTree (state_of self.now.document.now) }
-        requires rules { AreSaidRules (index_rules self.now.rules.now) }
-        requires own { IsSaidState (state_of self.now.document.now) }
-        ensures { IfOk result (λ found. FindsAll (index_rules self.now.rules.now) (state_of self.now.document.now) found) }
+        requires tree { IsTree (state_of self.now.styling.document.now) }
+        requires rules { AreSaidRules (index_rules self.now.styling.rules.now) }
+        requires own { IsSaidState (state_of self.now.styling.document.now) }
+        ensures { IfOk result (λ found. FindsAll (index_rules self.now.styling.rules.now) (state_of self.now.styling.document.now) found) }
     {
-        let body = self.document.node(BODY).unwrap();
+        let body = self.styling.document.node(BODY).unwrap();
         let found = self.children(alloc, BODY, &body.children)?;
         Ok(found)
     }
@@ -116,12 +119,12 @@ impl<'a> Judging<'a> {
         index: usize,
         count: usize,
     ) -> Result<Found, AllocError>
-        requires tree { IsTree (state_of self.now.document.now) }
-        requires rules { AreSaidRules (index_rules self.now.rules.now) }
-        requires own { IsSaidState (state_of self.now.document.now) }
-        requires below { (level : ℕ) × IsAtLevel (state_of self.now.document.now) (level + 1) parent }
-        requires within { index + count ≤ length (children_at (state_of self.now.document.now) parent) }
-        ensures { IfOk result (λ found. FindsBelow (index_rules self.now.rules.now) (state_of self.now.document.now) (take count (drop index (children_at (state_of self.now.document.now) parent))) found) }
+        requires tree { IsTree (state_of self.now.styling.document.now) }
+        requires rules { AreSaidRules (index_rules self.now.styling.rules.now) }
+        requires own { IsSaidState (state_of self.now.styling.document.now) }
+        requires below { (level : ℕ) × IsAtLevel (state_of self.now.styling.document.now) (level + 1) parent }
+        requires within { index + count ≤ length (children_at (state_of self.now.styling.document.now) parent) }
+        ensures { IfOk result (λ found. FindsBelow (index_rules self.now.styling.rules.now) (state_of self.now.styling.document.now) (take count (drop index (children_at (state_of self.now.styling.document.now) parent))) found) }
     {
         let numbers = self.children_of(parent);
         let found = self.children(alloc, parent, &numbers[index..index + count])?;
@@ -130,9 +133,9 @@ impl<'a> Judging<'a> {
 
     // The node's children, none where no such node lives.
     fn children_of(&self, number: u32) -> &[u32]
-        ensures { result.now ≡ children_at (state_of self.now.document.now) number }
+        ensures { result.now ≡ children_at (state_of self.now.styling.document.now) number }
     {
-        match self.document.node(number) {
+        match self.styling.document.node(number) {
             Some(node) => &node.children,
             None => &[],
         }
@@ -140,9 +143,9 @@ impl<'a> Judging<'a> {
 
     // The node's parent, where the node lives and has one.
     fn parent(&self, number: u32) -> Option<u32>
-        ensures { result ≡ parent_at (state_of self.now.document.now) number }
+        ensures { result ≡ parent_at (state_of self.now.styling.document.now) number }
     {
-        self.document.node(number)?.parent
+        self.styling.document.node(number)?.parent
     }
 }
 

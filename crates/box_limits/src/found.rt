@@ -1,8 +1,9 @@
 //! The least numbers of nodes that break a limit.
 
 ghost use Rattle.std.specs.Prelude.{◌≡◌};
-ghost use Rattle.box_gen.specs.Building as building;
 ghost use Rattle.box_limits.specs.Judging as definitions;
+
+use box_gen::lesser;
 
 /// Of some nodes the least number of one that breaks each limit.
 #[derive(Clone, Copy)]
@@ -49,14 +50,4 @@ fn number_if(is: bool, number: u32) -> Option<u32>
     ensures { result ≡ definitions.number_if is number }
 {
     if is { Some(number) } else { None }
-}
-
-fn lesser(one: Option<u32>, other: Option<u32>) -> Option<u32>
-    ensures { result ≡ building.lesser one other }
-{
-    match (one, other) {
-        (Some(a), Some(b)) => Some(a.min(b)),
-        (Some(a), None) => Some(a),
-        (None, other) => other,
-    }
 }

@@ -1,7 +1,6 @@
 //! Nodes are judged, with all below them (CSS 2, 9.2.1.1; CSS Writing Modes 4, 7.3).
 
 ghost use Rattle.std.specs.Prelude.{◌≡◌, IfOk};
-ghost use Rattle.style_types.specs.Style.{IsBounded};
 ghost use Rattle.style_types.specs.Tree as trees;
 ghost use Rattle.dom_store.specs.State.{IsSaidState, state_of, tree_to, what_of};
 ghost use Rattle.cascade.specs.Index.{index_rules};
@@ -12,46 +11,20 @@ ghost use Rattle.box_limits.specs.Judging.{AreInside, FindsBelow, IsFit, IsTree,
 
 use crate::found::Found;
 use crate::site::Site;
-use cascade::RuleIndex;
-use computed::compute;
-use dom_store::{Document, Node, NodeKind};
+use dom_store::Node;
 use std::alloc::{AllocError, Global};
-use style_types::Style;
+use style_tree::Styling;
 
 // No node is deeper.
 const GREATEST_DEPTH: usize = 64;
 
-/// A document, and the rules that its nodes are styled by.
+/// A document, of which the boxes are judged by the styles of its nodes.
 #[derive(Clone, Copy)]
 pub(crate) struct Judging<'a> {
-    pub document: &'a Document,
-    pub rules: &'a RuleIndex,
+    pub styling: Styling<'a>,
 }
 
 impl<'a> Judging<'a> {
-    /// The style of the node of this number.
-    pub(crate) fn own_style(
-        &self,
-        alloc: Global,
-        number: u32,
-        node: &Node,
-        parent: &Style,
-    ) -> Result<Style, AllocError>
-        requires rules { AreSaidRules (index_rules self.now.rules.now) }
-        requires own { IsSaidState (state_of self.now.document.now) }
-        requires parent { IsBounded parent.now }
-        ensures style { IfOk result (λ style. style ≡ styling.style_at (index_rules self.now.rules.now) (state_of self.now.document.now) number (what_of node.now.kind) parent.now) }
-        ensures bounded { IfOk result (λ style. IsBounded style) }
-    {
-        match node.kind {
-            NodeKind::Element { .. } => {
-                let winners = self.rules.winners(alloc, self.document, number, parent)?;
-                Ok(compute(parent, &winners))
-            }
-            NodeKind::Text { .. } => Ok(*parent),
-        }
-    }
-
     // What is found of a node that stands there, and of all inside it, down to a depth.
     #[cycle(node)]
     fn node(
@@ -62,13 +35,13 @@ impl<'a> Judging<'a> {
         site: &Site,
         depth: usize,
     ) -> Result<Found, AllocError>
-        requires rules { AreSaidRules (index_rules self.now.rules.now) }
-        requires own { IsSaidState (state_of self.now.document.now) }
+        requires rules { AreSaidRules (index_rules self.now.styling.rules.now) }
+        requires own { IsSaidState (state_of self.now.styling.document.now) }
         requires site { IsFit site.now }
         ensures { IfOk result (λ found. found ≡ found_from (site_of site.now)
-            (styling.styled_one (index_rules self.now.rules.now) (state_of self.now.document.now) site.now.style number (what_of node.now.kind) (tree_to depth (state_of self.now.document.now) node.now.children.items) trees.none)) }
+            (styling.styled_one (index_rules self.now.styling.rules.now) (state_of self.now.styling.document.now) site.now.style number (what_of node.now.kind) (tree_to depth (state_of self.now.styling.document.now) node.now.children.items) trees.none)) }
     {
-        let style = self.own_style(alloc, number, node, &site.style)?;
+        let style = self.styling.own_style(alloc, number, node, &site.style)?;
         let past = site.is_past(&node.kind, &style);
         let caught = site.is_caught(&node.kind, &style);
         let inside = site.in_node(&node.kind, &style);
@@ -85,17 +58,17 @@ impl<'a> Judging<'a> {
         site: &Site,
         depth: usize,
     ) -> Result<Found, AllocError>
-        requires rules { AreSaidRules (index_rules self.now.rules.now) }
-        requires own { IsSaidState (state_of self.now.document.now) }
+        requires rules { AreSaidRules (index_rules self.now.styling.rules.now) }
+        requires own { IsSaidState (state_of self.now.styling.document.now) }
         requires site { IsFit site.now }
-        ensures { IfOk result (λ found. found ≡ found_from (site_of site.now) (styled_in (index_rules self.now.rules.now) (state_of self.now.document.now) site.now.style (tree_to depth (state_of self.now.document.now) numbers.now))) }
+        ensures { IfOk result (λ found. found ≡ found_from (site_of site.now) (styled_in (index_rules self.now.styling.rules.now) (state_of self.now.styling.document.now) site.now.style (tree_to depth (state_of self.now.styling.document.now) numbers.now))) }
     {
         let mut found = Found::nothing();
         if depth == 0 {
             return Ok(found);
         }
         for number in numbers {
-            if let Some(node) = self.document.node(*number) {
+            if let Some(node) = self.styling.document.node(*number) {
                 found = found.and(self.node(alloc, *number, node, site, depth - 1)?);
             }
         }
@@ -110,11 +83,11 @@ impl<'a> Judging<'a> {
         parent: u32,
         numbers: &[u32],
     ) -> Result<Found, AllocError>
-        requires tree { IsTree (state_of self.now.document.now) }
-        requires rules { AreSaidRules (index_rules self.now.rules.now) }
-        requires own { IsSaidState (state_of self.now.document.now) }
-        requires inside { AreInside (state_of self.now.document.now) parent numbers.now }
-        ensures { IfOk result (λ found. FindsBelow (index_rules self.now.rules.now) (state_of self.now.document.now) numbers.now found) }
+        requires tree { IsTree (state_of self.now.styling.document.now) }
+        requires rules { AreSaidRules (index_rules self.now.styling.rules.now) }
+        requires own { IsSaidState (state_of self.now.styling.document.now) }
+        requires inside { AreInside (state_of self.now.styling.document.now) parent numbers.now }
+        ensures { IfOk result (λ found. FindsBelow (index_rules self.now.styling.rules.now) (state_of self.now.styling.document.now) numbers.now found) }
     {
         let site = self.site(alloc, parent, GREATEST_DEPTH)?;
         let found = self.nodes(alloc, numbers, &site, GREATEST_DEPTH)?;

@@ -5,18 +5,15 @@ ghost use Rattle.style_types.specs.Style.{IsBounded};
 ghost use Rattle.dom_store.specs.State.{what_of};
 ghost use Rattle.style_tree.specs.Styling.{kind_of};
 ghost use Rattle.box_gen.specs.Boxes as boxes;
-ghost use Rattle.box_gen.specs.Orthogonal as orthogonal;
 ghost use Rattle.box_limits.specs.Lines as lines;
 ghost use Rattle.box_limits.specs.Judging as definitions;
 ghost use Rattle.box_limits.specs.Judging.{IsFit, site_of};
 
-use crate::role::{Role, role_of};
+use crate::role::role_of;
+use box_gen::{MOST_ORTHOGONAL, Role, turns_in};
 use dom_store::NodeKind;
 use style_types::Style;
 use wm_modes::WritingMode;
-
-/// How many boxes on a line of ancestors may be orthogonal to their containing blocks.
-const MOST_ORTHOGONAL: u32 = 6;
 
 /// Where those nodes stand that are in an element.
 #[derive(Clone, Copy)]
@@ -72,7 +69,7 @@ impl Site {
         ensures fit { IsFit result }
     {
         match role_of(kind, style) {
-            Role::Nothing => Site {
+            Role::Nothing | Role::Words | Role::LineBreak => Site {
                 style: *style,
                 shown: false,
                 ..*self
@@ -96,22 +93,9 @@ impl Site {
         Site {
             style: *style,
             mode: style.mode,
-            turns: self.turns_with(style.mode),
+            turns: turns_in(self.mode, style.mode, self.turns),
             inside: false,
             shown: self.shown,
-        }
-    }
-
-    // How many are orthogonal with a box of this mode that stands here.
-    fn turns_with(&self, mode: WritingMode) -> u32
-        requires { self.now.turns ≤ 7 }
-        ensures value { result ≡ orthogonal.turns_in self.now.mode mode self.now.turns }
-        ensures most { result ≤ 7 }
-    {
-        if self.mode.is_parallel(mode) {
-            self.turns
-        } else {
-            (self.turns + 1).min(7)
         }
     }
 
@@ -122,9 +106,9 @@ impl Site {
     {
         match role_of(kind, style) {
             Role::Atom | Role::BlockLevel => {
-                self.shown && self.turns_with(style.mode) > MOST_ORTHOGONAL
+                self.shown && turns_in(self.mode, style.mode, self.turns) > MOST_ORTHOGONAL
             }
-            Role::Nothing | Role::InlineBox => false,
+            Role::Nothing | Role::Words | Role::LineBreak | Role::InlineBox => false,
         }
     }
 
@@ -134,7 +118,7 @@ impl Site {
     {
         match role_of(kind, style) {
             Role::BlockLevel => self.shown && self.inside,
-            Role::Nothing | Role::InlineBox | Role::Atom => false,
+            Role::Nothing | Role::Words | Role::LineBreak | Role::InlineBox | Role::Atom => false,
         }
     }
 }

@@ -5,4 +5,4 @@ mod kind;
 mod root;
 mod styling;
 
-pub use styling::styled;
+pub use styling::{Styling, styled};

@@ -40,16 +40,16 @@ pub fn styled(
     Ok(root)
 }
 
-// A document, and the rules that its nodes are styled by.
+/// A document, and the rules that its nodes are styled by.
 #[derive(Clone, Copy)]
-struct Styling<'a> {
-    document: &'a Document,
-    rules: &'a RuleIndex,
+pub struct Styling<'a> {
+    pub document: &'a Document,
+    pub rules: &'a RuleIndex,
 }
 
 impl<'a> Styling<'a> {
-    // The computed style of `html`.
-    fn html_style(&self, alloc: Global) -> Result<Style, AllocError>
+    /// The computed style of `html`.
+    pub fn html_style(&self, alloc: Global) -> Result<Style, AllocError>
         requires rules { AreSaidRules (index_rules self.now.rules.now) }
         requires own { IsSaidState (state_of self.now.document.now) }
         ensures style { IfOk result (λ style. style ≡ definitions.html_style (index_rules self.now.rules.now) (state_of self.now.document.now)) }
@@ -60,8 +60,8 @@ impl<'a> Styling<'a> {
         Ok(compute(&parent, &winners))
     }
 
-    // The style of `body`.
-    fn body_style(&self, alloc: Global, html: &Style) -> Result<Style, AllocError>
+    /// The style of `body`, where `html` has this one.
+    pub fn body_style(&self, alloc: Global, html: &Style) -> Result<Style, AllocError>
         requires rules { AreSaidRules (index_rules self.now.rules.now) }
         requires own { IsSaidState (state_of self.now.document.now) }
         requires html { IsBounded html.now }
@@ -102,8 +102,8 @@ impl<'a> Styling<'a> {
         Ok(made)
     }
 
-    // The style of the node of this number.
-    fn own_style(
+    /// The style of the node of this number, of which the parent has this style.
+    pub fn own_style(
         &self,
         alloc: Global,
         number: u32,

@@ -8,7 +8,7 @@ use Rattle.box_limits.proofs.judging.Judging.+node.Goals.{nodes-in-Some+in_ok-no
 
 pub node-returns : goal.node-returns
 node-returns t c =
-    node_found (index_rules c.args.self.now.rules.now) (state_of c.args.self.now.document.now) c.args.number (what_of c.args.node.now.kind) c.args.node.now.children.items c.args.depth (site_of c.args.site.now) c.in_ok-style.style c.in_ok-style.ensures.style
+    node_found (index_rules c.args.self.now.styling.rules.now) (state_of c.args.self.now.styling.document.now) c.args.number (what_of c.args.node.now.kind) c.args.node.now.children.items c.args.depth (site_of c.args.site.now) c.in_ok-style.style c.in_ok-style.ensures.style
     c.is_past-past.result c.is_caught-caught.result c.is_past-past.ensures c.is_caught-caught.ensures (site_of c.in_node-inside.result) c.in_node-inside.ensures.value c.deref.result.now c.deref.ensures.value
     c.in_ok-below.below c.in_ok-below.ensures c.at.result c.and.result c.at.ensures c.and.ensures
 

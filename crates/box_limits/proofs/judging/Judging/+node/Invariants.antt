@@ -12,4 +12,4 @@ abbrev pub decreases-nodes : goal.decreases-nodes
 decreases-nodes l = 2 * l.depth
 
 abbrev pub invariant-nodes-loop-number : goal.invariant-nodes-loop-number
-invariant-nodes-loop-number l = IsGoing (index_rules l.self.rules.now) (state_of l.self.document.now) (site_of l.site) l.site.style l.numbers l.depth l.number-index l.found
+invariant-nodes-loop-number l = IsGoing (index_rules l.self.styling.rules.now) (state_of l.self.styling.document.now) (site_of l.site) l.site.style l.numbers l.depth l.number-index l.found

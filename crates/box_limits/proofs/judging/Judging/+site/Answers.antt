@@ -6,13 +6,13 @@ use Rattle.box_limits.proofs.judging.Judging.+site.Goals as goal
 
 pub returns-in_default-clause-site : goal.returns-in_default-clause-site
 returns-in_default-clause-site t c =
-    λ level at within. nowhere (index_rules c.args.self.now.rules.now) (state_of c.args.self.now.document.now) c.requires.tree c.args.number c.in_default.ensures _ c.outside-in_default.ensures.value
+    λ level at within. nowhere (index_rules c.args.self.now.styling.rules.now) (state_of c.args.self.now.styling.document.now) c.requires.tree c.args.number c.in_default.ensures _ c.outside-in_default.ensures.value
 
 pub returns-in_default-parent-clause-site : goal.returns-in_default-parent-clause-site
 returns-in_default-parent-clause-site t c =
-    λ level at within. nothing_above (index_rules c.args.self.now.rules.now) (state_of c.args.self.now.document.now) c.requires.tree c.args.number (entry_of c.in-Some.node.now) c.in-Some.ensures c.in_default-parent.is _ c.outside-in_default-parent.ensures.value
+    λ level at within. nothing_above (index_rules c.args.self.now.styling.rules.now) (state_of c.args.self.now.styling.document.now) c.requires.tree c.args.number (entry_of c.in-Some.node.now) c.in-Some.ensures c.in_default-parent.is _ c.outside-in_default-parent.ensures.value
 
 pub returns-clause-site : goal.returns-clause-site
 returns-clause-site t c =
-    site_placed (index_rules c.args.self.now.rules.now) (state_of c.args.self.now.document.now) c.requires.tree c.args.number c.in-Some-parent.parent c.args.most (entry_of c.in-Some.node.now) c.in-Some.ensures c.in-Some-parent.is
+    site_placed (index_rules c.args.self.now.styling.rules.now) (state_of c.args.self.now.styling.document.now) c.requires.tree c.args.number c.in-Some-parent.parent c.args.most (entry_of c.in-Some.node.now) c.in-Some.ensures c.in-Some-parent.is
     c.if-number-eq-BODY.false (site_of c.in_ok-above.above) c.in_ok-above.ensures.site c.in_ok-style.style c.in_ok-style.ensures.style _ c.in_node.ensures.value

@@ -7,10 +7,10 @@ use Rattle.box_limits.proofs.judging.Judging.below_body.Goals as goal
 
 pub children-requires-clause-inside : goal.children-requires-clause-inside
 children-requires-clause-inside c =
-    body_inside (index_rules c.args.self.now.rules.now) (state_of c.args.self.now.document.now) c.requires.tree c.deref.result.now
-    (c.deref.ensures.value ∙ children_found (state_of c.args.self.now.document.now) 1 c.node.result c.unwrap-body.result c.unwrap-body.ensures c.node.ensures)
+    body_inside (index_rules c.args.self.now.styling.rules.now) (state_of c.args.self.now.styling.document.now) c.requires.tree c.deref.result.now
+    (c.deref.ensures.value ∙ children_found (state_of c.args.self.now.styling.document.now) 1 c.node.result c.unwrap-body.result c.unwrap-body.ensures c.node.ensures)
 
 pub returns : goal.returns
 returns c =
-    all_from_body (index_rules c.args.self.now.rules.now) (state_of c.args.self.now.document.now) c.requires.tree c.deref.result.now
-    (c.deref.ensures.value ∙ children_found (state_of c.args.self.now.document.now) 1 c.node.result c.unwrap-body.result c.unwrap-body.ensures c.node.ensures) c.in_ok-found.found c.in_ok-found.ensures
+    all_from_body (index_rules c.args.self.now.styling.rules.now) (state_of c.args.self.now.styling.document.now) c.requires.tree c.deref.result.now
+    (c.deref.ensures.value ∙ children_found (state_of c.args.self.now.styling.document.now) 1 c.node.result c.unwrap-body.result c.unwrap-body.ensures c.node.ensures) c.in_ok-found.found c.in_ok-found.ensures

@@ -6,12 +6,12 @@ use Rattle.box_limits.proofs.judging.Judging.changed.Goals as goal
 
 pub returns-in_default : goal.returns-in_default
 returns-in_default c =
-    all_from (index_rules c.args.self.now.rules.now) (state_of c.args.self.now.document.now) c.requires.tree (c.args.number ∷ []) c.nothing.result
-    (nobody_found (index_rules c.args.self.now.rules.now) (state_of c.args.self.now.document.now) c.requires.tree c.args.number (omega (arith, c.if-number-le-BODY.false)) (sym c.in_default.ensures) c.nothing.result c.nothing.ensures)
+    all_from (index_rules c.args.self.now.styling.rules.now) (state_of c.args.self.now.styling.document.now) c.requires.tree (c.args.number ∷ []) c.nothing.result
+    (nobody_found (index_rules c.args.self.now.styling.rules.now) (state_of c.args.self.now.styling.document.now) c.requires.tree c.args.number (omega (arith, c.if-number-le-BODY.false)) (sym c.in_default.ensures) c.nothing.result c.nothing.ensures)
 
 pub children-requires-clause-inside : goal.children-requires-clause-inside
 children-requires-clause-inside c =
-    one_inside (index_rules c.args.self.now.rules.now) (state_of c.args.self.now.document.now) c.requires.tree c.args.number c.in-Some.parent (omega (arith, c.if-number-le-BODY.false)) (sym c.in-Some.ensures)
+    one_inside (index_rules c.args.self.now.styling.rules.now) (state_of c.args.self.now.styling.document.now) c.requires.tree c.args.number c.in-Some.parent (omega (arith, c.if-number-le-BODY.false)) (sym c.in-Some.ensures)
 
 pub returns : goal.returns
-returns c = all_from (index_rules c.args.self.now.rules.now) (state_of c.args.self.now.document.now) c.requires.tree (c.args.number ∷ []) c.in_ok-found-2.found c.in_ok-found-2.ensures
+returns c = all_from (index_rules c.args.self.now.styling.rules.now) (state_of c.args.self.now.styling.document.now) c.requires.tree (c.args.number ∷ []) c.in_ok-found-2.found c.in_ok-found-2.ensures

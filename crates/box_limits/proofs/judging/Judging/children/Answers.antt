@@ -6,5 +6,5 @@ use Rattle.box_limits.proofs.judging.Judging.children.Goals as goal
 
 pub returns : goal.returns
 returns c =
-    finds_below (index_rules c.args.self.now.rules.now) (state_of c.args.self.now.document.now) c.requires.tree c.args.parent c.args.numbers.now c.requires.inside (site_of c.in_ok-site.site) c.in_ok-site.ensures.site
+    finds_below (index_rules c.args.self.now.styling.rules.now) (state_of c.args.self.now.styling.document.now) c.requires.tree c.args.parent c.args.numbers.now c.requires.inside (site_of c.in_ok-site.site) c.in_ok-site.ensures.site
     c.in_ok-found.found c.in_ok-found.ensures

@@ -40,20 +40,20 @@ pub returns-in_ok-found-in-Insert : goal.returns-in_ok-found-in-Insert
 returns-in_ok-found-in-Insert c =
     let state = c.requires.edited.0 in
     let tree = edited_tree _ _ _ _ c.requires.edited.1 c.accepted_edits_keep_roots.ensures c.accepted_edits_keep_documents_whole.ensures c.accepted_edits_keep_documents_reached.ensures in
-    let edited = subst (λ (edit : Edit). IsEditedFrom (index_rules c.args.self.now.rules.now) (edit_of edit) (state_of c.args.self.now.document.now) state) c.in-Insert.is c.requires.edited.1 in
+    let edited = subst (λ (edit : Edit). IsEditedFrom (index_rules c.args.self.now.styling.rules.now) (edit_of edit) (state_of c.args.self.now.styling.document.now) state) c.in-Insert.is c.requires.edited.1 in
     let count : c.count_of_tops-count.result ≡ count_of_tops (nodes_of c.in-Insert.nodes.read.items) = c.count_of_tops-count.ensures.value ∙ ap (λ (l : List ReadNode). count_of_tops (nodes_of l)) c.deref.ensures.value in
-    new_all (index_rules c.args.self.now.rules.now) c.in-Insert.parent c.in-Insert.index _ _ _ _ edited tree c.edits_are_judged_by_their_parts.ensures c.count_of_tops-count.result count c.in_ok-found-in-Insert.found c.in_ok-found-in-Insert.ensures
+    new_all (index_rules c.args.self.now.styling.rules.now) c.in-Insert.parent c.in-Insert.index _ _ _ _ edited tree c.edits_are_judged_by_their_parts.ensures c.count_of_tops-count.result count c.in_ok-found-in-Insert.found c.in_ok-found-in-Insert.ensures
 
 pub inserted-requires-clause-below : goal.inserted-requires-clause-below
 inserted-requires-clause-below c =
     let state = c.requires.edited.0 in
     let tree = edited_tree _ _ _ _ c.requires.edited.1 c.accepted_edits_keep_roots.ensures c.accepted_edits_keep_documents_whole.ensures c.accepted_edits_keep_documents_reached.ensures in
-    let edited = subst (λ (edit : Edit). IsEditedFrom (index_rules c.args.self.now.rules.now) (edit_of edit) (state_of c.args.self.now.document.now) state) c.in-Insert.is c.requires.edited.1 in
-    new_below (index_rules c.args.self.now.rules.now) c.in-Insert.parent c.in-Insert.index _ _ _ _ edited tree
+    let edited = subst (λ (edit : Edit). IsEditedFrom (index_rules c.args.self.now.styling.rules.now) (edit_of edit) (state_of c.args.self.now.styling.document.now) state) c.in-Insert.is c.requires.edited.1 in
+    new_below (index_rules c.args.self.now.styling.rules.now) c.in-Insert.parent c.in-Insert.index _ _ _ _ edited tree
 
 pub inserted-requires-clause-within : goal.inserted-requires-clause-within
 inserted-requires-clause-within c =
     let state = c.requires.edited.0 in
-    let edited = subst (λ (edit : Edit). IsEditedFrom (index_rules c.args.self.now.rules.now) (edit_of edit) (state_of c.args.self.now.document.now) state) c.in-Insert.is c.requires.edited.1 in
+    let edited = subst (λ (edit : Edit). IsEditedFrom (index_rules c.args.self.now.styling.rules.now) (edit_of edit) (state_of c.args.self.now.styling.document.now) state) c.in-Insert.is c.requires.edited.1 in
     let count : c.count_of_tops-count.result ≡ count_of_tops (nodes_of c.in-Insert.nodes.read.items) = c.count_of_tops-count.ensures.value ∙ ap (λ (l : List ReadNode). count_of_tops (nodes_of l)) c.deref.ensures.value in
-    new_within (index_rules c.args.self.now.rules.now) c.in-Insert.parent c.in-Insert.index _ _ _ _ edited c.count_of_tops-count.result count
+    new_within (index_rules c.args.self.now.styling.rules.now) c.in-Insert.parent c.in-Insert.index _ _ _ _ edited c.count_of_tops-count.result count
