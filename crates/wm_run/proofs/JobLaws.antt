@@ -50,9 +50,9 @@ module _ {I : Type 0} {D : I → Type 0} (members : (x : I) → Ghosts (D x)) wh
       → Stands (with_status (IsOf members due)) old new (ended written Done)
   stands_steps due session script lines state old new written is same whole front =
       subst (λ (d : Due I D). Stands (with_status (IsOf members d)) old new (ended written Done)) (sym is)
-      (stands_told (IsOf members (dues.Steps session script)) old new written
-      (on_ok written whole (λ w. (w.0, (refl, state, subst (λ (l : List ScriptLine). AreStepsIn (faces_of members session.faces) session (steps_of l) state w.0) same w.1), w.2)))
-      (λ end_ told q. front q.1 told (subst (λ (l : List ScriptLine). AreStepsIn (faces_of members session.faces) session (steps_of l) q.1 told) (sym same) q.2)))
+      (stands_told (IsOf members (dues.Steps session script)) old new
+      (λ end_ told q. front q.1 told (subst (λ (l : List ScriptLine). AreStepsIn (faces_of members session.faces) session (steps_of l) q.1 told) (sym same) q.2)) written
+      (on_ok written whole (λ w. (w.0, (refl, state, subst (λ (l : List ScriptLine). AreStepsIn (faces_of members session.faces) session (steps_of l) state w.0) same w.1), w.2))))
 
 -- the line of counts
 pub only_counted : (faces : List (Option Table)) (view : View) (count : ℕ) (written line : List ℕ) → (end_ : End) × IsDueOfDocument faces view true (gen_input count) end_ written

@@ -82,11 +82,7 @@ same_with D E same WriteFault due = ((λ none. none), (λ none. none))
 
 -- ---- steps
 
--- a run that went through steps stands
-pub stands_told : (D : End → List ℕ → Type 0) (old new : Option (List ℕ)) (written : Result ⊤ WriteError) → OnOk written ((due : List ℕ) × D ends.Done due × Appends old new due)
-    → ((end_ : End) (due : List ℕ) → D end_ due → AppendsFront old new due) → Stands (with_status D) old new (ended written Done)
-stands_told D old new (Ok done) whole front = whole
-stands_told D old new (Err write_errors.WriteFault) whole front = fronts where
+module _ (D : End → List ℕ → Type 0) (old new : Option (List ℕ)) (front : (end_ : End) (due : List ℕ) → D end_ due → AppendsFront old new due) where
   fronts : (status : Status) (due : List ℕ) → with_status D status due → AppendsFront old new due
   fronts Done due d = front ends.Done due d
   fronts Refused due d = front ends.Refused due d
@@ -94,14 +90,12 @@ stands_told D old new (Err write_errors.WriteFault) whole front = fronts where
   fronts Memory due d = absurd d
   fronts ReadFault due d = absurd d
   fronts WriteFault due d = absurd d
-stands_told D old new (Err write_errors.Memory) whole front = fronts where
-  fronts : (status : Status) (due : List ℕ) → with_status D status due → AppendsFront old new due
-  fronts Done due d = front ends.Done due d
-  fronts Refused due d = front ends.Refused due d
-  fronts Usage due d = absurd d
-  fronts Memory due d = absurd d
-  fronts ReadFault due d = absurd d
-  fronts WriteFault due d = absurd d
+
+  -- a run that went through steps stands
+  pub stands_told : (written : Result ⊤ WriteError) → OnOk written ((due : List ℕ) × D ends.Done due × Appends old new due) → Stands (with_status D) old new (ended written Done)
+  stands_told (Ok done) whole = whole
+  stands_told (Err write_errors.WriteFault) whole = fronts
+  stands_told (Err write_errors.Memory) whole = fronts
 
 -- a run that ended with Done or Refused wrote what is due with that end
 pub settled_text : (D : End → List ℕ → Type 0) (old new : Option (List ℕ)) (result : Status) → (result ≡ Done) ⊎ (result ≡ Refused) → Stands (with_status D) old new result

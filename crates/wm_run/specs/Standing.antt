@@ -32,24 +32,6 @@ IsUsageOrBroken Done = ⊥
 IsUsageOrBroken Refused = ⊥
 IsUsageOrBroken ReadFault = ⊥
 
--- a status that comes of an input, or of the outside where it is told
-abbrev pub IsEndOrBroken : Status → Type 0
-IsEndOrBroken Done = ⊤
-IsEndOrBroken Refused = ⊤
-IsEndOrBroken WriteFault = ⊤
-IsEndOrBroken Memory = ⊤
-IsEndOrBroken Usage = ⊥
-IsEndOrBroken ReadFault = ⊥
-
--- a status of a run that counted what it made, or of the outside
-abbrev pub IsDoneOrBroken : Status → Type 0
-IsDoneOrBroken Done = ⊤
-IsDoneOrBroken WriteFault = ⊤
-IsDoneOrBroken Memory = ⊤
-IsDoneOrBroken Usage = ⊥
-IsDoneOrBroken Refused = ⊥
-IsDoneOrBroken ReadFault = ⊥
-
 -- a status with which a run ends that wrote all that is due
 abbrev pub IsSettled : Status → Type 0
 IsSettled Done = ⊤

@@ -8,7 +8,7 @@ ghost use Rattle.generator.specs.Generator.{gen_input};
 ghost use Rattle.input_due.specs.Due.{End};
 ghost use Rattle.input_due.specs.Input.{IsDueOfDocument};
 ghost use Rattle.wm_run.specs.Job.{IsDueOfGenerated, counted};
-ghost use Rattle.wm_run.specs.Standing.{IsDoneOrBroken, Stands};
+ghost use Rattle.wm_run.specs.Standing.{Stands};
 
 use crate::status::Status;
 use crate::tell::{tell, tell_line};
@@ -37,7 +37,9 @@ pub(crate) fn tell_generated<K: Sink, L: Ledger, M: Ledger>(
     requires some { 1 ≤ count }
     requires few { count ≤ 1000 }
     ensures stands { Stands (IsDueOfGenerated (faces_of ⟦<dyn Face as Face>⟧ faces) view count) (K.held sink.old) (K.held sink.new) result }
-    ensures ends { IsDoneOrBroken result }
+    ensures no_usage { result ≡ Status.Usage → ⊥ }
+    ensures no_refusal { result ≡ Status.Refused → ⊥ }
+    ensures no_read_fault { result ≡ Status.ReadFault → ⊥ }
     ensures write_fault { result ≡ Status.WriteFault → Rose (K.faults sink.old) (K.faults sink.new) }
 {
     match written_for(alloc, view, faces, count, prepared, arranged) {

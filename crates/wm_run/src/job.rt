@@ -7,7 +7,7 @@ ghost use Rattle.wm_units.specs.View.{IsView};
 ghost use Rattle.io_edge.specs.Edge.{Rose};
 ghost use Rattle.command_line.specs.Command.{IsJob};
 ghost use Rattle.input_due.specs.Input.{IsDueOfInput, longest_input};
-ghost use Rattle.wm_run.specs.Job.{IsDue, IsDueOfJob, IsNoJob, Reads, usage_line, with_status};
+ghost use Rattle.wm_run.specs.Job.{IsDue, IsDueOfGenerated, IsDueOfJob, IsNoJob, Reads, usage_line, with_status};
 ghost use Rattle.wm_run.specs.Standing.{IsUsageOrBroken, Stands};
 
 use crate::generated::tell_generated;
@@ -46,6 +46,10 @@ pub fn run<S: Source, K: Sink, L: Ledger, M: Ledger>(
     // Whatever words, faces and bytes come, the status and the bytes written are those of the job.
     ensures job { (input : List ℕ) → S.left source.old ≡ Some input
         → Stands (IsDue (all_living ⟦<dyn Face as Face>⟧ faces.items) words.now input) (K.held sink.old) (K.held sink.new) result }
+
+    // So they are whatever the source is, where the command reads nothing of it.
+    ensures generated { (job : Job) → IsJob words.now job → (Reads job.command → ⊥)
+        → Stands (IsDueOfGenerated (all_living ⟦<dyn Face as Face>⟧ faces.items) job.view job.count) (K.held sink.old) (K.held sink.new) result }
 
     // The usage line comes exactly where the words give no job. Nothing is taken from the source then.
     ensures usage { result ≡ Status.Usage → IsNoJob words.now × Appends (K.held sink.old) (K.held sink.new) usage_line
@@ -88,6 +92,8 @@ fn tell_job<S: Source, K: Sink, L: Ledger, M: Ledger>(
     requires few { job.count ≤ 1000 }
     ensures stands { (input : List ℕ) → S.left source.old ≡ Some input
         → Stands (IsDueOfJob (faces_of ⟦<dyn Face as Face>⟧ faces) job input) (K.held sink.old) (K.held sink.new) result }
+    ensures generated { (Reads job.command → ⊥)
+        → Stands (IsDueOfGenerated (faces_of ⟦<dyn Face as Face>⟧ faces) job.view job.count) (K.held sink.old) (K.held sink.new) result }
     ensures no_usage { result ≡ Status.Usage → ⊥ }
     ensures read_fault { result ≡ Status.ReadFault → Reads job.command × Rose (S.faults source.old) (S.faults source.new) × Keeps (K.held sink.old) (K.held sink.new) }
     ensures write_fault { result ≡ Status.WriteFault → Rose (K.faults sink.old) (K.faults sink.new) }

@@ -1,10 +1,10 @@
 //! What is due, written to a sink. Nothing else in this crate writes.
 
-ghost use Rattle.std.specs.Prelude.{◌≡◌};
+ghost use Rattle.std.specs.Prelude.{◌≡◌, ◌⊎◌};
 ghost use Rattle.io_edge.specs.Edge.{Rose};
 ghost use Rattle.input_due.specs.Due.{HasSteps, IsOf, IsReady};
 ghost use Rattle.wm_run.specs.Job.{usage_line, with_status};
-ghost use Rattle.wm_run.specs.Standing.{Gives, IsEndOrBroken, IsSettled, Stands, ended};
+ghost use Rattle.wm_run.specs.Standing.{Gives, IsBroken, IsSettled, Stands, ended};
 
 use crate::status::Status;
 use edit_job::{refusal_line, tell_steps};
@@ -26,7 +26,8 @@ pub(crate) fn tell<K: Sink, L: Ledger, M: Ledger>(
 ) -> Status
     requires ready { IsReady ⟦<dyn Face as Face>⟧ due }
     ensures stands { Stands (with_status (IsOf ⟦<dyn Face as Face>⟧ due)) (K.held sink.old) (K.held sink.new) result }
-    ensures ends { IsEndOrBroken result }
+    ensures no_usage { result ≡ Status.Usage → ⊥ }
+    ensures no_read_fault { result ≡ Status.ReadFault → ⊥ }
     ensures done { result ≡ Status.Done → HasSteps due }
     ensures write_fault { result ≡ Status.WriteFault → Rose (K.faults sink.old) (K.faults sink.new) }
 {
@@ -59,6 +60,7 @@ pub(crate) fn tell_usage<K: Sink>(sink: &mut K) -> Status
 pub(crate) fn tell_line<K: Sink>(line: &[u8], sink: &mut K, status: Status) -> Status
     requires settled { IsSettled status }
     ensures gives { Gives status line.now (K.held sink.old) (K.held sink.new) result }
+    ensures ends { (result ≡ status) ⊎ IsBroken result }
     ensures write_fault { result ≡ Status.WriteFault → Rose (K.faults sink.old) (K.faults sink.new) }
 {
     ended(write_all_of(sink, line), status)

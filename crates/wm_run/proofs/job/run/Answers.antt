@@ -1,9 +1,9 @@
 use Rattle.std.proofs.Common.{refl, sym, ap, subst, List, Option, Err}
-use Rattle.face_api.specs.Faces.{all_living}
+use Rattle.face_api.specs.Faces.{all_living, faces_of}
 use Rattle.face_api.specs.Table.{Table}
 use Rattle.command_line.specs.declared.error.WordsError.{WordsError}
 use Rattle.command_line.specs.declared.job.Job.{Job}
-use Rattle.wm_run.specs.Job.{IsDue, IsDueOfJob, Reads, usage_line}
+use Rattle.wm_run.specs.Job.{IsDue, IsDueOfGenerated, IsDueOfJob, Reads, usage_line}
 use Rattle.wm_run.specs.Standing.{Stands}
 use Rattle.wm_run.specs.declared.status.Status.TheVariants.{Usage}
 use Rattle.wm_run.proofs.JobLaws.{only_usage, same_job}
@@ -44,3 +44,19 @@ returns-in-Err-Usage-clause-usage g c = λ e.
 
 pub returns-clause-job : goal.returns-clause-job
 returns-clause-job g c = λ input told. nothing_written (IsDue (all_living (λ vtable. (g.dyn-1.0.entry vtable).1) c.args.faces.items) c.args.words.now input) (g.K.Sink.held c.args.sink.now)
+
+pub returns-in_default-clause-generated : goal.returns-in_default-clause-generated
+returns-in_default-clause-generated g c = λ job is none. nothing_written (IsDueOfGenerated (all_living (λ vtable. (g.dyn-1.0.entry vtable).1) c.args.faces.items) job.view job.count) (g.K.Sink.held c.args.sink.now)
+
+pub returns-in-Ok-read_words-clause-generated : goal.returns-in-Ok-read_words-clause-generated
+returns-in-Ok-read_words-clause-generated g c = λ job is none.
+    let own = c.in-Ok-read_words.ensures.only job is in
+    let P : List (Option Table) → Type 0 = λ tables. Stands (IsDueOfGenerated tables job.view job.count) (g.K.Sink.held c.args.sink.now) (g.K.Sink.held c.tell_job.new.sink) c.tell_job.result in
+    let Q : Job → Type 0 = λ (j : Job). Stands (IsDueOfGenerated (faces_of (λ vtable. (g.dyn-1.0.entry vtable).1) c.in-Ok.faces) j.view j.count) (g.K.Sink.held c.args.sink.now) (g.K.Sink.held c.tell_job.new.sink) c.tell_job.result in
+    subst P c.in-Ok.ensures (subst Q (sym own) (c.tell_job.ensures.generated (λ reads. none (subst (λ (j : Job). Reads j.command) (sym own) reads))))
+
+pub returns-in-Err-Usage-clause-generated : goal.returns-in-Err-Usage-clause-generated
+returns-in-Err-Usage-clause-generated g c = λ job is none. absurd (c.in-Err-Usage.ensures.usage (ap (λ (e : WordsError). Err e) c.in-Err-Usage.field-0-is) job is)
+
+pub returns-clause-generated : goal.returns-clause-generated
+returns-clause-generated g c = λ job is none. nothing_written (IsDueOfGenerated (all_living (λ vtable. (g.dyn-1.0.entry vtable).1) c.args.faces.items) job.view job.count) (g.K.Sink.held c.args.sink.now)
