@@ -12,6 +12,7 @@ mod ValueLaws
 pub mod AttributeLaws
 pub mod TextLaws
 pub mod PlaceLaws
+mod PlainRuns
 pub mod MiscPlaces
 mod AttributePlaces
 mod AttributeFronts

@@ -1,5 +1,5 @@
 -- Loops that read a text by pieces of more than one turn: whatever the turns come to from here, they come to from there.
-use Rattle.std.specs.Prelude.{◌≡◌, ℕ, List, [], ◌∷◌, ◌++◌, ◌+◌, ◌*◌, Option, Some, None, Result, Ok, Err, Bool, true, false, ◌==◌, not, ◌&&◌, ◌<◌, length}
+use Rattle.std.specs.Prelude.{◌≡◌, ℕ, List, [], ◌∷◌, ◌++◌, ◌+◌, ◌*◌, Option, Some, None, Result, Ok, Err, Bool, true, false, ◌==◌, leb, not, ◌&&◌, ◌||◌, ◌<◌, length}
 use Rattle.std.specs.Char.{IsScalar, digit_value, encode_utf8}
 use denote.Bor.{Bor}
 use Rattle.reading.specs.Readers.{ReadOr, mapped, next_is}
@@ -39,6 +39,10 @@ PutsPiece f old new text (Err stop) = Stops stop (f text)
 abbrev pub is_letter_next : List ℕ → Bool
 is_letter_next [] = false
 is_letter_next (byte ∷ bytes) = not (byte == 60) && not (byte == 38)
+
+-- a byte that is a character of the repertoire by itself, and neither `<` nor `&`
+abbrev pub is_plain_letter : ℕ → Bool
+is_plain_letter byte = byte == 10 || leb 32 byte && leb byte 126 && not (byte == 60) && not (byte == 38)
 
 -- a character stands first, as the reader's piece
 abbrev pub PutsLetter : Judged (List ℕ) → (text : List ℕ) → Result (Bor (List ℕ)) Stop → Type 0

@@ -8,6 +8,7 @@ mod entity;
 mod error;
 pub mod laws;
 mod lexing;
+mod plain;
 mod raw_text;
 mod references;
 mod tag;

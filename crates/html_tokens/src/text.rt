@@ -7,12 +7,13 @@ ghost use Rattle.html_tokens.specs.Characters.{in_repertoire};
 ghost use Rattle.html_tokens.specs.Error.{spelled};
 ghost use Rattle.reading.specs.Stop.{Gives};
 ghost use Rattle.html_tokens.specs.Lexing.{comment, reference};
-ghost use Rattle.html_tokens.specs.Pieces.{Joins, PutsPiece, RunsOrStops, PutsLetter, is_letter_next};
+ghost use Rattle.html_tokens.specs.Pieces.{Joins, JoinsRun, PutsPiece, RunsOrStops, PutsLetter, is_letter_next};
 ghost use Rattle.html_tokens.specs.Text as readers;
 
 use crate::characters::{first_char, in_repertoire};
 use crate::error::Refusal;
 use crate::lexing::comment;
+use crate::plain::plain_count;
 use crate::references::reference;
 use reading::{Stop, front_of, starts};
 use std::alloc::Global;
@@ -102,9 +103,17 @@ fn characters_end(text: &str) -> Result<&str, Stop<'_, Refusal>>
 {
     let mut rest = text;
     while letter_ahead(rest) {
-        rest = letter(rest)?;
+        rest = plain_end(letter(rest)?);
     }
     Ok(rest)
+}
+
+// What stands behind the characters in front that are plain.
+fn plain_end(text: &str) -> &str
+    ensures run { JoinsRun readers.in_text readers.text_piece text.now result.now }
+    ensures shorter { length result.now ≤ length text.now }
+{
+    text.split_at(plain_count(text.as_bytes())).1
 }
 
 // A byte comes next that is neither `<` nor `&`.
