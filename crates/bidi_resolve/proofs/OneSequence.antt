@@ -187,12 +187,16 @@ single_is chars (c ∷ classes) base all =
     ∙ ap (λ runs. resolved_from chars own (replicate (suc m) base) own runs (replicate (suc m) base)) (runs_one base m own plain refl)
     ∙ resolved_one chars base m own refl
 
-pub range_more : (n : ℕ) → range_with_len 0 n ++ n ∷ [] ≡ range_with_len 0 (n + 1)
+range_more : (n : ℕ) → range_with_len 0 n ++ n ∷ [] ≡ range_with_len 0 (n + 1)
 range_more n = sym (ap (λ l. l) (map_id (range_with_len 0 (n + 1))) ∙ map-range_with_len_more (λ x. x) 0 n n (omega arith) ∙ ap (λ l. l ++ n ∷ []) (sym (map_id (range_with_len 0 n))))
   where
     map_id : (xs : List ℕ) → xs ≡ map (λ x. x) xs
     map_id [] = refl
     map_id (x ∷ xs) = ap (λ l. x ∷ l) (map_id xs)
+
+-- one place more, in its place
+pub range_written : (xs : List ℕ) (i : ℕ) → i < length xs → take i xs ≡ range_with_len 0 i → take (i + 1) (set xs i i) ≡ range_with_len 0 (i + 1)
+range_written xs i lt so_far = take_more_set xs i i lt ∙ ap (λ l. l ++ i ∷ []) so_far ∙ range_more i
 
 pub range_long : (n : ℕ) → length (range_with_len 0 n) ≡ n
 range_long n = length-range_with_len 0 n

@@ -14,6 +14,11 @@ abbrev pub bracket_of : BidiClass → (char : ℕ) → Option Bracket
 bracket_of ON char = bracket char
 bracket_of class char = None
 
+-- where no class is this one, no character is a bracket
+abbrev pub may_be_bracket : BidiClass → Bool
+may_be_bracket ON = true
+may_be_bracket class = false
+
 -- an opening bracket on the stack: the character that closes it, and its place
 pub record Waiting : Type 0 where
   pub partner : ℕ

@@ -58,6 +58,11 @@ abbrev pub next_to : List BidiClass → BidiClass
 next_to [] = ON
 next_to (c ∷ cs) = c
 
+abbrev pub is_separator : BidiClass → Bool
+is_separator ES = true
+is_separator CS = true
+is_separator c = false
+
 abbrev pub w4_class : (before : BidiClass) → BidiClass → (after : BidiClass) → BidiClass
 w4_class EN ES EN = EN
 w4_class EN CS EN = EN
@@ -77,6 +82,10 @@ w5_after last c = c
 abbrev pub beside : List BidiClass → BidiClass
 beside [] = ON
 beside (c ∷ cs) = w5_after (beside cs) c
+
+abbrev pub is_terminator : BidiClass → Bool
+is_terminator ET = true
+is_terminator c = false
 
 abbrev pub is_european : BidiClass → Bool
 is_european EN = true

@@ -13,11 +13,44 @@ use crate::neutral::{direction, n1_after};
 use crate::pairing::{Pairing, read_pairs};
 use std::alloc::AllocError;
 use wm_chars::BidiClass;
-use wm_chars::BidiClass::{AN, EN, L, NSM, R};
+use wm_chars::BidiClass::{AN, EN, L, NSM, ON, R};
 
 /// N0: the two brackets of a pair take one direction. The sequence has these places in the lists of its paragraph's
 /// characters and of the classes that were handed in.
+#[tactic(auto, using(crate::proofs::Unchanged::n0_same))]
 pub(crate) fn n0(
+    pairing: &mut Pairing,
+    classes: &mut [BidiClass],
+    originals: &[BidiClass],
+    chars: &[char],
+    places: &[usize],
+    level: u8,
+    sos: BidiClass,
+) -> Result<(), AllocError>
+    requires places { length places.now ≡ length classes.old }
+    requires chars { All (λ place. place < length chars.now) places.now }
+    requires originals { length originals.now ≡ length chars.now }
+    ensures { IfOk result (λ _. classes.new ≡ brackets.n0 level sos (gathered 0 chars.now places.now) (gathered L originals.now places.now) classes.old) }
+{
+    if has_bracket_class(classes) {
+        pairs_become(pairing, classes, originals, chars, places, level, sos)?;
+    }
+    Ok(())
+}
+
+// Whether a character is a neutral of the class that brackets have.
+fn has_bracket_class(classes: &[BidiClass]) -> bool
+    ensures { result ≡ list_any brackets.may_be_bracket classes.now }
+{
+    let mut has = false;
+    for class in classes {
+        has |= *class == ON;
+    }
+    has
+}
+
+// The same for any classes.
+fn pairs_become(
     pairing: &mut Pairing,
     classes: &mut [BidiClass],
     originals: &[BidiClass],
@@ -138,26 +171,26 @@ fn advance(context: &mut Context, classes: &[BidiClass], place: usize)
     context.seen = place;
 }
 
+// Both are asked for of all that stands inside without a stop: a compiler makes of such a loop one that looks at many
+// classes at once.
 fn has_along(level: u8, inside: &[BidiClass]) -> bool
     ensures { result ≡ list_any (brackets.is_along level) inside.now }
 {
+    let mut has = false;
     for class in inside {
-        if is_along(level, *class) {
-            return true;
-        }
+        has |= is_along(level, *class);
     }
-    false
+    has
 }
 
 fn has_against(level: u8, inside: &[BidiClass]) -> bool
     ensures { result ≡ list_any (brackets.is_against level) inside.now }
 {
+    let mut has = false;
     for class in inside {
-        if is_against(level, *class) {
-            return true;
-        }
+        has |= is_against(level, *class);
     }
-    false
+    has
 }
 
 fn is_along(level: u8, class: BidiClass) -> bool
@@ -189,7 +222,7 @@ fn is_l(class: BidiClass) -> bool
 fn is_r(class: BidiClass) -> bool
     ensures { result ≡ brackets.is_r class }
 {
-    matches!(class, R | EN | AN)
+    (class == R) | (class == EN) | (class == AN)
 }
 
 fn by_context(level: u8, context: BidiClass) -> BidiClass

@@ -36,11 +36,19 @@ pub fn text_classes(alloc: Global, chars: &[char]) -> Result<ClassList, AllocErr
     ensures classes { IfOk result (λ classes. classes.items ≡ paragraph.classes_of chars.now) }
     ensures length { IfOk result (λ classes. length classes.items ≡ length chars.now) }
 {
-    let mut classes = Vec::with_capacity(alloc, chars.len())?;
-    for c in chars {
-        classes.push(bidi_class(*c).unwrap_or(BidiClass::ON))?;
-    }
+    let mut classes = Vec::from_elem(alloc, BidiClass::ON, chars.len())?;
+    write_classes(&mut classes, chars);
     Ok(classes)
+}
+
+#[tactic(auto, using(bidi_explicit::proofs::Writing::written_more))]
+fn write_classes(classes: &mut [BidiClass], chars: &[char])
+    requires { length classes.old ≡ length chars.now }
+    ensures { classes.new ≡ paragraph.classes_of chars.now }
+{
+    for i in 0..chars.len() {
+        classes[i] = bidi_class(chars[i]).unwrap_or(BidiClass::ON);
+    }
 }
 
 /// The resolved levels of a bidi paragraph of these characters and classes with this base level, 0 or 1, by the rules

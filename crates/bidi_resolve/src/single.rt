@@ -61,30 +61,45 @@ pub(crate) fn single_levels(
 }
 
 // So many places in their order.
-#[tactic(auto, using(crate::proofs::OneSequence::range_more, crate::proofs::OneSequence::range_long, crate::proofs::OneSequence::range_below))]
+#[tactic(auto, using(crate::proofs::OneSequence::range_long))]
 fn all_places(alloc: Global, count: usize) -> Result<PlaceList, AllocError>
     ensures are { IfOk result (λ places. places.items ≡ range_with_len 0 count) }
     ensures many { IfOk result (λ places. length places.items ≡ count) }
     ensures within { IfOk result (λ places. All (λ place. place < count) places.items) }
 {
-    let mut places = Vec::with_capacity(alloc, count)?;
-    for place in 0..count {
-        places.push(place)?;
-    }
+    let mut places = Vec::from_elem(alloc, 0, count)?;
+    write_places(&mut places);
     Ok(places)
 }
 
+#[tactic(auto, using(crate::proofs::OneSequence::range_written))]
+fn write_places(places: &mut [usize])
+    ensures { places.new ≡ range_with_len 0 (length places.old) }
+{
+    for place in 0..places.len() {
+        places[place] = place;
+    }
+}
+
 // I1 and I2.
-#[tactic(auto, using(crate::proofs::OneSequence::all_between))]
 fn raised_levels(alloc: Global, level: u8, classes: &[BidiClass]) -> Result<LevelList, AllocError>
     requires { level ≤ 1 }
     ensures are { IfOk result (λ levels. levels.items ≡ i1_i2 level classes.now) }
     ensures length { IfOk result (λ levels. length levels.items ≡ length classes.now) }
     ensures between { IfOk result (λ levels. All (IsResolvedLevel level) levels.items) }
 {
-    let mut levels = Vec::with_capacity(alloc, classes.len())?;
-    for class in classes {
-        levels.push(raised(level, *class))?;
-    }
+    let mut levels = Vec::from_elem(alloc, level, classes.len())?;
+    raise(&mut levels, level, classes);
     Ok(levels)
+}
+
+#[tactic(auto, using(bidi_explicit::proofs::Writing::written_more))]
+fn raise(levels: &mut [u8], level: u8, classes: &[BidiClass])
+    requires level { level ≤ 1 }
+    requires length { length levels.old ≡ length classes.now }
+    ensures { levels.new ≡ i1_i2 level classes.now }
+{
+    for i in 0..classes.len() {
+        levels[i] = raised(level, classes[i]);
+    }
 }

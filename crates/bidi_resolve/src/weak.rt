@@ -1,17 +1,40 @@
-//! The weak types (UAX 9, 3.3.4): the rules W1 to W7 on the classes of one isolating run sequence.
+//! The weak types (UAX 9, 3.3.4): the rules W1 to W7 on the classes of one isolating run sequence. A rule looks first
+//! whether a class stands there that it changes. It looks at all of them without a stop: a compiler makes of such a loop
+//! one that looks at many classes at once.
 
 ghost use Rattle.std.specs.Prelude.{◌≡◌, ◌+◌, ◌<◌, ◌≤◌, true, false, length, get_or, drop, set};
 ghost use Rattle.bidi_resolve.specs.Sides.{Sees};
 ghost use Rattle.wm_chars.specs.declared.classes.BidiClass.{BidiClass};
+ghost use Rattle.bidi_resolve.specs.Brackets.{is_mark};
 ghost use Rattle.bidi_resolve.specs.Weak as weak;
+ghost use Rattle.std.specs.List.{list_any};
 
 use crate::sides::Ahead;
 use wm_chars::BidiClass;
 use wm_chars::BidiClass::{AL, AN, CS, EN, ES, ET, L, NSM, ON, R};
 
 /// W1: a nonspacing mark takes the class of the character before it.
-#[tactic(auto, using(crate::proofs::Passes::pass_more, crate::proofs::WeakLaws::w1_starts))]
+#[tactic(auto, using(crate::proofs::Unchanged::w1_same))]
 pub(crate) fn w1(classes: &mut [BidiClass], sos: BidiClass)
+    ensures { classes.new ≡ weak.w1 sos classes.old }
+{
+    if has_mark(classes) {
+        w1_pass(classes, sos);
+    }
+}
+
+fn has_mark(classes: &[BidiClass]) -> bool
+    ensures { result ≡ list_any is_mark classes.now }
+{
+    let mut has = false;
+    for class in classes {
+        has |= *class == NSM;
+    }
+    has
+}
+
+#[tactic(auto, using(crate::proofs::Passes::pass_more, crate::proofs::WeakLaws::w1_starts))]
+fn w1_pass(classes: &mut [BidiClass], sos: BidiClass)
     ensures { classes.new ≡ weak.w1 sos classes.old }
 {
     let mut handed = sos;
@@ -44,8 +67,27 @@ fn w1_after(handed: BidiClass, class: BidiClass) -> BidiClass
 }
 
 /// W2: a European number becomes an Arabic one behind an Arabic letter.
-#[tactic(auto, using(crate::proofs::Passes::pass_more, crate::proofs::WeakLaws::w2_starts))]
+#[tactic(auto, using(crate::proofs::Unchanged::w2_same))]
 pub(crate) fn w2(classes: &mut [BidiClass], sos: BidiClass)
+    ensures { classes.new ≡ weak.w2 sos classes.old }
+{
+    if has_european(classes) {
+        w2_pass(classes, sos);
+    }
+}
+
+fn has_european(classes: &[BidiClass]) -> bool
+    ensures { result ≡ list_any weak.is_european classes.now }
+{
+    let mut has = false;
+    for class in classes {
+        has |= *class == EN;
+    }
+    has
+}
+
+#[tactic(auto, using(crate::proofs::Passes::pass_more, crate::proofs::WeakLaws::w2_starts))]
+fn w2_pass(classes: &mut [BidiClass], sos: BidiClass)
     ensures { classes.new ≡ weak.w2 sos classes.old }
 {
     let mut last = sos;
@@ -88,8 +130,27 @@ fn w3_class(class: BidiClass) -> BidiClass
 }
 
 /// W4: one separator between two numbers becomes a number.
-#[tactic(auto, using(crate::proofs::Passes::pass_more, crate::proofs::WeakLaws::w4_starts))]
+#[tactic(auto, using(crate::proofs::Unchanged::w4_same))]
 pub(crate) fn w4(classes: &mut [BidiClass])
+    ensures { classes.new ≡ weak.w4 classes.old }
+{
+    if has_separator(classes) {
+        w4_pass(classes);
+    }
+}
+
+fn has_separator(classes: &[BidiClass]) -> bool
+    ensures { result ≡ list_any weak.is_separator classes.now }
+{
+    let mut has = false;
+    for class in classes {
+        has |= (*class == ES) | (*class == CS);
+    }
+    has
+}
+
+#[tactic(auto, using(crate::proofs::Passes::pass_more, crate::proofs::WeakLaws::w4_starts))]
+fn w4_pass(classes: &mut [BidiClass])
     ensures { classes.new ≡ weak.w4 classes.old }
 {
     let mut before = ON;
@@ -137,8 +198,27 @@ fn w4_class(before: BidiClass, class: BidiClass, after: BidiClass) -> BidiClass
 }
 
 /// W5: a run of terminators next to a European number becomes European numbers.
-#[tactic(auto, using(crate::proofs::Passes::pass_more, crate::proofs::WeakLaws::w5_starts))]
+#[tactic(auto, using(crate::proofs::Unchanged::w5_same))]
 pub(crate) fn w5(classes: &mut [BidiClass])
+    ensures { classes.new ≡ weak.w5 classes.old }
+{
+    if has_terminator(classes) {
+        w5_pass(classes);
+    }
+}
+
+fn has_terminator(classes: &[BidiClass]) -> bool
+    ensures { result ≡ list_any weak.is_terminator classes.now }
+{
+    let mut has = false;
+    for class in classes {
+        has |= *class == ET;
+    }
+    has
+}
+
+#[tactic(auto, using(crate::proofs::Passes::pass_more, crate::proofs::WeakLaws::w5_starts))]
+fn w5_pass(classes: &mut [BidiClass])
     ensures { classes.new ≡ weak.w5 classes.old }
 {
     let mut before = ON;
@@ -235,15 +315,25 @@ pub(crate) fn w6(classes: &mut [BidiClass])
 fn w6_class(class: BidiClass) -> BidiClass
     ensures { result ≡ weak.w6_class class }
 {
-    match class {
-        ES | ET | CS => ON,
-        _ => class,
+    if (class == ES) | (class == ET) | (class == CS) {
+        ON
+    } else {
+        class
     }
 }
 
 /// W7: a European number becomes L behind L.
-#[tactic(auto, using(crate::proofs::Passes::pass_more, crate::proofs::WeakLaws::w7_starts))]
+#[tactic(auto, using(crate::proofs::Unchanged::w7_same))]
 pub(crate) fn w7(classes: &mut [BidiClass], sos: BidiClass)
+    ensures { classes.new ≡ weak.w7 sos classes.old }
+{
+    if has_european(classes) {
+        w7_pass(classes, sos);
+    }
+}
+
+#[tactic(auto, using(crate::proofs::Passes::pass_more, crate::proofs::WeakLaws::w7_starts))]
+fn w7_pass(classes: &mut [BidiClass], sos: BidiClass)
     ensures { classes.new ≡ weak.w7 sos classes.old }
 {
     let mut last = sos;

@@ -1,7 +1,7 @@
-use Rattle.std.proofs.Common.{◌≡◌, drop}
+use Rattle.std.proofs.Common.{◌≡◌, take}
 use Rattle.std.specs.List.{list_any}
 use Rattle.bidi_resolve.specs.Brackets.{is_along}
 use Rattle.bidi_resolve.proofs.brackets.has_along.Given as goal
 
 abbrev pub invariant-loop-class : goal.invariant-loop-class
-invariant-loop-class l = list_any (is_along l.level) (drop l.class-index l.inside) ≡ list_any (is_along l.level) l.inside
+invariant-loop-class l = l.has ≡ list_any (is_along l.level) (take l.class-index l.inside)

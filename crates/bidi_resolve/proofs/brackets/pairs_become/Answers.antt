@@ -3,7 +3,7 @@ use Rattle.bidi_resolve.specs.Pairing.{Reading, resolve_read}
 use Rattle.bidi_resolve.specs.Places.{gathered}
 use Rattle.bidi_resolve.proofs.SortedPairs.{resolved_read}
 use Rattle.wm_chars.specs.declared.classes.BidiClass.TheVariants.{L}
-use Rattle.bidi_resolve.proofs.brackets.n0.Goals as goal
+use Rattle.bidi_resolve.proofs.brackets.pairs_become.Goals as goal
 
 pub returns : goal.returns
 returns c =

@@ -2,7 +2,7 @@ use Rattle.std.proofs.Common.{◌≡◌, ◌+◌, ◌++◌, take, drop}
 use Rattle.bidi_resolve.proofs.Passes.{pass}
 use Rattle.bidi_resolve.specs.Weak.{w5, w5_class, w5_after, beside}
 use Rattle.bidi_resolve.specs.Sides.{Sees}
-use Rattle.bidi_resolve.proofs.weak.w5.Given as goal
+use Rattle.bidi_resolve.proofs.weak.w5_pass.Given as goal
 
 abbrev pub invariant-loop-i : goal.invariant-loop-i
 invariant-loop-i l = record {
