@@ -3,6 +3,7 @@ pub mod Examples
 pub mod LeftToRight
 pub mod LengthLaws
 pub mod NeutralLaws
+pub mod NoRight
 pub mod OneSequence
 pub mod PairingLaws
 pub mod ParagraphLaws

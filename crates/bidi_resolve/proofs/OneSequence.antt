@@ -23,7 +23,7 @@ use Rattle.bidi_resolve.proofs.LengthLaws.{length_resolved}
 
 -- ---- the classes, case by case
 
-abbrev Plain : BidiClass → Type 0
+abbrev pub Plain : BidiClass → Type 0
 Plain c = is_plain c ≡ true
 
 plain_cases : (P : BidiClass → Type 0) → P L → P R → P AL → P EN → P ES → P ET → P AN → P CS → P NSM → P B → P S → P WS → P ON → (c : BidiClass) → Plain c → P c
@@ -50,7 +50,7 @@ plain_cases P l r al en es et an cs nsm b s ws on RLI is = absurd (cc)
 plain_cases P l r al en es et an cs nsm b s ws on FSI is = absurd (cc)
 plain_cases P l r al en es et an cs nsm b s ws on PDI is = absurd (cc)
 
-all_plain : (classes : List BidiClass) → list_all is_plain classes ≡ true → Each Plain classes
+pub all_plain : (classes : List BidiClass) → list_all is_plain classes ≡ true → Each Plain classes
 all_plain [] all = tt
 all_plain (c ∷ classes) all = let parts = and_parts (is_plain c) (list_all is_plain classes) all in (parts.0, all_plain classes parts.1)
 

@@ -20,7 +20,7 @@ map_same : {X : Type 0} (P : X → Type 0) (f : X → X) → ((x : X) → P x �
 map_same P f same [] a = refl
 map_same P f same (x ∷ xs) a = rw (same x a.0) (ap (λ l. x ∷ l) (map_same P f same xs a.1))
 
-none_passes : (p : BidiClass → Bool) (classes : List BidiClass) → list_any p classes ≡ false → Each (λ c. p c ≡ false) classes
+pub none_passes : (p : BidiClass → Bool) (classes : List BidiClass) → list_any p classes ≡ false → Each (λ c. p c ≡ false) classes
 none_passes p [] none = tt
 none_passes p (c ∷ classes) none = go (p c) (list_any p classes) refl none (none_passes p classes)
   where

@@ -3,7 +3,7 @@ use Rattle.std.specs.Prelude.{◌≡◌, ℕ, ◌≤◌, Bool, true, false, leng
 use Rattle.std.specs.Option.{unwrap_or}
 use Rattle.wm_chars.specs.Repertoire.{bidi_class}
 use Rattle.wm_chars.specs.declared.classes.BidiClass.{BidiClass}
-use Rattle.wm_chars.specs.declared.classes.BidiClass.TheVariants.{L, EN, ES, ET, CS, NSM, B, S, WS, ON}
+use Rattle.wm_chars.specs.declared.classes.BidiClass.TheVariants.{L, R, AL, EN, ES, ET, AN, CS, NSM, B, S, WS, ON}
 use Rattle.bidi_explicit.specs.Explicit.{explicit_levels, explicit_classes, removed_marks}
 use Rattle.bidi_explicit.specs.declared.paragraph.Levels.{Levels}
 use Rattle.bidi_explicit.specs.Base.{base_of}
@@ -41,6 +41,13 @@ text_levels chars base = paragraph_levels chars (classes_of chars) (base_of base
 pub record IsResolvedLevel (base level : ℕ) : Type 0 where
   pub low : base ≤ level
   pub high : level ≤ 126
+
+-- the classes that ask for another level than 0 in a paragraph of base level 0 where nothing embeds, overrides or isolates
+abbrev pub is_right : BidiClass → Bool
+is_right R = true
+is_right AL = true
+is_right AN = true
+is_right c = false
 
 -- the classes that ask for no level but 0 in a paragraph of base level 0: neither R, AL nor AN, nor what begins or ends
 -- an embedding, an override or an isolate

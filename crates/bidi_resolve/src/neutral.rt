@@ -116,10 +116,12 @@ fn n1_class(before: BidiClass, class: BidiClass, after: BidiClass) -> BidiClass
 pub(crate) fn n1_after(last: BidiClass, class: BidiClass) -> BidiClass
     ensures { result ≡ neutral.n1_after last class }
 {
-    match class {
-        L => L,
-        R | EN | AN => R,
-        _ => last,
+    if class == L {
+        L
+    } else if (class == R) | (class == EN) | (class == AN) {
+        R
+    } else {
+        last
     }
 }
 

@@ -7,7 +7,7 @@ ghost use Rattle.bidi_resolve.specs.Paragraph as paragraph;
 ghost use Rattle.bidi_resolve.specs.Paragraph.{AreAsMany, IsResolvedLevel, resolved_from};
 ghost use Rattle.bidi_resolve.specs.Places.{scattered};
 ghost use Rattle.bidi_resolve.specs.Sequence.{run_levels};
-ghost use Rattle.std.specs.List.{list_all};
+ghost use Rattle.std.specs.List.{list_any};
 ghost use Rattle.std.specs.Prelude.{ℕ, ◌≡◌, ◌<◌, ◌≤◌, All, IfOk, IfSome, length, map};
 
 use crate::places::{level_of, write_levels};
@@ -15,7 +15,7 @@ use crate::sequence::{Scratch, resolve_classes};
 use crate::single::{are_plain, single_levels};
 use bidi_explicit::{ClassList, LevelList, Levels, Run, base_of, levels, runs};
 use std::alloc::{AllocError, Global};
-use wm_chars::BidiClass::{B, CS, EN, ES, ET, L, NSM, ON, S, WS};
+use wm_chars::BidiClass::{AL, AN, R};
 use wm_chars::{BidiClass, bidi_class};
 
 /// The resolved levels of a text that is one bidi paragraph, by all rules of UAX 9 up to I2: with this base level, 0 or
@@ -65,32 +65,31 @@ pub fn paragraph_levels(
     ensures length { IfOk result (λ levels. length levels.items ≡ length classes.now) }
     ensures between { IfOk result (λ levels. All (IsResolvedLevel base) levels.items) }
 {
-    if base == 0 && are_left_to_right(classes) {
+    if !are_plain(classes) {
+        return by_all_rules(alloc, chars, classes, base);
+    }
+    if base == 0 && !has_right(classes) {
         let zeros = Vec::from_elem(alloc, 0, classes.len())?;
         return Ok(zeros);
     }
-    if are_plain(classes) {
-        return single_levels(alloc, chars, classes, base);
-    }
-    by_all_rules(alloc, chars, classes, base)
+    single_levels(alloc, chars, classes, base)
 }
 
-// Whether the classes of a paragraph of base level 0 ask for no other level.
-fn are_left_to_right(classes: &[BidiClass]) -> bool
-    ensures { result ≡ list_all paragraph.is_left_to_right classes.now }
+// Whether one of the classes runs from right to left or is that of an Arabic number.
+fn has_right(classes: &[BidiClass]) -> bool
+    ensures { result ≡ list_any paragraph.is_right classes.now }
 {
+    let mut has = false;
     for class in classes {
-        if !is_left_to_right(*class) {
-            return false;
-        }
+        has |= is_right(*class);
     }
-    true
+    has
 }
 
-fn is_left_to_right(class: BidiClass) -> bool
-    ensures { result ≡ paragraph.is_left_to_right class }
+fn is_right(class: BidiClass) -> bool
+    ensures { result ≡ paragraph.is_right class }
 {
-    matches!(class, L | EN | ES | ET | CS | NSM | B | S | WS | ON)
+    (class == R) | (class == AL) | (class == AN)
 }
 
 // The levels of any paragraph.

@@ -20,8 +20,9 @@ pub(crate) fn read_classes(
     ensures { OnOk result (out.new.items ≡ gathered L classes.now places.now) }
 {
     out.clear();
+    out.reserve(places.len())?;
     for place in places {
-        out.push(classes[*place])?;
+        out.push_reserved(classes[*place]);
     }
     Ok(())
 }

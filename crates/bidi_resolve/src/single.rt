@@ -18,12 +18,11 @@ use wm_chars::BidiClass::{AL, AN, B, CS, EN, ES, ET, L, NSM, ON, R, S, WS};
 pub(crate) fn are_plain(classes: &[BidiClass]) -> bool
     ensures { result ≡ list_all single.is_plain classes.now }
 {
+    let mut all = true;
     for class in classes {
-        if !is_plain(*class) {
-            return false;
-        }
+        all &= is_plain(*class);
     }
-    true
+    all
 }
 
 fn is_plain(class: BidiClass) -> bool
