@@ -39,6 +39,7 @@ pub(crate) fn n0(
 }
 
 // Whether a character is a neutral of the class that brackets have.
+#[inline(never)]
 fn has_bracket_class(classes: &[BidiClass]) -> bool
     ensures { result ≡ list_any brackets.may_be_bracket classes.now }
 {
@@ -173,6 +174,7 @@ fn advance(context: &mut Context, classes: &[BidiClass], place: usize)
 
 // Both are asked for of all that stands inside without a stop: a compiler makes of such a loop one that looks at many
 // classes at once.
+#[inline(never)]
 fn has_along(level: u8, inside: &[BidiClass]) -> bool
     ensures { result ≡ list_any (brackets.is_along level) inside.now }
 {
@@ -183,6 +185,7 @@ fn has_along(level: u8, inside: &[BidiClass]) -> bool
     has
 }
 
+#[inline(never)]
 fn has_against(level: u8, inside: &[BidiClass]) -> bool
     ensures { result ≡ list_any (brackets.is_against level) inside.now }
 {

@@ -76,6 +76,7 @@ pub fn paragraph_levels(
 }
 
 // Whether one of the classes runs from right to left or is that of an Arabic number.
+#[inline(never)]
 fn has_right(classes: &[BidiClass]) -> bool
     ensures { result ≡ list_any paragraph.is_right classes.now }
 {

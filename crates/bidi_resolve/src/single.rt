@@ -15,6 +15,7 @@ use wm_chars::BidiClass;
 use wm_chars::BidiClass::{AL, AN, B, CS, EN, ES, ET, L, NSM, ON, R, S, WS};
 
 /// Whether none of these classes embeds, overrides or isolates.
+#[inline(never)]
 pub(crate) fn are_plain(classes: &[BidiClass]) -> bool
     ensures { result ≡ list_all single.is_plain classes.now }
 {

@@ -23,6 +23,7 @@ pub(crate) fn w1(classes: &mut [BidiClass], sos: BidiClass)
     }
 }
 
+#[inline(never)]
 fn has_mark(classes: &[BidiClass]) -> bool
     ensures { result ≡ list_any is_mark classes.now }
 {
@@ -76,6 +77,7 @@ pub(crate) fn w2(classes: &mut [BidiClass], sos: BidiClass)
     }
 }
 
+#[inline(never)]
 fn has_european(classes: &[BidiClass]) -> bool
     ensures { result ≡ list_any weak.is_european classes.now }
 {
@@ -139,6 +141,7 @@ pub(crate) fn w4(classes: &mut [BidiClass])
     }
 }
 
+#[inline(never)]
 fn has_separator(classes: &[BidiClass]) -> bool
     ensures { result ≡ list_any weak.is_separator classes.now }
 {
@@ -207,6 +210,7 @@ pub(crate) fn w5(classes: &mut [BidiClass])
     }
 }
 
+#[inline(never)]
 fn has_terminator(classes: &[BidiClass]) -> bool
     ensures { result ≡ list_any weak.is_terminator classes.now }
 {
