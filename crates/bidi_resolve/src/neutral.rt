@@ -3,6 +3,7 @@
 ghost use Rattle.bidi_resolve.specs.Neutral as neutral;
 ghost use Rattle.bidi_resolve.specs.Sides.{Sees};
 ghost use Rattle.std.specs.Prelude.{◌≡◌, ◌+◌, ◌<◌, ◌≤◌, drop, false, get_or, length, set, true};
+ghost use Rattle.wm_chars.specs.Classes.{is_neutral};
 ghost use Rattle.wm_chars.specs.declared.classes.BidiClass.{BidiClass};
 
 use crate::sides::Ahead;
@@ -18,7 +19,7 @@ pub(crate) fn direction(level: u8) -> BidiClass
 
 /// N1 and N2: a run of neutrals takes the direction of its two sides where they agree, and else the embedding
 /// direction.
-#[tactic(auto, using(crate::proofs::Passes::pass_more, crate::proofs::NeutralLaws::n1_n2_starts))]
+
 pub(crate) fn n1_n2(classes: &mut [BidiClass], level: u8, sos: BidiClass, eos: BidiClass)
     ensures { classes.new ≡ neutral.n2 level (neutral.n1 sos eos classes.old) }
 {
@@ -28,10 +29,53 @@ pub(crate) fn n1_n2(classes: &mut [BidiClass], level: u8, sos: BidiClass, eos: B
         side: eos,
     };
     for i in 0..classes.len() {
-        let old = classes[i];
-        ahead = neutral_at(classes, i, level, before, eos, ahead);
-        before = n1_after(before, old);
+        let seen = step(classes, i, level, before, eos, ahead);
+        before = seen.before;
+        ahead = seen.ahead;
     }
+}
+
+// What is seen from behind a place: the last direction before, and the next one behind.
+#[derive(Clone, Copy)]
+struct Seen {
+    before: BidiClass,
+    ahead: Ahead,
+}
+
+// One place. Most characters of a text are L or R, which stay.
+fn step(
+    classes: &mut [BidiClass],
+    place: usize,
+    level: u8,
+    before: BidiClass,
+    eos: BidiClass,
+    ahead: Ahead,
+) -> Seen
+    requires within { place < length classes.old }
+    requires sees { Sees (neutral.side eos) classes.old (place + 1) ahead }
+    ensures class { (d : BidiClass) → classes.new ≡ set classes.old place (neutral.n2_class level (neutral.n1_class before (get_or classes.old place d) (neutral.side eos (drop (place + 1) classes.old)))) }
+    ensures before { (d : BidiClass) → result.before ≡ neutral.n1_after before (get_or classes.old place d) }
+    ensures sees { Sees (neutral.side eos) classes.old (place + 1) result.ahead }
+{
+    let class = classes[place];
+    if is_letter(class) {
+        return Seen {
+            before: class,
+            ahead,
+        };
+    }
+    let ahead = neutral_at(classes, place, level, before, eos, ahead);
+    Seen {
+        before: n1_after(before, class),
+        ahead,
+    }
+}
+
+fn is_letter(class: BidiClass) -> bool
+    ensures other { result ≡ true → is_neutral class ≡ false }
+    ensures after { result ≡ true → (last : BidiClass) → neutral.n1_after last class ≡ class }
+{
+    matches!(class, L | R)
 }
 
 // Tells the next direction behind the place and the run that begins there.

@@ -1,0 +1,11 @@
+use Rattle.std.proofs.Common.{rules, ◌+◌, drop}
+use Rattle.bidi_resolve.proofs.Passes.{set_kept}
+use Rattle.bidi_resolve.proofs.NeutralLaws.{other_stays}
+use Rattle.bidi_resolve.specs.Neutral.{n1_class, n2_class, side}
+use Rattle.wm_chars.specs.declared.classes.BidiClass.TheVariants.{L}
+use Rattle.bidi_resolve.proofs.neutral.step.Goals as goal
+
+pub returns-then-is_letter-clause-class : goal.returns-then-is_letter-clause-class
+returns-then-is_letter-clause-class c = λ d.
+    set_kept (λ x. n2_class c.args.level (n1_class c.args.before x (side c.args.eos (drop (c.args.place + 1) c.args.classes.now)))) c.args.classes.now c.args.place d L c.requires.within
+    (other_stays c.args.level c.args.before _ _ (c.is_letter.ensures.other (search rules)))
