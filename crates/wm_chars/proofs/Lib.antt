@@ -1,5 +1,6 @@
 pub mod Ascending
 pub mod Blocks
+pub mod Classed
 pub mod Examples
 pub mod Facts
 pub mod Outside

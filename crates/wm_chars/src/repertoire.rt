@@ -7,7 +7,8 @@ ghost use Rattle.wm_chars.specs.declared.rows.TheConstants.{ROWS};
 
 use crate::classes::{BidiClass, BreakClass, Orient};
 use crate::rows::{
-    ROWS, ROWS_BEFORE_ASCII, ROWS_BEFORE_BLOCK, ROWS_BEFORE_HAN, ROWS_BEFORE_KANA, Row,
+    PRINTABLE_CLASSES, ROWS, ROWS_BEFORE_ASCII, ROWS_BEFORE_BLOCK, ROWS_BEFORE_HAN,
+    ROWS_BEFORE_KANA, Row,
 };
 
 /// The bidi class of a character (UAX 9, table 4), or None exactly where it isn't in the repertoire.
@@ -15,6 +16,9 @@ use crate::rows::{
 pub fn bidi_class(c: char) -> Option<BidiClass>
     ensures { result ≡ repertoire.bidi_class c }
 {
+    if ' ' <= c && c <= '~' {
+        return Some(PRINTABLE_CLASSES[c as usize - 0x20]);
+    }
     row_of(c).map(|row| row.class)
 }
 

@@ -158,6 +158,14 @@ pub(crate) static ROWS_BEFORE_ASCII: [u8; 128] = [
     28, 28, 28, 28, 28, 28, 28, 28, 28, 28, 28, 28, 28, 28, 28, 28, 28, 29, 30, 31, 32, 33,
 ];
 
+// The bidi class of each character from the space to the tilde, as its row has it.
+pub(crate) static PRINTABLE_CLASSES: [BidiClass; 95] = [
+    WS, ON, ON, ET, ET, ET, ON, ON, ON, ON, ON, ES, CS, ES, CS, CS, EN, EN, EN, EN, EN, EN, EN, EN,
+    EN, EN, CS, ON, ON, ON, ON, ON, ON, L, L, L, L, L, L, L, L, L, L, L, L, L, L, L, L, L, L, L, L,
+    L, L, L, L, L, L, ON, ON, ON, ON, ON, ON, L, L, L, L, L, L, L, L, L, L, L, L, L, L, L, L, L, L,
+    L, L, L, L, L, L, L, L, ON, ON, ON, ON,
+];
+
 // How many rows end before Kana, from U+3041 on.
 pub(crate) const ROWS_BEFORE_KANA: usize = 82;
 
