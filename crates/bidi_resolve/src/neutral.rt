@@ -19,7 +19,6 @@ pub(crate) fn direction(level: u8) -> BidiClass
 
 /// N1 and N2: a run of neutrals takes the direction of its two sides where they agree, and else the embedding
 /// direction.
-
 pub(crate) fn n1_n2(classes: &mut [BidiClass], level: u8, sos: BidiClass, eos: BidiClass)
     ensures { classes.new ≡ neutral.n2 level (neutral.n1 sos eos classes.old) }
 {
