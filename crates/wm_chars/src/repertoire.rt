@@ -19,6 +19,15 @@ pub fn bidi_class(c: char) -> Option<BidiClass>
     if ' ' <= c && c <= '~' {
         return Some(PRINTABLE_CLASSES[c as usize - 0x20]);
     }
+    if '\u{05D0}' <= c && c <= '\u{05EA}' {
+        return Some(BidiClass::R);
+    }
+    if '\u{0621}' <= c && c <= '\u{063A}' {
+        return Some(BidiClass::AL);
+    }
+    if '\u{0641}' <= c && c <= '\u{064A}' {
+        return Some(BidiClass::AL);
+    }
     row_of(c).map(|row| row.class)
 }
 
