@@ -1,7 +1,7 @@
 -- The table of the bidi classes from the space to the tilde tells what the rows tell, and so do the tests for letters.
-use Rattle.std.proofs.Common.{◌≡◌, ◌∙◌, sym, refl, ap, arith, ℕ, zero, suc, ◌+◌, ◌-◌, ◌<◌, ◌≤◌, List, length, map, get_or, replicate, Option, Some}
+use Rattle.std.proofs.Common.{◌≡◌, ◌∙◌, sym, refl, ap, arith, ℕ, ◌+◌, ◌-◌, ◌<◌, ◌≤◌, List, length, map, get_or, replicate, Option, Some}
 use Rattle.std.specs.List.{range_with_len}
-use Rattle.std.proofs.lemmas.List.{get_or-map}
+use Rattle.std.proofs.lemmas.List.{get_or-map, get_or-replicate}
 use Rattle.std.proofs.lemmas.List.FromFn.{get_or-range_with_len, length-range_with_len}
 use Rattle.wm_chars.specs.Repertoire.{bidi_class, row_of}
 use Rattle.wm_chars.specs.declared.classes.BidiClass.{BidiClass}
@@ -32,12 +32,7 @@ of_range first n x all c low high =
     sym (ap bidi_class (here ∙ is))
     ∙ sym (get_or-map bidi_class (range_with_len first n) (c - first) 0 x (omega arith))
     ∙ ap (λ (classes : List (Option BidiClass)). get_or classes (c - first) x) all
-    ∙ get_or-replicate x n (c - first)
-  where
-    get_or-replicate : (x : Option BidiClass) (n k : ℕ) → get_or (replicate n x) k x ≡ x
-    get_or-replicate x zero k = refl
-    get_or-replicate x (suc n) zero = refl
-    get_or-replicate x (suc n) (suc k) = get_or-replicate x n k
+    ∙ get_or-replicate n (c - first) x x (omega arith)
 
 hebrew_rows : map bidi_class (range_with_len 0x5D0 27) ≡ replicate 27 (Some R)
 unfolding bidi_class row_of
