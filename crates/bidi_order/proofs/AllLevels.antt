@@ -66,12 +66,12 @@ at_most [] p = omega arith
 at_most (l ∷ levels) zero = omega arith
 at_most (l ∷ levels) (suc p) = let h = at_most levels p in omega arith
 
-record IsLeastOdd (levels : List ℕ) (lowest : ℕ) : Type 0 where
-  odd : lowest % 2 ≡ 1
+pub record IsLeastOdd (levels : List ℕ) (lowest : ℕ) : Type 0 where
+  pub odd : lowest % 2 ≡ 1
   high : lowest ≤ greatest levels
   least : (p : ℕ) → slice_index levels p % 2 ≡ 1 → lowest ≤ slice_index levels p
 
-abbrev HasLeast : List ℕ → Option ℕ → Type 0
+abbrev pub HasLeast : List ℕ → Option ℕ → Type 0
 HasLeast levels None = (p : ℕ) → slice_index levels p % 2 ≢ 1
 HasLeast levels (Some lowest) = IsLeastOdd levels lowest
 
@@ -102,7 +102,7 @@ even_more l levels (Some lowest) even has = record { odd = has.odd; high = let h
   at zero e = absurd (even e)
   at (suc p) e = has.least p e
 
-has_least : (levels : List ℕ) → HasLeast levels (least_odd levels)
+pub has_least : (levels : List ℕ) → HasLeast levels (least_odd levels)
 has_least [] = λ p e. absurd (omega arith)
 has_least (l ∷ levels) = elim (cases_Bool (eqb (l % 2) 1)) [
   | inl odd ↦ rw odd (odd_more l levels (least_odd levels) (eqb-true (l % 2) 1 odd) (has_least levels))

@@ -16,7 +16,7 @@ parted passes run (y ∷ xs) x ys out = elim (cases_Bool (passes y)) [
 ]
 
 -- the run that was read, where all of it passes, is put back
-abbrev AllPass : {X : Type 0} → (X → Bool) → List X → Type 0
+abbrev pub AllPass : {X : Type 0} → (X → Bool) → List X → Type 0
 AllPass passes [] = Unit {0}
 AllPass passes (x ∷ xs) = (passes x ≡ true) × AllPass passes xs
 

@@ -3,6 +3,7 @@ pub mod Examples
 pub mod FilterMap
 pub mod LeavingOut
 pub mod LevelZero
+pub mod Levels
 pub mod LineLaws
 pub mod Resets
 pub mod Runs

@@ -17,6 +17,7 @@ pub record Reversing {X : Type 0} (passes : X → Bool) (old now : List X) (star
   pub begun : start ≤ i
   pub within : i ≤ length now
   pub rearranged : IsPermutation old now
+  pub rest : drop i now ≡ drop i old
   pub runs : take start now ++ reverse_runs passes (reverse (take (i - start) (drop start now))) (drop i now) ≡ reverse_runs passes [] old
 
 module _ {X : Type 0} (xs : List X) (start end_ : ℕ) (begun : start ≤ end_) (within : end_ ≤ length xs) where
@@ -45,11 +46,20 @@ module _ {X : Type 0} (xs : List X) (start end_ : ℕ) (begun : start ≤ end_) 
       (IsPermutation-append_right (take start xs) (take (end_ - start) (drop start xs)) (reverse (take (end_ - start) (drop start xs))) (IsPermutation-reverse (take (end_ - start) (drop start xs)))))
 
 pub starts : {X : Type 0} (passes : X → Bool) (xs : List X) → Reversing passes xs xs 0 0
-starts passes xs = record { begun = omega arith; within = omega arith; rearranged = IsPermutation-refl xs; runs = refl }
+starts passes xs = record { begun = omega arith; within = omega arith; rearranged = IsPermutation-refl xs; rest = refl; runs = refl }
 
 module _ {X : Type 0} (passes : X → Bool) (old now : List X) (start i : ℕ) (x d : X) (r : Reversing passes old now start i) (below : i < length now) (x-is : x ≡ get_or now i d) where
   behind : drop i now ≡ x ∷ drop (i + 1) now
   behind = rw x-is (drop_more now i d below)
+
+  -- the element is as it was
+  pub as_it_was : x ≡ get_or old i d
+  as_it_was =
+      let n' : i + 0 ≡ i = omega arith in
+      x-is ∙ sym (get_or-drop i now 0 d ∙ ap (λ (k : ℕ). get_or now k d) n') ∙ ap (λ l. get_or l 0 d) r.rest ∙ get_or-drop i old 0 d ∙ ap (λ (k : ℕ). get_or old k d) n'
+
+  rest_more : drop (i + 1) now ≡ drop (i + 1) old
+  rest_more = sym (drop-drop 1 i now) ∙ ap (drop 1) r.rest ∙ drop-drop 1 i old
 
   pub passes_more : passes x ≡ true → Reversing passes old now start (i + 1)
   passes_more e =
@@ -67,6 +77,7 @@ module _ {X : Type 0} (passes : X → Bool) (old now : List X) (start i : ℕ) (
         begun = omega arith;
         within = omega arith;
         rearranged = r.rearranged;
+        rest = rest_more;
         runs = rw back (ap (λ l. take start now ++ l) (sym one) ∙ r.runs);
       }
 
@@ -87,6 +98,7 @@ module _ {X : Type 0} (passes : X → Bool) (old now : List X) (start i : ℕ) (
         begun = omega arith;
         within = omega arith;
         rearranged = IsPermutation-trans old now now' r.rearranged perm;
+        rest = b ∙ rest_more;
         runs = rw (z, t, b)
             (append_assoc front (x ∷ []) (reverse_runs passes [] (drop (i + 1) now))
             ∙ append_assoc (take start now) (reverse (take (i - start) (drop start now))) (x ∷ reverse_runs passes [] (drop (i + 1) now))

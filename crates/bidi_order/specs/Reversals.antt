@@ -1,5 +1,5 @@
 -- The order of a line (UAX 9, rule L2).
-use Rattle.std.specs.Prelude.{ℕ, zero, suc, ◌+◌, ◌-◌, ◌%◌, max, min, Bool, cond, eqb, leb, List, [], ◌∷◌, ◌++◌, length, slice_index, Option, Some, None}
+use Rattle.std.specs.Prelude.{◌≡◌, ℕ, zero, suc, ◌+◌, ◌≤◌, ◌-◌, ◌%◌, max, min, Bool, cond, eqb, leb, ltb, List, [], ◌∷◌, ◌++◌, length, map, slice_index, Option, Some, None}
 use Rattle.std.specs.List.{range_with_len}
 
 -- each longest run of elements that pass the test, reversed; `run` holds the one that is being read, last first
@@ -10,6 +10,11 @@ reverse_runs passes run (x ∷ xs) = cond (passes x) (reverse_runs passes (x ∷
 abbrev pub greatest : List ℕ → ℕ
 greatest [] = 0
 greatest (level ∷ levels) = max level (greatest levels)
+
+-- the greatest level below that one, or 0
+abbrev pub greatest_below : ℕ → List ℕ → ℕ
+greatest_below limit [] = 0
+greatest_below limit (level ∷ levels) = max (cond (ltb level limit) level 0) (greatest_below limit levels)
 
 -- the least odd level, if there is one
 abbrev pub lesser : ℕ → Option ℕ → Option ℕ
@@ -29,6 +34,10 @@ reversals levels least (suc n) places = reversals levels least n (reverse_runs (
 abbrev pub from_least_odd : List ℕ → Option ℕ → List ℕ → List ℕ
 from_least_odd levels None places = places
 from_least_odd levels (Some least) places = reversals levels least (greatest levels + 1 - least) places
+
+-- places whose characters reach a level, up to that one, exactly where those of the line in its own order do
+abbrev pub ReachTheSame : List ℕ → (level : ℕ) → (places : List ℕ) → Type 0
+ReachTheSame levels level places = (k : ℕ) → k ≤ level → map (λ p. leb k (slice_index levels p)) places ≡ map (λ l. leb k l) levels
 
 -- L2: the reversals from the greatest level down to the least odd one, of all places in order
 unfoldable pub order : List ℕ → List ℕ

@@ -1,8 +1,8 @@
 //! The order of a line by its levels (UAX 9, 3.4, L2).
 
-ghost use Rattle.std.specs.Prelude.{◌≡◌, ◌+◌, ◌-◌, ◌%◌, ◌<◌, ◌≤◌, ◌++◌, [], cond, eqb, leb, length, take, drop, reverse, slice_index, IfOk, IsPermutation};
+ghost use Rattle.std.specs.Prelude.{◌≡◌, ◌+◌, ◌-◌, ◌%◌, ◌<◌, ◌≤◌, ◌++◌, [], cond, eqb, leb, ltb, max, length, take, drop, reverse, slice_index, IfOk, IfSome, IsPermutation};
 ghost use Rattle.std.specs.List.{All, range_with_len};
-ghost use Rattle.bidi_order.specs.Reversals.{reverse_runs, greatest, lesser, least_odd, reversals, from_least_odd, order};
+ghost use Rattle.bidi_order.specs.Reversals.{ReachTheSame, reverse_runs, greatest, greatest_below, lesser, least_odd, reversals, from_least_odd, order};
 
 use crate::places::Order;
 use std::alloc::{AllocError, Global};
@@ -45,7 +45,8 @@ pub(crate) fn greatest(levels: &[u8]) -> u8
 }
 
 fn least_odd(levels: &[u8]) -> Option<u8>
-    ensures { result ≡ least_odd levels.now }
+    ensures least { result ≡ least_odd levels.now }
+    ensures high { IfSome result (λ least. 0 < least) }
 {
     let mut least = None;
     let mut i = levels.len();
@@ -70,9 +71,10 @@ fn lesser_odd(level: u8, least: Option<u8>) -> Option<u8>
     }
 }
 
-// The reversals from the greatest level down to the least odd one, if there is an odd one.
+// The reversals from the greatest level down to the least odd one, if there is an odd one, of places in their own order.
+#[tactic(auto, using(crate::proofs::Levels::own_length, crate::proofs::Levels::own_places))]
 fn reverse_from_least_odd(places: &mut Order, levels: &[u8])
-    requires { All (λ p. p < length levels.now) places.old.items }
+    requires { places.old.items ≡ range_with_len 0 (length levels.now) }
     ensures reversed { places.new.items ≡ from_least_odd levels.now (least_odd levels.now) places.old.items }
     ensures rearranged { IsPermutation places.old.items places.new.items }
 {
@@ -81,29 +83,65 @@ fn reverse_from_least_odd(places: &mut Order, levels: &[u8])
     }
 }
 
-// The reversals from one level down to another.
+// The reversals from one level down to another. The same places reach all levels between two that characters have: so
+// there two reversals cancel each other.
 fn reverse_levels(places: &mut [usize], levels: &[u8], least: u8, greatest: u8)
-    requires { All (λ p. p < length levels.now) places.old }
+    requires least { 0 < least }
+    requires length { length places.old ≡ length levels.now }
+    requires reach { ReachTheSame levels.now greatest places.old }
     ensures reversed { places.new ≡ reversals levels.now least (greatest + 1 - least) places.old }
     ensures rearranged { IsPermutation places.old places.new }
 {
-    let least = u32::from(least);
-    let mut count = (u32::from(greatest) + 1).saturating_sub(least);
-    while count > 0 {
-        count -= 1;
-        reverse_level(places, levels, least + count);
+    let mut level = greatest;
+    while level >= least {
+        let next = next_below(levels, level, least);
+        reverse_between(places, levels, level, next);
+        level = next;
     }
 }
 
-// Reverses each longest run of places that have this level or a higher one.
-fn reverse_level(places: &mut [usize], levels: &[u8], level: u32)
-    requires { All (λ p. p < length levels.now) places.old }
+// The greatest level below that one, or the one before the least where that is greater.
+fn next_below(levels: &[u8], level: u8, least: u8) -> u8
+    requires { 0 < least }
+    ensures { result ≡ max (least - 1) (greatest_below level levels.now) }
+{
+    let mut best = least - 1;
+    for other in levels {
+        best = best.max(below(*other, level));
+    }
+    best
+}
+
+// A level that is less than that one, else 0.
+fn below(level: u8, limit: u8) -> u8
+    ensures { result ≡ cond (ltb level limit) level 0 }
+{
+    if level < limit { level } else { 0 }
+}
+
+// The reversals from that level down to the next one, which is left out.
+fn reverse_between(places: &mut [usize], levels: &[u8], level: u8, next: u8)
+    requires next { next < level }
+    requires length { length places.old ≡ length levels.now }
+    requires reach { ReachTheSame levels.now level places.old }
+    ensures reversed { places.new ≡ cond (eqb ((level - next) % 2) 1) (reverse_runs (λ p. leb level (slice_index levels.now p)) [] places.old) places.old }
+    ensures rearranged { IsPermutation places.old places.new }
+{
+    if (level - next) % 2 == 1 {
+        reverse_level(places, levels, level);
+    }
+}
+
+// Reverses each longest run of places that have this level or a higher one. They are where the line's own places have it.
+fn reverse_level(places: &mut [usize], levels: &[u8], level: u8)
+    requires length { length places.old ≡ length levels.now }
+    requires reach { ReachTheSame levels.now level places.old }
     ensures reversed { places.new ≡ reverse_runs (λ p. leb level (slice_index levels.now p)) [] places.old }
     ensures rearranged { IsPermutation places.old places.new }
 {
     let mut start = 0;
     for i in 0..places.len() {
-        if !reaches(levels, places[i], level) {
+        if !reaches(levels, i, level) {
             reverse_part(places, start, i);
             start = i + 1;
         }
@@ -112,11 +150,11 @@ fn reverse_level(places: &mut [usize], levels: &[u8], level: u32)
     reverse_part(places, start, end);
 }
 
-fn reaches(levels: &[u8], place: usize, level: u32) -> bool
+fn reaches(levels: &[u8], place: usize, level: u8) -> bool
     requires { place < length levels.now }
     ensures { result ≡ leb level (slice_index levels.now place) }
 {
-    level <= u32::from(levels[place])
+    level <= levels[place]
 }
 
 // Most parts have no place or one.

@@ -1,15 +1,15 @@
-use Rattle.std.proofs.Common.{◌≡◌, ◌≤◌}
+use Rattle.std.proofs.Common.{◌≡◌, ◌+◌, ◌-◌, length}
 use Rattle.std.specs.List.Sorted.{IsPermutation}
-use Rattle.bidi_order.specs.Reversals.{reversals}
+use Rattle.bidi_order.specs.Reversals.{ReachTheSame, reversals}
 use Rattle.bidi_order.proofs.reversals.reverse_levels.Given as goal
 
-abbrev pub invariant-loop-count : goal.invariant-loop-count
-invariant-loop-count l = record {
-  reversed : reversals l.levels l.least l.count l.places ≡ reversals l.levels l.least l.initial.count l.fn.places;
+abbrev pub invariant-loop-level : goal.invariant-loop-level
+invariant-loop-level l = record {
+  reversed : reversals l.levels l.least (l.level + 1 - l.least) l.places ≡ reversals l.levels l.least (l.greatest + 1 - l.least) l.fn.places;
   rearranged : IsPermutation l.fn.places l.places;
-  few : l.count ≤ 256;
-  low : l.least ≤ 255;
+  many : length l.places ≡ length l.levels;
+  reach : ReachTheSame l.levels l.level l.places;
 }
 
-abbrev pub decreases-loop-count : goal.decreases-loop-count
-decreases-loop-count l = l.count
+abbrev pub decreases-loop-level : goal.decreases-loop-level
+decreases-loop-level l = l.level
