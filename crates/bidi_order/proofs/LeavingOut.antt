@@ -20,7 +20,7 @@ abbrev pub AllPass : {X : Type 0} → (X → Bool) → List X → Type 0
 AllPass passes [] = Unit {0}
 AllPass passes (x ∷ xs) = (passes x ≡ true) × AllPass passes xs
 
-put_back : {X : Type 0} (passes : X → Bool) (acc run : List X) → AllPass passes run → reverse_runs passes acc run ≡ reverse run ++ acc
+pub put_back : {X : Type 0} (passes : X → Bool) (acc run : List X) → AllPass passes run → reverse_runs passes acc run ≡ reverse run ++ acc
 put_back passes acc [] all = refl
 put_back passes acc (x ∷ run) all =
     let in_ : passes x ≡ true = all.0 in

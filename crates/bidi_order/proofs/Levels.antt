@@ -96,7 +96,7 @@ own_later k level levels at (suc n) =
     let read : slice_index (level ∷ levels) (at + 1) ≡ slice_index levels at = rw add-one refl in
     rw (own_later k level levels (at + 1) n, read) refl
 
-own : (k : ℕ) (levels : List ℕ) → map (λ p. leb k (slice_index levels p)) (range_with_len 0 (length levels)) ≡ map (λ l. leb k l) levels
+pub own : (k : ℕ) (levels : List ℕ) → map (λ p. leb k (slice_index levels p)) (range_with_len 0 (length levels)) ≡ map (λ l. leb k l) levels
 own k [] = refl
 own k (level ∷ levels) = ap (λ (l : List Bool). leb k level ∷ l) (own_later k level levels 0 (length levels) ∙ own k levels)
 

@@ -1,4 +1,5 @@
 pub mod AllLevels
+pub mod BaseLine
 pub mod Examples
 pub mod FilterMap
 pub mod LeavingOut

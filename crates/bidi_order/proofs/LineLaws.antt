@@ -19,7 +19,7 @@ later x xs at (suc n) =
     rw (later x xs (at + 1) n, read) refl
 
 -- a list is what stands at all its places in order
-in_order : (xs : List ℕ) → gathered 0 xs (range_with_len 0 (length xs)) ≡ xs
+pub in_order : (xs : List ℕ) → gathered 0 xs (range_with_len 0 (length xs)) ≡ xs
 in_order [] = refl
 in_order (x ∷ xs) = ap (λ (l : List ℕ). x ∷ l) (later x xs 0 (length xs) ∙ in_order xs)
 
@@ -29,7 +29,7 @@ looked_up n places order many perm =
     let moved : IsPermutation (gathered 0 places (range_with_len 0 n)) (gathered 0 places order) = IsPermutation-map (λ k. get_or places k 0) (range_with_len 0 n) order perm in
     rw (← many, in_order places) at moved
 
-slice_more : {X : Type 0} (xs : List X) (at stop : ℕ) (d : X) → at < stop → at < length xs → slice_range xs at stop ≡ get_or xs at d ∷ slice_range xs (at + 1) stop
+pub slice_more : {X : Type 0} (xs : List X) (at stop : ℕ) (d : X) → at < stop → at < length xs → slice_range xs at stop ≡ get_or xs at d ∷ slice_range xs (at + 1) stop
 slice_more xs at stop d lt inside =
     let many : stop - at ≡ suc (stop - (at + 1)) = omega arith in
     rw (drop_more xs at d inside, many) refl

@@ -1,6 +1,6 @@
 -- The order of a line (UAX 9, 3.4): by the levels of its whole paragraph, which all rules up to I2 give, then by L1 and
 -- L2 on the line alone. What X9 removes is not in the line.
-use Rattle.std.specs.Prelude.{ℕ, List, Option}
+use Rattle.std.specs.Prelude.{ℕ, ◌%◌, cond, eqb, List, Option, reverse}
 use Rattle.std.specs.List.{slice_range}
 use Rattle.wm_chars.specs.declared.classes.BidiClass.{BidiClass}
 use Rattle.wm_chars.specs.declared.classes.BidiClass.TheVariants.{L}
@@ -20,10 +20,17 @@ line_places classes start stop = kept_from start (removed_marks (slice_range cla
 abbrev pub levels_at : (base : ℕ) → (levels : List ℕ) → List BidiClass → (places : List ℕ) → List ℕ
 levels_at base levels classes places = reset base (gathered 0 levels places) (gathered L classes places)
 
--- L2 on the levels that L1 gives: the places of the line from left to right
+-- L2 on the levels that L1 gives: these places of a line from left to right
+abbrev pub order_at : (base : ℕ) → (levels : List ℕ) → List BidiClass → (places : List ℕ) → List ℕ
+order_at base levels classes places = gathered 0 places (order (levels_at base levels classes places))
+
+-- the places of the line from left to right
 unfoldable pub line_order : (base : ℕ) → (levels : List ℕ) → List BidiClass → (start stop : ℕ) → List ℕ
-line_order base levels classes start stop =
-    gathered 0 (line_places classes start stop) (order (levels_at base levels classes (line_places classes start stop)))
+line_order base levels classes start stop = order_at base levels classes (line_places classes start stop)
+
+-- places that all have the base level, from left to right
+abbrev pub turned : (base : ℕ) → (places : List ℕ) → List ℕ
+turned base places = cond (eqb (base % 2) 1) (reverse places) places
 
 -- the whole algorithm, P2 to L2, for a line of a text that is one paragraph
 unfoldable pub text_line_order : (chars : List ℕ) → (base : Option ℕ) → (start stop : ℕ) → List ℕ

@@ -1,12 +1,12 @@
 //! The order of a line of a bidi paragraph (UAX 9, 3.4), by the levels of the whole paragraph.
 
-ghost use Rattle.wm_chars.specs.Classes.{is_removed};
 ghost use Rattle.bidi_order.specs.Line as line;
-ghost use Rattle.bidi_order.specs.Line.{line_places};
+ghost use Rattle.bidi_order.specs.Line.{line_places, turned};
 ghost use Rattle.bidi_resolve.specs.Places.{gathered};
 ghost use Rattle.wm_chars.specs.Classes.{is_removed};
 ghost use Rattle.wm_chars.specs.declared.classes.BidiClass.TheVariants.{L};
-ghost use Rattle.std.specs.Prelude.{◌≡◌, ◌<◌, ◌≤◌, ◌++◌, [], ◌∷◌, cond, All, IfOk, OnOk, IsPermutation, length};
+ghost use Rattle.std.specs.List.{list_all};
+ghost use Rattle.std.specs.Prelude.{◌≡◌, ◌==◌, ◌<◌, ◌≤◌, ◌++◌, [], ◌∷◌, cond, All, IfOk, OnOk, IsPermutation, length};
 
 use crate::blanks::reset;
 use crate::places::Order;
@@ -18,7 +18,7 @@ use wm_chars::BidiClass;
 /// The order of one line of a bidi paragraph (UAX 9, L1 and L2): the places of its characters in the paragraph, from left
 /// to right. The line has the places from `start` up to `stop` but those of what X9 removes. The levels are the resolved
 /// ones of the whole paragraph with this base level, and the classes are those that its characters had before any rule.
-#[tactic(auto, unfolding(crate::specs::Line::line_order))]
+#[tactic(auto, using(crate::proofs::BaseLine::of_base), unfolding(crate::specs::Line::line_order))]
 pub fn line_order(
     alloc: Global,
     levels: &[u8],
@@ -34,9 +34,55 @@ pub fn line_order(
     ensures rearranged { IfOk result (λ places. IsPermutation (line_places classes.now start stop) places.items) }
 {
     let places = line_places(alloc, classes, start, stop)?;
-    let line = levels_at(alloc, levels, classes, base, &places)?;
+    if are_level(&levels[start..stop], base) {
+        let order = turned(places, base);
+        Ok(order)
+    } else {
+        let order = order_at(alloc, levels, classes, base, &places)?;
+        Ok(order)
+    }
+}
+
+// Whether each of these levels is the base level.
+fn are_level(levels: &[u8], base: u8) -> bool
+    ensures { result ≡ list_all (λ level. level == base) levels.now }
+{
+    levels.iter().all(
+        |level| -> bool
+            ensures { result ≡ (level.now == base) }
+        { *level == base },
+    )
+}
+
+// The order of a line that has these places, where all have the base level: L1 changes none, and L2 turns all round or none.
+#[tactic(auto, using(crate::proofs::BaseLine::turned_rearranged))]
+fn turned(places: PlaceList, base: u8) -> Order
+    ensures order { result.items ≡ turned base places.items }
+    ensures rearranged { IsPermutation places.items result.items }
+{
+    let mut order = places;
+    if base % 2 == 1 {
+        order.reverse();
+    }
+    order
+}
+
+// The order of a line that has these places, whatever its levels.
+fn order_at(
+    alloc: Global,
+    levels: &[u8],
+    classes: &[BidiClass],
+    base: u8,
+    places: &[usize],
+) -> Result<Order, AllocError>
+    requires classes { length levels.now ≡ length classes.now }
+    requires within { All (λ p. p < length classes.now) places.now }
+    ensures order { IfOk result (λ order. order.items ≡ line.order_at base levels.now classes.now places.now) }
+    ensures rearranged { IfOk result (λ order. IsPermutation places.now order.items) }
+{
+    let line = levels_at(alloc, levels, classes, base, places)?;
     let mut order = order(alloc, &line)?;
-    look_up(&mut order, &places);
+    look_up(&mut order, places);
     Ok(order)
 }
 
