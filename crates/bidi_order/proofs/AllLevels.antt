@@ -9,11 +9,11 @@ use Rattle.bidi_order.specs.Laws.{without, past, MayBeLeftOut, LesserStandsForTw
 use Rattle.bidi_order.proofs.LeavingOut.{Gone, twice, agreeing, unmoved, down, down_renamed, behind_down, before_down}
 
 -- twice as much
-abbrev double : ℕ → ℕ
+abbrev pub double : ℕ → ℕ
 double zero = 0
 double (suc n) = suc (suc (double n))
 
-doubled : (n : ℕ) → double n ≡ 2 * n
+pub doubled : (n : ℕ) → double n ≡ 2 * n
 doubled zero = refl
 doubled (suc n) = let e = doubled n in omega arith
 
@@ -42,7 +42,7 @@ cancel level (suc n) xs none =
         ]
 
 -- a reversal above all levels moves nothing
-high_down : {X : Type 0} (level : X → ℕ) (most n : ℕ) (xs : List X) → ((x : X) → level x ≤ most) → most ≤ n → down level n xs ≡ down level most xs
+pub high_down : {X : Type 0} (level : X → ℕ) (most n : ℕ) (xs : List X) → ((x : X) → level x ≤ most) → most ≤ n → down level n xs ≡ down level most xs
 high_down level most zero xs all le = let e : most ≡ 0 = omega arith in rw e refl
 high_down level most (suc n) xs all le = elim (cases_lt most (suc n)) [
   | inl low ↦
@@ -52,7 +52,7 @@ high_down level most (suc n) xs all le = elim (cases_lt most (suc n)) [
 ]
 
 -- the reversals from one level down to another come before those below it
-down_reversals : (levels : List ℕ) (below n from : ℕ) (places : List ℕ) → below + n ≡ from → down (λ p. slice_index levels p) from places ≡ down (λ p. slice_index levels p) below (reversals levels (suc below) n places)
+pub down_reversals : (levels : List ℕ) (below n from : ℕ) (places : List ℕ) → below + n ≡ from → down (λ p. slice_index levels p) from places ≡ down (λ p. slice_index levels p) below (reversals levels (suc below) n places)
 down_reversals levels below zero from places e = let e' : from ≡ below = omega arith in rw e' refl
 down_reversals levels below (suc n) zero places e = absurd (omega arith)
 down_reversals levels below (suc n) (suc from) places e =
@@ -61,7 +61,7 @@ down_reversals levels below (suc n) (suc from) places e =
 
 -- ---- the least odd level, and the greatest
 
-at_most : (levels : List ℕ) (p : ℕ) → slice_index levels p ≤ greatest levels
+pub at_most : (levels : List ℕ) (p : ℕ) → slice_index levels p ≤ greatest levels
 at_most [] p = omega arith
 at_most (l ∷ levels) zero = omega arith
 at_most (l ∷ levels) (suc p) = let h = at_most levels p in omega arith
@@ -122,7 +122,7 @@ odd_is n e = record { half = n / 2; is = let d = doubled (n / 2) in omega arith 
 odd_double : (k : ℕ) → suc (double k) % 2 ≡ 1
 odd_double k = let d = doubled k in omega arith
 
-by_all : (levels : List ℕ) (o : Option ℕ) (n : ℕ) (places : List ℕ) → HasLeast levels o → greatest levels ≤ double n → from_least_odd levels o places ≡ down (λ p. slice_index levels p) (double n) places
+pub by_all : (levels : List ℕ) (o : Option ℕ) (n : ℕ) (places : List ℕ) → HasLeast levels o → greatest levels ≤ double n → from_least_odd levels o places ≡ down (λ p. slice_index levels p) (double n) places
 by_all levels None n places has le = sym (cancel (λ p. slice_index levels p) n places (λ p k lt e. has p (ap (λ (l : ℕ). l % 2) e ∙ odd_double k)))
 by_all levels (Some lowest) n places has le =
     let half = odd_is lowest has.odd in

@@ -1,22 +1,13 @@
 -- The levels that a line's characters have, and those between them.
 use Rattle.std.proofs.Common.{◌≡◌, ◌∙◌, refl, sym, ap, arith, inl, inr, ℕ, zero, suc, ◌+◌, ◌-◌, ◌%◌, ◌<◌, ◌≤◌, max, Bool, true, false, cond, leb, eqb, add-one, List, [], ◌∷◌, ◌++◌, append-nil, length, get_or, map, subst}
-use Rattle.std.specs.Prelude.{ltb, slice_index, Option, Some, None, IfSome}
+use Rattle.std.specs.Prelude.{◌*◌, ltb, slice_index}
 use Rattle.std.specs.List.{range_with_len}
 use Rattle.std.proofs.lemmas.List.{map-append, get_or-map}
 use Rattle.std.proofs.lemmas.List.FromFn.{length-range_with_len}
 use Rattle.std.proofs.lemmas.Bool.{cases_Bool, cases_lt, leb-true, le-leb, lt-leb, lt-ltb, le-ltb}
-use Rattle.bidi_order.specs.Reversals.{ReachTheSame, reverse_runs, greatest_below, least_odd, reversals}
-use Rattle.bidi_order.proofs.AllLevels.{HasLeast, has_least}
+use Rattle.bidi_order.specs.Reversals.{ReachTheSame, reverse_runs, from_least_odd, greatest, greatest_below, least_odd, reversals}
+use Rattle.bidi_order.proofs.AllLevels.{at_most, by_all, double, doubled, down_reversals, has_least, high_down}
 use Rattle.bidi_order.proofs.LeavingOut.{AllPass, agreeing, twice}
-
--- ---- the least odd level
-
-odd_high : (levels : List ℕ) (o : Option ℕ) → HasLeast levels o → IfSome o (λ least. 0 < least)
-odd_high levels None has = tt
-odd_high levels (Some least) has = let odd : least % 2 ≡ 1 = has.odd in omega arith
-
-pub least_high : (levels : List ℕ) (o : Option ℕ) → o ≡ least_odd levels → IfSome o (λ least. 0 < least)
-least_high levels o e = rw e (odd_high levels (least_odd levels) (has_least levels))
 
 -- ---- the greatest level below another
 
@@ -63,30 +54,30 @@ module _ (levels : List ℕ) (least level : ℕ) where
       ap (λ l. reversals levels least n l) (agreeing (λ p. leb (least + n) (slice_index levels p)) reaches [] places (λ p. same p n (omega arith) (omega arith)))
       ∙ skipped m d n (reverse_runs reaches [] places) (omega arith) (λ p j low high. same p j low (omega arith))
 
-pub next_less : (levels : List ℕ) (least level next : ℕ) → 0 < least → least ≤ level → next ≡ max (least - 1) (greatest_below level levels) → next < level
-next_less levels least level next some high next-is =
-    let low : greatest_below level levels < level = below_less level levels (omega arith) in
-    omega arith
-
 -- no character has a level between these two
-pub between : (levels : List ℕ) (least level next : ℕ) (places places' : List ℕ) → 0 < least → least ≤ level → next ≡ max (least - 1) (greatest_below level levels)
+pub between : (levels : List ℕ) (level next : ℕ) (places places' : List ℕ) → 0 < level → next ≡ greatest_below level levels
     → places' ≡ cond (eqb ((level - next) % 2) 1) (reverse_runs (λ p. leb level (slice_index levels p)) [] places) places
-    → reversals levels least (next + 1 - least) places' ≡ reversals levels least (level + 1 - least) places
-between levels least level next places places' some high next-is is =
-    let low : greatest_below level levels < level = below_less level levels (omega arith) in
-    let same : (p j : ℕ) → next + 1 - least ≤ j → j < level + 1 - least → leb (least + j) (slice_index levels p) ≡ leb level (slice_index levels p) = λ p j from upto.
+    → reversals levels 1 next places' ≡ reversals levels 1 level places
+between levels level next places places' some next-is is =
+    let low : greatest_below level levels < level = below_less level levels some in
+    let same : (p j : ℕ) → next ≤ j → j < level → leb (1 + j) (slice_index levels p) ≡ leb level (slice_index levels p) = λ p j from upto.
     elim (cases_lt (slice_index levels p) level) [
       | inl less ↦
           let most : slice_index levels p ≤ greatest_below level levels = below_most level levels p less in
-          lt-leb (least + j) (slice_index levels p) (omega arith) ∙ sym (lt-leb level (slice_index levels p) less)
-      | inr more ↦ le-leb (least + j) (slice_index levels p) (omega arith) ∙ sym (le-leb level (slice_index levels p) more)
+          lt-leb (1 + j) (slice_index levels p) (omega arith) ∙ sym (lt-leb level (slice_index levels p) less)
+      | inr more ↦ le-leb (1 + j) (slice_index levels p) (omega arith) ∙ sym (le-leb level (slice_index levels p) more)
     ] in
-    sym (skipped levels least level (next + 1 - least) (level - next) (level + 1 - least) places (omega arith) same
-    ∙ ap (λ l. reversals levels least (next + 1 - least) l) (turns_are (λ p. leb level (slice_index levels p)) (level - next) places ∙ sym is))
+    sym (skipped levels 1 level next (level - next) level places (omega arith) same
+    ∙ ap (λ l. reversals levels 1 next l) (turns_are (λ p. leb level (slice_index levels p)) (level - next) places ∙ sym is))
 
--- below the least level there is none
-pub none_left : (levels : List ℕ) (least level : ℕ) (places : List ℕ) → level < least → reversals levels least (level + 1 - least) places ≡ places
-none_left levels least level places low = let none : level + 1 - least ≡ 0 = omega arith in rw none refl
+-- the reversals below the least odd level change nothing
+pub from_greatest : (levels places : List ℕ) → reversals levels 1 (greatest levels) places ≡ from_least_odd levels (least_odd levels) places
+from_greatest levels places =
+    let n : ℕ = greatest levels in
+    let d : double n ≡ 2 * n = doubled n in
+    sym (by_all levels (least_odd levels) n places (has_least levels) (omega arith)
+    ∙ high_down (λ p. slice_index levels p) n (double n) places (at_most levels) (omega arith)
+    ∙ down_reversals levels 0 n n places (omega arith))
 
 -- ---- places that reach the same levels as the line's own
 

@@ -1,8 +1,8 @@
 //! The order of a line by its levels (UAX 9, 3.4, L2).
 
-ghost use Rattle.std.specs.Prelude.{◌≡◌, ◌+◌, ◌-◌, ◌%◌, ◌<◌, ◌≤◌, ◌++◌, [], cond, eqb, leb, ltb, max, length, take, drop, reverse, slice_index, IfOk, IfSome, IsPermutation};
+ghost use Rattle.std.specs.Prelude.{◌≡◌, ◌+◌, ◌-◌, ◌%◌, ◌<◌, ◌≤◌, ◌++◌, [], cond, eqb, leb, ltb, length, take, drop, reverse, slice_index, IfOk, IsPermutation};
 ghost use Rattle.std.specs.List.{All, range_with_len};
-ghost use Rattle.bidi_order.specs.Reversals.{ReachTheSame, reverse_runs, greatest, greatest_below, lesser, least_odd, reversals, from_least_odd, order};
+ghost use Rattle.bidi_order.specs.Reversals.{ReachTheSame, reverse_runs, greatest, greatest_below, least_odd, from_least_odd, order};
 
 use crate::places::Order;
 use std::alloc::{AllocError, Global};
@@ -17,7 +17,7 @@ pub fn order(alloc: Global, levels: &[u8]) -> Result<Order, AllocError>
     ensures length { IfOk result (λ places. length places.items ≡ length levels.now) }
 {
     let mut places = all_places(alloc, levels.len())?;
-    reverse_from_least_odd(&mut places, levels);
+    reverse_places(&mut places, levels);
     Ok(places)
 }
 
@@ -26,9 +26,9 @@ pub fn order(alloc: Global, levels: &[u8]) -> Result<Order, AllocError>
 pub(crate) fn all_places(alloc: Global, n: usize) -> Result<Order, AllocError>
     ensures { IfOk result (λ places. places.items ≡ range_with_len 0 n) }
 {
-    let mut places = Vec::with_capacity(alloc, n)?;
+    let mut places = vec![in alloc; 0; n]?;
     for place in 0..n {
-        places.push(place)?;
+        places[place] = place;
     }
     Ok(places)
 }
@@ -44,70 +44,38 @@ pub(crate) fn greatest(levels: &[u8]) -> u8
     best
 }
 
-fn least_odd(levels: &[u8]) -> Option<u8>
-    ensures least { result ≡ least_odd levels.now }
-    ensures high { IfSome result (λ least. 0 < least) }
-{
-    let mut least = None;
-    let mut i = levels.len();
-    while i > 0 {
-        i -= 1;
-        least = lesser_odd(levels[i], least);
-    }
-    least
-}
-
-// The least odd level, with one more level in front.
-fn lesser_odd(level: u8, least: Option<u8>) -> Option<u8>
-    ensures { result ≡ cond (eqb (level % 2) 1) (lesser level least) least }
-{
-    if level % 2 == 1 {
-        match least {
-            None => Some(level),
-            Some(other) => Some(level.min(other)),
-        }
-    } else {
-        least
-    }
-}
-
-// The reversals from the greatest level down to the least odd one, if there is an odd one, of places in their own order.
-#[tactic(auto, using(crate::proofs::Levels::own_length, crate::proofs::Levels::own_places))]
-fn reverse_from_least_odd(places: &mut Order, levels: &[u8])
+// The reversals from the greatest level down to the least odd one, of places in their own order.
+fn reverse_places(places: &mut Order, levels: &[u8])
     requires { places.old.items ≡ range_with_len 0 (length levels.now) }
     ensures reversed { places.new.items ≡ from_least_odd levels.now (least_odd levels.now) places.old.items }
     ensures rearranged { IsPermutation places.old.items places.new.items }
 {
-    if let Some(least) = least_odd(levels) {
-        reverse_levels(places, levels, least, greatest(levels));
-    }
+    reverse_levels(places, levels);
 }
 
-// The reversals from one level down to another. The same places reach all levels between two that characters have: so
-// there two reversals cancel each other.
-fn reverse_levels(places: &mut [usize], levels: &[u8], least: u8, greatest: u8)
-    requires least { 0 < least }
-    requires length { length places.old ≡ length levels.now }
-    requires reach { ReachTheSame levels.now greatest places.old }
-    ensures reversed { places.new ≡ reversals levels.now least (greatest + 1 - least) places.old }
+// The same: the reversals from the greatest level down to 1. Those below the least odd level cancel each other, as two
+// do between levels that characters have, since the same places reach both.
+#[tactic(auto, using(crate::proofs::Levels::own_length, crate::proofs::Levels::own_places))]
+fn reverse_levels(places: &mut [usize], levels: &[u8])
+    requires { places.old ≡ range_with_len 0 (length levels.now) }
+    ensures reversed { places.new ≡ from_least_odd levels.now (least_odd levels.now) places.old }
     ensures rearranged { IsPermutation places.old places.new }
 {
-    let mut level = greatest;
-    while level >= least {
-        let next = next_below(levels, level, least);
+    let mut level = greatest(levels);
+    while level > 0 {
+        let next = greatest_below(levels, level);
         reverse_between(places, levels, level, next);
         level = next;
     }
 }
 
-// The greatest level below that one, or the one before the least where that is greater.
-fn next_below(levels: &[u8], level: u8, least: u8) -> u8
-    requires { 0 < least }
-    ensures { result ≡ max (least - 1) (greatest_below level levels.now) }
+// The greatest level below that one, or 0.
+fn greatest_below(levels: &[u8], limit: u8) -> u8
+    ensures { result ≡ greatest_below limit levels.now }
 {
-    let mut best = least - 1;
-    for other in levels {
-        best = best.max(below(*other, level));
+    let mut best = 0;
+    for level in levels {
+        best = best.max(below(*level, limit));
     }
     best
 }
