@@ -17,11 +17,13 @@ use Rattle.unicode_segmentation.proofs.GraphemeLemmas.{is_grapheme_break-inside,
 use Rattle.cluster_units.specs.Cluster.{clusters}
 use Rattle.cluster_units.specs.Plain.{is_plain}
 
--- the values of these characters: they join neither what stands before nor what stands behind
+-- the values of these characters: none joins another of them
 abbrev is_loose : GraphemeClusterBreak → Bool
 is_loose Other = true
 is_loose Control = true
 is_loose Lf = true
+is_loose Lv = true
+is_loose Lvt = true
 is_loose _ = false
 
 no_plain : (b : Bool) → b ≡ true → not b ≡ true → ⊥
@@ -35,21 +37,21 @@ loose c plain = elim (cases_Bool (is_loose (grapheme_cluster_break c))) [
   | inr other ↦ absurd (no_plain (is_plain c) plain (Stepped-at_points grapheme_cluster_break grapheme_cluster_break_stepped is_loose (λ x v. not (is_plain x)) refl c other))
 ]
 
-loose_cases : (v : GraphemeClusterBreak) → is_loose v ≡ true → (P : GraphemeClusterBreak → Type 0) → P Other → P Control → P Lf → P v
-loose_cases Other is P other control lf = other
-loose_cases Control is P other control lf = control
-loose_cases Lf is P other control lf = lf
-loose_cases Cr is P other control lf = absurd (cc)
-loose_cases Extend is P other control lf = absurd (cc)
-loose_cases L is P other control lf = absurd (cc)
-loose_cases Lv is P other control lf = absurd (cc)
-loose_cases Lvt is P other control lf = absurd (cc)
-loose_cases Prepend is P other control lf = absurd (cc)
-loose_cases RegionalIndicator is P other control lf = absurd (cc)
-loose_cases SpacingMark is P other control lf = absurd (cc)
-loose_cases T is P other control lf = absurd (cc)
-loose_cases V is P other control lf = absurd (cc)
-loose_cases Zwj is P other control lf = absurd (cc)
+loose_cases : (v : GraphemeClusterBreak) → is_loose v ≡ true → (P : GraphemeClusterBreak → Type 0) → P Other → P Control → P Lf → P Lv → P Lvt → P v
+loose_cases Other is P other control lf lv lvt = other
+loose_cases Control is P other control lf lv lvt = control
+loose_cases Lf is P other control lf lv lvt = lf
+loose_cases Cr is P other control lf lv lvt = absurd (cc)
+loose_cases Extend is P other control lf lv lvt = absurd (cc)
+loose_cases L is P other control lf lv lvt = absurd (cc)
+loose_cases Lv is P other control lf lv lvt = lv
+loose_cases Lvt is P other control lf lv lvt = lvt
+loose_cases Prepend is P other control lf lv lvt = absurd (cc)
+loose_cases RegionalIndicator is P other control lf lv lvt = absurd (cc)
+loose_cases SpacingMark is P other control lf lv lvt = absurd (cc)
+loose_cases T is P other control lf lv lvt = absurd (cc)
+loose_cases V is P other control lf lv lvt = absurd (cc)
+loose_cases Zwj is P other control lf lv lvt = absurd (cc)
 
 no_consonant : (c : ℕ) → is_plain c ≡ true → not (is_consonant (indic_conjunct_break c)) ≡ true
 unfolding tables points_ok indic_conjunct_break_stepped
@@ -61,9 +63,11 @@ no_consonant c plain = elim (cases_Bool (not (is_consonant (indic_conjunct_break
 apart : (l r : GraphemeClusterBreak) → is_loose l ≡ true → is_loose r ≡ true → (rest : Bool) → rest ≡ true → unwrap_or (break_by_pair true l r) rest ≡ true
 apart l r left right rest is =
     loose_cases l left (λ l. unwrap_or (break_by_pair true l r) rest ≡ true)
-    (loose_cases r right (λ r. unwrap_or (break_by_pair true Other r) rest ≡ true) is refl refl)
-    (loose_cases r right (λ r. unwrap_or (break_by_pair true Control r) rest ≡ true) refl refl refl)
-    (loose_cases r right (λ r. unwrap_or (break_by_pair true Lf r) rest ≡ true) refl refl refl)
+    (loose_cases r right (λ r. unwrap_or (break_by_pair true Other r) rest ≡ true) is refl refl is is)
+    (loose_cases r right (λ r. unwrap_or (break_by_pair true Control r) rest ≡ true) refl refl refl refl refl)
+    (loose_cases r right (λ r. unwrap_or (break_by_pair true Lf r) rest ≡ true) refl refl refl refl refl)
+    (loose_cases r right (λ r. unwrap_or (break_by_pair true Lv r) rest ≡ true) is refl refl is is)
+    (loose_cases r right (λ r. unwrap_or (break_by_pair true Lvt r) rest ≡ true) is refl refl is is)
 
 breaks : (c : ℕ) (before cs : List ℕ) → is_plain c ≡ true → list_all is_plain cs ≡ true → is_grapheme_break true (c ∷ before) (cs ++ []) ≡ true
 breaks c before [] plain all = unfold is_grapheme_break in refl
@@ -72,8 +76,8 @@ breaks c before (d ∷ cs) plain all =
     let left = loose c plain in
     let right = loose d parts.0 in
     let conjunct = and_right (ends_in_linker (map indic_conjunct_break (c ∷ before))) _ (not-true _ (no_consonant d parts.0)) in
-    let emoji = joins_emoji-not_zwj (c ∷ before) d (loose_cases (grapheme_cluster_break c) left (λ v. is_zwj v ≡ false) refl refl refl) in
-    let flag = and_right (ends_in_half_flag (c ∷ before)) _ (loose_cases (grapheme_cluster_break d) right (λ v. is_regional v ≡ false) refl refl refl) in
+    let emoji = joins_emoji-not_zwj (c ∷ before) d (loose_cases (grapheme_cluster_break c) left (λ v. is_zwj v ≡ false) refl refl refl refl refl) in
+    let flag = and_right (ends_in_half_flag (c ∷ before)) _ (loose_cases (grapheme_cluster_break d) right (λ v. is_regional v ≡ false) refl refl refl refl refl) in
     is_grapheme_break-inside true (c ∷ before) d (cs ++ []) (omega arith)
     ∙ apart (grapheme_cluster_break c) (grapheme_cluster_break d) left right _ (ap not (ap₂ ◌||◌ (ap₂ ◌||◌ conjunct emoji) flag))
 

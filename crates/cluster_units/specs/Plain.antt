@@ -1,5 +1,5 @@
 -- Characters that are clusters by themselves among their like: those of Latin text, letters of Greek, Cyrillic, Hebrew and Arabic,
--- kana and Han, punctuation and bidi controls. None is a mark, and none joins its like.
+-- kana, Han and Hangul syllables, punctuation and bidi controls. None is a mark, and none joins its like.
 use Rattle.std.specs.Prelude.{ℕ, ◌+◌, Bool, ◌&&◌, ◌||◌, ◌==◌, not, nat_le, nat_lt, if◌then◌else◌, List, [], ◌∷◌, Option, Some, None}
 use Rattle.face_api.specs.Table.{Table}
 use Rattle.style_types.specs.declared.style.Style.{Style}
@@ -14,11 +14,11 @@ is_letter c = (nat_le 0x370 c && nat_le c 0x482) || ((nat_le 0x5D0 c && nat_le c
 abbrev pub is_sign : ℕ → Bool
 is_sign c = (nat_le 0x660 c && nat_le c 0x66F) || (nat_le 0x200E c && nat_le c 0x206F)
 
--- ideographic punctuation and kana without their marks, Han, fullwidth forms
+-- ideographic punctuation and kana without their marks, Han, Hangul syllables, fullwidth forms
 abbrev pub is_wide : ℕ → Bool
 is_wide c =
     ((nat_le 0x3000 c && nat_le c 0x3029) || (nat_le 0x3030 c && nat_le c 0x3098))
-    || ((nat_le 0x309B c && nat_le c 0x30FF) || ((nat_le 0x4E00 c && nat_le c 0x9FFF) || (nat_le 0xFF01 c && nat_le c 0xFF9D)))
+    || ((nat_le 0x309B c && nat_le c 0x30FF) || ((nat_le 0x4E00 c && nat_le c 0x9FFF) || ((nat_le 0xAC00 c && nat_le c 0xD7A3) || (nat_le 0xFF01 c && nat_le c 0xFF9D))))
 
 -- before U+0300 all but the carriage return
 abbrev pub is_plain : ℕ → Bool

@@ -56,13 +56,13 @@ fn is_sign(c: char) -> bool
     matches!(c, '\u{660}'..='\u{66F}' | '\u{200E}'..='\u{206F}')
 }
 
-// Ideographic punctuation, kana, Han or a fullwidth form.
+// Ideographic punctuation, kana, Han, a Hangul syllable or a fullwidth form.
 fn is_wide(c: char) -> bool
     ensures { result ≡ plain.is_wide c }
 {
     matches!(
         c,
-        '\u{3000}'..='\u{3029}' | '\u{3030}'..='\u{3098}' | '\u{309B}'..='\u{30FF}' | '\u{4E00}'..='\u{9FFF}' | '\u{FF01}'..='\u{FF9D}'
+        '\u{3000}'..='\u{3029}' | '\u{3030}'..='\u{3098}' | '\u{309B}'..='\u{30FF}' | '\u{4E00}'..='\u{9FFF}' | '\u{AC00}'..='\u{D7A3}' | '\u{FF01}'..='\u{FF9D}'
     )
 }
 
