@@ -33,6 +33,15 @@ reset_same base (level ∷ levels) [] all = refl
 reset_same base (level ∷ levels) (c ∷ classes) all =
     rw (chosen_same (leads_out (c ∷ classes)) level base all.0) (ap (λ (l : List ℕ). level ∷ l) (reset_same base levels classes all.1))
 
+from_all : (base : ℕ) (levels : List ℕ) → list_all (λ l. l == base) levels ≡ true → AreLevel base levels
+from_all base [] all = tt
+from_all base (level ∷ levels) all =
+    let parts = and_parts (level == base) (list_all (λ l. l == base) levels) all in
+    (eqb-true level base parts.0, from_all base levels parts.1)
+
+pub stay : (base : ℕ) (levels : List ℕ) (classes : List BidiClass) → list_all (λ l. l == base) levels ≡ true → reset base levels classes ≡ levels
+stay base levels classes all = reset_same base levels classes (from_all base levels all)
+
 greatest_same : (base level : ℕ) (levels : List ℕ) → AreLevel base (level ∷ levels) → greatest (level ∷ levels) ≡ base
 greatest_same base level [] all = let e : level ≡ base = all.0 in omega arith
 greatest_same base level (next ∷ levels) all =

@@ -1,6 +1,7 @@
 //! The levels at the ends of a line and of its segments (UAX 9, 3.4, L1).
 
-ghost use Rattle.std.specs.Prelude.{◌≡◌, ◌||◌, ◌&&◌, cond, length};
+ghost use Rattle.std.specs.Prelude.{◌≡◌, ◌==◌, ◌||◌, ◌&&◌, cond, length};
+ghost use Rattle.std.specs.List.{list_all};
 ghost use Rattle.bidi_order.specs.Blanks.{separates, is_blank, reset};
 
 use wm_chars::BidiClass;
@@ -11,8 +12,30 @@ use wm_chars::BidiClass::{
 /// Gives the base level to separators, and to blanks before a separator or before the line's end (UAX 9, L1).
 /// The levels and the classes are those of one line, one of each for a character; the classes are those that the
 /// characters had before any rule. It takes no memory.
-#[tactic(auto, unfolding(crate::specs::Blanks::reset))]
+#[tactic(auto, using(crate::proofs::BaseLine::stay))]
 pub fn reset(levels: &mut [u8], classes: &[BidiClass], base: u8)
+    requires { length levels.old ≡ length classes.now }
+    ensures { levels.new ≡ reset base levels.old classes.now }
+{
+    if !have_level(levels, base) {
+        reset_ends(levels, classes, base);
+    }
+}
+
+/// Whether each of these levels is that one.
+pub(crate) fn have_level(levels: &[u8], level: u8) -> bool
+    ensures { result ≡ list_all (λ own. own == level) levels.now }
+{
+    levels.iter().all(
+        |own| -> bool
+            ensures { result ≡ (own.now == level) }
+        { *own == level },
+    )
+}
+
+// The same, whatever the levels are.
+#[tactic(auto, unfolding(crate::specs::Blanks::reset))]
+fn reset_ends(levels: &mut [u8], classes: &[BidiClass], base: u8)
     requires { length levels.old ≡ length classes.now }
     ensures { levels.new ≡ reset base levels.old classes.now }
 {

@@ -5,10 +5,9 @@ ghost use Rattle.bidi_order.specs.Line.{line_places, turned};
 ghost use Rattle.bidi_resolve.specs.Places.{gathered};
 ghost use Rattle.wm_chars.specs.Classes.{is_removed};
 ghost use Rattle.wm_chars.specs.declared.classes.BidiClass.TheVariants.{L};
-ghost use Rattle.std.specs.List.{list_all};
-ghost use Rattle.std.specs.Prelude.{◌≡◌, ◌==◌, ◌<◌, ◌≤◌, ◌++◌, [], ◌∷◌, cond, All, IfOk, OnOk, IsPermutation, length};
+ghost use Rattle.std.specs.Prelude.{◌≡◌, ◌<◌, ◌≤◌, ◌++◌, [], ◌∷◌, cond, All, IfOk, OnOk, IsPermutation, length};
 
-use crate::blanks::reset;
+use crate::blanks::{have_level, reset};
 use crate::places::Order;
 use crate::reversals::order;
 use bidi_explicit::{ClassList, LevelList, PlaceList};
@@ -34,24 +33,13 @@ pub fn line_order(
     ensures rearranged { IfOk result (λ places. IsPermutation (line_places classes.now start stop) places.items) }
 {
     let places = line_places(alloc, classes, start, stop)?;
-    if are_level(&levels[start..stop], base) {
+    if have_level(&levels[start..stop], base) {
         let order = turned(places, base);
         Ok(order)
     } else {
         let order = order_at(alloc, levels, classes, base, &places)?;
         Ok(order)
     }
-}
-
-// Whether each of these levels is the base level.
-fn are_level(levels: &[u8], base: u8) -> bool
-    ensures { result ≡ list_all (λ level. level == base) levels.now }
-{
-    levels.iter().all(
-        |level| -> bool
-            ensures { result ≡ (level.now == base) }
-        { *level == base },
-    )
 }
 
 // The order of a line that has these places, where all have the base level: L1 changes none, and L2 turns all round or none.

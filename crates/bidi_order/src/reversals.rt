@@ -22,7 +22,6 @@ pub fn order(alloc: Global, levels: &[u8]) -> Result<Order, AllocError>
 }
 
 /// So many places in their own order.
-#[tactic(auto, using(crate::proofs::Runs::range_more))]
 pub(crate) fn all_places(alloc: Global, n: usize) -> Result<Order, AllocError>
     ensures { IfOk result (λ places. places.items ≡ range_with_len 0 n) }
 {
