@@ -7,6 +7,7 @@ mod Openings
 mod Pieces
 mod Valuing
 mod TokenFirsts
+mod ByLength
 pub mod ComponentLaws
 pub mod DeclarationLaws
 pub mod AnsweredLaws

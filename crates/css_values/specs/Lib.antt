@@ -1,5 +1,6 @@
 pub mod Answered
 pub mod Border
+pub mod ByLength
 pub mod Components
 pub mod Declarations
 pub mod Family

@@ -1,15 +1,19 @@
 //! What a declaration declares once it is wholly read.
 
-ghost use Rattle.std.specs.Prelude.{◌≡◌, [], ◌∷◌};
+ghost use Rattle.std.specs.Prelude.{◌≡◌, [], ◌∷◌, get_or, map};
+ghost use Rattle.reading.specs.Names.{lowered, named, words_of};
+ghost use Rattle.css_values.specs.ByLength.{rows_at};
+ghost use Rattle.css_values.specs.Tables.{properties};
 ghost use Rattle.css_values.specs.Judging as definitions;
 ghost use Rattle.css_values.specs.Judging.{placed};
 ghost use Rattle.css_values.specs.Views.{lexemes_of, Appends};
 
 use crate::error::Stop;
 use crate::longhand::longhand;
+use crate::names::PLACES_BY_LENGTH;
 use crate::shorthand::declare_shorthand;
 use css_tokens::Token;
-use reading::named;
+use reading::{named, same_name};
 use std::alloc::Global;
 use style_types::{
     Declaration, Declarations, PROPERTIES, Property, PropertyRow, SHORTHANDS, Shorthand, Value,
@@ -31,17 +35,50 @@ pub(crate) struct Manner {
 }
 
 /// What the name stands for, in either case.
-#[tactic(auto, unfolding(crate::specs::Judging::meaning, crate::specs::Tables::properties, crate::specs::Tables::shorthands))]
+#[tactic(auto, unfolding(crate::specs::Judging::meaning, crate::specs::Tables::shorthands))]
 pub(crate) fn meaning_of(name: &str) -> Meaning
     ensures { result ≡ definitions.meaning name.now }
 {
-    if let Some(row) = named(&PROPERTIES, name) {
+    if let Some(row) = property_named(name) {
         Meaning::Property(row)
     } else if let Some(shorthand) = named(&SHORTHANDS, name) {
         Meaning::Shorthand(shorthand)
     } else {
         Meaning::Unknown
     }
+}
+
+// The row of a property by its name, in either case. Only names of the same length are compared.
+fn property_named(name: &str) -> Option<PropertyRow>
+    ensures { result ≡ named properties (lowered name.now) }
+{
+    let places = places_of_length(&PLACES_BY_LENGTH, name.len());
+    named_at(&PROPERTIES, places, name)
+}
+
+// The places under this length; none where it has no list.
+fn places_of_length<'a>(table: &[&'a [usize]], length: usize) -> &'a [usize]
+    ensures { result.now ≡ get_or (map (λ places. places.now) table.now) length [] }
+{
+    match table.get(length) {
+        Some(places) => *places,
+        None => &[],
+    }
+}
+
+// The first row of this name, in either case, of those at these places.
+#[tactic(auto, using(crate::proofs::ByLength::at_end))]
+fn named_at(table: &[(&str, PropertyRow)], places: &[usize], name: &str) -> Option<PropertyRow>
+    ensures { result ≡ named (rows_at (words_of table.now) places.now) (lowered name.now) }
+{
+    for place in places {
+        if let Some((other, row)) = table.get(*place) {
+            if same_name(other, name) {
+                return Some(*row);
+            }
+        }
+    }
+    None
 }
 
 /// Puts the longhands that a declaration declares behind the others; none where its value isn't one.
