@@ -12,6 +12,9 @@ use style_types::{
 };
 use wm_modes::{Direction, WritingMode};
 
+// For how many winners there is room at first: few elements have more.
+const ROOM: usize = 16;
+
 // A claim, or none, for each property of the table, by its place.
 type Best<'a> = [Option<&'a Claim>; 55];
 
@@ -97,7 +100,7 @@ fn best_claims<'a>(claims: &'a [Claim], mode: WritingMode, dir: Direction) -> Be
 fn listed(alloc: Global, rows: &[(&str, PropertyRow)], best: &Best) -> Result<Winners, AllocError>
     ensures { IfOk result (λ w. w.items ≡ definitions.listed_of (claims_of best.now) (map (λ named. named.1) rows.now)) }
 {
-    let mut winners = Winners::new(alloc);
+    let mut winners = Winners::with_capacity(alloc, ROOM)?;
     for (_, row) in rows {
         if let Some(claim) = best[row.property.place()] {
             winners.push((row.property, claim.value))?;
