@@ -39,7 +39,23 @@ impl Waiting {
     /// Puts bytes behind those that wait. Of them all a front goes to the sink, and the rest waits.
     ///
     /// `WriteFault` comes only where the sink's count of faults rose in this call.
+    #[inline(always)]
+    #[tactic(auto, using(crate::proofs::Growth::starts, crate::proofs::Growth::nothing_yet))]
     pub fn put<K: Sink>(&mut self, bytes: &[u8], sink: &mut K) -> Result<(), WriteError>
+        ensures front { AppendsFront (K.held sink.old) (K.held sink.new) (self.old ++ bytes.now) }
+        ensures waits { OnOk result (AppendsUpTo (K.held sink.old) (K.held sink.new) (self.old ++ bytes.now) self.new) }
+        ensures later { K.faults sink.old ≤ K.faults sink.new }
+        ensures fault { IsErrOf result WriteError.WriteFault → Rose (K.faults sink.old) (K.faults sink.new) }
+    {
+        match self.bytes.try_extend_from_slice(bytes) {
+            Ok(()) => Ok(()),
+            Err(_) => self.put_by_pieces(bytes, sink),
+        }
+    }
+
+    // The same where there isn't room for all of them.
+    #[inline(never)]
+    fn put_by_pieces<K: Sink>(&mut self, bytes: &[u8], sink: &mut K) -> Result<(), WriteError>
         ensures front { AppendsFront (K.held sink.old) (K.held sink.new) (self.old ++ bytes.now) }
         ensures waits { OnOk result (AppendsUpTo (K.held sink.old) (K.held sink.new) (self.old ++ bytes.now) self.new) }
         ensures later { K.faults sink.old ≤ K.faults sink.new }

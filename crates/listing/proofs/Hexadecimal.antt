@@ -119,3 +119,7 @@ spelled sign c small = by_size (order c 65536) (order c 1048576)
 pub all_pushed : (sign c n : ℕ) (t0 t1 t2 t3 t4 : List ℕ) → c < 1114112 → n ≡ c → t0 ≡ [] → t1 ≡ t0 ++ sign ∷ [] → t2 ≡ t1 ++ high_digit 1048576 n → t3 ≡ t2 ++ high_digit 65536 n → t4 ≡ t3 ++ four_digits n
     → t4 ≡ sign ∷ code_point c
 all_pushed sign c n t0 t1 t2 t3 t4 small is e0 e1 e2 e3 e4 = rw (e4, e3, e2, e1, e0, is) (spelled sign c small)
+
+-- of four digits at most
+pub short_spelled : (sign c : ℕ) → c < 65536 → sign ∷ four_digits c ≡ sign ∷ code_point c
+short_spelled sign c small = ap (λ (l : List ℕ). sign ∷ l) (sym (last_four c small))

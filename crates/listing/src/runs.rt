@@ -4,7 +4,7 @@ ghost use Rattle.std.specs.Prelude.{◌≡◌, ◌+◌, ◌≤◌, ◌++◌, len
 ghost use Rattle.io_edge.specs.Edge.{Rose, AppendsFront, AppendsUpTo};
 ghost use Rattle.listing.specs.Runs as spec;
 
-use crate::words::{Line, character};
+use crate::words::{Line, character, short_character};
 use io_edge::{Sink, Waiting, WriteError};
 use itoa::Buffer;
 use style_types::{Glyphs, RunUnit, UnitKind};
@@ -125,8 +125,29 @@ fn put_characters<K: Sink>(
 {
     let mut sign = first;
     for c in characters {
-        waiting.put(character(sign, *c).as_slice(), sink)?;
+        put_character(sign, *c, waiting, sink)?;
         sign = b'+';
     }
     Ok(())
+}
+
+// A code point behind a sign. Most have four digits.
+#[inline(always)]
+fn put_character<K: Sink>(
+    sign: u8,
+    c: char,
+    waiting: &mut Waiting,
+    sink: &mut K,
+) -> Result<(), WriteError>
+    ensures front { AppendsFront (K.held sink.old) (K.held sink.new) (waiting.old ++ spec.character sign c) }
+    ensures waits { OnOk result (AppendsUpTo (K.held sink.old) (K.held sink.new) (waiting.old ++ spec.character sign c) waiting.new) }
+    ensures later { K.faults sink.old ≤ K.faults sink.new }
+    ensures fault { IsErrOf result WriteError.WriteFault → Rose (K.faults sink.old) (K.faults sink.new) }
+{
+    let number = u32::from(c);
+    if number < 0x1_0000 {
+        waiting.put(&short_character(sign, number), sink)
+    } else {
+        waiting.put(character(sign, c).as_slice(), sink)
+    }
 }

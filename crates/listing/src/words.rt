@@ -81,6 +81,21 @@ pub(crate) fn push_pair(line: &mut Line, first: i64, second: i64)
     push_number(line, second);
 }
 
+/// A code point of at most four digits behind a sign, as `character` writes it.
+#[inline(always)]
+pub(crate) fn short_character(sign: u8, c: u32) -> [u8; 5]
+    requires { c < 65536 }
+    ensures { result ≡ sign ∷ spec.code_point c }
+{
+    [
+        sign,
+        digit(c / 0x1000),
+        digit(c / 0x100),
+        digit(c / 0x10),
+        digit(c),
+    ]
+}
+
 /// A code point behind a sign: hexadecimal in upper case, by four digits at least.
 pub(crate) fn character(sign: u8, c: char) -> Character
     ensures { result.items ≡ sign ∷ spec.code_point c }

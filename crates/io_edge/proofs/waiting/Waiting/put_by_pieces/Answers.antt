@@ -1,7 +1,7 @@
 use Rattle.std.proofs.Common.{arith, subst, List, ℕ, ◌++◌}
 use Rattle.io_edge.specs.Edge.{AppendsUpTo}
 use Rattle.io_edge.proofs.Growth.{next_front, waits_on}
-use Rattle.io_edge.proofs.waiting.Waiting.put.Goals as goal
+use Rattle.io_edge.proofs.waiting.Waiting.put_by_pieces.Goals as goal
 
 pub returns-in_err-make_room-clause-front : goal.returns-in_err-make_room-clause-front
 returns-in_err-make_room-clause-front g c =

@@ -1,6 +1,6 @@
 use Rattle.std.proofs.Common.{◌≤◌, ◌++◌, length}
 use Rattle.io_edge.specs.Edge.{AppendsUpTo}
-use Rattle.io_edge.proofs.waiting.Waiting.put.Given as goal
+use Rattle.io_edge.proofs.waiting.Waiting.put_by_pieces.Given as goal
 
 -- what is not written yet waits, or is the rest
 abbrev pub invariant-loop-rest : goal.invariant-loop-rest
