@@ -26,13 +26,23 @@ pub(crate) fn count(alloc: Global, bytes: &[u8], stage: Stage) -> Result<usize, 
     ensures { IfOk result (λ count. (document : Whole) × IsTheDocument bytes.now document × (count ≡ length document.nodes)) }
 {
     let read = read_document(alloc, bytes)?;
-    what_is_read_is_said();
-    let styles = read_styled(alloc, &read)?;
-    if stage != Stage::Read {
-        take_on(alloc, &read, &styles, stage)?;
+    if stage != Stage::Document {
+        take_styles(alloc, &read, stage)?;
     }
     let nodes: &[ReadNode] = &read.nodes;
     Ok(nodes.len())
+}
+
+// Reads the style sheets of a document that was read, and takes it on from there.
+fn take_styles(alloc: Global, read: &ReadDocument, stage: Stage) -> Result<(), CountError>
+    requires shaped { IsShaped (nodes_of read.now.nodes.items) }
+{
+    what_is_read_is_said();
+    let styles = read_styled(alloc, read)?;
+    if stage == Stage::Read {
+        return Ok(());
+    }
+    take_on(alloc, read, &styles, stage)
 }
 
 // Takes a document that was read on from there.

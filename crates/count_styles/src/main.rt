@@ -1,7 +1,8 @@
 //! The program `count_styles` takes the document on standard input so far as its word says, and prints how many nodes it
 //! has, or why it is refused. It does what styles cost and nothing else, so that this can be counted (tools/count-styles).
 //!
-//! - `read`: the document and its style sheets are read.
+//! - `document`: the document is read.
+//! - `read`: besides, its style sheets and style attributes are read.
 //! - `nodes`: besides, the nodes are stored, and the rules made ready.
 //! - `styles`: besides, each node has its style.
 //! - `boxes`: besides, the boxes are made.
@@ -27,7 +28,7 @@ fn main(rt: HostRuntime) -> io::Result<()> {
     let Some(stage) = asked(&rt)? else {
         return writeln!(
             output,
-            "one of the words read, nodes, styles and boxes is needed"
+            "one of the words document, read, nodes, styles and boxes is needed"
         );
     };
     let mut source = StdSource::new(rt.reader());
