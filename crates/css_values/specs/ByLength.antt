@@ -1,6 +1,6 @@
 -- The rows of the table of properties by the lengths of their names.
 use Rattle.std.specs.Prelude.{ℕ, List, filter_map, map, slice_get}
-use Rattle.css_values.specs.declared.names.TheConstants.{PLACES_BY_LENGTH}
+use Rattle.css_values.specs.declared.by_length.TheConstants.{PLACES_BY_LENGTH}
 
 -- the rows of a table at these places
 abbrev pub rows_at : {T : Type 0} → List (List ℕ × T) → (places : List ℕ) → List (List ℕ × T)

@@ -8,9 +8,9 @@ ghost use Rattle.css_values.specs.Judging as definitions;
 ghost use Rattle.css_values.specs.Judging.{placed};
 ghost use Rattle.css_values.specs.Views.{lexemes_of, Appends};
 
+use crate::by_length::PLACES_BY_LENGTH;
 use crate::error::Stop;
 use crate::longhand::longhand;
-use crate::names::PLACES_BY_LENGTH;
 use crate::shorthand::declare_shorthand;
 use css_tokens::Token;
 use reading::{named, same_name};

@@ -3,6 +3,7 @@
 
 mod begun;
 mod border;
+mod by_length;
 mod declarations;
 mod error;
 mod family;
