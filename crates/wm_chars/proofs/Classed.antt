@@ -1,56 +1,95 @@
--- The table of the bidi classes from the space to the tilde tells what the rows tell, and so do the tests for letters.
-use Rattle.std.proofs.Common.{◌≡◌, ◌∙◌, sym, refl, ap, arith, ℕ, ◌+◌, ◌-◌, ◌<◌, ◌≤◌, List, length, map, get_or, replicate, Option, Some}
+-- The tables of bidi classes tell what the rows tell, and so do the tests for characters of one row.
+use Rattle.std.proofs.Common.{◌≡◌, ◌∙◌, sym, refl, ap, arith, ℕ, ◌+◌, ◌-◌, ◌<◌, ◌≤◌, true, leb, List, length, map, get_or, replicate, slice_index_or, Option, Some}
+use Rattle.std.specs.Prelude.{option_map}
 use Rattle.std.specs.List.{range_with_len}
+use Rattle.std.proofs.lemmas.Bool.{le-leb}
 use Rattle.std.proofs.lemmas.List.{get_or-map, get_or-replicate}
 use Rattle.std.proofs.lemmas.List.FromFn.{get_or-range_with_len, length-range_with_len}
+use Rattle.wm_chars.proofs.Ascending.{the_row_found}
 use Rattle.wm_chars.specs.Repertoire.{bidi_class, row_of}
 use Rattle.wm_chars.specs.declared.classes.BidiClass.{BidiClass}
-use Rattle.wm_chars.specs.declared.classes.BidiClass.TheVariants.{R, AL}
-use Rattle.wm_chars.specs.declared.rows.TheConstants.{PRINTABLE_CLASSES}
+use Rattle.wm_chars.specs.declared.classes.BidiClass.TheVariants.{L, R, AL, NSM, ON}
+use Rattle.wm_chars.specs.declared.classes.BreakClass.TheVariants.{Other}
+use Rattle.wm_chars.specs.declared.classes.Orient.TheVariants.{R as turned}
+use Rattle.wm_chars.specs.declared.rows.Row.{Row}
+use Rattle.wm_chars.specs.declared.rows.TheConstants.{EMBEDDING_CLASSES, ISOLATE_CLASSES, PRINTABLE_CLASSES, ROWS}
 
-as_the_rows : map bidi_class (range_with_len 32 95) ≡ map (λ class. Some class) PRINTABLE_CLASSES
-unfolding bidi_class row_of
-as_the_rows = refl
+-- ---- tables of classes
 
-pub printable_class : (c : ℕ) (d : BidiClass) → 32 ≤ c → c ≤ 126 → Some (get_or PRINTABLE_CLASSES (c - 32) d) ≡ bidi_class c
-printable_class c d low high =
-    let many : length (range_with_len 32 95) ≡ 95 = length-range_with_len 32 95 in
-    let here : get_or (range_with_len 32 95) (c - 32) 0 ≡ 32 + (c - 32) = get_or-range_with_len 32 95 (c - 32) 0 (omega arith) in
-    let is : 32 + (c - 32) ≡ c = omega arith in
-    sym (get_or-map (λ (class : BidiClass). Some class) PRINTABLE_CLASSES (c - 32) d (Some d) (omega arith))
-    ∙ ap (λ (classes : List (Option BidiClass)). get_or classes (c - 32) (Some d)) (sym as_the_rows)
-    ∙ get_or-map bidi_class (range_with_len 32 95) (c - 32) 0 (Some d) (omega arith)
-    ∙ ap bidi_class (here ∙ is)
-
--- ---- letters of one class
-
-of_range : (first n : ℕ) (x : Option BidiClass) → map bidi_class (range_with_len first n) ≡ replicate n x → (c : ℕ) → first ≤ c → c < first + n → bidi_class c ≡ x
-of_range first n x all c low high =
+of_table : (first n : ℕ) (classes : List BidiClass) → length classes ≡ n → map bidi_class (range_with_len first n) ≡ map (λ class. Some class) classes → (c : ℕ) (d : BidiClass) → first ≤ c → c < first + n → Some (get_or classes (c - first) d) ≡ bidi_class c
+of_table first n classes long all c d low high =
     let many : length (range_with_len first n) ≡ n = length-range_with_len first n in
     let here : get_or (range_with_len first n) (c - first) 0 ≡ first + (c - first) = get_or-range_with_len first n (c - first) 0 (omega arith) in
     let is : first + (c - first) ≡ c = omega arith in
-    sym (ap bidi_class (here ∙ is))
-    ∙ sym (get_or-map bidi_class (range_with_len first n) (c - first) 0 x (omega arith))
-    ∙ ap (λ (classes : List (Option BidiClass)). get_or classes (c - first) x) all
-    ∙ get_or-replicate n (c - first) x x (omega arith)
+    sym (get_or-map (λ (class : BidiClass). Some class) classes (c - first) d (Some d) (omega arith))
+    ∙ ap (λ (told : List (Option BidiClass)). get_or told (c - first) (Some d)) (sym all)
+    ∙ get_or-map bidi_class (range_with_len first n) (c - first) 0 (Some d) (omega arith)
+    ∙ ap bidi_class (here ∙ is)
 
-hebrew_rows : map bidi_class (range_with_len 0x5D0 27) ≡ replicate 27 (Some R)
+printable_as_the_rows : map bidi_class (range_with_len 32 95) ≡ map (λ class. Some class) PRINTABLE_CLASSES
 unfolding bidi_class row_of
-hebrew_rows = refl
+printable_as_the_rows = refl
 
-arabic_rows : map bidi_class (range_with_len 0x621 26) ≡ replicate 26 (Some AL)
+embeddings_as_the_rows : map bidi_class (range_with_len 0x202A 5) ≡ map (λ class. Some class) EMBEDDING_CLASSES
 unfolding bidi_class row_of
-arabic_rows = refl
+embeddings_as_the_rows = refl
 
-further_arabic_rows : map bidi_class (range_with_len 0x641 10) ≡ replicate 10 (Some AL)
+isolates_as_the_rows : map bidi_class (range_with_len 0x2066 4) ≡ map (λ class. Some class) ISOLATE_CLASSES
 unfolding bidi_class row_of
-further_arabic_rows = refl
+isolates_as_the_rows = refl
+
+brackets_as_the_rows : map bidi_class (range_with_len 0x3008 10) ≡ map (λ class. Some class) (replicate 10 ON)
+unfolding bidi_class row_of
+brackets_as_the_rows = refl
+
+pub printable_class : (c : ℕ) (d : BidiClass) → 32 ≤ c → c ≤ 126 → Some (get_or PRINTABLE_CLASSES (c - 32) d) ≡ bidi_class c
+printable_class c d low high = of_table 32 95 PRINTABLE_CLASSES refl printable_as_the_rows c d low (omega arith)
+
+pub embedding_class : (c : ℕ) (d : BidiClass) → 0x202A ≤ c → c ≤ 0x202E → Some (get_or EMBEDDING_CLASSES (c - 0x202A) d) ≡ bidi_class c
+embedding_class c d low high = of_table 0x202A 5 EMBEDDING_CLASSES refl embeddings_as_the_rows c d low (omega arith)
+
+pub isolate_class : (c : ℕ) (d : BidiClass) → 0x2066 ≤ c → c ≤ 0x2069 → Some (get_or ISOLATE_CLASSES (c - 0x2066) d) ≡ bidi_class c
+isolate_class c d low high = of_table 0x2066 4 ISOLATE_CLASSES refl isolates_as_the_rows c d low (omega arith)
+
+pub bracket_class : (c : ℕ) → 0x3008 ≤ c → c ≤ 0x3011 → bidi_class c ≡ Some ON
+bracket_class c low high = sym (of_table 0x3008 10 (replicate 10 ON) refl brackets_as_the_rows c ON low (omega arith)) ∙ ap (λ (class : BidiClass). Some class) (get_or-replicate 10 (c - 0x3008) ON ON (omega arith))
+
+-- ---- characters of one row
+
+-- the row at this place of the table
+abbrev row_at : ℕ → Row
+row_at k = slice_index_or ROWS k (record { first = 0; last = 0; class = L; orient = turned; breaks = Other })
+
+of_row : (k c : ℕ) → k < length ROWS → (row_at k).first ≤ c → c ≤ (row_at k).last → bidi_class c ≡ Some (row_at k).class
+unfolding bidi_class
+of_row k c inside low high =
+    let begins : leb (row_at k).first c ≡ true = le-leb (row_at k).first c low in
+    let ends : leb c (row_at k).last ≡ true = le-leb c (row_at k).last high in
+    ap (option_map (λ (row : Row). row.class)) (the_row_found c k _ inside (rw (begins, ends) refl))
+
+pub mark_class : (c : ℕ) → 0x300 ≤ c → c ≤ 0x36F → bidi_class c ≡ Some NSM
+mark_class c low high = of_row 39 c (omega arith) low high
 
 pub hebrew_class : (c : ℕ) → 0x5D0 ≤ c → c ≤ 0x5EA → bidi_class c ≡ Some R
-hebrew_class c low high = of_range 0x5D0 27 (Some R) hebrew_rows c low (omega arith)
+hebrew_class c low high = of_row 46 c (omega arith) low high
 
 pub arabic_class : (c : ℕ) → 0x621 ≤ c → c ≤ 0x63A → bidi_class c ≡ Some AL
-arabic_class c low high = of_range 0x621 26 (Some AL) arabic_rows c low (omega arith)
+arabic_class c low high = of_row 50 c (omega arith) low high
 
 pub further_arabic_class : (c : ℕ) → 0x641 ≤ c → c ≤ 0x64A → bidi_class c ≡ Some AL
-further_arabic_class c low high = of_range 0x641 10 (Some AL) further_arabic_rows c low (omega arith)
+further_arabic_class c low high = of_row 51 c (omega arith) low high
+
+pub comma_class : (c : ℕ) → 0x3001 ≤ c → c ≤ 0x3002 → bidi_class c ≡ Some ON
+comma_class c low high = of_row 71 c (omega arith) low high
+
+pub hiragana_class : (c : ℕ) → 0x3041 ≤ c → c ≤ 0x3096 → bidi_class c ≡ Some L
+hiragana_class c low high = of_row 82 c (omega arith) low high
+
+pub katakana_class : (c : ℕ) → 0x30A1 ≤ c → c ≤ 0x30FA → bidi_class c ≡ Some L
+katakana_class c low high = of_row 83 c (omega arith) low high
+
+pub han_class : (c : ℕ) → 0x4E00 ≤ c → c ≤ 0x9FFF → bidi_class c ≡ Some L
+han_class c low high = of_row 85 c (omega arith) low high
+
+pub hangul_class : (c : ℕ) → 0xAC00 ≤ c → c ≤ 0xD7A3 → bidi_class c ≡ Some L
+hangul_class c low high = of_row 86 c (omega arith) low high

@@ -7,18 +7,45 @@ ghost use Rattle.wm_chars.specs.declared.rows.TheConstants.{ROWS};
 
 use crate::classes::{BidiClass, BreakClass, Orient};
 use crate::rows::{
-    PRINTABLE_CLASSES, ROWS, ROWS_BEFORE_ASCII, ROWS_BEFORE_BLOCK, ROWS_BEFORE_HAN,
-    ROWS_BEFORE_KANA, Row,
+    EMBEDDING_CLASSES, ISOLATE_CLASSES, PRINTABLE_CLASSES, ROWS, ROWS_BEFORE_ASCII,
+    ROWS_BEFORE_BLOCK, ROWS_BEFORE_HAN, ROWS_BEFORE_KANA, Row,
 };
 
 /// The bidi class of a character (UAX 9, table 4), or None exactly where it isn't in the repertoire.
-#[tactic(auto, unfolding(crate::specs::Repertoire::bidi_class))]
 pub fn bidi_class(c: char) -> Option<BidiClass>
     ensures { result ≡ repertoire.bidi_class c }
 {
     if ' ' <= c && c <= '~' {
         return Some(PRINTABLE_CLASSES[c as usize - 0x20]);
     }
+    if c < '\u{05D0}' {
+        return class_before_hebrew(c);
+    }
+    if c < '\u{202A}' {
+        return class_from_hebrew(c);
+    }
+    if c < '\u{3000}' {
+        return class_from_formatting(c);
+    }
+    class_from_u_3000(c)
+}
+
+// The bidi class of a character before Hebrew. The combining marks are one row.
+#[inline(always)]
+fn class_before_hebrew(c: char) -> Option<BidiClass>
+    ensures { result ≡ repertoire.bidi_class c }
+{
+    if '\u{0300}' <= c && c <= '\u{036F}' {
+        return Some(BidiClass::NSM);
+    }
+    class_in_rows(c)
+}
+
+// The bidi class of a character from Hebrew on. The letters of Hebrew and Arabic are three rows.
+#[inline(always)]
+fn class_from_hebrew(c: char) -> Option<BidiClass>
+    ensures { result ≡ repertoire.bidi_class c }
+{
     if '\u{05D0}' <= c && c <= '\u{05EA}' {
         return Some(BidiClass::R);
     }
@@ -28,6 +55,63 @@ pub fn bidi_class(c: char) -> Option<BidiClass>
     if '\u{0641}' <= c && c <= '\u{064A}' {
         return Some(BidiClass::AL);
     }
+    class_in_rows(c)
+}
+
+// The bidi class of a character from the explicit formatting characters on (UAX 9, 2.1 to 2.5).
+#[inline(always)]
+fn class_from_formatting(c: char) -> Option<BidiClass>
+    ensures { result ≡ repertoire.bidi_class c }
+{
+    if '\u{2066}' <= c && c <= '\u{2069}' {
+        return Some(ISOLATE_CLASSES[c as usize - 0x2066]);
+    }
+    if '\u{202A}' <= c && c <= '\u{202E}' {
+        return Some(EMBEDDING_CLASSES[c as usize - 0x202A]);
+    }
+    class_in_rows(c)
+}
+
+// The bidi class of a character from U+3000 on. The letters of Kana, Han and Hangul are four rows.
+#[inline(always)]
+fn class_from_u_3000(c: char) -> Option<BidiClass>
+    ensures { result ≡ repertoire.bidi_class c }
+{
+    if '\u{3041}' <= c && c <= '\u{3096}' {
+        return Some(BidiClass::L);
+    }
+    if '\u{30A1}' <= c && c <= '\u{30FA}' {
+        return Some(BidiClass::L);
+    }
+    if '\u{4E00}' <= c && c <= '\u{9FFF}' {
+        return Some(BidiClass::L);
+    }
+    if '\u{AC00}' <= c && c <= '\u{D7A3}' {
+        return Some(BidiClass::L);
+    }
+    punctuation_class(c)
+}
+
+// The bidi class of a character that is likely one of the punctuation of CJK, whose commonest are neutral.
+#[inline(always)]
+fn punctuation_class(c: char) -> Option<BidiClass>
+    ensures { result ≡ repertoire.bidi_class c }
+{
+    if '\u{3001}' <= c && c <= '\u{3002}' {
+        return Some(BidiClass::ON);
+    }
+    if '\u{3008}' <= c && c <= '\u{3011}' {
+        return Some(BidiClass::ON);
+    }
+    class_in_rows(c)
+}
+
+// The bidi class of a character by the row in which it stands.
+#[inline(never)]
+#[tactic(auto, unfolding(crate::specs::Repertoire::bidi_class))]
+fn class_in_rows(c: char) -> Option<BidiClass>
+    ensures { result ≡ repertoire.bidi_class c }
+{
     row_of(c).map(|row| row.class)
 }
 

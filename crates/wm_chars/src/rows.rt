@@ -166,6 +166,12 @@ pub(crate) static PRINTABLE_CLASSES: [BidiClass; 95] = [
     L, L, L, L, L, L, L, L, ON, ON, ON, ON,
 ];
 
+// The bidi class of each character from U+202A to U+202E, as its row has it.
+pub(crate) static EMBEDDING_CLASSES: [BidiClass; 5] = [LRE, RLE, PDF, LRO, RLO];
+
+// The bidi class of each character from U+2066 to U+2069, as its row has it.
+pub(crate) static ISOLATE_CLASSES: [BidiClass; 4] = [LRI, RLI, FSI, PDI];
+
 // How many rows end before Kana, from U+3041 on.
 pub(crate) const ROWS_BEFORE_KANA: usize = 82;
 
