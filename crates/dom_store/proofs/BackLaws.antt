@@ -1,5 +1,5 @@
 -- Changes that are taken back.
-use Rattle.std.proofs.Common.{◌≡◌, ◌∙◌, ℕ, ◌≤◌, List, refl, ap, sym, subst, arith, Option, Some, None, option_and_then, option_map, inl, inr}
+use Rattle.std.proofs.Common.{◌≡◌, ◌∙◌, ℕ, ◌+◌, ◌≤◌, List, [], ◌++◌, length, take, drop, refl, ap, sym, subst, arith, Option, Some, None, option_and_then, option_map, inl, inr}
 use Rattle.std.specs.Prelude.{unwrap_or}
 use Rattle.std.specs.Ordering.{nat_cmp}
 use Rattle.std.specs.BTreeMap as keyed
@@ -8,15 +8,17 @@ use Rattle.slab.specs.Slab as slots
 use Rattle.slab.specs.Slab.{Slab}
 use Rattle.std.proofs.lemmas.Bool.{cases_lt, le-ltb, lt-ltb}
 use Rattle.std.proofs.lemmas.Bool.Decides.{eqb_tells}
+use Rattle.std.proofs.lemmas.List.{append_assoc, length-take-le, take-append-drop}
+use Rattle.std.proofs.Math.Seq.{drop-append-add, drop-append_seam, take-append_seam}
 use Rattle.style_types.specs.declared.value.Declaration.{Declaration}
 use Rattle.html_read.specs.Values.{Node}
 use Rattle.dom_store.specs.declared.node.Node as code_node
 use Rattle.dom_store.specs.Building.{IsFilledFrom, added_under}
 use Rattle.dom_store.specs.Keys.{IsKeyed}
 use Rattle.dom_store.specs.State.{Entry, State, entry_of}
-use Rattle.dom_store.specs.Edits.{changed, changed_if, with_children, without}
+use Rattle.dom_store.specs.Edits.{changed, changed_if, with_children, with_put, without}
 use Rattle.dom_store.specs.Standing.{children_at, parent_at}
-use Rattle.dom_store.specs.Taking.{moved_from, parent_left, standing_in, taken_back, up_to}
+use Rattle.dom_store.specs.Taking.{moved_from, parent_left, standing_in, taken_back, up_to, without_run}
 use Rattle.dom_store.proofs.RemoveLaws.{put_as_changed}
 use Rattle.dom_store.proofs.SameLaws.{are_equal}
 use Rattle.dom_store.proofs.WriteLaws.{none_written, put_under, state_with}
@@ -35,6 +37,41 @@ module _ (state : State) (number : ℕ) (change back : Entry → Entry) (same : 
     ];
     next = refl;
   })
+
+-- children that were put are taken out again
+taken_out : (index : ℕ) (tops children : List ℕ) → index ≤ length children → without_run index (length tops) (with_put index tops children) ≡ children
+taken_out index tops children within =
+    let front = take index children in
+    let rest = drop index children in
+    let long : length front ≡ index = length-take-le index children within in
+    let before : take index (front ++ (tops ++ rest)) ≡ front =
+    ap (λ (n : ℕ). take n (front ++ (tops ++ rest))) (sym long) ∙ take-append_seam front (tops ++ rest) in
+    let behind : drop (index + length tops) (front ++ (tops ++ rest)) ≡ rest =
+    ap (λ (n : ℕ). drop (n + length tops) (front ++ (tops ++ rest))) (sym long) ∙ (drop-append-add front (tops ++ rest) (length tops) ∙ drop-append_seam tops rest) in
+    ap (without_run index (length tops)) (append_assoc front tops rest)
+    ∙ (ap (λ (l : List ℕ). l ++ drop (index + length tops) (front ++ (tops ++ rest))) before
+    ∙ (ap (λ (l : List ℕ). front ++ l) behind ∙ take-append-drop index children))
+
+pub taken_out_at : (state : State) (parent index : ℕ) (tops : List ℕ) → index ≤ length (children_at state parent)
+    → changed (changed state parent (with_children (with_put index tops))) parent (with_children (without_run index (length tops))) ≡ state
+taken_out_at state parent index tops within =
+    changed_back state parent (with_children (with_put index tops)) (with_children (without_run index (length tops))) (λ entry at.
+    let same : children_at state parent ≡ entry.children = ap (λ (o : Option Entry). unwrap_or (option_map (λ entry. entry.children) o) []) at in
+    ap (λ (l : List ℕ). with_children (λ before. l) entry) (taken_out index tops entry.children (omega (arith, within, ap length same))))
+
+-- a node that stays what it was
+pub unchanged : (state : State) (number : ℕ) → changed state number (λ entry. entry) ≡ state
+unchanged state number = are_equal _ _ (record {
+  nodes = λ other. elim (eqb_tells other number) [
+    | inl (here, is) ↦ rw here (as_it_was (state.node_at other))
+    | inr (there, apart) ↦ rw there refl
+  ];
+  next = refl;
+})
+  where
+    as_it_was : (o : Option Entry) → option_map (λ entry. entry) o ≡ o
+    as_it_was None = refl
+    as_it_was (Some entry) = refl
 
 some_is : (one other : Entry) → Some one ≡ Some other → one ≡ other
 some_is one other is = ap (λ (o : Option Entry). unwrap_or o one) is

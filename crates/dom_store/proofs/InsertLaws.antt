@@ -1,6 +1,6 @@
 -- Documents into which nodes are inserted.
 use Rattle.std.proofs.Common.{◌≡◌, ◌≢◌, ◌∙◌, ℕ, ◌+◌, ◌-◌, ◌<◌, ◌≤◌, Bool, true, false, List, [], ◌∷◌, ◌++◌, length, map, get_or, drop, refl, ap, sym, subst, arith, Option, Some, None, option_map, if◌then◌else◌, inl, inr}
-use Rattle.std.specs.Prelude.{◌^◌, nat_eq, nat_lt, is_none, is_some, not, unwrap_or, IfSome, OnErr, Result, Ok, Err}
+use Rattle.std.specs.Prelude.{◌^◌, nat_eq, nat_lt, is_none, is_some, not, unwrap_or, IfSome, OnErr, OnOk, Result, Ok, Err}
 use Rattle.std.specs.List.{slice_get}
 use Rattle.std.specs.Global.{Vec}
 use Rattle.std.proofs.lemmas.Bool.{cases_eq, cases_lt, eq-eqb, le-ltb, lt-ltb, ne_eqb}
@@ -21,7 +21,6 @@ use Rattle.dom_store.specs.State.{Entry, State, entry_of}
 use Rattle.dom_store.proofs.ChildLaws.{put_before}
 use Rattle.dom_store.proofs.JudgeLaws.{Enters, enters}
 use Rattle.dom_store.proofs.Places.{drop_at, parent_known, read_at}
-use Rattle.dom_store.proofs.RemoveLaws.{put_as_changed}
 use Rattle.dom_store.proofs.SameLaws.{are_equal}
 
 -- in a fragment's shape each parent stands before its children
@@ -125,14 +124,16 @@ module _ (old : State) (parent : ℕ) (nodes : List Node) (own : List (List Decl
     next = all;
   })
 
+  -- the children of the node in which they will stand are what they were
+  pub children_added : children_at added parent ≡ children_at old parent
+  children_added = ap (λ (o : Option Entry). unwrap_or (option_map (λ entry. entry.children) o) []) (added_low parent low)
+
   -- the children are put where the nodes were added
-  pub inserted_under : (index : ℕ) (tops children : List ℕ) → tops ≡ tops_from old.next nodes → children ≡ with_put index tops (children_at old parent)
-      → changed added parent (with_children (λ before. children)) ≡ inserted old parent index nodes own
-  inserted_under index tops children is put =
+  pub inserted_under : (index : ℕ) (tops : List ℕ) → tops ≡ tops_from old.next nodes → changed added parent (with_children (with_put index tops)) ≡ inserted old parent index nodes own
+  inserted_under index tops is =
       let change = with_put index (children_from old.next parent (under parent old.next nodes)) in
       let same : tops ≡ children_from old.next parent (under parent old.next nodes) = is ∙ sym (tops_under parent old.next low old.next nodes) in
-      let here : children_at old parent ≡ children_at added parent = ap (λ (o : Option Entry). unwrap_or (option_map (λ entry. entry.children) o) []) (sym (added_low parent low)) in
-      put_as_changed added parent children change (put ∙ (ap (λ (l : List ℕ). with_put index l (children_at old parent)) same ∙ ap change here))
+      ap (λ (l : List ℕ). changed added parent (with_children (with_put index l))) same
       ∙ are_equal _ _ (record { nodes = at change; next = refl })
     where
       at : (change : List ℕ → List ℕ) (other : ℕ) → (changed added parent (with_children change)).node_at other
@@ -238,3 +239,7 @@ pub stands_under : (node : code_node.Node) (entry : Entry) (number parent : ℕ)
     → Some (with_parent number entry) ≡ Some (with_parent parent (entry_of node))
 stands_under node entry number parent is same =
     ap (λ (e : Entry). Some (with_parent number e)) (sym is) ∙ ap (λ (n : ℕ). Some (with_parent n (entry_of node))) same
+
+pub on_ok_so : {X E P Q : Type 0} (answer : Result X E) → OnOk answer P → (P → Q) → OnOk answer Q
+on_ok_so (Ok value) holds so = so holds
+on_ok_so (Err error) holds so = tt

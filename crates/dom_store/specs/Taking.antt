@@ -1,5 +1,5 @@
 -- Edits that are taken back.
-use Rattle.std.specs.Prelude.{◌≡◌, ℕ, List, map, nat_eq, nat_lt, if◌then◌else◌, Option, Some, None, string_bytes, ⊤}
+use Rattle.std.specs.Prelude.{◌≡◌, ℕ, ◌+◌, List, ◌++◌, map, take, drop, nat_eq, nat_lt, if◌then◌else◌, Option, Some, None, string_bytes, ⊤}
 use Rattle.style_types.specs.declared.value.Declaration.{Declaration}
 use Rattle.dom_store.specs.declared.edit.Before as code
 use Rattle.dom_store.specs.declared.edit.Before.TheVariants as stood
@@ -11,7 +11,7 @@ pub data BeforeOf : Type 0 where
   what_was : (number : ℕ) (what : What) → BeforeOf
   style_was : (number : ℕ) (own : List Declaration) → BeforeOf
   class_was : (number : ℕ) (words : List (List ℕ)) → BeforeOf
-  inserted_in : (parent : ℕ) (children : List ℕ) (next : ℕ) → BeforeOf
+  inserted_in : (parent index count next : ℕ) → BeforeOf
   moved_from : (number : ℕ) (from : Option ℕ) (left : List ℕ) (parent : ℕ) (children : List ℕ) → BeforeOf
   not_kept : BeforeOf
 
@@ -19,7 +19,7 @@ abbrev pub before_of : code.Before → BeforeOf
 before_of (stood.Text number kind) = what_was number (what_of kind)
 before_of (stood.Style number own) = style_was number own.items
 before_of (stood.Class number words) = class_was number (map (λ word. string_bytes word) words.items)
-before_of (stood.Insert parent children next) = inserted_in parent children.items next
+before_of (stood.Insert parent index count next) = inserted_in parent index count next
 before_of (stood.Move number from left parent children) = moved_from number from left.items parent children.items
 before_of stood.Remove = not_kept
 
@@ -36,12 +36,16 @@ standing_in parent entry = record entry { parent = parent }
 abbrev pub up_to : (next : ℕ) → State → State
 up_to next state = record { node_at = λ number. if nat_lt number next then state.node_at number else None; next = next }
 
+-- so many children less, from the index on
+abbrev pub without_run : (index count : ℕ) → List ℕ → List ℕ
+without_run index count children = take index children ++ drop (index + count) children
+
 -- the state in which this stands again
 abbrev pub taken_back : BeforeOf → State → State
 taken_back (what_was number what) state = changed state number (with_what (λ now. what))
 taken_back (style_was number own) state = changed state number (with_what (with_own own))
 taken_back (class_was number words) state = changed state number (with_what (with_classes words))
-taken_back (inserted_in parent children next) state = up_to next (changed state parent (with_children (λ now. children)))
+taken_back (inserted_in parent index count next) state = up_to next (changed state parent (with_children (without_run index count)))
 taken_back (moved_from number from left parent children) state =
     let unplaced = changed state number (standing_in from) in
     changed_if (changed unplaced parent (with_children (λ now. children))) (parent_left from parent) (with_children (λ now. left))

@@ -71,10 +71,11 @@ pub enum Before {
         node: u32,
         words: LetterList,
     },
-    /// The children of the parent, and the number that was given next.
+    /// Where the parent's new children begin, how many they are, and the number that was given next.
     Insert {
         parent: u32,
-        children: NodeNumbers,
+        index: u32,
+        count: usize,
         next: u32,
     },
     /// The parent of the node, where it had one, and that one's children, where it isn't the new one; then those of the new one.

@@ -4,11 +4,12 @@ ghost use Rattle.std.specs.Prelude.{◌≡◌, ◌+◌, ◌<◌, ◌≤◌, ◌^
 ghost use Rattle.html_read.specs.Values.{nodes_of};
 ghost use Rattle.dom_store.specs.Building.{Grows, FollowParents, added_under, numbers_at};
 ghost use Rattle.dom_store.specs.Edited.{Applies, IsFitting, Judges, refused_for};
-ghost use Rattle.dom_store.specs.Edits.{insert, parent_under};
+ghost use Rattle.dom_store.specs.Edits.{changed, insert, parent_under, with_children, with_put};
 ghost use Rattle.dom_store.specs.Opening.{children_from, greatest_count};
 ghost use Rattle.dom_store.specs.Refusals.{entering, first_of, refusal, room_left, too_deep_under, too_many};
+ghost use Rattle.dom_store.specs.Standing.{children_at};
 ghost use Rattle.dom_store.specs.State.{state_of};
-ghost use Rattle.dom_store.specs.Taking.{before_of, taken_back};
+ghost use Rattle.dom_store.specs.Taking.{before_of, taken_back, up_to};
 
 use crate::children::{children_of, tops_of};
 use crate::copies::node_of;
@@ -20,7 +21,6 @@ use crate::error::EditError;
 use crate::moving::may_hold;
 use crate::node::NodeNumbers;
 use crate::opening::GREATEST_COUNT;
-use crate::siblings::with_put;
 use html_read::ReadNode;
 use std::alloc::{AllocError, Global};
 use style_types::Declarations;
@@ -42,15 +42,36 @@ impl Document {
         let elements = concerned_alone(alloc, parent)?;
         let next = self.next;
         let tops = tops_of(alloc, &nodes.read, next)?;
-        let children = with_put(alloc, self.children(parent), index as usize, &tops)?;
+        let count = tops.len();
         self.add_all(alloc, parent, &nodes.read, &nodes.styles)?;
-        let children = self.put_children(parent, children);
+        self.place_added(next, parent, index as usize, tops)?;
         let before = Before::Insert {
             parent,
-            children,
+            index,
+            count,
             next,
         };
         Ok(Change { elements, before })
+    }
+
+    /// These nodes, which were added last, from the first of these numbers on, come among the parent's children, at the
+    /// index, or are gone where memory runs out.
+    fn place_added(
+        &mut self,
+        first: u32,
+        parent: u32,
+        index: usize,
+        tops: NodeNumbers,
+    ) -> Result<(), AllocError>
+        requires within { index ≤ length (children_at (state_of self.old) parent) }
+        ensures put { OnOk result (state_of self.new ≡ changed (state_of self.old) parent (with_children (with_put index tops.items))) }
+        ensures gone { OnErr result (state_of self.new ≡ up_to first (state_of self.old)) }
+    {
+        let placed = self.put_in(parent, index, tops);
+        if placed.is_err() {
+            self.give_back(first);
+        }
+        placed
     }
 
     /// Gives the next numbers to these nodes, in order, or to none. Those that stand in no other of them stand in this

@@ -1,9 +1,10 @@
 //! Lists of nodes' numbers.
 
-ghost use Rattle.std.specs.Prelude.{◌≡◌, ◌≤◌, drop, length, nat_eq, Some, IfOk};
+ghost use Rattle.std.specs.Prelude.{◌≡◌, ◌≤◌, drop, length, nat_eq, Some, IfOk, OnErr, OnOk};
 ghost use Rattle.std.specs.List.{list_any, position, position_from};
 ghost use Rattle.dom_store.specs.Edits.{with_put, without};
 ghost use Rattle.dom_store.specs.Refusals.{least, lesser};
+ghost use Rattle.dom_store.specs.Taking.{without_run};
 
 use crate::node::NodeNumbers;
 use std::alloc::{AllocError, Global};
@@ -77,21 +78,30 @@ fn has(numbers: &[u32], number: u32) -> bool
     found
 }
 
-/// The children with these numbers at the index.
-pub(crate) fn with_put(
-    alloc: Global,
-    children: &[u32],
+/// These numbers come among the children, at the index. Where memory runs out, the children stay as they are.
+pub(crate) fn put_at(
+    children: &mut NodeNumbers,
     index: usize,
-    numbers: &[u32],
-) -> Result<NodeNumbers, AllocError>
-    requires { index ≤ length children.now }
-    ensures { IfOk result (λ list. list.items ≡ with_put index numbers.now children.now) }
+    numbers: NodeNumbers,
+) -> Result<(), AllocError>
+    requires { index ≤ length children.old.items }
+    ensures put { OnOk result (children.new.items ≡ with_put index numbers.items children.old.items) }
+    ensures same { OnErr result (children.new.items ≡ children.old.items) }
 {
-    let mut list = Vec::new(alloc);
-    list.extend_from_slice(&children[..index])?;
-    list.extend_from_slice(numbers)?;
-    list.extend_from_slice(&children[index..])?;
-    Ok(list)
+    children.splice(index..index, numbers)?;
+    Ok(())
+}
+
+/// Takes so many of the children out, from the index on, or as many as stand there. It takes no memory.
+pub(crate) fn drop_run(children: &mut NodeNumbers, index: usize, count: usize)
+    ensures { children.new.items ≡ without_run index count children.old.items }
+{
+    if index < children.len() {
+        let (_, tail) = children.split_at_mut(index);
+        let count = count.min(tail.len());
+        tail.rotate_left(count);
+        children.truncate(children.len() - count);
+    }
 }
 
 /// The least of these numbers.

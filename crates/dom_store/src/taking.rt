@@ -30,10 +30,11 @@ impl Document {
             }
             Before::Insert {
                 parent,
-                children,
+                index,
+                count,
                 next,
             } => {
-                self.put_children(parent, children);
+                self.drop_children(parent, index as usize, count);
                 self.give_back(next);
             }
             Before::Move {

@@ -1,15 +1,16 @@
-//! Changes of one node. They take no memory. What stood before is answered, and put again takes them back.
+//! Changes of one node. They take no memory, but where children come. What stood before is answered, and put again takes them back.
 
-ghost use Rattle.std.specs.Prelude.{◌≡◌, ◌∷◌, [], map};
+ghost use Rattle.std.specs.Prelude.{◌≡◌, ◌≤◌, ◌∷◌, [], length, map, OnErr, OnOk};
 ghost use Rattle.std.specs.String.{string_bytes};
-ghost use Rattle.dom_store.specs.Edits.{changed, with_children, with_classes, with_own, with_what, without, without_nodes};
-ghost use Rattle.dom_store.specs.Standing.{parent_at};
+ghost use Rattle.dom_store.specs.Edits.{changed, with_children, with_classes, with_own, with_put, with_what, without, without_nodes};
+ghost use Rattle.dom_store.specs.Standing.{children_at, parent_at};
 ghost use Rattle.dom_store.specs.State.{state_of, what_of};
-ghost use Rattle.dom_store.specs.Taking.{standing_in};
+ghost use Rattle.dom_store.specs.Taking.{standing_in, without_run};
 
 use crate::document::Document;
 use crate::node::{NodeKind, NodeNumbers};
-use crate::siblings::drop_from;
+use crate::siblings::{drop_from, drop_run, put_at};
+use std::alloc::AllocError;
 use std::mem::replace;
 use style_types::{Declarations, LetterList};
 
@@ -33,6 +34,32 @@ impl Document {
         match self.keys.get(&n) {
             Some(key) => replace(&mut self.nodes[*key].children, children),
             None => children,
+        }
+    }
+
+    /// These come among the node's children, at the index, or nothing changes where memory runs out.
+    pub(crate) fn put_in(
+        &mut self,
+        n: u32,
+        index: usize,
+        numbers: NodeNumbers,
+    ) -> Result<(), AllocError>
+        requires within { index ≤ length (children_at (state_of self.old) n) }
+        ensures put { OnOk result (state_of self.new ≡ changed (state_of self.old) n (with_children (with_put index numbers.items))) }
+        ensures same { OnErr result (state_of self.new ≡ state_of self.old) }
+    {
+        match self.keys.get(&n) {
+            Some(key) => put_at(&mut self.nodes[*key].children, index, numbers),
+            None => Ok(()),
+        }
+    }
+
+    /// So many of the node's children, from the index on, are its children no more. The nodes stay.
+    pub(crate) fn drop_children(&mut self, n: u32, index: usize, count: usize)
+        ensures { state_of self.new ≡ changed (state_of self.old) n (with_children (without_run index count)) }
+    {
+        if let Some(key) = self.keys.get(&n) {
+            drop_run(&mut self.nodes[*key].children, index, count);
         }
     }
 

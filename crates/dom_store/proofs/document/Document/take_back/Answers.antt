@@ -8,13 +8,13 @@ use Rattle.dom_store.proofs.document.Document.take_back.Goals as goal
 pub returns-in-Insert : goal.returns-in-Insert
 returns-in-Insert c =
     let old = state_of c.args.self.now in
-    rw c.in-Insert.is (given_back (state_of c.put_children.new.self) (state_of c.give_back.new.self) c.in-Insert.next c.give_back.ensures.filled c.give_back.ensures.next
-    ∙ ap (up_to c.in-Insert.next) c.put_children.ensures.put)
+    rw c.in-Insert.is (given_back (state_of c.drop_children.new.self) (state_of c.give_back.new.self) c.in-Insert.next c.give_back.ensures.filled c.give_back.ensures.next
+    ∙ ap (up_to c.in-Insert.next) c.drop_children.ensures)
 
 pub returns-in-Move : goal.returns-in-Move
 returns-in-Move c =
     let left = with_children (λ now. c.in-Move.left.items) in
     let children = with_children (λ now. c.in-Move.children.items) in
     rw c.in-Move.is (c.put_children_if.ensures.put
-    ∙ ap (λ (o : Option ℕ). changed_if (state_of c.put_children-in-Move.new.self) o left) c.parent_left.ensures
-    ∙ ap (λ (s : State). changed_if s (parent_left c.in-Move.from c.in-Move.parent) left) (c.put_children-in-Move.ensures.put ∙ ap (λ (s : State). changed s c.in-Move.parent children) c.put_parent.ensures.put))
+    ∙ ap (λ (o : Option ℕ). changed_if (state_of c.put_children.new.self) o left) c.parent_left.ensures
+    ∙ ap (λ (s : State). changed_if s (parent_left c.in-Move.from c.in-Move.parent) left) (c.put_children.ensures.put ∙ ap (λ (s : State). changed s c.in-Move.parent children) c.put_parent.ensures.put))
