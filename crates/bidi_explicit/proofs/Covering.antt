@@ -8,9 +8,8 @@ use Rattle.std.proofs.lemmas.Bool.{eqb-true}
 use Rattle.std.proofs.lemmas.List.Elements.{All-nil, All-cons, All-head, All-tail, All-weaker}
 use Rattle.std.proofs.lemmas.List.Sorted.{IsPermutation-refl, IsPermutation-trans, IsPermutation-cons, IsPermutation-append_left, IsPermutation-append_right, IsPermutation-append_comm, All-permutation}
 use Rattle.wm_chars.specs.declared.classes.BidiClass.{BidiClass}
-use Rattle.bidi_explicit.specs.Sequences.{kept_from, match_at, joined, beginning_with, others_than, level_in, level_runs, sequences, with_sides, isolating_runs}
-use Rattle.bidi_explicit.specs.Links.{first_of, followed, chains, sequence_of}
-use Rattle.bidi_explicit.specs.declared.paragraph.Run.{Run}
+use Rattle.bidi_explicit.specs.Sequences.{Sequence, kept_from, match_at, joined, beginning_with, others_than, level_in, level_runs, sequences, with_sides, isolating_runs}
+use Rattle.bidi_explicit.specs.Links.{first_of, followed, chains}
 use Rattle.bidi_explicit.specs.Sequences.{Rises, IsRunOf, kept_places}
 use Rattle.bidi_explicit.proofs.Chains.{by_place}
 use Rattle.bidi_explicit.proofs.Matches.{AreWithin}
@@ -176,21 +175,22 @@ pub all_places : (base : ℕ) (level : ℕ → ℕ) (classes : List BidiClass) (
 all_places base level classes kept [] = refl
 all_places base level classes kept (l ∷ lists) = rw (places_stay base level classes kept l, all_places base level classes kept lists) refl
 
-module _ (base : ℕ) (levels : List ℕ) (classes : List BidiClass) (marks : List Bool) (runs : List Run) (are : map sequence_of runs ≡ isolating_runs base levels classes marks) where
-  pub places_of : map (λ run. run.places.items) runs ≡ sequences classes (level_runs (level_in levels) (kept_places marks))
+-- whatever holds them, and tells each by a function
+module _ {X : Type 0} (seq : X → Sequence) (base : ℕ) (levels : List ℕ) (classes : List BidiClass) (marks : List Bool) (runs : List X) (are : map seq runs ≡ isolating_runs base levels classes marks) where
+  pub places_of : map (λ run. (seq run).places) runs ≡ sequences classes (level_runs (level_in levels) (kept_places marks))
   unfolding isolating_runs
   places_of = twice runs ∙ ap (map (λ s. s.places)) are ∙ all_places base (level_in levels) classes (kept_places marks) (sequences classes (level_runs (level_in levels) (kept_places marks)))
     where
-      twice : (rs : List Run) → map (λ run. run.places.items) rs ≡ map (λ s. s.places) (map sequence_of rs)
+      twice : (rs : List X) → map (λ run. (seq run).places) rs ≡ map (λ s. s.places) (map seq rs)
       twice [] = refl
-      twice (r ∷ rs) = ap (λ l. r.places.items ∷ l) (twice rs)
+      twice (r ∷ rs) = ap (λ l. (seq r).places ∷ l) (twice rs)
 
-  pub runs_cover : IsPermutation (kept_places marks) (concat (map (λ run. run.places.items) runs))
+  pub runs_cover : IsPermutation (kept_places marks) (concat (map (λ run. (seq run).places) runs))
   runs_cover = rw places_of (cover (level_in levels) classes marks)
 
-  pub each_is_run : All (λ run. IsRunOf marks run.places.items) runs
+  pub each_is_run : All (λ run. IsRunOf marks (seq run).places) runs
   each_is_run = unmapped runs (rw places_of (are_runs (level_in levels) classes marks))
     where
-      unmapped : (rs : List Run) → All (IsRunOf marks) (map (λ run. run.places.items) rs) → All (λ run. IsRunOf marks run.places.items) rs
-      unmapped [] a = All-nil (λ run. IsRunOf marks run.places.items)
-      unmapped (r ∷ rs) a = All-cons (λ run. IsRunOf marks run.places.items) r rs (All-head (IsRunOf marks) r.places.items (map (λ run. run.places.items) rs) a) (unmapped rs (All-tail (IsRunOf marks) r.places.items (map (λ run. run.places.items) rs) a))
+      unmapped : (rs : List X) → All (IsRunOf marks) (map (λ run. (seq run).places) rs) → All (λ run. IsRunOf marks (seq run).places) rs
+      unmapped [] a = All-nil (λ run. IsRunOf marks (seq run).places)
+      unmapped (r ∷ rs) a = All-cons (λ run. IsRunOf marks (seq run).places) r rs (All-head (IsRunOf marks) (seq r).places (map (λ run. (seq run).places) rs) a) (unmapped rs (All-tail (IsRunOf marks) (seq r).places (map (λ run. (seq run).places) rs) a))

@@ -20,33 +20,33 @@ module _ (links : List Link) where
   last_within [] p f = f.0
   last_within (x ∷ xs) p f = last_within xs x f.3
 
-  -- the places so far, of which `last` is the last one
-  pub record Reading (first now : ℕ) (out : List ℕ) : Type 0 where
+  -- the places so far, of which `now` is the last one, behind those that were there before
+  pub record Reading (front : List ℕ) (first now : ℕ) (out : List ℕ) : Type 0 where
     pub whole : List ℕ
     pub chain : Follows links first whole
     pub rest : List ℕ
     pub follows : Follows links now rest
-    pub joined : out ++ rest ≡ first ∷ whole
+    pub joined : out ++ rest ≡ front ++ first ∷ whole
     pub last : last_of now rest ≡ last_of first whole
 
-  pub begins_reading : (first : ℕ) → HasChain links first → Reading first first (first ∷ [])
-  begins_reading first h = record { whole = h.places; chain = h.follows; rest = h.places; follows = h.follows; joined = refl; last = refl }
+  pub begins_reading : (front : List ℕ) (first : ℕ) → HasChain links first → Reading front first first (front ++ first ∷ [])
+  begins_reading front first h = record { whole = h.places; chain = h.follows; rest = h.places; follows = h.follows; joined = append_assoc front (first ∷ []) h.places; last = refl }
 
-  pub reads_within : (first last : ℕ) (out : List ℕ) → Reading first last out → last < length links
-  reads_within first last out r = go r.rest r.follows
+  pub reads_within : (front : List ℕ) (first last : ℕ) (out : List ℕ) → Reading front first last out → last < length links
+  reads_within front first last out r = go r.rest r.follows
     where
       go : (rest : List ℕ) → Follows links last rest → last < length links
       go [] f = f.0
       go (q ∷ rest) f = f.0
 
-  pub record Goes (first last next : ℕ) (out : List ℕ) : Type 0 where
-    pub reading : Reading first next (out ++ next ∷ [])
+  pub record Goes (front : List ℕ) (first last next : ℕ) (out : List ℕ) : Type 0 where
+    pub reading : Reading front first next (out ++ next ∷ [])
     pub rises : last < next
 
-  pub reads_on : (first last next : ℕ) (out : List ℕ) → Reading first last out → next_at links last ≡ Some next → Goes first last next out
-  reads_on first last next out r e = go r.rest r.follows r.joined r.last
+  pub reads_on : (front : List ℕ) (first last next : ℕ) (out : List ℕ) → Reading front first last out → next_at links last ≡ Some next → Goes front first last next out
+  reads_on front first last next out r e = go r.rest r.follows r.joined r.last
     where
-      go : (rest : List ℕ) → Follows links last rest → out ++ rest ≡ first ∷ r.whole → last_of last rest ≡ last_of first r.whole → Goes first last next out
+      go : (rest : List ℕ) → Follows links last rest → out ++ rest ≡ front ++ first ∷ r.whole → last_of last rest ≡ last_of first r.whole → Goes front first last next out
       go [] f j l = let bad : Some next ≡ None = sym e ∙ f.1 in absurd (cc)
       go (q ∷ rest) f j l =
           let same : Some q ≡ Some next = sym f.1 ∙ e in
@@ -65,13 +65,13 @@ module _ (links : List Link) where
             rises = subst Q is f.2;
           }
 
-  pub record IsRead (first now : ℕ) (out chain : List ℕ) : Type 0 where
-    pub places : out ≡ first ∷ chain
+  pub record IsRead (front : List ℕ) (first now : ℕ) (out chain : List ℕ) : Type 0 where
+    pub places : out ≡ front ++ first ∷ chain
     pub last : now ≡ last_of first chain
 
-  pub ends_reading : (first last : ℕ) (out : List ℕ) → Reading first last out → next_at links last ≡ None → (places : List ℕ) → Follows links first places → IsRead first last out places
-  ends_reading first last out r e places f = go r.rest r.follows r.joined r.last (one_way r.whole places first r.chain f)
+  pub ends_reading : (front : List ℕ) (first last : ℕ) (out : List ℕ) → Reading front first last out → next_at links last ≡ None → (places : List ℕ) → Follows links first places → IsRead front first last out places
+  ends_reading front first last out r e places f = go r.rest r.follows r.joined r.last (one_way r.whole places first r.chain f)
     where
-      go : (rest : List ℕ) → Follows links last rest → out ++ rest ≡ first ∷ r.whole → last_of last rest ≡ last_of first r.whole → r.whole ≡ places → IsRead first last out places
-      go [] g j l w = record { places = sym (append-nil out) ∙ j ∙ ap (λ l. first ∷ l) w; last = l ∙ ap (λ l. last_of first l) w }
+      go : (rest : List ℕ) → Follows links last rest → out ++ rest ≡ front ++ first ∷ r.whole → last_of last rest ≡ last_of first r.whole → r.whole ≡ places → IsRead front first last out places
+      go [] g j l w = record { places = sym (append-nil out) ∙ j ∙ ap (λ l. front ++ first ∷ l) w; last = l ∙ ap (λ l. last_of first l) w }
       go (q ∷ rest) g j l w = let bad : None ≡ Some q = sym e ∙ g.1 in absurd (cc)

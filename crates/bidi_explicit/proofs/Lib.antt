@@ -9,6 +9,7 @@ pub mod Looking
 pub mod Matches
 pub mod Matching
 pub mod OneLevel
+pub mod Spans
 pub mod Strong
 pub mod Walking
 pub mod Writing

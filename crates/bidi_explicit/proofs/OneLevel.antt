@@ -6,11 +6,10 @@ use Rattle.std.proofs.lemmas.Bool.{eqb-true}
 use Rattle.std.proofs.lemmas.List.Elements.{All-nil, All-cons, All-head, All-tail, All-weaker}
 use Rattle.wm_chars.specs.declared.classes.BidiClass.{BidiClass}
 use Rattle.bidi_explicit.specs.declared.paragraph.Levels.{Levels}
-use Rattle.bidi_explicit.specs.declared.paragraph.Run.{Run}
 use Rattle.bidi_explicit.specs.Paragraph.{AreAligned}
 use Rattle.bidi_explicit.specs.Explicit.{explicit_levels}
-use Rattle.bidi_explicit.specs.Sequences.{match_at, joined, beginning_with, others_than, level_in, level_runs, sequences, isolating_runs}
-use Rattle.bidi_explicit.specs.Links.{first_of, followed, chains, sequence_of}
+use Rattle.bidi_explicit.specs.Sequences.{Sequence, match_at, joined, beginning_with, others_than, level_in, level_runs, sequences, isolating_runs}
+use Rattle.bidi_explicit.specs.Links.{first_of, followed, chains}
 use Rattle.bidi_explicit.specs.Sequences.{HasOneLevel, kept_places}
 use Rattle.bidi_explicit.proofs.Chains.{by_place}
 use Rattle.bidi_explicit.proofs.Covering.{places_of}
@@ -74,14 +73,14 @@ module _ (levels : List ℕ) (classes : List BidiClass) (matched : (p q : ℕ) �
   sequences_one : (marks : List Bool) → length marks ≡ length classes → All (HasOneLevel levels) (sequences classes (level_runs (level_in levels) (kept_places marks)))
   sequences_one marks e = rw (by_place (level_in levels) classes (kept_places marks)) (all_one (chains (level_in levels) classes (kept_places marks)) (chains_one (kept_places marks) 0 (kept_within marks 0 (length classes) (omega arith))))
 
-pub runs_have_one_level : (levels : Levels) → AreAligned levels → levels.level.items ≡ explicit_levels levels.base levels.original.items
-    → (runs : List Run) → map sequence_of runs ≡ isolating_runs levels.base levels.level.items levels.original.items levels.removed.items
-    → All (λ run. HasOneLevel levels.level.items run.places.items) runs
-runs_have_one_level levels aligned explicit runs are =
+pub runs_have_one_level : {X : Type 0} (seq : X → Sequence) (levels : Levels) → AreAligned levels → levels.level.items ≡ explicit_levels levels.base levels.original.items
+    → (runs : List X) → map seq runs ≡ isolating_runs levels.base levels.level.items levels.original.items levels.removed.items
+    → All (λ run. HasOneLevel levels.level.items (seq run).places) runs
+runs_have_one_level {X} seq levels aligned explicit runs are =
     let P : List ℕ → Type 0 = λ l. (p q : ℕ) → p < length levels.original.items → match_at levels.original.items p ≡ Some q → level_in l p ≡ level_in l q in
     let matched : P levels.level.items = subst P (sym explicit) (one_level levels.base levels.original.items) in
-    unmapped runs (rw (places_of levels.base levels.level.items levels.original.items levels.removed.items runs are) (sequences_one levels.level.items levels.original.items matched levels.removed.items aligned.removed))
+    unmapped runs (rw (places_of seq levels.base levels.level.items levels.original.items levels.removed.items runs are) (sequences_one levels.level.items levels.original.items matched levels.removed.items aligned.removed))
   where
-    unmapped : (rs : List Run) → All (HasOneLevel levels.level.items) (map (λ run. run.places.items) rs) → All (λ run. HasOneLevel levels.level.items run.places.items) rs
-    unmapped [] a = All-nil (λ run. HasOneLevel levels.level.items run.places.items)
-    unmapped (r ∷ rs) a = All-cons (λ run. HasOneLevel levels.level.items run.places.items) r rs (All-head (HasOneLevel levels.level.items) r.places.items (map (λ run. run.places.items) rs) a) (unmapped rs (All-tail (HasOneLevel levels.level.items) r.places.items (map (λ run. run.places.items) rs) a))
+    unmapped : (rs : List X) → All (HasOneLevel levels.level.items) (map (λ run. (seq run).places) rs) → All (λ run. HasOneLevel levels.level.items (seq run).places) rs
+    unmapped [] a = All-nil (λ run. HasOneLevel levels.level.items (seq run).places)
+    unmapped (r ∷ rs) a = All-cons (λ run. HasOneLevel levels.level.items (seq run).places) r rs (All-head (HasOneLevel levels.level.items) (seq r).places (map (λ run. (seq run).places) rs) a) (unmapped rs (All-tail (HasOneLevel levels.level.items) (seq r).places (map (λ run. (seq run).places) rs) a))

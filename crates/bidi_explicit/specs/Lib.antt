@@ -7,3 +7,4 @@ pub mod Links
 pub mod Machine
 pub mod Paragraph
 pub mod Sequences
+pub mod Spans

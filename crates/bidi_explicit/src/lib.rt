@@ -8,11 +8,15 @@ mod explicit;
 mod isolates;
 pub mod laws;
 mod links;
+mod lists;
 mod machine;
 mod paragraph;
 mod sequences;
 
 pub use base::{base_level, base_of};
 pub use explicit::levels;
-pub use paragraph::{ClassList, LevelList, Levels, MarkList, PlaceList, Run, Runs};
-pub use sequences::runs;
+pub use lists::runs;
+pub use paragraph::{
+    ClassList, FlatRuns, LevelList, Levels, MarkList, PlaceList, Run, RunSpan, Runs, SpanList,
+};
+pub use sequences::flat_runs;

@@ -42,3 +42,29 @@ pub struct Run {
     /// What stands behind its last character: R or L.
     pub eos: BidiClass,
 }
+
+/// Spans of isolating run sequences.
+pub type SpanList = Vec<RunSpan>;
+
+/// One isolating run sequence (UAX 9, BD13 and X10), whose places stand one behind the other in a list of the places of
+/// many.
+#[derive(Clone, Copy)]
+pub struct RunSpan {
+    /// Where its places begin in the list.
+    pub start: usize,
+    /// Where they end.
+    pub stop: usize,
+    /// What stands before its first character: R or L.
+    pub sos: BidiClass,
+    /// What stands behind its last character: R or L.
+    pub eos: BidiClass,
+}
+
+/// The isolating run sequences of a paragraph, with all their places in one list.
+#[derive(Drop)]
+pub struct FlatRuns {
+    /// The places of the first sequence, then those of the second, and so on.
+    pub places: PlaceList,
+    /// The sequences, in the order of their first characters.
+    pub spans: SpanList,
+}

@@ -1,69 +1,81 @@
-//! The isolating run sequences of a paragraph, with sos and eos (UAX 9, BD13 and X10).
+//! The isolating run sequences of a paragraph, with sos and eos, and with all their places in one list (UAX 9, BD13 and
+//! X10).
 
-ghost use Rattle.std.specs.Prelude.{◌≡◌, ◌∷◌, ◌++◌, ◌<◌, [], List, true, false, cond, length, map, max, slice_index_or, IfOk, OnOk};
+ghost use Rattle.std.specs.Prelude.{◌≡◌, ◌∷◌, ◌++◌, ◌<◌, [], false, cond, length, map, max, slice_index_or, IfOk, OnOk};
 ghost use Rattle.std.specs.List.{All, concat};
 ghost use Rattle.std.specs.List.Sorted.{IsPermutation};
-ghost use Rattle.bidi_explicit.specs.Sequences.{HasOneLevel, IsRunOf, kept_places};
+ghost use Rattle.bidi_explicit.specs.Sequences.{HasOneLevel, IsRunOf, direction, isolating_runs, kept_places, last_of, level_in};
 ghost use Rattle.bidi_explicit.specs.Explicit.{explicit_levels};
-ghost use Rattle.bidi_explicit.specs.Sequences.{direction, isolating_runs, last_of, level_in};
 ghost use Rattle.bidi_explicit.specs.Paragraph.{AreAligned};
-ghost use Rattle.bidi_explicit.specs.Links.{Follows, HasChain, IsLinkedWhole, begins_at, sequence_by, sequence_of};
+ghost use Rattle.bidi_explicit.specs.Links.{Follows, HasChain, IsLinkedWhole, begins_at, sequence_by};
+ghost use Rattle.bidi_explicit.specs.Spans.{AreSpans, sequence_at, span_places};
 
 use crate::links::{self, Link};
-use crate::paragraph::{Levels, PlaceList, Run, Runs};
+use crate::paragraph::{FlatRuns, Levels, PlaceList, RunSpan};
 use std::alloc::{AllocError, Global};
 use wm_chars::BidiClass;
 
 /// The isolating run sequences of a paragraph with their sos and eos (UAX 9, BD13 and X10), in the order of their
-/// first characters. The lists of the paragraph have one length. The places of each sequence rise, and all of them
-/// together are the places of what isn't removed, each once. Where the levels are those that X1 to X9 give, each
-/// sequence has one level.
-pub fn runs(alloc: Global, levels: &Levels) -> Result<Runs, AllocError>
+/// first characters, with all their places in one list. The lists of the paragraph have one length. The places of each
+/// sequence rise, and all of them together are the places of what isn't removed, each once. Where the levels are those
+/// that X1 to X9 give, each sequence has one level.
+pub fn flat_runs(alloc: Global, levels: &Levels) -> Result<FlatRuns, AllocError>
     requires { AreAligned levels.now }
-    ensures runs { IfOk result (λ runs. map sequence_of runs.items ≡ isolating_runs levels.now.base levels.now.level.items levels.now.original.items levels.now.removed.items) }
-    ensures cover { IfOk result (λ runs. IsPermutation (kept_places levels.now.removed.items) (concat (map (λ run. run.places.items) runs.items))) }
-    ensures each { IfOk result (λ runs. All (λ run. IsRunOf levels.now.removed.items run.places.items) runs.items) }
-    ensures level { IfOk result (λ runs. levels.now.level.items ≡ explicit_levels levels.now.base levels.now.original.items → All (λ run. HasOneLevel levels.now.level.items run.places.items) runs.items) }
+    ensures runs { IfOk result (λ flat. map (sequence_at flat.places.items) flat.spans.items ≡ isolating_runs levels.now.base levels.now.level.items levels.now.original.items levels.now.removed.items) }
+    ensures spans { IfOk result (λ flat. AreSpans flat.places.items flat.spans.items) }
+    ensures cover { IfOk result (λ flat. IsPermutation (kept_places levels.now.removed.items) (concat (map (span_places flat.places.items) flat.spans.items))) }
+    ensures each { IfOk result (λ flat. All (λ span. IsRunOf levels.now.removed.items (span_places flat.places.items span)) flat.spans.items) }
+    ensures level { IfOk result (λ flat. levels.now.level.items ≡ explicit_levels levels.now.base levels.now.original.items → All (λ span. HasOneLevel levels.now.level.items (span_places flat.places.items span)) flat.spans.items) }
 {
     let linked = links::linked_levels(alloc, levels)?;
-    let runs = gather(alloc, levels, &linked.links)?;
-    Ok(runs)
+    let flat = gather(alloc, levels, &linked.links)?;
+    Ok(flat)
 }
 
 // The sequences that the links lead through.
-fn gather(alloc: Global, levels: &Levels, links: &[Link]) -> Result<Runs, AllocError>
+fn gather(alloc: Global, levels: &Levels, links: &[Link]) -> Result<FlatRuns, AllocError>
     requires aligned { AreAligned levels.now }
     requires linked { IsLinkedWhole levels.now links.now }
-    ensures { IfOk result (λ runs. map sequence_of runs.items ≡ isolating_runs levels.now.base levels.now.level.items levels.now.original.items levels.now.removed.items) }
+    ensures runs { IfOk result (λ flat. map (sequence_at flat.places.items) flat.spans.items ≡ isolating_runs levels.now.base levels.now.level.items levels.now.original.items levels.now.removed.items) }
+    ensures spans { IfOk result (λ flat. AreSpans flat.places.items flat.spans.items) }
 {
-    let mut runs = Vec::new(alloc);
+    let mut flat = FlatRuns {
+        places: Vec::with_capacity(alloc, links.len())?,
+        spans: Vec::new(alloc),
+    };
     let mut before = levels.base;
     for i in 0..links.len() {
-        take(alloc, &mut runs, levels, links, i, before)?;
+        if links[i].begins {
+            take(&mut flat, levels, links, i, before)?;
+        }
         before = level_kept(levels, i, before);
     }
-    Ok(runs)
+    Ok(flat)
 }
 
-// Takes the sequence that begins with the place, if one does.
+// Takes the sequence that begins with the place.
 fn take(
-    alloc: Global,
-    runs: &mut Runs,
+    flat: &mut FlatRuns,
     levels: &Levels,
     links: &[Link],
-    i: usize,
+    first: usize,
     before: u8,
 ) -> Result<(), AllocError>
-    requires inside { i < length links.now }
-    requires level { i < length levels.now.level.items }
-    requires chain { begins_at links.now i ≡ true → HasChain links.now i }
-    ensures begins { OnOk result (begins_at links.now i ≡ true → (places : _) → Follows links.now i places → map sequence_of runs.new.items ≡ map sequence_of runs.old.items ++ sequence_by (level_in levels.now.level.items) links.now i places before ∷ []) }
-    ensures other { OnOk result (begins_at links.now i ≡ false → runs.new.items ≡ runs.old.items) }
+    requires spans { AreSpans flat.old.places.items flat.old.spans.items }
+    requires level { first < length levels.now.level.items }
+    requires chain { HasChain links.now first }
+    ensures spans { OnOk result (AreSpans flat.new.places.items flat.new.spans.items) }
+    ensures taken { OnOk result ((places : _) → Follows links.now first places → map (sequence_at flat.new.places.items) flat.new.spans.items ≡ map (sequence_at flat.old.places.items) flat.old.spans.items ++ sequence_by (level_in levels.now.level.items) links.now first places before ∷ []) }
 {
-    if links[i].begins {
-        let run = run_from(alloc, levels, links, i, before)?;
-        runs.push(run)?;
-    }
+    let start = flat.places.len();
+    let last = take_places(&mut flat.places, links, first)?;
+    let level = levels.level[first];
+    flat.spans.push(RunSpan {
+        start,
+        stop: flat.places.len(),
+        sos: direction(level.max(before)),
+        eos: direction(level.max(links[last].behind)),
+    })?;
     Ok(())
 }
 
@@ -80,65 +92,20 @@ fn level_kept(levels: &Levels, i: usize, before: u8) -> u8
     }
 }
 
-fn run_from(
-    alloc: Global,
-    levels: &Levels,
-    links: &[Link],
-    first: usize,
-    before: u8,
-) -> Result<Run, AllocError>
-    requires level { first < length levels.now.level.items }
-    requires chain { HasChain links.now first }
-    ensures { IfOk result (λ run. (places : _) → Follows links.now first places → sequence_of run ≡ sequence_by (level_in levels.now.level.items) links.now first places before) }
-{
-    let Chain { places, last } = chain_from(alloc, links, first)?;
-    let level = levels.level[first];
-    Ok(Run {
-        places,
-        sos: direction(level.max(before)),
-        eos: direction(level.max(links[last].behind)),
-    })
-}
-
-// The places of a sequence, and the last of them.
-#[derive(Drop)]
-struct Chain {
-    places: PlaceList,
-    last: usize,
-}
-
-fn chain_from(alloc: Global, links: &[Link], first: usize) -> Result<Chain, AllocError>
+// Takes the places of the sequence that begins with a place, and tells the last of them.
+fn take_places(taken: &mut PlaceList, links: &[Link], first: usize) -> Result<usize, AllocError>
     requires { HasChain links.now first }
-    ensures places { IfOk result (λ chain. (places : _) → Follows links.now first places → chain.places.items ≡ first ∷ places) }
-    ensures last { IfOk result (λ chain. (places : _) → Follows links.now first places → chain.last ≡ last_of first places) }
-    ensures within { IfOk result (λ chain. chain.last < length links.now) }
+    ensures places { OnOk result ((places : _) → Follows links.now first places → taken.new.items ≡ taken.old.items ++ first ∷ places) }
+    ensures last { IfOk result (λ last. (places : _) → Follows links.now first places → last ≡ last_of first places) }
+    ensures within { IfOk result (λ last. last < length links.now) }
 {
-    let mut places = Vec::with_capacity(alloc, room_for(links, first))?;
-    places.push(first)?;
+    taken.push(first)?;
     let mut last = first;
     while let Some(next) = links[last].next {
-        places.push(next)?;
+        taken.push(next)?;
         last = next;
     }
-    Ok(Chain { places, last })
-}
-
-// How many places the sequence has that begins here, or so many to begin with where it has more.
-fn room_for(links: &[Link], first: usize) -> usize {
-    const MOST: usize = 32;
-    let mut last = first;
-    for count in 1..MOST {
-        match links.get(last) {
-            Some(
-                Link {
-                    next: Some(next),
-                    ..
-                },
-            ) => last = *next,
-            _ => return count,
-        }
-    }
-    MOST
+    Ok(last)
 }
 
 fn direction(level: u8) -> BidiClass

@@ -1,7 +1,10 @@
 use Rattle.std.proofs.Common.{map}
-use Rattle.bidi_explicit.specs.Links.{sequence_of}
+use Rattle.bidi_explicit.specs.Spans.{AreSpans, sequence_at}
 use Rattle.bidi_explicit.proofs.Gathering.{IsGathering}
 use Rattle.bidi_explicit.proofs.sequences.gather.Given as goal
 
 abbrev pub invariant-loop-i : goal.invariant-loop-i
-invariant-loop-i l = IsGathering l.levels l.links l.i l.before (map sequence_of l.runs.items)
+invariant-loop-i l = record {
+  gathering : IsGathering l.levels l.links l.i l.before (map (sequence_at l.flat.places.items) l.flat.spans.items);
+  spans : AreSpans l.flat.places.items l.flat.spans.items;
+}

@@ -1,10 +1,10 @@
 use Rattle.std.proofs.Common.{◌-◌, ◌<◌, length}
 use Rattle.bidi_explicit.proofs.Following.{Reading}
-use Rattle.bidi_explicit.proofs.sequences.chain_from.Given as goal
+use Rattle.bidi_explicit.proofs.sequences.take_places.Given as goal
 
 abbrev pub invariant-loop-last : goal.invariant-loop-last
 invariant-loop-last l = record {
-  reading : Reading l.links l.first l.last l.places.items;
+  reading : Reading l.links l.fn.taken.items l.first l.last l.taken.items;
   within : l.last < length l.links;
 }
 
