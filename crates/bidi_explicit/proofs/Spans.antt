@@ -1,9 +1,7 @@
 -- Sequences whose places stand in one list, while the list grows.
-use Rattle.std.proofs.Common.{◌≡◌, ◌∙◌, sym, refl, ap, subst, ℕ, ◌+◌, ◌-◌, ◌≤◌, List, [], ◌∷◌, ◌++◌, map, length, length-append, take, drop, arith}
-use Rattle.std.specs.List.{All}
+use Rattle.std.proofs.Common.{◌≡◌, ◌∙◌, refl, ap, ℕ, ◌+◌, ◌-◌, ◌≤◌, List, [], ◌∷◌, ◌++◌, map, length, length-append, drop, arith}
 use Rattle.std.proofs.lemmas.List.{drop-append-le, take-append-le, length-drop, map-append, take_all, drop_at}
 use Rattle.std.proofs.lemmas.List.Elements.{All-nil, All-cons, All-append, All-head, All-tail, All-weaker}
-use Rattle.wm_chars.specs.declared.classes.BidiClass.{BidiClass}
 use Rattle.bidi_explicit.specs.declared.paragraph.RunSpan.{RunSpan}
 use Rattle.bidi_explicit.specs.Sequences.{Sequence}
 use Rattle.bidi_explicit.specs.Spans.{IsSpan, AreSpans, sequence_at, span_places}

@@ -7,6 +7,7 @@ use Rattle.bidi_explicit.specs.declared.isolates.Kind.TheVariants.{Strong, Opens
 use Rattle.bidi_explicit.specs.declared.ahead.Scan.{Scan}
 use Rattle.bidi_explicit.specs.Base.{turns_right}
 use Rattle.bidi_explicit.specs.Isolates.{kind_of}
+use Rattle.bidi_explicit.specs.Stack.{stacked}
 
 -- `found` is whether P2 and P3 give 1 for the text up to the PDI that closes it, and `pending` the same for the text
 -- behind that PDI, behind the PDI that closes that one, and so on
@@ -41,4 +42,4 @@ rights (_ ∷ after) = rights after
 
 -- what the code holds
 abbrev pub ahead_of : Scan → Ahead
-ahead_of scan = record { found = scan.found; pending = scan.pending.items }
+ahead_of scan = record { found = scan.found; pending = stacked scan.pending }

@@ -8,3 +8,4 @@ pub mod Machine
 pub mod Paragraph
 pub mod Sequences
 pub mod Spans
+pub mod Stack

@@ -2,11 +2,12 @@
 use Rattle.std.specs.Prelude.{ℕ, ◌+◌}
 use Rattle.bidi_explicit.specs.declared.machine.Machine.{Machine}
 use Rattle.bidi_explicit.specs.Explicit.{State}
+use Rattle.bidi_explicit.specs.Stack.{stacked}
 
 abbrev pub state_of : Machine → State
 state_of m = record {
   top = m.top;
-  below = m.below.items;
+  below = stacked m.below;
   overflow_isolates = m.overflow_isolates;
   overflow_embeddings = m.overflow_embeddings;
   valid_isolates = m.valid_isolates;

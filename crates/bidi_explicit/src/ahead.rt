@@ -3,10 +3,11 @@
 ghost use Rattle.std.specs.Prelude.{◌≡◌, [], ◌∷◌, List, false, OnOk, IfOk};
 ghost use Rattle.bidi_explicit.specs.Base.{turns_right};
 ghost use Rattle.bidi_explicit.specs.Ahead.{ahead_of, ahead_at, rights};
+ghost use Rattle.bidi_explicit.specs.Stack.{stacked};
 
 use crate::isolates::{Kind, kind_of};
+use crate::stack::Stack;
 use std::alloc::{AllocError, Global};
-use std::collections::VecDeque;
 use wm_chars::BidiClass;
 
 // What P2 and P3 find behind a place, as it is read from the end.
@@ -15,17 +16,17 @@ pub(crate) struct Scan {
     // Whether they give 1 for the text up to the PDI that closes it.
     found: bool,
     // The same for the text behind that PDI, behind the PDI that closes that one, and so on.
-    pending: VecDeque<bool>,
+    pending: Stack<bool>,
 }
 
 // Whether each FSI is treated as an RLI, in their order (UAX 9, X5c).
-pub(crate) fn rights(alloc: Global, classes: &[BidiClass]) -> Result<VecDeque<bool>, AllocError>
-    ensures { IfOk result (λ answers. answers.items ≡ rights classes.now) }
+pub(crate) fn rights(alloc: Global, classes: &[BidiClass]) -> Result<Stack<bool>, AllocError>
+    ensures { IfOk result (λ answers. stacked answers ≡ rights classes.now) }
 {
     if has_fsi(classes) {
         read_rights(alloc, classes)
     } else {
-        Ok(VecDeque::new(alloc))
+        Ok(Stack::new(alloc))
     }
 }
 
@@ -41,14 +42,14 @@ fn has_fsi(classes: &[BidiClass]) -> bool
 
 // One pass from the end answers for all.
 #[tactic(auto, using(crate::proofs::Looking::turns_right_found))]
-fn read_rights(alloc: Global, classes: &[BidiClass]) -> Result<VecDeque<bool>, AllocError>
-    ensures { IfOk result (λ answers. answers.items ≡ rights classes.now) }
+fn read_rights(alloc: Global, classes: &[BidiClass]) -> Result<Stack<bool>, AllocError>
+    ensures { IfOk result (λ answers. stacked answers ≡ rights classes.now) }
 {
     let mut scan = Scan {
         found: false,
-        pending: VecDeque::new(alloc),
+        pending: Stack::new(alloc),
     };
-    let mut answers = VecDeque::new(alloc);
+    let mut answers = Stack::new(alloc);
     let mut i = classes.len();
     while i > 0 {
         i -= 1;
@@ -60,11 +61,11 @@ fn read_rights(alloc: Global, classes: &[BidiClass]) -> Result<VecDeque<bool>, A
 }
 
 // One more character in front, of which P2 and P3 find this in what it would hold.
-fn note(answers: &mut VecDeque<bool>, class: BidiClass, found: bool) -> Result<(), AllocError>
-    ensures { OnOk result ((after : _) → found ≡ turns_right after → answers.old.items ≡ rights after → answers.new.items ≡ rights (class ∷ after)) }
+fn note(answers: &mut Stack<bool>, class: BidiClass, found: bool) -> Result<(), AllocError>
+    ensures { OnOk result ((after : _) → found ≡ turns_right after → stacked answers.old ≡ rights after → stacked answers.new ≡ rights (class ∷ after)) }
 {
     if class == BidiClass::FSI {
-        answers.push_front(found)?;
+        answers.push(found)?;
     }
     Ok(())
 }
@@ -74,9 +75,9 @@ fn read(scan: &mut Scan, kind: Kind) -> Result<(), AllocError>
 {
     match kind {
         Kind::Strong(level) => scan.found = level == 1,
-        Kind::Opens => scan.found = scan.pending.pop_front().unwrap_or(false),
+        Kind::Opens => scan.found = scan.pending.pop().unwrap_or(false),
         Kind::Closes => {
-            scan.pending.push_front(scan.found)?;
+            scan.pending.push(scan.found)?;
             scan.found = false;
         }
         Kind::Other => {}

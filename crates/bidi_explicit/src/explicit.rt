@@ -7,12 +7,13 @@ ghost use Rattle.bidi_explicit.specs.Ahead.{rights};
 ghost use Rattle.bidi_explicit.specs.Paragraph.{AreAligned, IsBetween};
 ghost use Rattle.bidi_explicit.specs.Explicit.{plain, entered, taken, entries, begin, level_at, levels_by, class_at, classes_by, explicit_levels, explicit_classes, removed_marks};
 ghost use Rattle.bidi_explicit.specs.Machine.{state_of, total};
+ghost use Rattle.bidi_explicit.specs.Stack.{stacked};
 
 use crate::ahead;
 use crate::machine::{self, Entry, Machine};
 use crate::paragraph::{ClassList, LevelList, Levels, MarkList};
+use crate::stack::Stack;
 use std::alloc::{AllocError, Global};
-use std::collections::VecDeque;
 use wm_chars::BidiClass;
 use wm_chars::BidiClass::{AL, AN, CS, EN, ES, ET, L, NSM, ON, R, S, WS};
 
@@ -71,7 +72,7 @@ fn walk(alloc: Global, classes: &[BidiClass], base: u8) -> Result<Written, Alloc
 #[tactic(auto, using(crate::proofs::Writing::written_more))]
 fn write_all(
     machine: &mut Machine,
-    answers: &mut VecDeque<bool>,
+    answers: &mut Stack<bool>,
     classes: &[BidiClass],
     base: u8,
     level: &mut [u8],
@@ -79,7 +80,7 @@ fn write_all(
 ) -> Result<(), AllocError>
     requires machine { state_of machine.old ≡ begin base }
     requires total { total machine.old ≡ 0 }
-    requires answers { answers.old.items ≡ rights classes.now }
+    requires answers { stacked answers.old ≡ rights classes.now }
     requires level { length level.old ≡ length classes.now }
     requires class { length class.old ≡ length classes.now }
     ensures level { IfOk result (λ _. level.new ≡ levels_by base base classes.now (entries (begin base) classes.now)) }
@@ -95,7 +96,7 @@ fn write_all(
 // Writes the level and the class of one character of this class, and tells its level.
 fn write_at(
     machine: &mut Machine,
-    answers: &mut VecDeque<bool>,
+    answers: &mut Stack<bool>,
     own: BidiClass,
     base: u8,
     last: u8,
@@ -106,12 +107,12 @@ fn write_at(
     requires total { total machine.old + 1 < 2 ^ 64 }
     requires level { i < length level.old }
     requires class { i < length class.old }
-    ensures state { OnOk result ((after : _) → answers.old.items ≡ rights (own ∷ after) → state_of machine.new ≡ entered (plain own after) (state_of machine.old)) }
-    ensures answers { OnOk result ((after : _) → answers.old.items ≡ rights (own ∷ after) → answers.new.items ≡ rights after) }
+    ensures state { OnOk result ((after : _) → stacked answers.old ≡ rights (own ∷ after) → state_of machine.new ≡ entered (plain own after) (state_of machine.old)) }
+    ensures answers { OnOk result ((after : _) → stacked answers.old ≡ rights (own ∷ after) → stacked answers.new ≡ rights after) }
     ensures total { OnOk result (total machine.new ≤ total machine.old + 1) }
-    ensures last { IfOk result (λ now. (after : _) → answers.old.items ≡ rights (own ∷ after) → now ≡ level_at base last own (taken own (state_of machine.old) (entered (plain own after) (state_of machine.old)))) }
+    ensures last { IfOk result (λ now. (after : _) → stacked answers.old ≡ rights (own ∷ after) → now ≡ level_at base last own (taken own (state_of machine.old) (entered (plain own after) (state_of machine.old)))) }
     ensures level { IfOk result (λ now. level.new ≡ set level.old i now) }
-    ensures class { OnOk result ((after : _) → answers.old.items ≡ rights (own ∷ after) → class.new ≡ set class.old i (class_at own (taken own (state_of machine.old) (entered (plain own after) (state_of machine.old))))) }
+    ensures class { OnOk result ((after : _) → stacked answers.old ≡ rights (own ∷ after) → class.new ≡ set class.old i (class_at own (taken own (state_of machine.old) (entered (plain own after) (state_of machine.old))))) }
 {
     if is_still(own) {
         let now = machine.top.level;
@@ -129,13 +130,13 @@ fn write_at(
 // One character: what it does to the stack, and the entry that it takes.
 fn step(
     machine: &mut Machine,
-    answers: &mut VecDeque<bool>,
+    answers: &mut Stack<bool>,
     class: BidiClass,
 ) -> Result<Entry, AllocError>
     requires { total machine.old + 1 < 2 ^ 64 }
-    ensures entry { IfOk result (λ entry. (after : _) → answers.old.items ≡ rights (class ∷ after) → entry ≡ taken class (state_of machine.old) (entered (plain class after) (state_of machine.old))) }
-    ensures state { OnOk result ((after : _) → answers.old.items ≡ rights (class ∷ after) → state_of machine.new ≡ entered (plain class after) (state_of machine.old)) }
-    ensures answers { OnOk result ((after : _) → answers.old.items ≡ rights (class ∷ after) → answers.new.items ≡ rights after) }
+    ensures entry { IfOk result (λ entry. (after : _) → stacked answers.old ≡ rights (class ∷ after) → entry ≡ taken class (state_of machine.old) (entered (plain class after) (state_of machine.old))) }
+    ensures state { OnOk result ((after : _) → stacked answers.old ≡ rights (class ∷ after) → state_of machine.new ≡ entered (plain class after) (state_of machine.old)) }
+    ensures answers { OnOk result ((after : _) → stacked answers.old ≡ rights (class ∷ after) → stacked answers.new ≡ rights after) }
     ensures total { OnOk result (total machine.new ≤ total machine.old + 1) }
 {
     let before = machine.top;
@@ -145,13 +146,13 @@ fn step(
 }
 
 // X5c: an FSI as the RLI or LRI that it is treated as.
-fn plain(class: BidiClass, answers: &mut VecDeque<bool>) -> BidiClass
-    ensures plain { (after : _) → answers.old.items ≡ rights (class ∷ after) → result ≡ plain class after }
-    ensures answers { (after : _) → answers.old.items ≡ rights (class ∷ after) → answers.new.items ≡ rights after }
+fn plain(class: BidiClass, answers: &mut Stack<bool>) -> BidiClass
+    ensures plain { (after : _) → stacked answers.old ≡ rights (class ∷ after) → result ≡ plain class after }
+    ensures answers { (after : _) → stacked answers.old ≡ rights (class ∷ after) → stacked answers.new ≡ rights after }
 {
     match class {
         BidiClass::FSI => {
-            if answers.pop_front().unwrap_or(false) {
+            if answers.pop().unwrap_or(false) {
                 BidiClass::RLI
             } else {
                 BidiClass::LRI

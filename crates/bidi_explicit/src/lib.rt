@@ -12,6 +12,7 @@ mod lists;
 mod machine;
 mod paragraph;
 mod sequences;
+mod stack;
 
 pub use base::{base_level, base_of};
 pub use explicit::levels;

@@ -3,12 +3,13 @@
 ghost use Rattle.std.specs.Prelude.{◌≡◌, ◌+◌, ◌<◌, length, slice_index, true, IfSome, IfOk, OnOk};
 ghost use Rattle.bidi_explicit.specs.Sequences.{level_in};
 ghost use Rattle.bidi_explicit.specs.Paragraph.{AreAligned};
+ghost use Rattle.bidi_explicit.specs.Stack.{stacked};
 ghost use Rattle.bidi_explicit.specs.Links.{GoesOn, MatchesNone, IsLinked, IsLinkedWhole, begins_at, behind_of, closers_at, followed, freed, linked, matched_by, skipped};
 
 use crate::isolates::{Kind, kind_of};
 use crate::paragraph::Levels;
+use crate::stack::Stack;
 use std::alloc::{AllocError, Global};
-use std::collections::VecDeque;
 
 // What one pass from the end tells of a place.
 #[derive(Clone, Copy)]
@@ -33,7 +34,7 @@ pub(crate) struct Links {
     // One for each place.
     pub(crate) links: Vec<Link>,
     // The places of the PDIs that close what is open before, the nearest first.
-    pending: VecDeque<usize>,
+    pending: Stack<usize>,
     // The nearest place that isn't removed.
     next: Option<usize>,
 }
@@ -47,7 +48,7 @@ pub(crate) fn linked_levels(alloc: Global, levels: &Levels) -> Result<Links, All
     let mut i = levels.original.len();
     let mut links = Links {
         links: Vec::from_elem(alloc, NO_LINK, i)?,
-        pending: VecDeque::new(alloc),
+        pending: Stack::new(alloc),
         next: None,
     };
     while i > 0 {
@@ -61,8 +62,8 @@ pub(crate) fn linked_levels(alloc: Global, levels: &Levels) -> Result<Links, All
 fn step(links: &mut Links, levels: &Levels, i: usize) -> Result<(), AllocError>
     requires aligned { AreAligned levels.now }
     requires inside { i < length levels.now.original.items }
-    requires linked { IsLinked levels.now (i + 1) links.old.links.items links.old.pending.items links.old.next }
-    ensures { OnOk result (IsLinked levels.now i links.new.links.items links.new.pending.items links.new.next) }
+    requires linked { IsLinked levels.now (i + 1) links.old.links.items (stacked links.old.pending) links.old.next }
+    ensures { OnOk result (IsLinked levels.now i links.new.links.items (stacked links.new.pending) links.new.next) }
 {
     let kind = kind_of(levels.original[i]);
     if let Some(next) = goes_on(levels, kind, i, links.next) {
@@ -79,8 +80,8 @@ fn step(links: &mut Links, levels: &Levels, i: usize) -> Result<(), AllocError>
 fn step_by_match(links: &mut Links, levels: &Levels, i: usize) -> Result<(), AllocError>
     requires aligned { AreAligned levels.now }
     requires inside { i < length levels.now.original.items }
-    requires linked { IsLinked levels.now (i + 1) links.old.links.items links.old.pending.items links.old.next }
-    ensures { OnOk result (IsLinked levels.now i links.new.links.items links.new.pending.items links.new.next) }
+    requires linked { IsLinked levels.now (i + 1) links.old.links.items (stacked links.old.pending) links.old.next }
+    ensures { OnOk result (IsLinked levels.now i links.new.links.items (stacked links.new.pending) links.new.next) }
 {
     let kind = kind_of(levels.original[i]);
     let matched = matched_by(&mut links.pending, kind, i)?;
@@ -126,17 +127,17 @@ fn matches_none(kind: Kind) -> bool
 
 // The matching PDI of an isolate initiator (UAX 9, BD9).
 fn matched_by(
-    pending: &mut VecDeque<usize>,
+    pending: &mut Stack<usize>,
     kind: Kind,
     at: usize,
 ) -> Result<Option<usize>, AllocError>
-    ensures matched { IfOk result (λ matched. matched ≡ matched_by kind pending.old.items) }
-    ensures pending { OnOk result (pending.new.items ≡ closers_at kind at pending.old.items) }
+    ensures matched { IfOk result (λ matched. matched ≡ matched_by kind (stacked pending.old)) }
+    ensures pending { OnOk result (stacked pending.new ≡ closers_at kind at (stacked pending.old)) }
 {
     match kind {
-        Kind::Opens => Ok(pending.pop_front()),
+        Kind::Opens => Ok(pending.pop()),
         Kind::Closes => {
-            pending.push_front(at)?;
+            pending.push(at)?;
             Ok(None)
         }
         _ => Ok(None),

@@ -3,9 +3,10 @@
 ghost use Rattle.std.specs.Prelude.{◌≡◌, ◌+◌, ◌<◌, ◌≤◌, ◌^◌, OnOk};
 ghost use Rattle.bidi_explicit.specs.Explicit.{begin, next_odd, next_even, has_room, pushed, embedded, isolated, standing_on, below_isolate, closed, left, entered};
 ghost use Rattle.bidi_explicit.specs.Machine.{state_of, total};
+ghost use Rattle.bidi_explicit.specs.Stack.{stacked};
 
+use crate::stack::Stack;
 use std::alloc::{AllocError, Global};
-use std::collections::VecDeque;
 use wm_chars::BidiClass;
 
 // An entry of the directional status stack (UAX 9, 3.3.2).
@@ -24,8 +25,8 @@ pub(crate) struct Entry {
 pub(crate) struct Machine {
     // The last entry.
     pub(crate) top: Entry,
-    // The entries below it, the nearest first.
-    below: VecDeque<Entry>,
+    // The entries below it.
+    below: Stack<Entry>,
     overflow_isolates: usize,
     overflow_embeddings: usize,
     valid_isolates: usize,
@@ -45,7 +46,7 @@ pub(crate) fn begin(alloc: Global, base: u8) -> Machine
             instead: None,
             isolate: false,
         },
-        below: VecDeque::new(alloc),
+        below: Stack::new(alloc),
         overflow_isolates: 0,
         overflow_embeddings: 0,
         valid_isolates: 0,
@@ -103,7 +104,7 @@ fn push(machine: &mut Machine, entry: Entry) -> Result<(), AllocError>
     ensures state { OnOk result (state_of machine.new ≡ pushed entry (state_of machine.old)) }
     ensures total { OnOk result (total machine.new ≡ total machine.old) }
 {
-    machine.below.push_front(machine.top)?;
+    machine.below.push(machine.top)?;
     machine.top = entry;
     Ok(())
 }
@@ -167,10 +168,10 @@ fn close(machine: &mut Machine)
 
 // Takes away the last isolate with all in it.
 fn pop_isolate(machine: &mut Machine)
-    ensures state { state_of machine.new ≡ standing_on (below_isolate machine.old.top machine.old.below.items) (state_of machine.old) }
+    ensures state { state_of machine.new ≡ standing_on (below_isolate machine.old.top (stacked machine.old.below)) (state_of machine.old) }
     ensures total { total machine.new ≡ total machine.old }
 {
-    while let Some(entry) = machine.below.pop_front() {
+    while let Some(entry) = machine.below.pop() {
         let ends = machine.top.isolate;
         machine.top = entry;
         if ends {
@@ -187,7 +188,7 @@ fn leave(machine: &mut Machine)
     if machine.overflow_isolates > 0 {} else if machine.overflow_embeddings > 0 {
         machine.overflow_embeddings -= 1;
     } else if !machine.top.isolate {
-        if let Some(entry) = machine.below.pop_front() {
+        if let Some(entry) = machine.below.pop() {
             machine.top = entry;
         }
     }

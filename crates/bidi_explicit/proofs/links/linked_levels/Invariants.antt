@@ -1,10 +1,11 @@
 use Rattle.std.proofs.Common.{◌≤◌, length}
 use Rattle.bidi_explicit.specs.Links.{IsLinked}
+use Rattle.bidi_explicit.specs.Stack.{stacked}
 use Rattle.bidi_explicit.proofs.links.linked_levels.Given as goal
 
 abbrev pub invariant-loop-i : goal.invariant-loop-i
 invariant-loop-i l = record {
-  linked : IsLinked l.levels l.i l.links.links.items l.links.pending.items l.links.next;
+  linked : IsLinked l.levels l.i l.links.links.items (stacked l.links.pending) l.links.next;
   within : l.i ≤ length l.levels.original.items;
 }
 

@@ -6,6 +6,7 @@ use Rattle.bidi_explicit.specs.Isolates.{kind_of}
 use Rattle.bidi_explicit.specs.Links.{linked}
 use Rattle.bidi_explicit.specs.Sequences.{level_in}
 use Rattle.bidi_explicit.proofs.Walking.{nearest_within, within_other, goes_on_by}
+use Rattle.bidi_explicit.specs.Stack.{stacked}
 use Rattle.bidi_explicit.proofs.links.step.Goals as goal
 
 pub goes_on-requires-clause-next : goal.goes_on-requires-clause-next
@@ -14,7 +15,7 @@ goes_on-requires-clause-next c =
     let links = c.args.links.now in
     let same : length levels.level.items ≡ length levels.original.items = c.requires.aligned.level in
     within_other (c.args.i + 1) (length levels.original.items) _ links.next (omega arith)
-    (nearest_within levels c.requires.aligned c.args.i c.requires.inside links.links.items links.pending.items links.next c.requires.linked)
+    (nearest_within levels c.requires.aligned c.args.i c.requires.inside links.links.items (stacked links.pending) links.next c.requires.linked)
 
 pub returns-in-Some : goal.returns-in-Some
 returns-in-Some c =
@@ -27,5 +28,5 @@ returns-in-Some c =
     let written : c.begin_at.new.links ≡ linked links.links.items c.args.i (Some q) (level_in levels.level.items q)
     = c.begin_at.ensures ∙ ap (λ (l : List Link). linked l c.args.i (Some q) c.index-behind.result.now) c.deref_mut.ensures.value ∙ ap (λ (n : ℕ). linked links.links.items c.args.i (Some q) n) level in
     rw (take_at c.begin_at.new.links _ links.links.len len)
-    (goes_on_by levels c.requires.aligned c.args.i c.requires.inside links.links.items links.pending.items links.next c.requires.linked
+    (goes_on_by levels c.requires.aligned c.args.i c.requires.inside links.links.items (stacked links.pending) links.next c.requires.linked
     c.kind_of-kind.result q c.begin_at.new.links kind-is c.in-Some.ensures.goes_on written)

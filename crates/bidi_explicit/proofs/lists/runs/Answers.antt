@@ -1,6 +1,5 @@
-use Rattle.std.proofs.Common.{◌≡◌, ◌∙◌, map}
+use Rattle.std.proofs.Common.{◌∙◌}
 use Rattle.bidi_explicit.specs.Links.{sequence_of}
-use Rattle.bidi_explicit.specs.Sequences.{isolating_runs}
 use Rattle.bidi_explicit.proofs.Covering.{runs_cover, each_is_run}
 use Rattle.bidi_explicit.proofs.OneLevel.{runs_have_one_level}
 use Rattle.bidi_explicit.proofs.lists.runs.Goals as goal

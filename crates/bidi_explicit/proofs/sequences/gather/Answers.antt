@@ -1,9 +1,8 @@
-use Rattle.std.proofs.Common.{◌≡◌, ◌∙◌, [], arith, map, ap, subst, sym, refl, true, false}
+use Rattle.std.proofs.Common.{◌≡◌, ◌∙◌, [], arith, map, sym, refl, true, false}
 use Rattle.std.proofs.lemmas.List.Elements.{All-nil}
-use Rattle.bidi_explicit.specs.declared.paragraph.FlatRuns.{FlatRuns}
 use Rattle.bidi_explicit.specs.Links.{begins_at}
-use Rattle.bidi_explicit.specs.Spans.{AreSpans, IsSpan, sequence_at}
-use Rattle.bidi_explicit.proofs.Gathering.{IsGathering, begins_gathering, has_chain, gathers_on, ends_gathering}
+use Rattle.bidi_explicit.specs.Spans.{IsSpan, sequence_at}
+use Rattle.bidi_explicit.proofs.Gathering.{begins_gathering, has_chain, gathers_on, ends_gathering}
 use Rattle.bidi_explicit.proofs.sequences.gather.Goals.{then-links-i+in_ok-take, else-links-i}
 use Rattle.bidi_explicit.proofs.sequences.gather.Goals as goal
 

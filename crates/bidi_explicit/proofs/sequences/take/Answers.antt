@@ -1,6 +1,5 @@
 use Rattle.std.proofs.Common.{rules, ◌≡◌, ◌∷◌, ◌++◌, ◌∙◌, sym, ap, [], List, ℕ, length, refl, max}
 use Rattle.std.proofs.lemmas.List.{get_or_read}
-use Rattle.wm_chars.specs.declared.classes.BidiClass.{BidiClass}
 use Rattle.bidi_explicit.specs.declared.paragraph.RunSpan.{RunSpan}
 use Rattle.bidi_explicit.specs.Links.{sequence_by, behind_at}
 use Rattle.bidi_explicit.specs.Sequences.{direction, last_of, level_in}
