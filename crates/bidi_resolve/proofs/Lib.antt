@@ -1,3 +1,4 @@
+pub mod AloneLaws
 pub mod BracketLaws
 pub mod Examples
 pub mod LeftToRight

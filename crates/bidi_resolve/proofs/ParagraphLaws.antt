@@ -7,8 +7,7 @@ use Rattle.wm_chars.specs.declared.classes.BidiClass.{BidiClass}
 use Rattle.wm_chars.specs.declared.classes.BidiClass.TheVariants.{L, R, EN, AN}
 use Rattle.bidi_explicit.specs.Paragraph.{IsBetween}
 use Rattle.bidi_resolve.specs.Neutral.{is_even, i1, i2, raised, i1_i2}
-use Rattle.bidi_explicit.specs.Links.{sequence_of}
-use Rattle.bidi_explicit.specs.declared.paragraph.Run.{Run}
+use Rattle.bidi_explicit.specs.Sequences.{Sequence}
 use Rattle.bidi_resolve.specs.Paragraph.{IsResolvedLevel, resolved_from}
 use Rattle.bidi_resolve.specs.Sequence.{sequence_classes, sequence_levels}
 use Rattle.bidi_resolve.specs.Places.{scattered, run_level}
@@ -89,19 +88,19 @@ explicit_between base levels between k d lt =
     let high = h.high in
     record { low = omega arith; high = omega arith }
 
--- and so they stay, sequence by sequence
-from_between : (base : ℕ) (chars : List ℕ) (originals : List BidiClass) (levels : List ℕ) (classes : List BidiClass) (runs : List Run) (out : List ℕ) → All (IsBetween base) levels
-    → All (λ run. All (λ p. p < length levels) run.places.items) runs → All (IsResolvedLevel base) out → All (IsResolvedLevel base) (resolved_from chars originals levels classes (map sequence_of runs) out)
+-- and so they stay, sequence by sequence, whatever holds the sequences and tells each by a function
+from_between : {X : Type 0} (seq : X → Sequence) (base : ℕ) (chars : List ℕ) (originals : List BidiClass) (levels : List ℕ) (classes : List BidiClass) (runs : List X) (out : List ℕ) → All (IsBetween base) levels
+    → All (λ run. All (λ p. p < length levels) (seq run).places) runs → All (IsResolvedLevel base) out → All (IsResolvedLevel base) (resolved_from chars originals levels classes (map seq runs) out)
 unfolding sequence_levels
-from_between base chars originals levels classes [] out between within all = all
-from_between base chars originals levels classes (run ∷ runs) out between within all =
-    from_between base chars originals levels classes runs (scattered run.places.items (sequence_levels chars originals levels classes (sequence_of run)) out) between
-    (All-tail (λ r. All (λ p. p < length levels) r.places.items) run runs within)
-    (written_between base levels run.places.items out (sequence_classes chars originals levels classes (sequence_of run)) between (within zero run (omega arith)) all)
+from_between seq base chars originals levels classes [] out between within all = all
+from_between seq base chars originals levels classes (run ∷ runs) out between within all =
+    from_between seq base chars originals levels classes runs (scattered (seq run).places (sequence_levels chars originals levels classes (seq run)) out) between
+    (All-tail (λ r. All (λ p. p < length levels) (seq r).places) run runs within)
+    (written_between base levels (seq run).places out (sequence_classes chars originals levels classes (seq run)) between (within zero run (omega arith)) all)
 
-pub all_between : (base : ℕ) (chars : List ℕ) (originals : List BidiClass) (levels : List ℕ) (classes : List BidiClass) (runs : List Run) → All (IsBetween base) levels
-    → All (λ run. All (λ p. p < length levels) run.places.items) runs → All (IsResolvedLevel base) (resolved_from chars originals levels classes (map sequence_of runs) levels)
-all_between base chars originals levels classes runs between within = from_between base chars originals levels classes runs levels between within (explicit_between base levels between)
+pub all_between : {X : Type 0} (seq : X → Sequence) (base : ℕ) (chars : List ℕ) (originals : List BidiClass) (levels : List ℕ) (classes : List BidiClass) (runs : List X) → All (IsBetween base) levels
+    → All (λ run. All (λ p. p < length levels) (seq run).places) runs → All (IsResolvedLevel base) (resolved_from chars originals levels classes (map seq runs) levels)
+all_between seq base chars originals levels classes runs between within = from_between seq base chars originals levels classes runs levels between within (explicit_between base levels between)
 
 pub if_ok : {X E : Type 0} (P Q : X → Type 0) (result : Result X E) → ((x : X) → P x → Q x) → IfOk result P → IfOk result Q
 if_ok P Q (Ok x) so holds = so x holds

@@ -2,6 +2,7 @@
 //! I1 and I2 on one isolating run sequence, and the levels of a whole paragraph.
 #![tactic(auto)]
 
+mod alone;
 mod brackets;
 pub mod laws;
 mod neutral;

@@ -142,7 +142,7 @@ fn has_direction(class: BidiClass) -> bool
     matches!(class, L | R | EN | AN)
 }
 
-fn n1_class(before: BidiClass, class: BidiClass, after: BidiClass) -> BidiClass
+pub(crate) fn n1_class(before: BidiClass, class: BidiClass, after: BidiClass) -> BidiClass
     ensures { result ≡ neutral.n1_class before class after }
 {
     if !class.is_neutral() {
@@ -168,7 +168,7 @@ pub(crate) fn n1_after(last: BidiClass, class: BidiClass) -> BidiClass
     }
 }
 
-fn n2_class(level: u8, class: BidiClass) -> BidiClass
+pub(crate) fn n2_class(level: u8, class: BidiClass) -> BidiClass
     ensures { result ≡ neutral.n2_class level class }
 {
     if class.is_neutral() {

@@ -2,18 +2,20 @@
 
 ghost use Rattle.bidi_explicit.specs.Paragraph.{IsBetween};
 ghost use Rattle.bidi_explicit.specs.Base.{base_of};
-ghost use Rattle.bidi_explicit.specs.Links.{sequence_of};
+ghost use Rattle.bidi_explicit.specs.Spans.{AreSpans, sequence_at, span_places};
 ghost use Rattle.bidi_resolve.specs.Paragraph as paragraph;
 ghost use Rattle.bidi_resolve.specs.Paragraph.{AreAsMany, IsResolvedLevel, resolved_from};
 ghost use Rattle.bidi_resolve.specs.Places.{scattered};
-ghost use Rattle.bidi_resolve.specs.Sequence.{run_levels};
+ghost use Rattle.bidi_resolve.specs.Sequence.{levels_at};
 ghost use Rattle.std.specs.List.{list_any};
 ghost use Rattle.std.specs.Prelude.{ℕ, ◌≡◌, ◌<◌, ◌≤◌, All, IfOk, IfSome, length, map};
 
+use crate::alone::alone;
+use crate::neutral::raised;
 use crate::places::{level_of, write_levels};
 use crate::sequence::{Scratch, resolve_classes};
 use crate::single::{are_plain, single_levels};
-use bidi_explicit::{ClassList, LevelList, Levels, Run, base_of, levels, runs};
+use bidi_explicit::{ClassList, FlatRuns, LevelList, Levels, base_of, flat_runs, levels};
 use std::alloc::{AllocError, Global};
 use wm_chars::BidiClass::{AL, AN, R};
 use wm_chars::{BidiClass, bidi_class};
@@ -108,7 +110,7 @@ fn by_all_rules(
     ensures between { IfOk result (λ levels. All (IsResolvedLevel base) levels.items) }
 {
     let levels = levels(alloc, classes, base)?;
-    let runs = runs(alloc, &levels)?;
+    let runs = flat_runs(alloc, &levels)?;
     with_runs(alloc, chars, &levels, &runs)
 }
 
@@ -117,12 +119,13 @@ fn with_runs(
     alloc: Global,
     chars: &[char],
     levels: &Levels,
-    runs: &[Run],
+    runs: &FlatRuns,
 ) -> Result<LevelList, AllocError>
     requires lists { AreAsMany levels.now (length chars.now) }
-    requires places { All (λ run. All (λ place. place < length chars.now) run.places.items) runs.now }
+    requires spans { AreSpans runs.now.places.items runs.now.spans.items }
+    requires places { All (λ span. All (λ place. place < length chars.now) (span_places runs.now.places.items span)) runs.now.spans.items }
     requires most { All (λ level. level ≤ 125) levels.now.level.items }
-    ensures levels { IfOk result (λ out. out.items ≡ resolved_from chars.now levels.now.original.items levels.now.level.items levels.now.class.items (map sequence_of runs.now) levels.now.level.items) }
+    ensures levels { IfOk result (λ out. out.items ≡ resolved_from chars.now levels.now.original.items levels.now.level.items levels.now.class.items (map (sequence_at runs.now.places.items) runs.now.spans.items) levels.now.level.items) }
     ensures length { IfOk result (λ out. length out.items ≡ length chars.now) }
 {
     let mut out = Vec::from_slice(alloc, &levels.level)?;
@@ -135,39 +138,49 @@ fn write_runs(
     alloc: Global,
     chars: &[char],
     levels: &Levels,
-    runs: &[Run],
+    runs: &FlatRuns,
     out: &mut [u8],
 ) -> Result<(), AllocError>
     requires lists { AreAsMany levels.now (length chars.now) }
     requires out { length out.old ≡ length chars.now }
-    requires places { All (λ run. All (λ place. place < length chars.now) run.places.items) runs.now }
+    requires spans { AreSpans runs.now.places.items runs.now.spans.items }
+    requires places { All (λ span. All (λ place. place < length chars.now) (span_places runs.now.places.items span)) runs.now.spans.items }
     requires most { All (λ level. level ≤ 125) levels.now.level.items }
-    ensures { IfOk result (λ _. out.new ≡ resolved_from chars.now levels.now.original.items levels.now.level.items levels.now.class.items (map sequence_of runs.now) out.old) }
+    ensures { IfOk result (λ _. out.new ≡ resolved_from chars.now levels.now.original.items levels.now.level.items levels.now.class.items (map (sequence_at runs.now.places.items) runs.now.spans.items) out.old) }
 {
     let mut scratch = Scratch::new(alloc);
-    for run in runs {
-        write_run(&mut scratch, chars, levels, run, out)?;
+    for span in &runs.spans {
+        let places = &runs.places[span.start..span.stop];
+        write_run(&mut scratch, chars, levels, places, span.sos, span.eos, out)?;
     }
     Ok(())
 }
 
 // Writes the levels of one sequence, which is resolved by itself on the levels and classes as X1 to X9 leave them.
-#[tactic(auto, unfolding(crate::specs::Sequence::sequence_levels), using(crate::proofs::ParagraphLaws::most_at))]
+#[tactic(auto, unfolding(crate::specs::Sequence::sequence_levels), using(crate::proofs::ParagraphLaws::most_at, crate::proofs::AloneLaws::alone_written))]
 fn write_run(
     scratch: &mut Scratch,
     chars: &[char],
     levels: &Levels,
-    run: &Run,
+    places: &[usize],
+    sos: BidiClass,
+    eos: BidiClass,
     out: &mut [u8],
 ) -> Result<(), AllocError>
     requires lists { AreAsMany levels.now (length chars.now) }
     requires out { length out.old ≡ length chars.now }
-    requires places { All (λ place. place < length chars.now) run.now.places.items }
+    requires places { All (λ place. place < length chars.now) places.now }
     requires most { All (λ level. level ≤ 125) levels.now.level.items }
-    ensures { IfOk result (λ _. out.new ≡ scattered run.now.places.items (run_levels chars.now levels.now run.now) out.old) }
+    ensures { IfOk result (λ _. out.new ≡ scattered places.now (levels_at chars.now levels.now places.now sos eos) out.old) }
 {
-    let level = level_of(&levels.level, &run.places);
-    resolve_classes(scratch, chars, levels, run, level)?;
-    write_levels(out, &run.places, level, &scratch.classes);
+    let level = level_of(&levels.level, places);
+    if places.len() == 1 {
+        let place = places[0];
+        let class = alone(levels.class[place], level, sos, eos);
+        out[place] = raised(level, class);
+        return Ok(());
+    }
+    resolve_classes(scratch, chars, levels, places, sos, eos, level)?;
+    write_levels(out, places, level, &scratch.classes);
     Ok(())
 }

@@ -45,7 +45,15 @@ pub fn resolve(
 {
     let level = level_of(&levels.level, &run.places);
     let mut scratch = Scratch::new(alloc);
-    resolve_classes(&mut scratch, chars, levels, run, level)?;
+    resolve_classes(
+        &mut scratch,
+        chars,
+        levels,
+        &run.places,
+        run.sos,
+        run.eos,
+        level,
+    )?;
     write_classes(&mut levels.class, &run.places, &scratch.classes);
     write_levels(&mut levels.level, &run.places, level, &scratch.classes);
     Ok(())
@@ -69,30 +77,34 @@ impl Scratch {
     }
 }
 
-/// The classes of a sequence by all rules.
+/// The classes by all rules of the sequence that has these places, sos and eos.
 #[tactic(auto, unfolding(crate::specs::Sequence::sequence_classes))]
 pub(crate) fn resolve_classes(
     scratch: &mut Scratch,
     chars: &[char],
     levels: &Levels,
-    run: &Run,
+    places: &[usize],
+    sos: BidiClass,
+    eos: BidiClass,
     level: u8,
 ) -> Result<(), AllocError>
     requires class { length levels.now.class.items ≡ length chars.now }
     requires original { length levels.now.original.items ≡ length chars.now }
-    requires places { All (λ place. place < length chars.now) run.now.places.items }
-    requires level { level ≡ run_level levels.now.level.items run.now.places.items }
-    ensures classes { OnOk result (scratch.new.classes.items ≡ sequence.run_classes chars.now levels.now run.now) }
-    ensures length { OnOk result (length scratch.new.classes.items ≡ length run.now.places.items) }
+    requires places { All (λ place. place < length chars.now) places.now }
+    requires level { level ≡ run_level levels.now.level.items places.now }
+    ensures classes { OnOk result (scratch.new.classes.items ≡ sequence.classes_at chars.now levels.now places.now sos eos) }
+    ensures length { OnOk result (length scratch.new.classes.items ≡ length places.now) }
 {
-    read_classes(&mut scratch.classes, &levels.class, &run.places)?;
+    read_classes(&mut scratch.classes, &levels.class, places)?;
     rules(
         &mut scratch.pairing,
         &mut scratch.classes,
         &levels.original,
         chars,
         level,
-        run,
+        places,
+        sos,
+        eos,
     )
 }
 
@@ -104,15 +116,17 @@ pub(crate) fn rules(
     originals: &[BidiClass],
     chars: &[char],
     level: u8,
-    run: &Run,
+    places: &[usize],
+    sos: BidiClass,
+    eos: BidiClass,
 ) -> Result<(), AllocError>
-    requires places { length run.now.places.items ≡ length classes.old }
-    requires chars { All (λ place. place < length chars.now) run.now.places.items }
+    requires places { length places.now ≡ length classes.old }
+    requires chars { All (λ place. place < length chars.now) places.now }
     requires originals { length originals.now ≡ length chars.now }
-    ensures { IfOk result (λ _. classes.new ≡ sequence.resolved level run.now.sos run.now.eos (gathered 0 chars.now run.now.places.items) (gathered L originals.now run.now.places.items) classes.old) }
+    ensures { IfOk result (λ _. classes.new ≡ sequence.resolved level sos eos (gathered 0 chars.now places.now) (gathered L originals.now places.now) classes.old) }
 {
-    weak(classes, run.sos);
-    neutral(pairing, classes, originals, chars, level, run)
+    weak(classes, sos);
+    neutral(pairing, classes, originals, chars, level, places, sos, eos)
 }
 
 // W1 to W7, where there is a class that they change.
@@ -163,24 +177,18 @@ fn neutral(
     originals: &[BidiClass],
     chars: &[char],
     level: u8,
-    run: &Run,
+    places: &[usize],
+    sos: BidiClass,
+    eos: BidiClass,
 ) -> Result<(), AllocError>
-    requires places { length run.now.places.items ≡ length classes.old }
-    requires chars { All (λ place. place < length chars.now) run.now.places.items }
+    requires places { length places.now ≡ length classes.old }
+    requires chars { All (λ place. place < length chars.now) places.now }
     requires originals { length originals.now ≡ length chars.now }
-    ensures { IfOk result (λ _. classes.new ≡ neutrals.n2 level (neutrals.n1 run.now.sos run.now.eos (brackets.n0 level run.now.sos (gathered 0 chars.now run.now.places.items) (gathered L originals.now run.now.places.items) classes.old))) }
+    ensures { IfOk result (λ _. classes.new ≡ neutrals.n2 level (neutrals.n1 sos eos (brackets.n0 level sos (gathered 0 chars.now places.now) (gathered L originals.now places.now) classes.old))) }
 {
     if has_neutral(classes) {
-        n0(
-            pairing,
-            classes,
-            originals,
-            chars,
-            &run.places,
-            level,
-            run.sos,
-        )?;
-        n1_n2(classes, level, run.sos, run.eos);
+        n0(pairing, classes, originals, chars, places, level, sos)?;
+        n1_n2(classes, level, sos, eos);
     }
     Ok(())
 }

@@ -9,7 +9,7 @@ ghost use Rattle.std.specs.Prelude.{◌≡◌, ◌<◌, ◌≤◌, All, IfOk, le
 use crate::neutral::{direction, raised};
 use crate::pairing::Pairing;
 use crate::sequence::rules;
-use bidi_explicit::{LevelList, PlaceList, Run};
+use bidi_explicit::{LevelList, PlaceList};
 use std::alloc::{AllocError, Global};
 use wm_chars::BidiClass;
 use wm_chars::BidiClass::{AL, AN, B, CS, EN, ES, ET, L, NSM, ON, R, S, WS};
@@ -49,14 +49,20 @@ pub(crate) fn single_levels(
     ensures length { IfOk result (λ levels. length levels.items ≡ length classes.now) }
     ensures between { IfOk result (λ levels. All (IsResolvedLevel base) levels.items) }
 {
-    let run = Run {
-        places: all_places(alloc, classes.len())?,
-        sos: direction(base),
-        eos: direction(base),
-    };
+    let places = all_places(alloc, classes.len())?;
+    let side = direction(base);
     let mut pairing = Pairing::new(alloc);
     let mut own = Vec::from_slice(alloc, classes)?;
-    rules(&mut pairing, &mut own, classes, chars, base, &run)?;
+    rules(
+        &mut pairing,
+        &mut own,
+        classes,
+        chars,
+        base,
+        &places,
+        side,
+        side,
+    )?;
     raised_levels(alloc, base, &own)
 }
 

@@ -46,7 +46,7 @@ fn w1_pass(classes: &mut [BidiClass], sos: BidiClass)
     }
 }
 
-fn w1_class(handed: BidiClass, class: BidiClass) -> BidiClass
+pub(crate) fn w1_class(handed: BidiClass, class: BidiClass) -> BidiClass
     ensures { result ≡ weak.w1_class handed class }
 {
     if class == NSM { handed } else { class }
@@ -100,7 +100,7 @@ fn w2_pass(classes: &mut [BidiClass], sos: BidiClass)
     }
 }
 
-fn w2_class(last: BidiClass, class: BidiClass) -> BidiClass
+pub(crate) fn w2_class(last: BidiClass, class: BidiClass) -> BidiClass
     ensures { result ≡ weak.w2_class last class }
 {
     match (last, class) {
@@ -125,7 +125,7 @@ pub(crate) fn w3(classes: &mut [BidiClass])
     }
 }
 
-fn w3_class(class: BidiClass) -> BidiClass
+pub(crate) fn w3_class(class: BidiClass) -> BidiClass
     ensures { result ≡ weak.w3_class class }
 {
     if class == AL { R } else { class }
@@ -316,7 +316,7 @@ pub(crate) fn w6(classes: &mut [BidiClass])
     }
 }
 
-fn w6_class(class: BidiClass) -> BidiClass
+pub(crate) fn w6_class(class: BidiClass) -> BidiClass
     ensures { result ≡ weak.w6_class class }
 {
     if (class == ES) | (class == ET) | (class == CS) {
@@ -348,7 +348,7 @@ fn w7_pass(classes: &mut [BidiClass], sos: BidiClass)
     }
 }
 
-fn w7_class(last: BidiClass, class: BidiClass) -> BidiClass
+pub(crate) fn w7_class(last: BidiClass, class: BidiClass) -> BidiClass
     ensures { result ≡ weak.w7_class last class }
 {
     match (last, class) {
