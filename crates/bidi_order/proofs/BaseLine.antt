@@ -1,5 +1,5 @@
 -- A line whose characters all have the base level: L1 changes none of them, and L2 turns all of it or nothing round.
-use Rattle.std.proofs.Common.{◌≡◌, ◌∙◌, refl, sym, ap, arith, inl, inr, ℕ, zero, suc, ◌+◌, ◌-◌, ◌%◌, ◌==◌, ◌<◌, ◌≤◌, Bool, true, false, cond, leb, eqb, List, [], ◌∷◌, ◌++◌, append-nil, length, get_or, drop, map, reverse, min, Option, Some, None}
+use Rattle.std.proofs.Common.{◌≡◌, ◌∙◌, refl, sym, ap, arith, inl, inr, ℕ, zero, suc, ◌+◌, ◌-◌, ◌%◌, ◌==◌, ◌≤◌, Bool, true, false, cond, leb, eqb, List, [], ◌∷◌, ◌++◌, append-nil, length, get_or, drop, map, reverse, min, Option, Some, None}
 use Rattle.std.specs.Prelude.{IsPermutation, slice_index}
 use Rattle.std.specs.List.{list_all, range_with_len, slice_range}
 use Rattle.std.proofs.lemmas.List.{length-map, map-append, reverse-append}

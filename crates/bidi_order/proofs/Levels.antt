@@ -1,5 +1,5 @@
 -- The levels that a line's characters have, and those between them.
-use Rattle.std.proofs.Common.{◌≡◌, ◌∙◌, refl, sym, ap, arith, inl, inr, ℕ, zero, suc, ◌+◌, ◌-◌, ◌%◌, ◌<◌, ◌≤◌, max, Bool, true, false, cond, leb, eqb, add-one, List, [], ◌∷◌, ◌++◌, append-nil, length, get_or, map, subst}
+use Rattle.std.proofs.Common.{◌≡◌, ◌∙◌, refl, sym, ap, arith, inl, inr, ℕ, zero, suc, ◌+◌, ◌-◌, ◌%◌, ◌<◌, ◌≤◌, Bool, true, false, cond, leb, eqb, add-one, List, [], ◌∷◌, ◌++◌, append-nil, length, get_or, map}
 use Rattle.std.specs.Prelude.{◌*◌, ltb, slice_index}
 use Rattle.std.specs.List.{range_with_len}
 use Rattle.std.proofs.lemmas.List.{map-append, get_or-map}

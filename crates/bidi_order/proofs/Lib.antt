@@ -1,5 +1,6 @@
 pub mod AllLevels
 pub mod BaseLine
+pub mod BlockLaws
 pub mod Examples
 pub mod FilterMap
 pub mod LeavingOut

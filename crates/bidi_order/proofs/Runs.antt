@@ -7,18 +7,11 @@ use Rattle.std.proofs.lemmas.List.FromFn.{length-range_with_len, get_or-range_wi
 use Rattle.std.proofs.lemmas.List.Sorted.{All-permutation, IsPermutation-refl, length_permutation, IsPermutation-trans, IsPermutation-reverse, IsPermutation-append_left, IsPermutation-append_right}
 use Rattle.std.specs.Prelude.{leb, slice_index}
 use Rattle.std.proofs.Math.Numerals.{add-one}
-use Rattle.bidi_order.specs.Reversals.{reverse_runs, reversals}
+use Rattle.bidi_order.specs.Reversals.{IsReversing, reverse_runs, reversals}
 
 -- the elements from `start` up to `end`, reversed in place
 abbrev pub reversed_part : {X : Type 0} → List X → ℕ → ℕ → List X
 reversed_part xs start end_ = take start xs ++ reverse (take (end_ - start) (drop start xs)) ++ drop end_ xs
-
-pub record Reversing {X : Type 0} (passes : X → Bool) (old now : List X) (start i : ℕ) : Type 0 where
-  pub begun : start ≤ i
-  pub within : i ≤ length now
-  pub rearranged : IsPermutation old now
-  pub rest : drop i now ≡ drop i old
-  pub runs : take start now ++ reverse_runs passes (reverse (take (i - start) (drop start now))) (drop i now) ≡ reverse_runs passes [] old
 
 module _ {X : Type 0} (xs : List X) (start end_ : ℕ) (begun : start ≤ end_) (within : end_ ≤ length xs) where
   parts_length : length (take start xs ++ reverse (take (end_ - start) (drop start xs))) ≡ end_
@@ -45,10 +38,10 @@ module _ {X : Type 0} (xs : List X) (start end_ : ℕ) (begun : start ≤ end_) 
       (IsPermutation-append_left (drop end_ xs) (take start xs ++ take (end_ - start) (drop start xs)) (take start xs ++ reverse (take (end_ - start) (drop start xs)))
       (IsPermutation-append_right (take start xs) (take (end_ - start) (drop start xs)) (reverse (take (end_ - start) (drop start xs))) (IsPermutation-reverse (take (end_ - start) (drop start xs)))))
 
-pub starts : {X : Type 0} (passes : X → Bool) (xs : List X) → Reversing passes xs xs 0 0
+pub starts : {X : Type 0} (passes : X → Bool) (xs : List X) → IsReversing passes xs xs 0 0
 starts passes xs = record { begun = omega arith; within = omega arith; rearranged = IsPermutation-refl xs; rest = refl; runs = refl }
 
-module _ {X : Type 0} (passes : X → Bool) (old now : List X) (start i : ℕ) (x d : X) (r : Reversing passes old now start i) (below : i < length now) (x-is : x ≡ get_or now i d) where
+module _ {X : Type 0} (passes : X → Bool) (old now : List X) (start i : ℕ) (x d : X) (r : IsReversing passes old now start i) (below : i < length now) (x-is : x ≡ get_or now i d) where
   behind : drop i now ≡ x ∷ drop (i + 1) now
   behind = rw x-is (drop_more now i d below)
 
@@ -61,7 +54,7 @@ module _ {X : Type 0} (passes : X → Bool) (old now : List X) (start i : ℕ) (
   rest_more : drop (i + 1) now ≡ drop (i + 1) old
   rest_more = sym (drop-drop 1 i now) ∙ ap (drop 1) r.rest ∙ drop-drop 1 i old
 
-  pub passes_more : passes x ≡ true → Reversing passes old now start (i + 1)
+  pub passes_more : passes x ≡ true → IsReversing passes old now start (i + 1)
   passes_more e =
       let begun : start ≤ i = r.begun in
       let n : i + 1 - start ≡ (i - start) + 1 = omega arith in
@@ -81,7 +74,7 @@ module _ {X : Type 0} (passes : X → Bool) (old now : List X) (start i : ℕ) (
         runs = rw back (ap (λ l. take start now ++ l) (sym one) ∙ r.runs);
       }
 
-  pub stops_more : passes x ≡ false → (now' : List X) → now' ≡ reversed_part now start i → Reversing passes old now' (i + 1) (i + 1)
+  pub stops_more : passes x ≡ false → (now' : List X) → now' ≡ reversed_part now start i → IsReversing passes old now' (i + 1) (i + 1)
   stops_more e now' now-is =
       let begun : start ≤ i = r.begun in
       let front : List X = take start now ++ reverse (take (i - start) (drop start now)) in
@@ -106,7 +99,7 @@ module _ {X : Type 0} (passes : X → Bool) (old now : List X) (start i : ℕ) (
             ∙ r.runs);
       }
 
-module _ {X : Type 0} (passes : X → Bool) (old now : List X) (start i : ℕ) (r : Reversing passes old now start i) (all : length now ≤ i) (now' : List X) (now-is : now' ≡ reversed_part now start i) where
+module _ {X : Type 0} (passes : X → Bool) (old now : List X) (start i : ℕ) (r : IsReversing passes old now start i) (all : length now ≤ i) (now' : List X) (now-is : now' ≡ reversed_part now start i) where
   pub ends : now' ≡ reverse_runs passes [] old
   ends =
       let none : drop i now ≡ [] = drop_all i now all in

@@ -1,6 +1,7 @@
 -- The order of a line (UAX 9, rule L2).
-use Rattle.std.specs.Prelude.{◌≡◌, ℕ, zero, suc, ◌+◌, ◌≤◌, ◌-◌, ◌%◌, max, min, Bool, cond, eqb, leb, ltb, List, [], ◌∷◌, ◌++◌, length, map, slice_index, Option, Some, None}
+use Rattle.std.specs.Prelude.{◌≡◌, ℕ, zero, suc, ◌+◌, ◌≤◌, ◌-◌, ◌%◌, max, min, Bool, cond, eqb, leb, ltb, List, [], ◌∷◌, ◌++◌, length, map, drop, reverse, take, slice_index, Option, Some, None}
 use Rattle.std.specs.List.{range_with_len}
+use Rattle.std.specs.List.Sorted.{IsPermutation}
 
 -- each longest run of elements that pass the test, reversed; `run` holds the one that is being read, last first
 abbrev pub reverse_runs : {X : Type 0} → (X → Bool) → List X → List X → List X
@@ -38,6 +39,19 @@ from_least_odd levels (Some least) places = reversals levels least (greatest lev
 -- places whose characters reach a level, up to that one, exactly where those of the line in its own order do
 abbrev pub ReachTheSame : List ℕ → (level : ℕ) → (places : List ℕ) → Type 0
 ReachTheSame levels level places = (k : ℕ) → k ≤ level → map (λ p. leb k (slice_index levels p)) places ≡ map (λ l. leb k l) levels
+
+-- how far the runs of a list are reversed: those before `start` are, the one that begins there is read up to i, and all
+-- from i on is as it was
+pub record IsReversing {X : Type 0} (passes : X → Bool) (old now : List X) (start i : ℕ) : Type 0 where
+  pub begun : start ≤ i
+  pub within : i ≤ length now
+  pub rearranged : IsPermutation old now
+  pub rest : drop i now ≡ drop i old
+  pub runs : take start now ++ reverse_runs passes (reverse (take (i - start) (drop start now))) (drop i now) ≡ reverse_runs passes [] old
+
+-- the same of places by whether their characters reach this level, in a line whose own places reach the same
+abbrev pub IsReversingLine : List ℕ → (level : ℕ) → (line now : List ℕ) → (start i : ℕ) → Type 0
+IsReversingLine levels level line now start i = (length line ≡ length levels) × ReachTheSame levels level line × IsReversing (λ p. leb level (slice_index levels p)) line now start i
 
 -- L2: the reversals from the greatest level down to the least odd one, of all places in order
 unfoldable pub order : List ℕ → List ℕ

@@ -3,6 +3,7 @@
 #![tactic(auto)]
 
 mod blanks;
+mod blocks;
 pub mod laws;
 mod line;
 mod paragraph;

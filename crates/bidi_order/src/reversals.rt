@@ -4,8 +4,12 @@ ghost use Rattle.std.specs.Prelude.{◌≡◌, ◌+◌, ◌-◌, ◌%◌, ◌<�
 ghost use Rattle.std.specs.List.{All, range_with_len};
 ghost use Rattle.bidi_order.specs.Reversals.{ReachTheSame, reverse_runs, greatest, greatest_below, least_odd, from_least_odd, order};
 
+use crate::blocks::reverse_by_blocks;
 use crate::places::Order;
 use std::alloc::{AllocError, Global};
+
+/// The greatest level in a line without embeddings, overrides and isolates, whose base level is 0 or 1.
+const FLAT: u8 = 2;
 
 /// The places of a line's characters in the order in which they stand from left to right, by their levels (UAX 9,
 /// L2).
@@ -61,9 +65,10 @@ fn reverse_levels(places: &mut [usize], levels: &[u8])
     ensures rearranged { IsPermutation places.old places.new }
 {
     let mut level = greatest(levels);
+    let deep = level > FLAT;
     while level > 0 {
         let next = greatest_below(levels, level);
-        reverse_between(places, levels, level, next);
+        reverse_between(places, levels, level, next, deep);
         level = next;
     }
 }
@@ -86,8 +91,9 @@ fn below(level: u8, limit: u8) -> u8
     if level < limit { level } else { 0 }
 }
 
-// The reversals from that level down to the next one, which is left out.
-fn reverse_between(places: &mut [usize], levels: &[u8], level: u8, next: u8)
+// The reversals from that level down to the next one, which is left out. In a deep line most places of a long part reach a
+// level, or none does.
+fn reverse_between(places: &mut [usize], levels: &[u8], level: u8, next: u8, deep: bool)
     requires next { next < level }
     requires length { length places.old ≡ length levels.now }
     requires reach { ReachTheSame levels.now level places.old }
@@ -95,7 +101,11 @@ fn reverse_between(places: &mut [usize], levels: &[u8], level: u8, next: u8)
     ensures rearranged { IsPermutation places.old places.new }
 {
     if (level - next) % 2 == 1 {
-        reverse_level(places, levels, level);
+        if deep {
+            reverse_by_blocks(places, levels, level);
+        } else {
+            reverse_level(places, levels, level);
+        }
     }
 }
 
@@ -117,17 +127,18 @@ fn reverse_level(places: &mut [usize], levels: &[u8], level: u8)
     reverse_part(places, start, end);
 }
 
-fn reaches(levels: &[u8], place: usize, level: u8) -> bool
+/// Whether the character at this place of the line has the level or a higher one.
+pub(crate) fn reaches(levels: &[u8], place: usize, level: u8) -> bool
     requires { place < length levels.now }
     ensures { result ≡ leb level (slice_index levels.now place) }
 {
     level <= levels[place]
 }
 
-// Most parts have no place or one.
+/// Reverses the places from `start` up to `end`. Most parts have no place or one.
 #[inline(always)]
 #[tactic(auto, using(crate::proofs::Runs::short_part))]
-fn reverse_part(places: &mut [usize], start: usize, end: usize)
+pub(crate) fn reverse_part(places: &mut [usize], start: usize, end: usize)
     requires start { start ≤ end }
     requires end { end ≤ length places.old }
     ensures { places.new ≡ take start places.old ++ reverse (take (end - start) (drop start places.old)) ++ drop end places.old }

@@ -1,4 +1,4 @@
-use Rattle.std.proofs.Common.{◌≡◌, ◌<◌, ◌++◌, ◌∷◌, [], List, ℕ, ◌∙◌, sym, ap, arith, length}
+use Rattle.std.proofs.Common.{◌≡◌, ◌++◌, ◌∷◌, [], List, ℕ, ◌∙◌, sym, ap, arith, length}
 use Rattle.std.proofs.lemmas.List.{length-set, take_more_set}
 use Rattle.bidi_order.proofs.Runs.{range_more}
 use Rattle.bidi_order.proofs.reversals.all_places.Goals as goal

@@ -1,4 +1,4 @@
-use Rattle.std.proofs.Common.{rules, ◌<◌, ◌≡◌, leb, length, slice_index, arith, sym, refl, ap, ◌∙◌, ℕ, Bool, List}
+use Rattle.std.proofs.Common.{rules, ◌≡◌, leb, length, slice_index, arith, sym, refl, ap, ◌∙◌, ℕ, Bool, List}
 use Rattle.std.proofs.lemmas.List.Sorted.{length_permutation}
 use Rattle.bidi_order.proofs.Levels.{reach_at}
 use Rattle.bidi_order.proofs.Runs.{as_it_was, passes_more, stops_more, ends_rearranged}

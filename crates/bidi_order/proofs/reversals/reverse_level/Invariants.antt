@@ -1,6 +1,6 @@
 use Rattle.std.proofs.Common.{leb, slice_index}
-use Rattle.bidi_order.proofs.Runs.{Reversing}
+use Rattle.bidi_order.specs.Reversals.{IsReversing}
 use Rattle.bidi_order.proofs.reversals.reverse_level.Given as goal
 
 abbrev pub invariant-loop-i : goal.invariant-loop-i
-invariant-loop-i l = Reversing (λ p. leb l.level (slice_index l.levels p)) l.fn.places l.places l.start l.i
+invariant-loop-i l = IsReversing (λ p. leb l.level (slice_index l.levels p)) l.fn.places l.places l.start l.i

@@ -1,0 +1,121 @@
+//! The reversals of a line at one level, many places at a time (UAX 9, 3.4, L2). In a line with embeddings most places of
+//! a long part reach a level, or none does.
+
+ghost use Rattle.std.specs.Prelude.{ℕ, ◌≡◌, ◌<◌, ◌≤◌, [], leb, length, List, slice_index, IsPermutation};
+ghost use Rattle.std.specs.List.{list_all, list_any};
+ghost use Rattle.bidi_order.specs.Reversals.{IsReversingLine, ReachTheSame, reverse_runs};
+
+use crate::reversals::{reaches, reverse_part};
+
+// How many places a block has.
+const BLOCK: usize = 32;
+
+/// Reverses each longest run of places that have this level or a higher one. They are where the line's own places have it.
+pub(crate) fn reverse_by_blocks(places: &mut [usize], levels: &[u8], level: u8)
+    requires length { length places.old ≡ length levels.now }
+    requires reach { ReachTheSame levels.now level places.old }
+    ensures reversed { places.new ≡ reverse_runs (λ p. leb level (slice_index levels.now p)) [] places.old }
+    ensures rearranged { IsPermutation places.old places.new }
+{
+    let mut start = 0;
+    let mut from = 0;
+    while from < levels.len() {
+        let end = block_end(from, levels.len());
+        start = reverse_block(places, levels, level, start, from, end);
+        from = end;
+    }
+    reverse_part(places, start, from);
+}
+
+// Where the block ends that begins at a place.
+fn block_end(from: usize, len: usize) -> usize
+    requires { from < len }
+    ensures further { from < result }
+    ensures within { result ≤ len }
+{
+    if len - from <= BLOCK {
+        len
+    } else {
+        from + BLOCK
+    }
+}
+
+// Goes on over one block, and tells where the run begins that is read behind it.
+fn reverse_block(
+    places: &mut [usize],
+    levels: &[u8],
+    level: u8,
+    start: usize,
+    from: usize,
+    end: usize,
+) -> usize
+    requires length { length places.old ≡ length levels.now }
+    requires begun { start ≤ from }
+    requires further { from < end }
+    requires within { end ≤ length levels.now }
+    ensures { (line : List ℕ) → IsReversingLine levels.now level line places.old start from → IsReversingLine levels.now level line places.new result end }
+{
+    let block = &levels[from..end];
+    if all_reach(block, level) {
+        return start;
+    }
+    if any_reaches(block, level) {
+        return reverse_each(places, levels, level, start, from, end);
+    }
+    reverse_part(places, start, from);
+    end
+}
+
+// The same, place by place.
+fn reverse_each(
+    places: &mut [usize],
+    levels: &[u8],
+    level: u8,
+    start: usize,
+    from: usize,
+    end: usize,
+) -> usize
+    requires length { length places.old ≡ length levels.now }
+    requires begun { start ≤ from }
+    requires further { from < end }
+    requires within { end ≤ length levels.now }
+    ensures { (line : List ℕ) → IsReversingLine levels.now level line places.old start from → IsReversingLine levels.now level line places.new result end }
+{
+    let mut start = start;
+    for i in from..end {
+        if !reaches(levels, i, level) {
+            reverse_part(places, start, i);
+            start = i + 1;
+        }
+    }
+    start
+}
+
+// Both are asked for of a whole block without a stop: a compiler makes of such a loop one that looks at many levels at once.
+#[inline(never)]
+fn all_reach(levels: &[u8], level: u8) -> bool
+    ensures { result ≡ list_all (leb level) levels.now }
+{
+    let mut all = true;
+    for own in levels {
+        all &= is_from(*own, level);
+    }
+    all
+}
+
+#[inline(never)]
+fn any_reaches(levels: &[u8], level: u8) -> bool
+    ensures { result ≡ list_any (leb level) levels.now }
+{
+    let mut any = false;
+    for own in levels {
+        any |= is_from(*own, level);
+    }
+    any
+}
+
+fn is_from(own: u8, level: u8) -> bool
+    ensures { result ≡ leb level own }
+{
+    level <= own
+}
