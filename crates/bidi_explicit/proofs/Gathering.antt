@@ -1,11 +1,12 @@
 -- The sequences, taken one after the other in the order of their first places.
 use Rattle.std.proofs.Common.{◌≡◌, ◌∙◌, sym, refl, ap, subst, ℕ, ◌+◌, ◌<◌, ◌≤◌, Bool, true, false, cond, eqb, ltb, List, [], ◌∷◌, ◌++◌, append_assoc, append-nil, map, length, get_or, drop, inl, inr, arith}
+use Rattle.std.proofs.Math.Numerals.{add-one}
 use Rattle.std.proofs.lemmas.Bool.{lt-ltb, le-ltb, eqb-true, eq-eqb, ne_eqb, cases_order}
 use Rattle.bidi_explicit.specs.declared.links.Link.{Link}
 use Rattle.bidi_explicit.specs.declared.paragraph.Levels.{Levels}
 use Rattle.bidi_explicit.specs.Sequences.{Sequence, kept_from, last_of, level_before, level_at_end, level_in, level_runs, sequences, with_sides, isolating_runs}
 use Rattle.bidi_explicit.specs.Paragraph.{AreAligned}
-use Rattle.bidi_explicit.specs.Links.{begins_at, behind_at, is_first, Follows, AreChains, Hold, HasChain, IsLinkedWhole, kept_behind, sequence_by}
+use Rattle.bidi_explicit.specs.Links.{before_at, begins_at, behind_at, is_first, Follows, AreChains, Hold, HasChain, IsLinkedWhole, kept_behind, sequence_by}
 use Rattle.bidi_explicit.proofs.Matches.{AreWithin}
 use Rattle.bidi_explicit.proofs.Linking.{low_is_not_first}
 use Rattle.bidi_explicit.proofs.Following.{last_within}
@@ -48,6 +49,10 @@ module _ (links : List Link) (i : ℕ) where
     where
       later : i ≤ p → (p ≡ i → ⊥) → i + 1 ≤ p
       later l n = elim (cases_order p i) [ inl s ↦ absurd (n s) | inr o ↦ elim o [ inl b ↦ omega arith | inr b ↦ omega arith ] ]
+
+-- the level before the next place
+pub before_more : (levels : Levels) (i : ℕ) → before_at levels (i + 1) ≡ cond (get_or levels.removed.items i false) (before_at levels i) (level_in levels.level.items i)
+before_more levels i = rw add-one refl
 
 -- the level of what stands before places that all stand behind it
 before_all : (level : ℕ → ℕ) (base i high : ℕ) (xs : List ℕ) → AreWithin i high xs → level_before level base xs i ≡ base

@@ -1,6 +1,6 @@
 -- How the code of X10 holds the sequences of the places from one on: each place knows the one behind it in its
 -- sequence, and whether it begins one.
-use Rattle.std.specs.Prelude.{ℕ, max, ◌+◌, ◌<◌, ◌≤◌, ◌≡◌, Bool, true, false, ◌||◌, cond, eqb, List, [], ◌∷◌, drop, length, slice_index_or, slice_set, Option, Some, None}
+use Rattle.std.specs.Prelude.{ℕ, zero, suc, max, ◌+◌, ◌<◌, ◌≤◌, ◌≡◌, Bool, true, false, ◌||◌, cond, eqb, List, [], ◌∷◌, drop, length, slice_index_or, slice_set, Option, Some, None}
 use Rattle.wm_chars.specs.declared.classes.BidiClass.{BidiClass}
 use Rattle.bidi_explicit.specs.declared.isolates.Kind.{Kind}
 use Rattle.bidi_explicit.specs.declared.isolates.Kind.TheVariants.{Opens, Closes}
@@ -140,6 +140,11 @@ pub record GoesOn (levels : Levels) (kind : Kind) (i : ℕ) (nearest : Option �
 pub record HasChain (links : List Link) (p : ℕ) : Type 0 where
   pub places : List ℕ
   pub follows : Follows links p places
+
+-- the level of the last place before this one that isn't removed, or the base level
+abbrev pub before_at : Levels → ℕ → ℕ
+before_at levels zero = levels.base
+before_at levels (suc i) = cond (slice_index_or levels.removed.items i false) (before_at levels i) (level_in levels.level.items i)
 
 -- a run as a sequence
 abbrev pub sequence_of : Run → Sequence

@@ -1,6 +1,7 @@
 //! Each place of a paragraph linked with the one behind it in its sequence (UAX 9, BD13), in one pass from the end.
 
 ghost use Rattle.std.specs.Prelude.{◌≡◌, ◌+◌, ◌<◌, length, slice_index, true, IfSome, IfOk, OnOk};
+ghost use Rattle.bidi_explicit.specs.Isolates.{kind_of};
 ghost use Rattle.bidi_explicit.specs.Sequences.{level_in};
 ghost use Rattle.bidi_explicit.specs.Paragraph.{AreAligned};
 ghost use Rattle.bidi_explicit.specs.Stack.{stacked};
@@ -10,6 +11,10 @@ use crate::isolates::{Kind, kind_of};
 use crate::paragraph::Levels;
 use crate::stack::Stack;
 use std::alloc::{AllocError, Global};
+use wm_chars::BidiClass;
+use wm_chars::BidiClass::{
+    AL, AN, B, CS, EN, ES, ET, L, LRE, LRO, NSM, ON, PDF, R, RLE, RLO, S, WS,
+};
 
 // What one pass from the end tells of a place.
 #[derive(Clone, Copy)]
@@ -65,8 +70,8 @@ fn step(links: &mut Links, levels: &Levels, i: usize) -> Result<(), AllocError>
     requires linked { IsLinked levels.now (i + 1) links.old.links.items (stacked links.old.pending) links.old.next }
     ensures { OnOk result (IsLinked levels.now i links.new.links.items (stacked links.new.pending) links.new.next) }
 {
-    let kind = kind_of(levels.original[i]);
-    if let Some(next) = goes_on(levels, kind, i, links.next) {
+    let class = levels.original[i];
+    if let Some(next) = goes_on(levels, class, i, links.next) {
         let behind = levels.level[next];
         begin_at(&mut links.links, i, Some(next), behind);
         links.next = Some(i);
@@ -98,31 +103,31 @@ fn step_by_match(links: &mut Links, levels: &Levels, i: usize) -> Result<(), All
 
 // The next kept place, where the sequence of a character goes on there and the character itself matches no other. Most
 // characters in a text are so.
-fn goes_on(levels: &Levels, kind: Kind, i: usize, next: Option<usize>) -> Option<usize>
+fn goes_on(levels: &Levels, class: BidiClass, i: usize, next: Option<usize>) -> Option<usize>
     requires aligned { AreAligned levels.now }
     requires inside { i < length levels.now.original.items }
     requires next { IfSome next (λ q. q < length levels.now.level.items) }
-    ensures goes_on { IfSome result (λ q. GoesOn levels.now kind i next q) }
+    ensures goes_on { IfSome result (λ q. GoesOn levels.now (kind_of class) i next q) }
     ensures within { IfSome result (λ q. q < length levels.now.level.items) }
 {
     let Some(q) = next else {
         return None;
     };
-    if matches_none(kind) && !levels.removed[i] && levels.level[i] == levels.level[q] {
+    if matches_none(class) && !levels.removed[i] && levels.level[i] == levels.level[q] {
         Some(q)
     } else {
         None
     }
 }
 
-// Whether a character of this kind is neither an isolate initiator nor a PDI.
-fn matches_none(kind: Kind) -> bool
-    ensures { result ≡ true → MatchesNone kind }
+// Whether a character of this class is neither an isolate initiator nor a PDI.
+fn matches_none(class: BidiClass) -> bool
+    ensures { result ≡ true → MatchesNone (kind_of class) }
 {
-    match kind {
-        Kind::Opens | Kind::Closes => false,
-        _ => true,
-    }
+    matches!(
+        class,
+        L | R | AL | EN | ES | ET | AN | CS | NSM | B | S | WS | ON | LRE | LRO | RLE | RLO | PDF
+    )
 }
 
 // The matching PDI of an isolate initiator (UAX 9, BD9).

@@ -1,13 +1,13 @@
 //! The isolating run sequences of a paragraph, with sos and eos, and with all their places in one list (UAX 9, BD13 and
 //! X10).
 
-ghost use Rattle.std.specs.Prelude.{◌≡◌, ◌∷◌, ◌++◌, ◌<◌, [], false, cond, length, map, max, slice_index_or, IfOk, OnOk};
+ghost use Rattle.std.specs.Prelude.{◌≡◌, ◌∷◌, ◌++◌, ◌<◌, ◌≤◌, [], length, map, max, IfOk, OnOk};
 ghost use Rattle.std.specs.List.{All, concat};
 ghost use Rattle.std.specs.List.Sorted.{IsPermutation};
 ghost use Rattle.bidi_explicit.specs.Sequences.{HasOneLevel, IsRunOf, direction, isolating_runs, kept_places, last_of, level_in};
 ghost use Rattle.bidi_explicit.specs.Explicit.{explicit_levels};
 ghost use Rattle.bidi_explicit.specs.Paragraph.{AreAligned};
-ghost use Rattle.bidi_explicit.specs.Links.{Follows, HasChain, IsLinkedWhole, begins_at, sequence_by};
+ghost use Rattle.bidi_explicit.specs.Links.{Follows, HasChain, IsLinkedWhole, before_at, begins_at, sequence_by};
 ghost use Rattle.bidi_explicit.specs.Spans.{AreSpans, sequence_at, span_places};
 
 use crate::links::{self, Link};
@@ -43,12 +43,10 @@ fn gather(alloc: Global, levels: &Levels, links: &[Link]) -> Result<FlatRuns, Al
         places: Vec::with_capacity(alloc, links.len())?,
         spans: Vec::new(alloc),
     };
-    let mut before = levels.base;
     for i in 0..links.len() {
         if links[i].begins {
-            take(&mut flat, levels, links, i, before)?;
+            take(&mut flat, levels, links, i)?;
         }
-        before = level_kept(levels, i, before);
     }
     Ok(flat)
 }
@@ -59,17 +57,18 @@ fn take(
     levels: &Levels,
     links: &[Link],
     first: usize,
-    before: u8,
 ) -> Result<(), AllocError>
     requires spans { AreSpans flat.old.places.items flat.old.spans.items }
     requires level { first < length levels.now.level.items }
+    requires removed { first < length levels.now.removed.items }
     requires chain { HasChain links.now first }
     ensures spans { OnOk result (AreSpans flat.new.places.items flat.new.spans.items) }
-    ensures taken { OnOk result ((places : _) → Follows links.now first places → map (sequence_at flat.new.places.items) flat.new.spans.items ≡ map (sequence_at flat.old.places.items) flat.old.spans.items ++ sequence_by (level_in levels.now.level.items) links.now first places before ∷ []) }
+    ensures taken { OnOk result ((places : _) → Follows links.now first places → map (sequence_at flat.new.places.items) flat.new.spans.items ≡ map (sequence_at flat.old.places.items) flat.old.spans.items ++ sequence_by (level_in levels.now.level.items) links.now first places (before_at levels.now first) ∷ []) }
 {
     let start = flat.places.len();
     let last = take_places(&mut flat.places, links, first)?;
     let level = levels.level[first];
+    let before = level_before(levels, first);
     flat.spans.push(RunSpan {
         start,
         stop: flat.places.len(),
@@ -79,17 +78,21 @@ fn take(
     Ok(())
 }
 
-// The level of the place, or the one before it where the place is removed.
-fn level_kept(levels: &Levels, i: usize, before: u8) -> u8
-    requires level { i < length levels.now.level.items }
-    requires removed { i < length levels.now.removed.items }
-    ensures { result ≡ cond (slice_index_or levels.now.removed.items i false) before (level_in levels.now.level.items i) }
+// The level of the last place before this one that isn't removed, or the base level. What is passed over lies directly
+// before the place, so all sequences together pass over each place once.
+fn level_before(levels: &Levels, place: usize) -> u8
+    requires level { place ≤ length levels.now.level.items }
+    requires removed { place ≤ length levels.now.removed.items }
+    ensures { result ≡ before_at levels.now place }
 {
-    if levels.removed[i] {
-        before
-    } else {
-        levels.level[i]
+    let mut i = place;
+    while i > 0 {
+        i -= 1;
+        if !levels.removed[i] {
+            return levels.level[i];
+        }
     }
+    levels.base
 }
 
 // Takes the places of the sequence that begins with a place, and tells the last of them.

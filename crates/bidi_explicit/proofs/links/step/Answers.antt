@@ -22,11 +22,11 @@ returns-in-Some c =
     let levels = c.args.levels.now in
     let links = c.args.links.now in
     let q = c.in-Some.next in
-    let kind-is : c.kind_of-kind.result ≡ kind_of (get_or levels.original.items c.args.i L) = c.kind_of-kind.ensures ∙ ap kind_of (get_or_read levels.original.items c.args.i c.index.result.now c.requires.inside c.index.ensures L) in
+    let kind-is : kind_of c.index-class.result.now ≡ kind_of (get_or levels.original.items c.args.i L) = ap kind_of (get_or_read levels.original.items c.args.i c.index-class.result.now c.requires.inside c.index-class.ensures L) in
     let len : length c.begin_at.new.links ≡ links.links.len = c.begin_at.auto.links ∙ c.deref_mut.ensures.len in
     let level : c.index-behind.result.now ≡ level_in levels.level.items q = get_or_read levels.level.items q c.index-behind.result.now c.in-Some.ensures.within c.index-behind.ensures 0 in
     let written : c.begin_at.new.links ≡ linked links.links.items c.args.i (Some q) (level_in levels.level.items q)
     = c.begin_at.ensures ∙ ap (λ (l : List Link). linked l c.args.i (Some q) c.index-behind.result.now) c.deref_mut.ensures.value ∙ ap (λ (n : ℕ). linked links.links.items c.args.i (Some q) n) level in
     rw (take_at c.begin_at.new.links _ links.links.len len)
     (goes_on_by levels c.requires.aligned c.args.i c.requires.inside links.links.items (stacked links.pending) links.next c.requires.linked
-    c.kind_of-kind.result q c.begin_at.new.links kind-is c.in-Some.ensures.goes_on written)
+    (kind_of c.index-class.result.now) q c.begin_at.new.links kind-is c.in-Some.ensures.goes_on written)

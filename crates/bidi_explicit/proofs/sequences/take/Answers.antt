@@ -1,7 +1,7 @@
 use Rattle.std.proofs.Common.{rules, ◌≡◌, ◌∷◌, ◌++◌, ◌∙◌, sym, ap, [], List, ℕ, length, refl, max}
 use Rattle.std.proofs.lemmas.List.{get_or_read}
 use Rattle.bidi_explicit.specs.declared.paragraph.RunSpan.{RunSpan}
-use Rattle.bidi_explicit.specs.Links.{sequence_by, behind_at}
+use Rattle.bidi_explicit.specs.Links.{before_at, behind_at, sequence_by}
 use Rattle.bidi_explicit.specs.Sequences.{direction, last_of, level_in}
 use Rattle.bidi_explicit.proofs.Spans.{spans_taken}
 use Rattle.bidi_explicit.proofs.sequences.take.Goals as goal
@@ -20,9 +20,10 @@ returns-clause-taken c = λ places f.
     let stop : c.len.result ≡ length all = search rules in
     let more : c.push.new.self.items ≡ flat.spans.items ++ span ∷ [] = c.in_ok-push.ensures.items in
     let at : c.index-level.result.now ≡ own = get_or_read c.args.levels.now.level.items c.args.first c.index-level.result.now c.requires.level c.index-level.ensures 0 in
-    let sos : direction (max own c.args.before) ≡ c.direction.result = sym (c.direction.ensures ∙ ap direction (c.max.ensures ∙ ap (λ (n : ℕ). max n c.args.before) at)) in
+    let sos : direction (max own (before_at c.args.levels.now c.args.first)) ≡ c.direction.result =
+    sym (c.direction.ensures ∙ ap direction (c.max.ensures ∙ ap (λ (n : ℕ). max n c.level_before-before.result) at ∙ ap (λ (n : ℕ). max own n) c.level_before-before.ensures)) in
     let behind : ℕ = behind_at links c.in_ok-last.last in
     let eos : direction (max own (behind_at links (last_of c.args.first places))) ≡ c.direction-2.result =
     ap (λ (p : ℕ). direction (max own (behind_at links p))) (sym last) ∙ sym (c.direction-2.ensures ∙ ap direction (c.max-2.ensures ∙ ap (λ (n : ℕ). max n behind) at)) in
     spans_taken flat.places.items (c.args.first ∷ places) all flat.spans.items c.push.new.self.items span c.requires.spans grown start stop more
-    (sequence_by level links c.args.first places c.args.before) refl sos eos
+    (sequence_by level links c.args.first places (before_at c.args.levels.now c.args.first)) refl sos eos
