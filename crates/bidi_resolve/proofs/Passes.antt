@@ -23,6 +23,12 @@ pass_more out next s xs i d lt =
     rw (take_more_set xs i (out s (get_or xs i d) (drop (i + 1) xs)) lt, drop-set-lt (i + 1) xs i (out s (get_or xs i d) (drop (i + 1) xs)) (omega arith), drop_more xs i d lt)
     (append_assoc (take i xs) (out s (get_or xs i d) (drop (i + 1) xs) ∷ []) (pass out next (next s (get_or xs i d)) (drop (i + 1) xs)))
 
+-- so a loop goes on
+pub pass_on : {S X : Type 0} (out : S → X → List X → X) (next : S → X → S) (s s' : S) (xs xs' all : List X) (i : ℕ) (d : X) → i < length xs →
+    xs' ≡ set xs i (out s (get_or xs i d) (drop (i + 1) xs)) → s' ≡ next s (get_or xs i d) → take i xs ++ pass out next s (drop i xs) ≡ all →
+    take (i + 1) xs' ++ pass out next s' (drop (i + 1) xs') ≡ all
+pass_on out next s s' xs xs' all i d lt written seen so_far = rw (written, seen) (pass_more out next s xs i d lt ∙ so_far)
+
 -- the same where what is written hangs on the element alone
 pub map_more : {X : Type 0} (f : X → X) (xs : List X) (i : ℕ) (d : X) → i < length xs →
     take (i + 1) (set xs i (f (get_or xs i d))) ++ map f (drop (i + 1) (set xs i (f (get_or xs i d)))) ≡ take i xs ++ map f (drop i xs)

@@ -93,11 +93,29 @@ fn w2_pass(classes: &mut [BidiClass], sos: BidiClass)
     ensures { classes.new ≡ weak.w2 sos classes.old }
 {
     let mut last = sos;
-    for class in classes.iter_mut() {
-        let old = *class;
-        *class = w2_class(last, old);
-        last = w2_after(last, old);
+    for i in 0..classes.len() {
+        last = w2_at(classes, i, last);
     }
+}
+
+// One place, and what is remembered behind it. Most characters are no European numbers, and stay.
+fn w2_at(classes: &mut [BidiClass], place: usize, last: BidiClass) -> BidiClass
+    requires { place < length classes.old }
+    ensures class { (d : BidiClass) → classes.new ≡ set classes.old place (weak.w2_class last (get_or classes.old place d)) }
+    ensures last { (d : BidiClass) → result ≡ weak.w2_after last (get_or classes.old place d) }
+{
+    let class = classes[place];
+    if is_european(class) {
+        classes[place] = w2_class(last, class);
+    }
+    w2_after(last, class)
+}
+
+fn is_european(class: BidiClass) -> bool
+    ensures w2 { result ≡ false → (last : BidiClass) → weak.w2_class last class ≡ class }
+    ensures w7 { result ≡ false → (last : BidiClass) → weak.w7_class last class ≡ class }
+{
+    class == EN
 }
 
 pub(crate) fn w2_class(last: BidiClass, class: BidiClass) -> BidiClass
@@ -341,11 +359,22 @@ fn w7_pass(classes: &mut [BidiClass], sos: BidiClass)
     ensures { classes.new ≡ weak.w7 sos classes.old }
 {
     let mut last = sos;
-    for class in classes.iter_mut() {
-        let old = *class;
-        *class = w7_class(last, old);
-        last = w7_after(last, old);
+    for i in 0..classes.len() {
+        last = w7_at(classes, i, last);
     }
+}
+
+// One place, and what is remembered behind it. Most characters are no European numbers, and stay.
+fn w7_at(classes: &mut [BidiClass], place: usize, last: BidiClass) -> BidiClass
+    requires { place < length classes.old }
+    ensures class { (d : BidiClass) → classes.new ≡ set classes.old place (weak.w7_class last (get_or classes.old place d)) }
+    ensures last { (d : BidiClass) → result ≡ weak.w7_after last (get_or classes.old place d) }
+{
+    let class = classes[place];
+    if is_european(class) {
+        classes[place] = w7_class(last, class);
+    }
+    w7_after(last, class)
 }
 
 pub(crate) fn w7_class(last: BidiClass, class: BidiClass) -> BidiClass
