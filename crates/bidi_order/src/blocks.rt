@@ -56,14 +56,15 @@ fn reverse_block(
     ensures { (line : List ℕ) → IsReversingLine levels.now level line places.old start from → IsReversingLine levels.now level line places.new result end }
 {
     let block = &levels[from..end];
-    if all_reach(block, level) {
-        return start;
+    if reaches(levels, from, level) {
+        if all_reach(block, level) {
+            return start;
+        }
+    } else if !any_reaches(block, level) {
+        reverse_part(places, start, from);
+        return end;
     }
-    if any_reaches(block, level) {
-        return reverse_each(places, levels, level, start, from, end);
-    }
-    reverse_part(places, start, from);
-    end
+    reverse_each(places, levels, level, start, from, end)
 }
 
 // The same, place by place.

@@ -132,7 +132,7 @@ fn read_classes(
 {
     let mut out = Vec::with_capacity(alloc, places.len())?;
     for place in places {
-        out.push(classes[*place])?;
+        out.push_reserved(classes[*place]);
     }
     Ok(out)
 }
@@ -143,7 +143,7 @@ fn read_levels(alloc: Global, levels: &[u8], places: &[usize]) -> Result<LevelLi
 {
     let mut out = Vec::with_capacity(alloc, places.len())?;
     for place in places {
-        out.push(levels[*place])?;
+        out.push_reserved(levels[*place]);
     }
     Ok(out)
 }

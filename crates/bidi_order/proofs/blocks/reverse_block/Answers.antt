@@ -11,8 +11,8 @@ returns-then-all_reach c =
     λ line on. all_pass levels level line (c.args.end - c.args.from) c.args.places.now c.args.start c.args.from c.args.end (omega arith) c.requires.within
     (all_in levels level c.args.from c.args.end (omega arith) c.requires.within all) on
 
-pub returns : goal.returns
-returns c =
+pub returns-then-not-any_reaches : goal.returns-then-not-any_reaches
+returns-then-not-any_reaches c =
     let levels = c.args.levels.now in
     let level = c.args.level in
     let none : list_any (leb level) (slice_range levels c.args.from c.args.end) ≡ false = search rules in

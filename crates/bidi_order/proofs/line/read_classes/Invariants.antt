@@ -1,7 +1,11 @@
-use Rattle.std.proofs.Common.{◌≡◌, take}
+use Rattle.std.proofs.Common.{◌≡◌, ◌≤◌, ◌+◌, ◌-◌, length, take}
+use Rattle.std.specs.Vec.{vec_capacity, vec_len}
 use Rattle.wm_chars.specs.declared.classes.BidiClass.TheVariants.{L}
 use Rattle.bidi_resolve.specs.Places.{gathered}
 use Rattle.bidi_order.proofs.line.read_classes.Given as goal
 
 abbrev pub invariant-loop-place : goal.invariant-loop-place
-invariant-loop-place l = l.out.items ≡ gathered L l.classes (take l.place-index l.places)
+invariant-loop-place l = record {
+  items : l.out.items ≡ gathered L l.classes (take l.place-index l.places);
+  room : vec_len l.out + (length l.places - l.place-index) ≤ vec_capacity l.out;
+}
