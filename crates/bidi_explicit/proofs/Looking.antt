@@ -1,6 +1,7 @@
 -- The pass from the end finds what P2 and P3 find in each isolate.
-use Rattle.std.proofs.Common.{◌≡◌, ◌∙◌, refl, ℕ, zero, suc, Bool, false, List, [], ◌∷◌, get_or, Option, Some, None, ◌+◌, ◌<◌, drop, length}
-use Rattle.std.proofs.lemmas.List.{drop_more}
+use Rattle.std.proofs.Common.{◌≡◌, ◌∙◌, ap, refl, ℕ, zero, suc, Bool, false, List, [], ◌∷◌, get_or, Option, Some, None, ◌+◌, ◌-◌, ◌<◌, ◌≤◌, drop, take, length, arith}
+use Rattle.std.specs.List.{slice_range}
+use Rattle.std.proofs.lemmas.List.{drop_more, drop-drop, get_or-drop, length-drop}
 use Rattle.std.specs.Option.{option_map}
 use Rattle.wm_chars.specs.declared.classes.BidiClass.{BidiClass}
 use Rattle.bidi_explicit.specs.declared.isolates.Kind.{Kind}
@@ -8,7 +9,9 @@ use Rattle.bidi_explicit.specs.declared.isolates.Kind.TheVariants.{Strong, Opens
 use Rattle.bidi_explicit.specs.Base.{is_one, turns_right}
 use Rattle.bidi_explicit.proofs.Strong.{counted, counted_at, count_finds}
 use Rattle.bidi_explicit.specs.Isolates.{kind_of, closing, closing_at, up_to}
-use Rattle.bidi_explicit.specs.Ahead.{Ahead, ahead, ahead_at, rest_of, is_right}
+use Rattle.wm_chars.specs.declared.classes.BidiClass.TheVariants.{L, LRI, RLI, FSI, PDI}
+use Rattle.wm_chars.specs.Classes.{is_isolate_formatting}
+use Rattle.bidi_explicit.specs.Ahead.{Ahead, ahead, ahead_at, found_at, found_before, rest_of, rights, is_right}
 
 -- what it finds `depth` closing PDIs on
 abbrev at_depth : ℕ → Ahead → Bool
@@ -60,3 +63,36 @@ turns_right_found cs = rw (← count_finds (up_to (closing cs 0) cs)) (finds cs 
 -- one step of a loop from the end
 pub drop_less : {X : Type 0} (xs : List X) (i j : ℕ) (d : X) → j + 1 ≡ i → j < length xs → drop j xs ≡ get_or xs j d ∷ drop i xs
 drop_less xs i j d e l = rw (← e) (drop_more xs j d l)
+
+-- ---- what stands between isolates
+
+-- a character that neither begins nor ends an isolate
+plain_ahead : (c : BidiClass) (a : Ahead) → is_isolate_formatting c ≡ false → ahead_at (kind_of c) a ≡ record { found = found_at (kind_of c) a.found; pending = a.pending }
+plain_ahead PDI a is = absurd (cc)
+plain_ahead LRI a is = absurd (cc)
+plain_ahead RLI a is = absurd (cc)
+plain_ahead FSI a is = absurd (cc)
+plain_ahead c a is = refl
+
+pub plain_rights : (c : BidiClass) (after : List BidiClass) → is_isolate_formatting c ≡ false → rights (c ∷ after) ≡ rights after
+plain_rights FSI after is = absurd (cc)
+plain_rights c after is = refl
+
+-- so many of them from the front on
+pub plain_front : (n : ℕ) (cs : List BidiClass) → n ≤ length cs → ((k : ℕ) → k < n → is_isolate_formatting (get_or cs k L) ≡ false)
+    → ahead cs ≡ record { found = found_before (take n cs) (ahead (drop n cs)).found; pending = (ahead (drop n cs)).pending }
+plain_front zero cs high plain = refl
+plain_front (suc n) [] high plain = absurd (omega arith)
+plain_front (suc n) (c ∷ cs) high plain =
+    rw (plain_ahead c (ahead cs) (plain 0 (omega arith)), plain_front n cs (omega arith) (λ k lt. plain (suc k) (omega arith))) refl
+
+-- so many of them from a place on
+module _ (cs : List BidiClass) (from read_from : ℕ) (order : from ≤ read_from) (within : read_from ≤ length cs) (plain : (k : ℕ) → from ≤ k → k < read_from → is_isolate_formatting (get_or cs k L) ≡ false) where
+  pub plain_between : ahead (drop from cs) ≡ record { found = found_before (slice_range cs from read_from) (ahead (drop read_from cs)).found; pending = (ahead (drop read_from cs)).pending }
+  plain_between =
+      let rest : length (drop from cs) ≡ length cs - from = length-drop from cs in
+      let whole : from + (read_from - from) ≡ read_from = omega arith in
+      let behind : drop (read_from - from) (drop from cs) ≡ drop read_from cs = drop-drop (read_from - from) from cs ∙ ap (λ (k : ℕ). drop k cs) whole in
+      let all : (k : ℕ) → k < read_from - from → is_isolate_formatting (get_or (drop from cs) k L) ≡ false = λ k lt. ap is_isolate_formatting (get_or-drop from cs k L) ∙ plain (from + k) (omega arith) (omega arith) in
+      plain_front (read_from - from) (drop from cs) (omega arith) all
+      ∙ ap (λ (l : List BidiClass). record { found = found_before (slice_range cs from read_from) (ahead l).found; pending = (ahead l).pending }) behind

@@ -34,6 +34,15 @@ abbrev pub ahead : List BidiClass → Ahead
 ahead [] = record { found = false; pending = [] }
 ahead (c ∷ after) = ahead_at (kind_of c) (ahead after)
 
+-- what is found where characters that neither begin nor end isolates stand before what it was found in
+abbrev pub found_at : Kind → Bool → Bool
+found_at (Strong level) found = is_right level
+found_at _ found = found
+
+abbrev pub found_before : List BidiClass → Bool → Bool
+found_before [] found = found
+found_before (c ∷ between) found = found_at (kind_of c) (found_before between found)
+
 -- whether each FSI is treated as an RLI, in their order
 abbrev pub rights : List BidiClass → List Bool
 rights [] = []

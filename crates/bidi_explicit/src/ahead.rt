@@ -2,7 +2,7 @@
 
 ghost use Rattle.std.specs.Prelude.{◌≡◌, [], ◌∷◌, List, false, OnOk, IfOk};
 ghost use Rattle.bidi_explicit.specs.Base.{turns_right};
-ghost use Rattle.bidi_explicit.specs.Ahead.{ahead_of, ahead_at, rights};
+ghost use Rattle.bidi_explicit.specs.Ahead.{ahead_of, ahead_at, found_before, rights};
 ghost use Rattle.bidi_explicit.specs.Stack.{stacked};
 
 use crate::isolates::{Kind, kind_of};
@@ -40,8 +40,8 @@ fn has_fsi(classes: &[BidiClass]) -> bool
     has
 }
 
-// One pass from the end answers for all.
-#[tactic(auto, using(crate::proofs::Looking::turns_right_found))]
+// One pass from the end answers for all. What stands between isolates is looked into where an isolate begins or ends before
+// it.
 fn read_rights(alloc: Global, classes: &[BidiClass]) -> Result<Stack<bool>, AllocError>
     ensures { IfOk result (λ answers. stacked answers ≡ rights classes.now) }
 {
@@ -50,14 +50,30 @@ fn read_rights(alloc: Global, classes: &[BidiClass]) -> Result<Stack<bool>, Allo
         pending: Stack::new(alloc),
     };
     let mut answers = Stack::new(alloc);
+    let mut read_from = classes.len();
     let mut i = classes.len();
     while i > 0 {
         i -= 1;
-        let class = classes[i];
-        note(&mut answers, class, scan.found)?;
-        read(&mut scan, kind_of(class))?;
+        if classes[i].is_isolate_formatting() {
+            scan.found = found_in(&classes[i + 1..read_from], scan.found);
+            note(&mut answers, classes[i], scan.found)?;
+            read(&mut scan, kind_of(classes[i]))?;
+            read_from = i;
+        }
     }
     Ok(answers)
+}
+
+// What P2 and P3 find where these characters, none of which begins or ends an isolate, stand before what they find that in.
+fn found_in(between: &[BidiClass], found: bool) -> bool
+    ensures { result ≡ found_before between.now found }
+{
+    for class in between {
+        if let Kind::Strong(level) = kind_of(*class) {
+            return level == 1;
+        }
+    }
+    found
 }
 
 // One more character in front, of which P2 and P3 find this in what it would hold.
