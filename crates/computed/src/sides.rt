@@ -9,18 +9,18 @@ ghost use Rattle.computed.specs.Sides as sides;
 
 use crate::lengths::extent_of;
 use crate::values::{is_drawn, margin_of, size_of};
-use crate::winners::said;
-use style_types::{Property, SideSizes, SideWidths, Size, Winners};
+use crate::winners::{Marked, said};
+use style_types::{Property, SideSizes, SideWidths, Size};
 
 // The width of a border that says none: `medium`, which is three pixels.
 const MEDIUM: i64 = 192;
 
 /// A size, a minimum or a maximum (CSS 2, 10.2 and 10.4).
 #[tactic(auto, unfolding(crate::specs::Sides::size_at, style_types::specs::Initial::initial))]
-pub fn size_at(font_size: i64, winners: &Winners, property: Property) -> Size
+pub fn size_at(font_size: i64, winners: &Marked, property: Property) -> Size
     requires font_size { IsFontSize font_size }
-    requires winners { All (λ w. HasSayable w.1) winners.now.items }
-    ensures value { result ≡ sides.size_at font_size winners.now.items property }
+    requires winners { All (λ w. HasSayable w.1) winners.now.list.now.items }
+    ensures value { result ≡ sides.size_at font_size winners.now.list.now.items property }
     ensures bounded { IsSize result }
 {
     match said(winners, property) {
@@ -31,10 +31,10 @@ pub fn size_at(font_size: i64, winners: &Winners, property: Property) -> Size
 
 /// The margins (CSS 2, 8.3).
 #[tactic(auto, unfolding(crate::specs::Sides::margins))]
-pub fn margins(font_size: i64, winners: &Winners) -> SideSizes
+pub fn margins(font_size: i64, winners: &Marked) -> SideSizes
     requires font_size { IsFontSize font_size }
-    requires winners { All (λ w. HasSayable w.1) winners.now.items }
-    ensures value { result ≡ sides.margins font_size winners.now.items }
+    requires winners { All (λ w. HasSayable w.1) winners.now.list.now.items }
+    ensures value { result ≡ sides.margins font_size winners.now.list.now.items }
     ensures bounded { OnSides IsMargin result }
 {
     SideSizes {
@@ -46,10 +46,10 @@ pub fn margins(font_size: i64, winners: &Winners) -> SideSizes
 }
 
 #[tactic(auto, unfolding(crate::specs::Sides::margin_at, style_types::specs::Initial::initial))]
-fn margin_at(font_size: i64, winners: &Winners, property: Property) -> Size
+fn margin_at(font_size: i64, winners: &Marked, property: Property) -> Size
     requires font_size { IsFontSize font_size }
-    requires winners { All (λ w. HasSayable w.1) winners.now.items }
-    ensures value { result ≡ sides.margin_at font_size winners.now.items property }
+    requires winners { All (λ w. HasSayable w.1) winners.now.list.now.items }
+    ensures value { result ≡ sides.margin_at font_size winners.now.list.now.items property }
     ensures bounded { IsMargin result }
 {
     match said(winners, property) {
@@ -60,10 +60,10 @@ fn margin_at(font_size: i64, winners: &Winners, property: Property) -> Size
 
 /// The paddings (CSS 2, 8.4).
 #[tactic(auto, unfolding(crate::specs::Sides::paddings))]
-pub fn paddings(font_size: i64, winners: &Winners) -> SideSizes
+pub fn paddings(font_size: i64, winners: &Marked) -> SideSizes
     requires font_size { IsFontSize font_size }
-    requires winners { All (λ w. HasSayable w.1) winners.now.items }
-    ensures value { result ≡ sides.paddings font_size winners.now.items }
+    requires winners { All (λ w. HasSayable w.1) winners.now.list.now.items }
+    ensures value { result ≡ sides.paddings font_size winners.now.list.now.items }
     ensures bounded { OnSides IsPadding result }
 {
     SideSizes {
@@ -75,10 +75,10 @@ pub fn paddings(font_size: i64, winners: &Winners) -> SideSizes
 }
 
 #[tactic(auto, unfolding(crate::specs::Sides::padding_at, style_types::specs::Initial::initial))]
-fn padding_at(font_size: i64, winners: &Winners, property: Property) -> Size
+fn padding_at(font_size: i64, winners: &Marked, property: Property) -> Size
     requires font_size { IsFontSize font_size }
-    requires winners { All (λ w. HasSayable w.1) winners.now.items }
-    ensures value { result ≡ sides.padding_at font_size winners.now.items property }
+    requires winners { All (λ w. HasSayable w.1) winners.now.list.now.items }
+    ensures value { result ≡ sides.padding_at font_size winners.now.list.now.items property }
     ensures bounded { IsPadding result }
 {
     match said(winners, property) {
@@ -89,10 +89,10 @@ fn padding_at(font_size: i64, winners: &Winners, property: Property) -> Size
 
 /// The widths of the borders (CSS 2, 8.5.1).
 #[tactic(auto, unfolding(crate::specs::Sides::borders))]
-pub fn borders(font_size: i64, winners: &Winners) -> SideWidths
+pub fn borders(font_size: i64, winners: &Marked) -> SideWidths
     requires font_size { IsFontSize font_size }
-    requires winners { All (λ w. HasSayable w.1) winners.now.items }
-    ensures value { result ≡ sides.borders font_size winners.now.items }
+    requires winners { All (λ w. HasSayable w.1) winners.now.list.now.items }
+    ensures value { result ≡ sides.borders font_size winners.now.list.now.items }
     ensures bounded { AreBorders result }
 {
     SideWidths {
@@ -125,10 +125,10 @@ pub fn borders(font_size: i64, winners: &Winners) -> SideWidths
 
 // A border of no style has no width (CSS 2, 8.5.3).
 #[tactic(auto, unfolding(crate::specs::Sides::border_at))]
-fn border_at(font_size: i64, winners: &Winners, style: Property, width: Property) -> i64
+fn border_at(font_size: i64, winners: &Marked, style: Property, width: Property) -> i64
     requires font_size { IsFontSize font_size }
-    requires winners { All (λ w. HasSayable w.1) winners.now.items }
-    ensures value { result ≡ sides.border_at font_size winners.now.items style width }
+    requires winners { All (λ w. HasSayable w.1) winners.now.list.now.items }
+    ensures value { result ≡ sides.border_at font_size winners.now.list.now.items style width }
     ensures bounded { IsExtent result }
 {
     if !is_drawn(said(winners, style)) {

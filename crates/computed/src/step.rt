@@ -10,7 +10,7 @@ ghost use Rattle.computed.specs.Step as step;
 use crate::lengths::font_size_of;
 use crate::sides::{borders, margins, paddings, size_at};
 use crate::values::{align_of, bidi_of, combine_of, display_of, face_of, line_height_of, shift_of};
-use crate::winners::{said, won};
+use crate::winners::{Marked, said, won};
 use style_types::{
     Align, Combine, Display, LineHeight, Property, Style, TextOrientation, UnicodeBidi, Winners,
     computed_direction, computed_mode, computed_orientation,
@@ -19,23 +19,25 @@ use wm_modes::{Direction, WritingMode};
 
 /// The style of an element, from its parent's and from the values that won for it. Each property is inherited, has its
 /// initial value or computes to what its value says, `em` by the element's own font size; a box whose mode isn't its
-/// parent's turns to an inline-block or a flow root. Goes through the winners once for each property. Takes no memory.
+/// parent's turns to an inline-block or a flow root. Goes through the winners once for each property that has one. Takes
+/// no memory.
 pub fn compute(parent: &Style, winners: &Winners) -> Style
     requires parent { IsBounded parent.now }
     requires winners { All (λ w. HasSayable w.1) winners.now.items }
     ensures style { result ≡ step.style_of parent.now winners.now.items }
     ensures bounded { IsBounded result }
 {
-    sized(parent, own_font_size(parent, winners), winners)
+    let winners = Marked::of(winners);
+    sized(parent, own_font_size(parent, &winners), &winners)
 }
 
 // The style of an element whose font size is known.
 #[tactic(auto, unfolding(crate::specs::Step::sized))]
-fn sized(parent: &Style, font_size: i64, winners: &Winners) -> Style
+fn sized(parent: &Style, font_size: i64, winners: &Marked) -> Style
     requires parent { IsBounded parent.now }
     requires font_size { IsFontSize font_size }
-    requires winners { All (λ w. HasSayable w.1) winners.now.items }
-    ensures style { result ≡ step.sized parent.now font_size winners.now.items }
+    requires winners { All (λ w. HasSayable w.1) winners.now.list.now.items }
+    ensures style { result ≡ step.sized parent.now font_size winners.now.list.now.items }
     ensures bounded { IsBounded result }
 {
     let mode = own_mode(parent.mode, winners);
@@ -67,10 +69,10 @@ fn sized(parent: &Style, font_size: i64, winners: &Winners) -> Style
 
 // The element's own font size, of which its other lengths are.
 #[tactic(auto, unfolding(crate::specs::Step::own_font_size, style_types::specs::Initial::initial))]
-fn own_font_size(parent: &Style, winners: &Winners) -> i64
+fn own_font_size(parent: &Style, winners: &Marked) -> i64
     requires parent { IsFontSize parent.now.font_size }
-    requires winners { All (λ w. HasSayable w.1) winners.now.items }
-    ensures value { result ≡ step.own_font_size parent.now winners.now.items }
+    requires winners { All (λ w. HasSayable w.1) winners.now.list.now.items }
+    ensures value { result ≡ step.own_font_size parent.now winners.now.list.now.items }
     ensures bounded { IsFontSize result }
 {
     match said(winners, Property::FontSize) {
@@ -80,17 +82,17 @@ fn own_font_size(parent: &Style, winners: &Winners) -> i64
 }
 
 #[tactic(auto, unfolding(crate::specs::Step::own_mode))]
-fn own_mode(parent: WritingMode, winners: &Winners) -> WritingMode
-    requires winners { All (λ w. HasSayable w.1) winners.now.items }
-    ensures { result ≡ step.own_mode parent winners.now.items }
+fn own_mode(parent: WritingMode, winners: &Marked) -> WritingMode
+    requires winners { All (λ w. HasSayable w.1) winners.now.list.now.items }
+    ensures { result ≡ step.own_mode parent winners.now.list.now.items }
 {
     computed_mode(parent, won(winners, Property::WritingMode))
 }
 
 #[tactic(auto, unfolding(crate::specs::Step::own_display, style_types::specs::Initial::initial))]
-fn own_display(parent: WritingMode, mode: WritingMode, winners: &Winners) -> Display
-    requires winners { All (λ w. HasSayable w.1) winners.now.items }
-    ensures { result ≡ step.own_display parent mode winners.now.items }
+fn own_display(parent: WritingMode, mode: WritingMode, winners: &Marked) -> Display
+    requires winners { All (λ w. HasSayable w.1) winners.now.list.now.items }
+    ensures { result ≡ step.own_display parent mode winners.now.list.now.items }
 {
     let display = match said(winners, Property::Display) {
         None => Display::Inline,
@@ -111,26 +113,26 @@ fn turned(differs: bool, display: Display) -> Display
 }
 
 #[tactic(auto, unfolding(crate::specs::Step::own_direction))]
-fn own_direction(parent: Direction, winners: &Winners) -> Direction
-    requires winners { All (λ w. HasSayable w.1) winners.now.items }
-    ensures { result ≡ step.own_direction parent winners.now.items }
+fn own_direction(parent: Direction, winners: &Marked) -> Direction
+    requires winners { All (λ w. HasSayable w.1) winners.now.list.now.items }
+    ensures { result ≡ step.own_direction parent winners.now.list.now.items }
 {
     computed_direction(parent, won(winners, Property::Direction))
 }
 
 #[tactic(auto, unfolding(crate::specs::Step::own_orientation))]
-fn own_orientation(parent: TextOrientation, winners: &Winners) -> TextOrientation
-    requires winners { All (λ w. HasSayable w.1) winners.now.items }
-    ensures { result ≡ step.own_orientation parent winners.now.items }
+fn own_orientation(parent: TextOrientation, winners: &Marked) -> TextOrientation
+    requires winners { All (λ w. HasSayable w.1) winners.now.list.now.items }
+    ensures { result ≡ step.own_orientation parent winners.now.list.now.items }
 {
     computed_orientation(parent, won(winners, Property::TextOrientation))
 }
 
 #[tactic(auto, unfolding(crate::specs::Step::own_combine, style_types::specs::Initial::initial))]
-fn own_combine(parent: Combine, winners: &Winners) -> Combine
+fn own_combine(parent: Combine, winners: &Marked) -> Combine
     requires parent { IsCombine parent }
-    requires winners { All (λ w. HasSayable w.1) winners.now.items }
-    ensures value { result ≡ step.own_combine parent winners.now.items }
+    requires winners { All (λ w. HasSayable w.1) winners.now.list.now.items }
+    ensures value { result ≡ step.own_combine parent winners.now.list.now.items }
     ensures bounded { IsCombine result }
 {
     match said(winners, Property::TextCombineUpright) {
@@ -140,9 +142,9 @@ fn own_combine(parent: Combine, winners: &Winners) -> Combine
 }
 
 #[tactic(auto, unfolding(crate::specs::Step::own_bidi, style_types::specs::Initial::initial))]
-fn own_bidi(winners: &Winners) -> UnicodeBidi
-    requires winners { All (λ w. HasSayable w.1) winners.now.items }
-    ensures { result ≡ step.own_bidi winners.now.items }
+fn own_bidi(winners: &Marked) -> UnicodeBidi
+    requires winners { All (λ w. HasSayable w.1) winners.now.list.now.items }
+    ensures { result ≡ step.own_bidi winners.now.list.now.items }
 {
     match said(winners, Property::UnicodeBidi) {
         None => UnicodeBidi::Normal,
@@ -151,10 +153,10 @@ fn own_bidi(winners: &Winners) -> UnicodeBidi
 }
 
 #[tactic(auto, unfolding(crate::specs::Step::own_face, style_types::specs::Initial::initial))]
-fn own_face(parent: u8, winners: &Winners) -> u8
+fn own_face(parent: u8, winners: &Marked) -> u8
     requires parent { parent < 8 }
-    requires winners { All (λ w. HasSayable w.1) winners.now.items }
-    ensures value { result ≡ step.own_face parent winners.now.items }
+    requires winners { All (λ w. HasSayable w.1) winners.now.list.now.items }
+    ensures value { result ≡ step.own_face parent winners.now.list.now.items }
     ensures bounded { result < 8 }
 {
     match said(winners, Property::FontFamily) {
@@ -164,11 +166,11 @@ fn own_face(parent: u8, winners: &Winners) -> u8
 }
 
 #[tactic(auto, unfolding(crate::specs::Step::own_line_height, style_types::specs::Initial::initial))]
-fn own_line_height(parent: LineHeight, font_size: i64, winners: &Winners) -> LineHeight
+fn own_line_height(parent: LineHeight, font_size: i64, winners: &Marked) -> LineHeight
     requires parent { IsLineHeight parent }
     requires font_size { IsFontSize font_size }
-    requires winners { All (λ w. HasSayable w.1) winners.now.items }
-    ensures value { result ≡ step.own_line_height parent font_size winners.now.items }
+    requires winners { All (λ w. HasSayable w.1) winners.now.list.now.items }
+    ensures value { result ≡ step.own_line_height parent font_size winners.now.list.now.items }
     ensures bounded { IsLineHeight result }
 {
     match said(winners, Property::LineHeight) {
@@ -178,9 +180,9 @@ fn own_line_height(parent: LineHeight, font_size: i64, winners: &Winners) -> Lin
 }
 
 #[tactic(auto, unfolding(crate::specs::Step::own_align, style_types::specs::Initial::initial))]
-fn own_align(parent: Align, winners: &Winners) -> Align
-    requires winners { All (λ w. HasSayable w.1) winners.now.items }
-    ensures { result ≡ step.own_align parent winners.now.items }
+fn own_align(parent: Align, winners: &Marked) -> Align
+    requires winners { All (λ w. HasSayable w.1) winners.now.list.now.items }
+    ensures { result ≡ step.own_align parent winners.now.list.now.items }
 {
     match said(winners, Property::TextAlign) {
         None => parent,
@@ -189,10 +191,10 @@ fn own_align(parent: Align, winners: &Winners) -> Align
 }
 
 #[tactic(auto, unfolding(crate::specs::Step::own_shift, style_types::specs::Initial::initial))]
-fn own_shift(font_size: i64, winners: &Winners) -> i64
+fn own_shift(font_size: i64, winners: &Marked) -> i64
     requires font_size { IsFontSize font_size }
-    requires winners { All (λ w. HasSayable w.1) winners.now.items }
-    ensures value { result ≡ step.own_shift font_size winners.now.items }
+    requires winners { All (λ w. HasSayable w.1) winners.now.list.now.items }
+    ensures value { result ≡ step.own_shift font_size winners.now.list.now.items }
     ensures bounded { IsLength result }
 {
     match said(winners, Property::VerticalAlign) {

@@ -5,17 +5,53 @@ ghost use Rattle.std.specs.List.{All};
 ghost use Rattle.style_types.specs.Property.{place_of};
 ghost use Rattle.style_types.specs.Value.{HasSayable};
 ghost use Rattle.computed.specs.Winners as winning;
+ghost use Rattle.computed.specs.Winners.{AreMarked};
 
 use style_types::{Property, Value, Winners, specified};
 
+// A mark for each property of the table, by its place.
+type Marks = [bool; 55];
+
+/// The values that won, and which properties have one: most have none, and these are seen without a search.
+#[derive(Drop)]
+pub struct Marked<'a> {
+    pub list: &'a Winners,
+    marks: Marks,
+
+    ghost are_marked: { AreMarked marks list.now.items },
+}
+
+impl<'a> Marked<'a> {
+    /// These winners with their marks.
+    pub fn of(list: &'a Winners) -> Marked<'a>
+        ensures { result.list.now ≡ list.now }
+    {
+        let marks = marks_of(list);
+        Marked { list, marks }
+    }
+}
+
+fn marks_of(winners: &[(Property, Value)]) -> Marks
+    ensures { AreMarked result winners.now }
+{
+    let mut marks = [false; 55];
+    for winner in winners {
+        marks[winner.0.place()] = true;
+    }
+    marks
+}
+
 /// The value that won for a property, if one did.
 #[tactic(auto, unfolding(crate::specs::Winners::won))]
-pub fn won(winners: &Winners, property: Property) -> Option<Value>
-    requires winners { All (λ w. HasSayable w.1) winners.now.items }
-    ensures value { result ≡ winning.won winners.now.items property }
+pub fn won(winners: &Marked, property: Property) -> Option<Value>
+    requires winners { All (λ w. HasSayable w.1) winners.now.list.now.items }
+    ensures value { result ≡ winning.won winners.now.list.now.items property }
     ensures sayable { IfSome result HasSayable }
 {
-    let winner = winners.iter().find(
+    if !winners.marks[property.place()] {
+        return None;
+    }
+    let winner = winners.list.iter().find(
         |winner| -> bool
             ensures { result ≡ nat_eq (place_of winner.now.now.0) (place_of property) }
         { winner.0.place() == property.place() },
@@ -25,9 +61,9 @@ pub fn won(winners: &Winners, property: Property) -> Option<Value>
 
 /// The specified value of a property; `None` is the parent's.
 #[tactic(auto, unfolding(crate::specs::Winners::said))]
-pub fn said(winners: &Winners, property: Property) -> Option<Value>
-    requires winners { All (λ w. HasSayable w.1) winners.now.items }
-    ensures value { result ≡ winning.said winners.now.items property }
+pub fn said(winners: &Marked, property: Property) -> Option<Value>
+    requires winners { All (λ w. HasSayable w.1) winners.now.list.now.items }
+    ensures value { result ≡ winning.said winners.now.list.now.items property }
     ensures sayable { IfSome result HasSayable }
 {
     specified(property, won(winners, property))
