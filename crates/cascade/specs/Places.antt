@@ -1,6 +1,6 @@
 -- Places under names.
 use Rattle.std.specs.Prelude.{ℕ, List, []}
-use Rattle.std.specs.BTreeMap.{get_by_text}
+use Rattle.std.specs.HashMap.{get_by_text}
 use Rattle.std.specs.Option.{option_map_or}
 use Rattle.cascade.specs.declared.places.Places.{Places}
 

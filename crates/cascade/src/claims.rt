@@ -127,7 +127,7 @@ pub(crate) fn put_rule(
     place: usize,
     rule: &Rule,
 ) -> Result<(), AllocError>
-    ensures { OnOk result (all.new.items ≡ all.old.items ++ definitions.stated (origin_in sheet) false (specificity_of (selector_of rule.now.selector)) place 0 rule.now.declarations.items) }
+    ensures { OnOk result (all.new.items ≡ all.old.items ++ definitions.stated (origin_in sheet) false (specificity_of (selector_of rule.now.selector)) place 0 rule.now.declarations.value.items) }
 {
     let standing = Standing {
         sheet,

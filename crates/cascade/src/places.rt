@@ -4,13 +4,13 @@ ghost use Rattle.std.specs.Prelude.{◌≡◌, List, ℕ, [], ◌∷◌, ◌++�
 ghost use Rattle.cascade.specs.Places.{places_under};
 
 use std::alloc::{AllocError, Global};
-use std::collections::BTreeMap;
+use std::collections::HashMap;
 use style_types::Letters;
 
 /// Places of rules, each under a name.
 #[derive(Drop)]
 pub(crate) struct Places {
-    under: BTreeMap<Letters, Vec<usize>>,
+    under: HashMap<Letters, Vec<usize>>,
 }
 
 impl Places {
@@ -19,7 +19,7 @@ impl Places {
         ensures { (name : List ℕ) → places_under result name ≡ [] }
     {
         Places {
-            under: BTreeMap::new(alloc),
+            under: HashMap::new(alloc),
         }
     }
 

@@ -19,7 +19,7 @@ pub(crate) fn next_selector(alloc: Global, text: &str) -> Result<(Selector, &str
     ensures read { Reads (λ s. (selector_of s.0, s.1.now)) result (readers.selector text.now) }
     ensures shorter { IfOk result (λ s. length s.1.now ≤ length text.now) }
 {
-    let mut parts = Parts::new(alloc);
+    let mut parts = Parts::with_capacity(alloc, 1)?;
     let (white, rest) = with_compound(alloc, Joint::Descendant, &mut parts, text)?;
     joined(alloc, parts, white, rest)
 }

@@ -16,6 +16,7 @@ use css_tokens::gap;
 use css_values::{CssError, Stop, Within, declarations_within, told};
 use reading::strip;
 use std::alloc::Global;
+use std::rc::Rc;
 use style_types::{Declarations, Rule, Rules, Selector};
 
 /// What is read of the sheets so far: their rules, and the count of their declarations, each counted for each
@@ -106,36 +107,37 @@ fn block<'a>(
     };
     let (declared, rest) = declarations_within(alloc, within, end, text)?;
     let rest = strip("}", rest)?;
-    put_rules(alloc, sheet, selectors, &declared)?;
+    put_rules(alloc, sheet, selectors, declared)?;
     Ok(rest)
 }
 
-// Each selector with all the declarations.
+// Each selector with all the declarations, which their rules share.
 fn put_rules(
     alloc: Global,
     sheet: &mut Sheet,
     selectors: Vec<Selector>,
-    declared: &Declarations,
+    declared: Declarations,
 ) -> Result<(), Stop<'static>>
-    ensures { PutsRules result (sheet_of sheet.new) (readers.with_rules (sheet_of sheet.old) (map selector_of selectors.items) declared.now.items) }
+    ensures { PutsRules result (sheet_of sheet.new) (readers.with_rules (sheet_of sheet.old) (map selector_of selectors.items) declared.items) }
 {
     let count = selectors.len().saturating_mul(declared.len());
+    let shared = Rc::new(alloc, declared)?;
+    sheet.rules.reserve(selectors.len())?;
     for selector in selectors {
-        put_rule(alloc, &mut sheet.rules, selector, declared)?;
+        put_rule(&mut sheet.rules, selector, &shared)?;
     }
     sheet.declared = sheet.declared.saturating_add(count);
     Ok(())
 }
 
 fn put_rule(
-    alloc: Global,
     rules: &mut Rules,
     selector: Selector,
-    declared: &Declarations,
+    shared: &Rc<Declarations>,
 ) -> Result<(), Stop<'static>>
-    ensures { PutsRule result rules.old.items rules.new.items (record { selector = selector_of selector; declarations = declared.now.items }) }
+    ensures { PutsRule result rules.old.items rules.new.items (record { selector = selector_of selector; declarations = shared.now.value.items }) }
 {
-    let declarations = Declarations::from_slice(alloc, declared.as_slice())?;
+    let declarations = shared.clone()?;
     rules.push(Rule {
         selector,
         declarations,

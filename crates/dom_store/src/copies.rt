@@ -101,7 +101,7 @@ pub(crate) fn copy_of_text(text: &Letters) -> Result<Letters, AllocError>
 pub(crate) fn copy_of_texts(alloc: Global, texts: &[Letters]) -> Result<LetterList, AllocError>
     ensures { IfOk result (λ copy. map (λ t. string_bytes t) copy.items ≡ map (λ t. string_bytes t) texts.now) }
 {
-    let mut copy = Vec::new(alloc);
+    let mut copy = Vec::with_capacity(alloc, texts.len())?;
     for text in texts {
         copy.push(text.clone()?)?;
     }

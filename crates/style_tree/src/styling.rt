@@ -96,7 +96,7 @@ impl<'a> Styling<'a> {
         ensures bounded { IfOk result (λ made. AreBounded (nodes_of made)) }
     {
         let html = self.document.node(0).unwrap();
-        let mut children = StyledNodes::new(alloc);
+        let mut children = StyledNodes::with_capacity(alloc, 1)?;
         children.push(body)?;
         let made = made(0, &html.kind, style, children)?;
         Ok(made)
@@ -166,10 +166,10 @@ impl<'a> Styling<'a> {
         ensures styled { IfOk result (λ all. all_nodes_of all.items ≡ styled_in (index_rules self.now.rules.now) (state_of self.now.document.now) parent.now (tree_to depth (state_of self.now.document.now) numbers.now)) }
         ensures bounded { IfOk result (λ all. AreBounded (all_nodes_of all.items)) }
     {
-        let mut all = StyledNodes::new(alloc);
         if depth == 0 {
-            return Ok(all);
+            return Ok(StyledNodes::new(alloc));
         }
+        let mut all = StyledNodes::with_capacity(alloc, numbers.len())?;
         for number in numbers {
             if let Some(node) = self.document.node(*number) {
                 all.push(self.node(alloc, *number, node, parent, depth - 1)?)?;

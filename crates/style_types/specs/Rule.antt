@@ -30,7 +30,7 @@ abbrev pub selector_of : code_selector.Selector → List Compound
 selector_of s = compounds_of s.parts.items
 
 abbrev pub ruling_of : code_rule.Rule → Ruling
-ruling_of r = record { selector = selector_of r.selector; declarations = r.declarations.items }
+ruling_of r = record { selector = selector_of r.selector; declarations = r.declarations.value.items }
 
 abbrev pub rulings_of : List code_rule.Rule → List Ruling
 rulings_of = map ruling_of

@@ -1,32 +1,31 @@
-//! Copies of rules, which stand for the same rules.
+//! Copies of rules, which stand for the same rules and share their declarations.
 
 ghost use Rattle.std.specs.Prelude.{◌≡◌, map, option_map, IfOk};
 ghost use Rattle.std.specs.String.{string_bytes};
 ghost use Rattle.style_types.specs.Rule.{compound_of, compounds_of, selector_of, ruling_of, rulings_of};
 
-use crate::lists::{Declarations, LetterList, Letters, Parts, Rules};
+use crate::lists::{LetterList, Letters, Parts, Rules};
 use crate::rule::{Part, Rule, Selector};
-use crate::value::Declaration;
 use std::alloc::{AllocError, Global};
 
 /// A copy of rules.
 pub fn copy_of_rules(alloc: Global, rules: &[Rule]) -> Result<Rules, AllocError>
     ensures { IfOk result (λ own. rulings_of own.items ≡ rulings_of rules.now) }
 {
-    let mut own = Vec::new(alloc);
+    let mut own = Vec::with_capacity(alloc, rules.len())?;
     for rule in rules {
         own.push(copy_of_rule(alloc, rule)?)?;
     }
     Ok(own)
 }
 
-/// A copy of a rule.
+/// A copy of a rule, which shares its declarations.
 pub fn copy_of_rule(alloc: Global, rule: &Rule) -> Result<Rule, AllocError>
     ensures { IfOk result (λ own. ruling_of own ≡ ruling_of rule.now) }
 {
     Ok(Rule {
         selector: copy_of_selector(alloc, &rule.selector)?,
-        declarations: copy_of_declarations(alloc, &rule.declarations)?,
+        declarations: rule.declarations.clone()?,
     })
 }
 
@@ -39,21 +38,10 @@ pub fn copy_of_selector(alloc: Global, selector: &Selector) -> Result<Selector, 
     })
 }
 
-fn copy_of_declarations(
-    alloc: Global,
-    declarations: &[Declaration],
-) -> Result<Declarations, AllocError>
-    ensures { IfOk result (λ own. own.items ≡ declarations.now) }
-{
-    let mut own = Vec::new(alloc);
-    own.extend_from_slice(declarations)?;
-    Ok(own)
-}
-
 fn copy_of_parts(alloc: Global, parts: &[Part]) -> Result<Parts, AllocError>
     ensures { IfOk result (λ own. compounds_of own.items ≡ compounds_of parts.now) }
 {
-    let mut own = Vec::new(alloc);
+    let mut own = Vec::with_capacity(alloc, parts.len())?;
     for part in parts {
         own.push(copy_of_part(alloc, part)?)?;
     }
@@ -83,7 +71,7 @@ fn copy_of_tag(tag: &Option<Letters>) -> Result<Option<Letters>, AllocError>
 fn copy_of_texts(alloc: Global, texts: &[Letters]) -> Result<LetterList, AllocError>
     ensures { IfOk result (λ own. map (λ t. string_bytes t) own.items ≡ map (λ t. string_bytes t) texts.now) }
 {
-    let mut own = Vec::new(alloc);
+    let mut own = Vec::with_capacity(alloc, texts.len())?;
     for text in texts {
         own.push(text.clone()?)?;
     }

@@ -1,6 +1,7 @@
 //! Selectors and rules, and all that a document says of styles (Selectors 3; CSS 2, 4.1.7).
 
 use crate::lists::{Declarations, LetterList, Letters, Parts, Rules, Styles};
+use std::rc::Rc;
 
 /// How a compound selector is joined to the one on its left (Selectors 3, 8).
 #[derive(Clone, Copy, Debug, PartialEq, Eq)]
@@ -25,11 +26,12 @@ pub struct Selector {
     pub parts: Parts,
 }
 
-/// A rule: one selector and its declarations in order, shorthands expanded.
+/// A rule: one selector and its declarations in order, shorthands expanded. The rules of a list of selectors, and copies
+/// of a rule, share their declarations.
 #[derive(Debug, Drop)]
 pub struct Rule {
     pub selector: Selector,
-    pub declarations: Declarations,
+    pub declarations: Rc<Declarations>,
 }
 
 /// The author's rules of a document, and each node's own declarations.

@@ -12,14 +12,14 @@ pub node-returns-clause-bounded : goal.node-returns-clause-bounded
 node-returns-clause-bounded t c = bounded_rolled _ c.in_ok-style.ensures.bounded c.in_ok-nodes.ensures.bounded
 
 pub nodes-returns-then-depth-eq0-clause-styled : goal.nodes-returns-then-depth-eq0-clause-styled
-nodes-returns-then-depth-eq0-clause-styled t c = ap all_nodes_of c.new-all.ensures.items ∙ used_up _ _ _ _ c.args.depth c.if-depth-eq0.true
+nodes-returns-then-depth-eq0-clause-styled t c = ap all_nodes_of c.new.ensures.items ∙ used_up _ _ _ _ c.args.depth c.if-depth-eq0.true
 
 pub nodes-returns-then-depth-eq0-clause-bounded : goal.nodes-returns-then-depth-eq0-clause-bounded
 unfolding AreBounded
-nodes-returns-then-depth-eq0-clause-bounded t c = subst (λ (l : List StyledNode). AreBounded (all_nodes_of l)) (sym c.new-all.ensures.items) tt
+nodes-returns-then-depth-eq0-clause-bounded t c = subst (λ (l : List StyledNode). AreBounded (all_nodes_of l)) (sym c.new.ensures.items) tt
 
 pub nodes-loop-number-init : goal.nodes-loop-number-init
-nodes-loop-number-init t c = subst (IsGoing _ _ _ _ _ 0) (sym c.new-all.ensures.items) (starts _ _ _ _ c.args.depth)
+nodes-loop-number-init t c = subst (IsGoing _ _ _ _ _ 0) (sym c.in_ok-all.ensures.items) (starts _ _ _ _ c.args.depth)
 
 pub nodes-loop-number-preserved : goal.nodes-loop-number-preserved
 nodes-loop-number-preserved t c = elim c.match-node.branch [
