@@ -1,6 +1,7 @@
 pub mod Claiming
 mod Greatest
 pub mod Lines
+mod Keeping
 mod Listing
 pub mod Holding
 pub mod Chaining

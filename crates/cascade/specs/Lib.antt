@@ -1,7 +1,9 @@
+pub mod Chain
 pub mod Chains
 pub mod Claims
 pub mod Filing
 pub mod Index
+pub mod Kept
 pub mod Line
 pub mod Matching
 pub mod Places

@@ -1,5 +1,5 @@
 -- Which declaration wins. CSS Cascading 4, 6.1; CSS Logical Properties 1, 4; CSS Writing Modes 4, 7.4.
-use Rattle.std.specs.Prelude.{◌≡◌, ◌≢◌, ℕ, Bool, true, false, cond, nat_eq, List, [], ◌∷◌, filter, filter_map, get_or, map, Option, Some, None, option_map, slice_get}
+use Rattle.std.specs.Prelude.{◌≡◌, ◌≢◌, ℕ, Bool, true, false, cond, nat_eq, List, [], ◌∷◌, filter, filter_map, get_or, length, map, Option, Some, None, option_map, slice_get}
 use Rattle.std.specs.Borrow.{Bor}
 use Rattle.std.specs.List.{All, Contains}
 use Rattle.wm_modes.specs.declared.mode.WritingMode.{WritingMode}
@@ -100,6 +100,10 @@ claim_of best = option_map (λ claim. claim.now) best
 
 abbrev pub claims_of : List (Option (Bor Claim)) → List (Option Claim)
 claims_of best = map claim_of best
+
+-- none yet, for any of the 55 properties
+abbrev pub AreNone : (best : List (Option Claim)) → Type 0
+AreNone best = (length best ≡ 55) × ((property : Property) → get_or best (place_of property) None ≡ None)
 
 abbrev pub AreBest : WritingMode → Direction → List Claim → (best : List (Option Claim)) → Type 0
 AreBest mode dir list best = (property : Property) → get_or best (place_of property) None ≡ greatest (naming mode dir property list)

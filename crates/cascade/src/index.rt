@@ -1,11 +1,12 @@
 //! Rules made ready for many elements.
 
-ghost use Rattle.std.specs.Prelude.{◌≡◌, IfOk};
+ghost use Rattle.std.specs.Prelude.{◌≡◌, IfOk, Some};
 ghost use Rattle.css_sheet.specs.Default.{default_rules};
-ghost use Rattle.dom_store.specs.State.{IsSaidState, line, state_of};
+ghost use Rattle.dom_store.specs.State.{IsSaidState, entry_of, line, state_of};
 ghost use Rattle.style_types.specs.Rule.{rulings_of};
 ghost use Rattle.cascade.specs.Index.{found_claims, index_rules};
 ghost use Rattle.cascade.specs.Line.{whats_of};
+ghost use Rattle.cascade.specs.Kept.{IsKept, kept_state};
 ghost use Rattle.cascade.specs.Winners as definitions;
 ghost use Rattle.cascade.specs.Winners.{AreSaidRules, AreSaidWinners};
 
@@ -13,6 +14,7 @@ use crate::claim::Claim;
 use crate::claims::{Sheet, claims, put_own};
 use crate::defaults::Defaults;
 use crate::filed::Filed;
+use crate::kept::KeptLine;
 use crate::line::line_of;
 use crate::winning::winners_among;
 use css_sheet::default_sheet;
@@ -101,6 +103,30 @@ impl RuleIndex {
         let winners = match line_of(document, node) {
             Some(line) => self.winners_on(alloc, line.nodes(), parent)?,
             None => self.winners_on(alloc, &[], parent)?,
+        };
+        Ok(winners)
+    }
+
+    /// The same for a node in hand, whose line is kept for the next one.
+    pub fn winners_in<'a>(
+        &self,
+        alloc: Global,
+        kept: &mut KeptLine<'a>,
+        number: u32,
+        node: &'a Node,
+        parent: &Style,
+    ) -> Result<Winners, AllocError>
+        requires kept { IsKept kept.old }
+        requires here { (kept_state kept.old).node_at number ≡ Some (entry_of node.now) }
+        ensures same { kept_state kept.new ≡ kept_state kept.old }
+        ensures kept { IsKept kept.new }
+        ensures winners { IfOk result (λ w. w.items ≡ definitions.winners (index_rules self.now) (line (kept_state kept.old) number) parent.now) }
+        ensures said { AreSaidRules (index_rules self.now) → IsSaidState (kept_state kept.old) → IfOk result (λ w. AreSaidWinners w.items) }
+    {
+        let winners = if kept.enter(number, node) {
+            self.winners_on(alloc, kept.nodes(), parent)?
+        } else {
+            self.winners(alloc, kept.document(), number, parent)?
         };
         Ok(winners)
     }

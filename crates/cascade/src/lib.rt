@@ -6,6 +6,7 @@ mod claims;
 mod defaults;
 mod filed;
 mod index;
+mod kept;
 pub mod laws;
 mod line;
 mod matching;
@@ -15,4 +16,5 @@ mod winning;
 
 pub use claim::{Claim, Key, Origin};
 pub use index::{RuleIndex, winners};
+pub use kept::KeptLine;
 pub use matching::matches;

@@ -7,7 +7,7 @@ ghost use Rattle.cascade.specs.Line.{whats_of};
 use dom_store::{Document, Node};
 
 /// How many nodes a line has at most: no node stands deeper.
-const MOST: usize = 64;
+pub(crate) const MOST: usize = 64;
 
 /// A node, its parent, and so on up to `html`.
 #[derive(Drop)]
@@ -54,8 +54,8 @@ pub(crate) fn line_of(document: &Document, node: u32) -> Option<Line<'_>>
     Some(Line { nodes, length })
 }
 
-// Puts a node at a place.
-fn put<'a>(nodes: &mut [&'a Node], place: usize, node: &'a Node)
+/// Puts a node at a place.
+pub(crate) fn put<'a>(nodes: &mut [&'a Node], place: usize, node: &'a Node)
     requires { place < length nodes.old }
     ensures { nodes.new ≡ slice_set nodes.old place node.entry }
 {

@@ -2,15 +2,15 @@
 
 ghost use Rattle.std.specs.Prelude.{◌≡◌, IfOk, map, option_map};
 ghost use Rattle.cascade.specs.Winners as definitions;
-ghost use Rattle.cascade.specs.Winners.{AreBest, claim_of, claims_of};
+ghost use Rattle.cascade.specs.Winners.{AreBest, AreNone, claim_of, claims_of};
 
 use crate::claim::Claim;
 use std::alloc::{AllocError, Global};
 use style_types::{
-    PROPERTIES, Property, PropertyRow, Style, Value, Winners, computed_direction, computed_mode,
-    computed_orientation, page_property,
+    PROPERTIES, Property, PropertyRow, Style, TextOrientation, Value, Winners, computed_direction,
+    computed_mode, computed_orientation, page_property,
 };
-use wm_modes::{Direction, WritingMode};
+use wm_modes::{Direction, WritingMode, used_direction};
 
 // For how many winners there is room at first: few elements have more.
 const ROOM: usize = 16;
@@ -26,24 +26,25 @@ pub(crate) fn winners_among(
 ) -> Result<Winners, AllocError>
     ensures { IfOk result (λ w. w.items ≡ definitions.winners_in claims.now parent.now) }
 {
-    let turned = turned(claims, parent);
-    let best = best_claims(claims, turned.mode, turned.used_direction());
+    let (mode, dir) = flow_of(claims, parent);
+    let mut best = [None; 55];
+    put_best(&mut best, claims, mode, dir);
     listed(alloc, &PROPERTIES, &best)
 }
 
-// The parent's style with the element's own mode, direction and orientation.
-fn turned(claims: &[Claim], parent: &Style) -> Style
-    ensures { result ≡ definitions.turned claims.now parent.now }
+// The element's own mode and used direction, by which it maps its flow.
+fn flow_of(claims: &[Claim], parent: &Style) -> (WritingMode, Direction)
+    ensures mode { result.0 ≡ (definitions.turned claims.now parent.now).mode }
+    ensures dir { result.1 ≡ definitions.direction_of (definitions.turned claims.now parent.now) }
 {
-    Style {
-        mode: computed_mode(parent.mode, first_winner(claims, Property::WritingMode)),
-        direction: computed_direction(parent.direction, first_winner(claims, Property::Direction)),
-        orientation: computed_orientation(
-            parent.orientation,
-            first_winner(claims, Property::TextOrientation),
-        ),
-        ..*parent
-    }
+    let mode = computed_mode(parent.mode, first_winner(claims, Property::WritingMode));
+    let direction = computed_direction(parent.direction, first_winner(claims, Property::Direction));
+    let orientation = computed_orientation(
+        parent.orientation,
+        first_winner(claims, Property::TextOrientation),
+    );
+    let is_upright = matches!(orientation, TextOrientation::Upright);
+    (mode, used_direction(mode, is_upright, direction))
 }
 
 // The value that wins for a property that is about the whole box.
@@ -84,16 +85,15 @@ fn greater_if<'a>(counts: bool, best: Option<&'a Claim>, claim: &'a Claim) -> Op
     }
 }
 
-// The greatest claim for each property of the page.
-fn best_claims<'a>(claims: &'a [Claim], mode: WritingMode, dir: Direction) -> Best<'a>
-    ensures { AreBest mode dir claims.now (claims_of result) }
+// Puts the greatest claim for each property of the page where there is none yet.
+fn put_best<'a>(best: &mut Best<'a>, claims: &'a [Claim], mode: WritingMode, dir: Direction)
+    requires { AreNone (claims_of best.old) }
+    ensures { AreBest mode dir claims.now (claims_of best.new) }
 {
-    let mut best = [None; 55];
     for claim in claims {
         let place = page_property(claim.property, mode, dir).place();
         best[place] = greater_if(true, best[place], claim);
     }
-    best
 }
 
 // The values of these claims, each under the name of its property of the page, in the order of these rows.

@@ -1,18 +1,19 @@
 //! The style of each node of a document (CSS 2, 6.1; CSS Writing Modes 4, 3.2 and 8).
 
-ghost use Rattle.std.specs.Prelude.{◌≡◌, IfOk};
+ghost use Rattle.std.specs.Prelude.{◌≡◌, IfOk, Some};
 ghost use Rattle.style_types.specs.Style.{IsBounded};
 ghost use Rattle.style_types.specs.Tree.{Nodes, all_nodes_of, before, nodes_of};
 ghost use Rattle.style_types.specs.Tree as trees;
 ghost use Rattle.dom_store.specs.State.{IsRooted, IsSaidState, entry_of, state_of, tree_to, what_of};
 ghost use Rattle.cascade.specs.Index.{index_rules};
+ghost use Rattle.cascade.specs.Kept.{IsKept, kept_state};
 ghost use Rattle.cascade.specs.Winners.{AreSaidRules};
 ghost use Rattle.style_tree.specs.Styling as definitions;
 ghost use Rattle.style_tree.specs.Styling.{AreBounded, IsBodyOf, IsHtmlOf, styled_document, styled_in, styled_one};
 
 use crate::kind::kind_of;
 use crate::root::{root_style, unturned};
-use cascade::RuleIndex;
+use cascade::{KeptLine, RuleIndex};
 use computed::compute;
 use dom_store::{Document, Node, NodeKind};
 use std::alloc::{AllocError, Global};
@@ -82,7 +83,8 @@ impl<'a> Styling<'a> {
         ensures bounded { IfOk result (λ made. AreBounded (nodes_of made)) }
     {
         let body = self.document.node(1).unwrap();
-        let children = self.nodes(alloc, &body.children, style, 62)?;
+        let mut kept = KeptLine::new(self.document, body);
+        let children = self.nodes(alloc, &mut kept, &body.children, style, 62)?;
         let made = made(1, &body.kind, *style, children)?;
         Ok(made)
     }
@@ -125,29 +127,62 @@ impl<'a> Styling<'a> {
         }
     }
 
+    // The same for a node in hand, where the line of the one before is kept.
+    fn style_in(
+        &self,
+        alloc: Global,
+        kept: &mut KeptLine<'a>,
+        number: u32,
+        node: &'a Node,
+        parent: &Style,
+    ) -> Result<Style, AllocError>
+        requires here { (state_of self.now.document.now).node_at number ≡ Some (entry_of node.now) }
+        requires kept { IsKept kept.old }
+        requires document { kept_state kept.old ≡ state_of self.now.document.now }
+        requires rules { AreSaidRules (index_rules self.now.rules.now) }
+        requires own { IsSaidState (state_of self.now.document.now) }
+        requires parent { IsBounded parent.now }
+        ensures kept { IsKept kept.new }
+        ensures same { kept_state kept.new ≡ kept_state kept.old }
+        ensures style { IfOk result (λ style. style ≡ definitions.style_at (index_rules self.now.rules.now) (state_of self.now.document.now) number (what_of node.now.kind) parent.now) }
+        ensures bounded { IfOk result (λ style. IsBounded style) }
+    {
+        let NodeKind::Element { .. } = node.kind else {
+            return Ok(*parent);
+        };
+        let winners = self.rules.winners_in(alloc, kept, number, node, parent)?;
+        Ok(compute(parent, &winners))
+    }
+
     // A node with its style and all inside it, down to a depth.
     #[cycle(node)]
     fn node(
         &self,
         alloc: Global,
+        kept: &mut KeptLine<'a>,
         number: u32,
-        node: &Node,
+        node: &'a Node,
         parent: &Style,
         depth: usize,
     ) -> Result<StyledNode, AllocError>
+        requires here { (state_of self.now.document.now).node_at number ≡ Some (entry_of node.now) }
+        requires kept { IsKept kept.old }
+        requires document { kept_state kept.old ≡ state_of self.now.document.now }
         requires rules { AreSaidRules (index_rules self.now.rules.now) }
         requires own { IsSaidState (state_of self.now.document.now) }
         requires parent { IsBounded parent.now }
+        ensures kept { IsKept kept.new }
+        ensures same { kept_state kept.new ≡ kept_state kept.old }
         ensures styled { IfOk result (λ made. (next : Nodes) → before made next
             ≡ styled_one (index_rules self.now.rules.now) (state_of self.now.document.now) parent.now number (what_of node.now.kind) (tree_to depth (state_of self.now.document.now) node.now.children.items) next) }
         ensures bounded { IfOk result (λ made. AreBounded (nodes_of made)) }
     {
-        let style = self.own_style(alloc, number, node, parent)?;
+        let style = self.style_in(alloc, kept, number, node, parent)?;
         Ok(StyledNode {
             node: number,
             kind: kind_of(&node.kind)?,
             style,
-            children: self.nodes(alloc, &node.children, &style, depth)?,
+            children: self.nodes(alloc, kept, &node.children, &style, depth)?,
         })
     }
 
@@ -156,13 +191,18 @@ impl<'a> Styling<'a> {
     fn nodes(
         &self,
         alloc: Global,
+        kept: &mut KeptLine<'a>,
         numbers: &[u32],
         parent: &Style,
         depth: usize,
     ) -> Result<StyledNodes, AllocError>
+        requires kept { IsKept kept.old }
+        requires document { kept_state kept.old ≡ state_of self.now.document.now }
         requires rules { AreSaidRules (index_rules self.now.rules.now) }
         requires own { IsSaidState (state_of self.now.document.now) }
         requires parent { IsBounded parent.now }
+        ensures kept { IsKept kept.new }
+        ensures same { kept_state kept.new ≡ kept_state kept.old }
         ensures styled { IfOk result (λ all. all_nodes_of all.items ≡ styled_in (index_rules self.now.rules.now) (state_of self.now.document.now) parent.now (tree_to depth (state_of self.now.document.now) numbers.now)) }
         ensures bounded { IfOk result (λ all. AreBounded (all_nodes_of all.items)) }
     {
@@ -172,7 +212,7 @@ impl<'a> Styling<'a> {
         let mut all = StyledNodes::with_capacity(alloc, numbers.len())?;
         for number in numbers {
             if let Some(node) = self.document.node(*number) {
-                all.push(self.node(alloc, *number, node, parent, depth - 1)?)?;
+                all.push(self.node(alloc, kept, *number, node, parent, depth - 1)?)?;
             }
         }
         Ok(all)

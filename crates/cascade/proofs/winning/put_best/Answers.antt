@@ -1,6 +1,6 @@
 use Rattle.cascade.specs.Winners.{claims_of}
 use Rattle.cascade.proofs.Greatest.{best_goes_on_at, best_ends}
-use Rattle.cascade.proofs.winning.best_claims.Goals as goal
+use Rattle.cascade.proofs.winning.put_best.Goals as goal
 
 pub loop-claim-preserved : goal.loop-claim-preserved
 loop-claim-preserved c =
