@@ -1,7 +1,7 @@
 -- The hexadecimal digits of a code point, place by place.
-use Rattle.std.proofs.Common.{◌≡◌, refl, sym, ap, ◌∙◌, ℕ, ◌/◌, ◌<◌, ◌≤◌, List, [], ◌∷◌, ◌++◌, length, true, false, Bool, cond, suc, nat_eq, nat_lt, arith, ◌⊎◌, inl, inr, ◌-◌}
-use Rattle.std.specs.Prelude.{replicate}
-use Rattle.std.specs.Fmt.{digits, digits_onto}
+use Rattle.std.proofs.Common.{◌≡◌, refl, sym, ap, ◌∙◌, ℕ, zero, ◌/◌, ◌<◌, ◌≤◌, List, [], ◌∷◌, ◌++◌, length, true, false, Bool, cond, suc, nat_eq, nat_lt, arith, ◌⊎◌, inl, inr, ◌-◌}
+use Rattle.std.specs.Prelude.{replicate, slice_index_or}
+use Rattle.std.specs.Fmt.{digit_glyph, digits, digits_onto}
 use Rattle.std.proofs.lemmas.Bool.Decides.{nat_tests}
 use Rattle.listing.specs.Words.{code_point, digit, four_digits, high_digit}
 
@@ -123,3 +123,27 @@ all_pushed sign c n t0 t1 t2 t3 t4 small is e0 e1 e2 e3 e4 = rw (e4, e3, e2, e1,
 -- of four digits at most
 pub short_spelled : (sign c : ℕ) → c < 65536 → sign ∷ four_digits c ≡ sign ∷ code_point c
 short_spelled sign c small = ap (λ (l : List ℕ). sign ∷ l) (sym (last_four c small))
+
+-- ---- the sign of a digit, by its table
+
+abbrev pub signs : List ℕ
+signs = 48 ∷ 49 ∷ 50 ∷ 51 ∷ 52 ∷ 53 ∷ 54 ∷ 55 ∷ 56 ∷ 57 ∷ 65 ∷ 66 ∷ 67 ∷ 68 ∷ 69 ∷ 70 ∷ []
+
+pub sign_is : (digit d : ℕ) → digit < 16 → slice_index_or signs digit d ≡ digit_glyph true digit
+sign_is zero d lt = refl
+sign_is (suc zero) d lt = refl
+sign_is (suc (suc zero)) d lt = refl
+sign_is (suc (suc (suc zero))) d lt = refl
+sign_is (suc (suc (suc (suc zero)))) d lt = refl
+sign_is (suc (suc (suc (suc (suc zero))))) d lt = refl
+sign_is (suc (suc (suc (suc (suc (suc zero)))))) d lt = refl
+sign_is (suc (suc (suc (suc (suc (suc (suc zero))))))) d lt = refl
+sign_is (suc (suc (suc (suc (suc (suc (suc (suc zero)))))))) d lt = refl
+sign_is (suc (suc (suc (suc (suc (suc (suc (suc (suc zero))))))))) d lt = refl
+sign_is (suc (suc (suc (suc (suc (suc (suc (suc (suc (suc zero)))))))))) d lt = refl
+sign_is (suc (suc (suc (suc (suc (suc (suc (suc (suc (suc (suc zero))))))))))) d lt = refl
+sign_is (suc (suc (suc (suc (suc (suc (suc (suc (suc (suc (suc (suc zero)))))))))))) d lt = refl
+sign_is (suc (suc (suc (suc (suc (suc (suc (suc (suc (suc (suc (suc (suc zero))))))))))))) d lt = refl
+sign_is (suc (suc (suc (suc (suc (suc (suc (suc (suc (suc (suc (suc (suc (suc zero)))))))))))))) d lt = refl
+sign_is (suc (suc (suc (suc (suc (suc (suc (suc (suc (suc (suc (suc (suc (suc (suc zero))))))))))))))) d lt = refl
+sign_is (suc (suc (suc (suc (suc (suc (suc (suc (suc (suc (suc (suc (suc (suc (suc (suc n)))))))))))))))) d lt = absurd (omega arith)

@@ -1,11 +1,11 @@
 -- A text that is put piece by piece behind what waits for a sink.
-use Rattle.std.proofs.Common.{◌≡◌, sym, ap, subst, ◌∙◌, ℕ, ◌+◌, ◌<◌, List, [], ◌++◌, length, drop, get_or, append_assoc, append-nil}
+use Rattle.std.proofs.Common.{◌≡◌, sym, ap, subst, ◌∙◌, arith, ℕ, ◌+◌, ◌<◌, List, [], ◌∷◌, ◌++◌, length, drop, get_or, append_assoc, append-nil}
 use Rattle.std.proofs.lemmas.List.{drop_more}
 use Rattle.std.specs.declared.option.Option.{Option}
 use Rattle.std.specs.Prelude.{Result, Ok, Err, OnOk}
 use Rattle.io_edge.proofs.Growth.{front_of_longer, put_front, put_more, starts, waits_on}
 use Rattle.io_edge.specs.Edge.{AppendsUpTo, AppendsFront}
-use Rattle.listing.specs.Runs.{told}
+use Rattle.listing.specs.Runs.{character, glyphs, told}
 
 -- ---- one piece of what is left
 
@@ -89,3 +89,23 @@ nothing sink waiting = (waiting, nothing_put sink waiting)
 
 abbrev pub done : Result (Unit {0}) (Unit {0})
 done = Ok tt
+
+-- ---- one unit of one character
+
+pub one_character : (units : List (List ℕ)) (c : ℕ) → length units ≡ 1 → length (get_or units 0 []) ≡ 1 → c ≡ get_or (get_or units 0 []) 0 c → (c ∷ []) ∷ [] ≡ units
+one_character [] c one own is = absurd (omega arith)
+one_character ([] ∷ units) c one own is = absurd (omega arith)
+one_character ((first ∷ rest) ∷ more ∷ units) c one own is = absurd (omega arith)
+one_character ((first ∷ next ∷ rest) ∷ []) c one own is = absurd (omega arith)
+one_character ((first ∷ []) ∷ []) c one own is = ap (λ (x : ℕ). (x ∷ []) ∷ []) is
+
+-- it is told as that character is
+told_alone : (sign c : ℕ) (units : List (List ℕ)) → (c ∷ []) ∷ [] ≡ units → character sign c ≡ glyphs sign units
+told_alone sign c units is = sym (append-nil (character sign c)) ∙ sym (append-nil (character sign c ++ [])) ∙ ap (glyphs sign) is
+
+module _ (sign c : ℕ) (units : List (List ℕ)) (is : (c ∷ []) ∷ [] ≡ units) (old new : Option (List ℕ)) (waiting : List ℕ) where
+  pub one_character_front : AppendsFront old new (waiting ++ character sign c) → AppendsFront old new (waiting ++ glyphs sign units)
+  one_character_front = front_of_same old new waiting (character sign c) (glyphs sign units) (told_alone sign c units is)
+
+  pub one_character_put : (left : List ℕ) → AppendsUpTo old new (waiting ++ character sign c) left → AppendsUpTo old new (waiting ++ glyphs sign units) left
+  one_character_put = put_from old new waiting (character sign c) (glyphs sign units) (told_alone sign c units is)

@@ -1,6 +1,6 @@
 //! How a run of text is told in a listing.
 
-ghost use Rattle.std.specs.Prelude.{◌≡◌, ◌+◌, ◌≤◌, ◌++◌, length, codes, OnOk, IsErrOf};
+ghost use Rattle.std.specs.Prelude.{◌≡◌, ◌+◌, ◌≤◌, ◌++◌, ◌∷◌, [], length, codes, IfSome, OnOk, IsErrOf};
 ghost use Rattle.io_edge.specs.Edge.{Rose, AppendsFront, AppendsUpTo};
 ghost use Rattle.listing.specs.Runs as spec;
 
@@ -72,6 +72,7 @@ fn turn_word(mode: WritingMode) -> &'static str
 }
 
 /// The characters of the units from line-left, the first behind this sign.
+#[inline(never)]
 pub(crate) fn put_units<K: Sink>(
     first: u8,
     units: &[RunUnit],
@@ -85,13 +86,48 @@ pub(crate) fn put_units<K: Sink>(
 {
     let mut sign = first;
     for unit in units {
-        put_glyphs(sign, &unit.glyphs, waiting, sink)?;
+        put_unit(sign, &unit.glyphs, waiting, sink)?;
         sign = b',';
     }
     Ok(())
 }
 
+// Those of an entry of a run. Most entries are one character.
+#[inline(always)]
+#[tactic(auto, using(crate::proofs::Puts::one_character_put, crate::proofs::Puts::one_character_front))]
+fn put_unit<K: Sink>(
+    first: u8,
+    glyphs: &Glyphs,
+    waiting: &mut Waiting,
+    sink: &mut K,
+) -> Result<(), WriteError>
+    ensures front { AppendsFront (K.held sink.old) (K.held sink.new) (waiting.old ++ spec.glyphs first glyphs.now) }
+    ensures waits { OnOk result (AppendsUpTo (K.held sink.old) (K.held sink.new) (waiting.old ++ spec.glyphs first glyphs.now) waiting.new) }
+    ensures later { K.faults sink.old ≤ K.faults sink.new }
+    ensures fault { IsErrOf result WriteError.WriteFault → Rose (K.faults sink.old) (K.faults sink.new) }
+{
+    match only_character(glyphs) {
+        Some(c) => put_character(first, c, waiting, sink),
+        None => put_glyphs(first, glyphs, waiting, sink),
+    }
+}
+
+// The character of one unit that has no other.
+#[inline(always)]
+#[tactic(auto, using(crate::proofs::Puts::one_character))]
+fn only_character(glyphs: &Glyphs) -> Option<char>
+    ensures { IfSome result (λ c. (c ∷ []) ∷ [] ≡ glyphs.now) }
+{
+    if glyphs.len() == 1 {
+        let unit = glyphs.unit(0);
+        if unit.len() == 1 { Some(unit[0]) } else { None }
+    } else {
+        None
+    }
+}
+
 // Those of units side by side.
+#[inline(never)]
 fn put_glyphs<K: Sink>(
     first: u8,
     glyphs: &Glyphs,

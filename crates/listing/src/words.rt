@@ -132,14 +132,13 @@ fn push_four(text: &mut Character, c: u32)
     text.push(digit(c));
 }
 
+// The hexadecimal digits in upper case.
+const DIGITS: [u8; 16] = *b"0123456789ABCDEF";
+
 // The last hexadecimal digit of a number.
+#[inline(always)]
 fn digit(number: u32) -> u8
     ensures { result ≡ digit_glyph true (number % 16) }
 {
-    let digit = (number % 16) as u8;
-    if digit < 10 {
-        b'0' + digit
-    } else {
-        b'A' + (digit - 10)
-    }
+    DIGITS[(number % 16) as usize]
 }
