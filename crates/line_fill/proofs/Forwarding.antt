@@ -1,5 +1,5 @@
 -- Lines of items whose lengths are not below 0.
-use Rattle.std.proofs.Common.{◌≡◌, ◌∙◌, refl, sym, ap, arith, subst, Bool, true, false, List, [], ◌∷◌, ℕ, zero, suc, ◌+◌, ◌-◌, ◌≤◌, ◌<◌, ℤ, pos, length, take, drop, Option, Some, None}
+use Rattle.std.proofs.Common.{◌≡◌, ◌∙◌, refl, sym, ap, arith, subst, Bool, true, false, List, [], ◌∷◌, ◌++◌, ℕ, zero, suc, ◌+◌, ◌-◌, ◌≤◌, ◌<◌, ◌^◌, ℤ, pos, unsigned_abs, length, max, take, drop, get_or, Option, Some, None}
 use Rattle.std.specs.Prelude.{⊤, IfSome, ◌≤ℤ◌, int_le}
 use Rattle.std.specs.List.{All, list_any}
 use Rattle.std.proofs.lemmas.Int.{ints}
@@ -10,11 +10,18 @@ use Rattle.style_types.specs.declared.breaking.Breaking.TheVariants.{No, May, Mu
 use Rattle.line_fill.specs.declared.item.FillItem.{FillItem}
 use Rattle.line_fill.specs.Ahead.{break_at}
 use Rattle.line_fill.specs.Filling.{best, ends, ends_at, fits, line_end}
-use Rattle.line_fill.specs.Forward.{IsForward, last_or}
-use Rattle.line_fill.specs.Item.{advances, edges, solid, solid_at, width, width_of}
+use Rattle.line_fill.specs.declared.forward.Piece.{Piece}
+use Rattle.line_fill.specs.declared.forward.Stop.{Stop}
+use Rattle.line_fill.specs.declared.sums.Place.{Place}
+use Rattle.line_fill.specs.Forward.{IsForward, content_after, last_or, piece_after, piece_at}
+use Rattle.line_fill.specs.Sums.{place_after, place_before, solid_after, width_between}
+use Rattle.std.proofs.lemmas.List.{length-take-le, take_more}
+use Rattle.std.proofs.lemmas.List.Sums.{sum_by-take-le}
+use Rattle.line_fill.specs.Item.{advances, edges, lengths_of, solid, solid_at, spread, width, width_of}
 use Rattle.line_fill.proofs.Ending.{Above, above_later, best_first, best_later, break_out, ends_above}
+use Rattle.line_fill.proofs.Lining.{Filled}
 use Rattle.line_fill.proofs.Reaching.{ends_more}
-use Rattle.line_fill.proofs.Widths.{content_advances}
+use Rattle.line_fill.proofs.Widths.{content_advances, place_more, place_near, solid-le, solid_last, width_is}
 
 -- ---- no piece is narrower than a shorter one that begins with it
 
@@ -226,3 +233,125 @@ fitting_ends available items from q last d is fit f =
 pub stop_within : (from q n : ℕ) (last : Option ℕ) → from ≤ q → q < n → IfSome last (λ end. (from < end) × (end ≤ q)) → (from < last_or last (q + 1)) × (last_or last (q + 1) ≤ n)
 stop_within from q n None order inside later = (omega arith, omega arith)
 stop_within from q n (Some end) order inside later = let l = later.1 in (later.0, omega arith)
+
+-- ---- the piece from the start of a line on
+
+abbrev pub stop_end : Option Stop → Option ℕ
+stop_end None = None
+stop_end (Some stop) = Some stop.end
+
+-- a piece stands for the items from one place up to another
+pub record IsPiece (items : List FillItem) (from q : ℕ) (piece : Piece) : Type 0 where
+  pub start : piece.start ≡ place_before items from
+  pub end_ : piece.end ≡ place_before items q
+  pub content : piece.content ≡ place_before items (max from (solid (take q items)))
+
+max_left : (a b : ℕ) → b ≤ a → max a b ≡ a
+max_left a b h = omega arith
+
+max_right : (a b : ℕ) → a ≤ b → max a b ≡ b
+max_right a b h = omega arith
+
+pub piece_first : (items : List FillItem) (from : ℕ) (start : Place) → from < length items → start ≡ place_before items from → IsPiece items from from (piece_at start)
+piece_first items from start inside is =
+    let s = solid-le (take from items) in
+    let l = length-take-le from items (omega arith) in
+    record { start = is; end_ = is; content = is ∙ ap (place_before items) (sym (max_left from (solid (take from items)) (omega arith))) }
+
+content_more : (items : List FillItem) (from q : ℕ) (d : FillItem) (content : Place) → q < length items → from ≤ q → content ≡ place_before items (max from (solid (take q items)))
+    → content_after (get_or items q d).space content (place_before items (q + 1)) ≡ place_before items (max from (solid (take (q + 1) items)))
+content_more items from q d content inside order is = go (get_or items q d).space refl where
+  told : solid (take (q + 1) items) ≡ solid_after (get_or items q d).space (solid (take q items)) (suc q)
+  told =
+      let l : length (take q items) ≡ q = length-take-le q items (omega arith) in
+      let s = solid_last (take q items) (get_or items q d) in
+      let s' : solid (take q items ++ get_or items q d ∷ []) ≡ solid_after (get_or items q d).space (solid (take q items)) (suc q) = rw l at s in
+      ap solid (take_more items q d inside) ∙ s'
+
+  go : (space : Bool) → (get_or items q d).space ≡ space → content_after (get_or items q d).space content (place_before items (q + 1)) ≡ place_before items (max from (solid (take (q + 1) items)))
+  go true e =
+      ap (λ (b : Bool). content_after b content (place_before items (q + 1))) e ∙ is
+      ∙ ap (λ n. place_before items (max from n)) (sym (told ∙ ap (λ (b : Bool). solid_after b (solid (take q items)) (suc q)) e))
+  go false e =
+      let n : suc q ≡ q + 1 = omega arith in
+      ap (λ (b : Bool). content_after b content (place_before items (q + 1))) e
+      ∙ ap (place_before items) (sym (max_right from (q + 1) (omega arith)))
+      ∙ ap (λ n. place_before items (max from n)) (sym (told ∙ ap (λ (b : Bool). solid_after b (solid (take q items)) (suc q)) e ∙ n))
+
+pub piece_more : (items : List FillItem) (from q : ℕ) (d : FillItem) (piece : Piece) → q < length items → from ≤ q → IsPiece items from q piece → IsPiece items from (q + 1) (piece_after piece (get_or items q d) (q + 1))
+piece_more items from q d piece inside order is =
+    let n : suc q ≡ q + 1 = omega arith in
+    let e : place_after piece.end (get_or items q d) (q + 1) ≡ place_before items (q + 1) =
+    ap (λ (p : Place). place_after p (get_or items q d) (q + 1)) is.end_ ∙ ap (place_after (place_before items q) (get_or items q d)) (sym n) ∙ place_more items q d inside in
+    record {
+      start = is.start;
+      end_ = e;
+      content = ap (content_after (get_or items q d).space piece.content) e ∙ content_more items from q d piece.content inside order is.content;
+    }
+
+-- what it tells of widths
+pub piece_fits : (available : ℤ) (items : List FillItem) (from q : ℕ) (piece : Piece) → from ≤ q → q ≤ length items → IsPiece items from q piece
+    → int_le (width_between piece.start piece.end piece.content) available ≡ fits available items from q
+piece_fits available items from q piece order within is =
+    ap (λ z. int_le z available)
+    (ap (λ (p : Place). width_between p piece.end piece.content) is.start
+    ∙ ap (λ (p : Place). width_between (place_before items from) p piece.content) is.end_
+    ∙ ap (λ (p : Place). width_between (place_before items from) (place_before items q) p) is.content
+    ∙ sym (width_is items from q order within))
+
+-- no place tells of more than the lengths before it
+pub told_near : (items : List FillItem) (k : ℕ) (place : Place) → place ≡ place_before items k → spread items ≤ 2 ^ 60 → unsigned_abs place.edges + unsigned_abs place.advances ≤ 2 ^ 60
+told_near items k place is room =
+    let n = place_near items k in
+    let t = sum_by-take-le lengths_of items k in
+    rw is (omega arith)
+
+-- what the loop keeps
+pub record Running (available : ℤ) (items : List FillItem) (from q : ℕ) (last : Option Stop) (piece : Piece) : Type 0 where
+  pub fitting : Fitting available items from q (stop_end last)
+  pub piece_is : IsPiece items from q piece
+  pub told : IfSome last (λ stop. stop.place ≡ place_before items stop.end)
+
+pub running_first : (available : ℤ) (items : List FillItem) (from : ℕ) (start : Place) → from < length items → start ≡ place_before items from → Running available items from from None (piece_at start)
+running_first available items from start inside is = record { fitting = fitting_first available items from inside; piece_is = piece_first items from start inside is; told = tt }
+
+pub last_told : (items : List FillItem) (last : Option Stop) (first : Stop) → IfSome last (λ stop. stop.place ≡ place_before items stop.end) → first.place ≡ place_before items first.end
+    → (last_or last first).place ≡ place_before items (last_or last first).end
+last_told items None first told is = is
+last_told items (Some stop) first told is = told
+
+pub last_end : (last : Option Stop) (first : Stop) → (last_or last first).end ≡ last_or (stop_end last) first.end
+last_end None first = refl
+last_end (Some stop) first = refl
+
+-- one item more in a step of the loop
+pub piece_next : (items : List FillItem) (from q : ℕ) (d : FillItem) (piece next : Piece) → q < length items → from ≤ q → IsPiece items from q piece → next ≡ piece_after piece (get_or items q d) (q + 1) → IsPiece items from (q + 1) next
+piece_next items from q d piece next inside order is made = subst (IsPiece items from (q + 1)) (sym made) (piece_more items from q d piece inside order is)
+
+-- where the line stops at the last end that fits, or here
+module _ (available : ℤ) (items : List FillItem) (from q : ℕ) (last : Option Stop) (here stopped : Stop) (end_ : here.end ≡ q + 1) (is : stopped ≡ last_or last here) where
+  pub stopped_end : stopped.end ≡ last_or (stop_end last) (q + 1)
+  stopped_end = ap (λ (s : Stop). s.end) is ∙ last_end last here ∙ ap (last_or (stop_end last)) end_
+
+  pub stopped_place : IfSome last (λ stop. stop.place ≡ place_before items stop.end) → here.place ≡ place_before items (q + 1) → stopped.place ≡ place_before items stopped.end
+  stopped_place told place =
+      ap (λ (s : Stop). s.place) is
+      ∙ last_told items last here told (place ∙ ap (place_before items) (sym end_))
+      ∙ ap (λ (s : Stop). place_before items s.end) (sym is)
+
+  pub stopped_within : Fitting available items from q (stop_end last) → (from < stopped.end) × (stopped.end ≤ length items)
+  stopped_within f = let w = stop_within from q (length items) (stop_end last) f.order f.inside f.later in rw stopped_end w
+
+-- the last end that fits is here
+pub running_stop : (available : ℤ) (items : List FillItem) (from q : ℕ) (stop : Stop) (piece : Piece) → stop.end ≡ q → stop.place ≡ place_before items q → Fitting available items from q (Some q) → IsPiece items from q piece
+    → Running available items from q (Some stop) piece
+running_stop available items from q stop piece end_ place fitting is = record {
+  fitting = subst (λ e. Fitting available items from q (Some e)) (sym end_) fitting;
+  piece_is = is;
+  told = place ∙ ap (place_before items) (sym end_);
+}
+
+-- the lines up to a stop are filled
+pub record Stopped (available : ℤ) (items : List FillItem) (ends : List ℕ) (stop : Stop) : Type 0 where
+  pub filled : Filled available items ends stop.end
+  pub told : stop.place ≡ place_before items stop.end

@@ -1,5 +1,5 @@
 -- What the loop over the items keeps, and what the places tell then.
-use Rattle.std.proofs.Common.{◌≡◌, ◌∙◌, sym, ap, arith, List, [], ◌∷◌, ◌++◌, ◌⊎◌, inl, inr, ℕ, suc, ◌+◌, ◌≤◌, ◌<◌, ◌^◌, ℤ, unsigned_abs, length, length-append, max, take, get_or}
+use Rattle.std.proofs.Common.{◌≡◌, ◌∙◌, refl, sym, ap, arith, List, [], ◌∷◌, ◌++◌, ◌⊎◌, inl, inr, ℕ, zero, suc, ◌+◌, ◌≤◌, ◌<◌, ◌^◌, ℤ, unsigned_abs, length, length-append, max, take, get_or}
 use Rattle.std.specs.Prelude.{slice_get, Some}
 use Rattle.std.proofs.lemmas.List.{get_or_append_left}
 use Rattle.std.proofs.Math.Seq.{get_or-append_seam}
@@ -18,6 +18,13 @@ pub record Summed (items : List FillItem) (places : List Place) (place : Place) 
   pub count : length places ≡ suc i
   pub each : (k : ℕ) → k ≤ i → slice_get places k ≡ Some (place_before items k)
   pub at : place ≡ place_before items i
+
+pub summed_first : (items : List FillItem) (places : List Place) (place : Place) → place ≡ place_before items 0 → places ≡ place ∷ [] → Summed items places place 0
+summed_first items places place at is = rw is (record { count = refl; each = λ k within. each k within; at = at })
+  where
+    each : (k : ℕ) → k ≤ 0 → slice_get (place ∷ []) k ≡ Some (place_before items k)
+    each zero within = ap Some at
+    each (suc k) within = absurd (omega arith)
 
 -- there is room for one item more
 pub room_after : (items : List FillItem) (place : Place) (i : ℕ) (d : FillItem) → i < length items → place ≡ place_before items i → spread items ≤ 2 ^ 60

@@ -132,7 +132,7 @@ ended : (n : ℕ) → suc (n + 0) ≡ suc n
 ended n = omega arith
 
 -- one item more before a place
-solid_last : (xs : List FillItem) (x : FillItem) → solid (xs ++ x ∷ []) ≡ solid_after x.space (solid xs) (suc (length xs))
+pub solid_last : (xs : List FillItem) (x : FillItem) → solid (xs ++ x ∷ []) ≡ solid_after x.space (solid xs) (suc (length xs))
 solid_last xs x = go x.space refl where
   go : (space : Bool) → x.space ≡ space → solid (xs ++ x ∷ []) ≡ solid_after x.space (solid xs) (suc (length xs))
   go true e = solid_none xs (x ∷ []) (ap (λ b. solid_at b 0) e) ∙ sym (ap (λ b. solid_after b (solid xs) (suc (length xs))) e)

@@ -1,6 +1,9 @@
 -- Items whose lengths are not below 0.
-use Rattle.std.specs.Prelude.{ℕ, Option, Some, None, pos, ◌≤ℤ◌}
+use Rattle.std.specs.Prelude.{ℕ, Option, Some, None, pos, ◌≤ℤ◌, Bool, true, false}
+use Rattle.line_fill.specs.declared.forward.Piece.{Piece}
 use Rattle.line_fill.specs.declared.item.FillItem.{FillItem}
+use Rattle.line_fill.specs.declared.sums.Place.{Place}
+use Rattle.line_fill.specs.Sums.{place_after}
 
 pub record IsForward (item : FillItem) : Type 0 where
   pub advance : pos 0 ≤ℤ item.advance
@@ -8,6 +11,19 @@ pub record IsForward (item : FillItem) : Type 0 where
   pub after : pos 0 ≤ℤ item.after
 
 -- the last end that fits, else the first
-abbrev pub last_or : Option ℕ → (first : ℕ) → ℕ
+abbrev pub last_or : {A : Type 0} → Option A → (first : A) → A
 last_or None first = first
 last_or (Some end) first = end
+
+-- a piece without items, and with one item more, which is the one of this number
+abbrev pub piece_at : Place → Piece
+piece_at start = record { start = start; end = start; content = start }
+
+abbrev pub content_after : Bool → (content end_ : Place) → Place
+content_after true content end_ = content
+content_after false content end_ = end_
+
+abbrev pub piece_after : Piece → FillItem → (count : ℕ) → Piece
+piece_after piece item count =
+    let end_ = place_after piece.end item count in
+    record { start = piece.start; end = end_; content = content_after item.space piece.content end_ }

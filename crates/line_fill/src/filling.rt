@@ -10,8 +10,8 @@ ghost use Rattle.line_fill.specs.Sums.{StandFor};
 
 use crate::FillItem;
 use crate::ahead::{Ahead, all_ahead, is_within};
-use crate::forward::{are_forward, forward_end};
-use crate::sums::Sums;
+use crate::forward::{Stop, are_forward, forward_end};
+use crate::sums::{Place, Sums};
 use std::alloc::{AllocError, Global};
 use std::marker::Model;
 use std::sync::ledger::Ledger;
@@ -43,7 +43,7 @@ impl Lines {
 
 /// The lines of a paragraph in so much room, in units of 1/64 px (CSS Text 3, 5.1), and counts one step. A line ends at the
 /// last place where a break is allowed and up to which it fits, else at the first where one is allowed, and never
-/// behind a forced break. All lengths, without their signs, come to at most 2^60. Each item is looked at four times,
+/// behind a forced break. All lengths, without their signs, come to at most 2^60. Each item is looked at four times at most,
 /// whatever the lengths are.
 pub fn fill<M: Ledger>(
     alloc: Global,
@@ -57,11 +57,11 @@ pub fn fill<M: Ledger>(
     ensures divide { IfOk result (λ found. Divide 0 (length items.now) found) }
 {
     arranged.tick();
-    let sums = Sums::new(alloc, items)?;
     if are_forward(items) {
-        let lines = forward_lines(alloc, items, &sums, available)?;
+        let lines = forward_lines(alloc, items, available)?;
         Ok(lines)
     } else {
+        let sums = Sums::new(alloc, items)?;
         let aheads = all_ahead(alloc, items, &sums)?;
         let lines = lines_of(alloc, items, &Reach { sums, aheads }, available)?;
         Ok(lines)
@@ -69,22 +69,20 @@ pub fn fill<M: Ledger>(
 }
 
 // The lines of items whose lengths are not below 0.
-fn forward_lines(
-    alloc: Global,
-    items: &[FillItem],
-    sums: &Sums,
-    available: i64,
-) -> Result<Lines, AllocError>
+fn forward_lines(alloc: Global, items: &[FillItem], available: i64) -> Result<Lines, AllocError>
     requires forward { All IsForward items.now }
-    requires sums { StandFor items.now sums.now }
+    requires room { spread items.now ≤ 2 ^ 60 }
     ensures lines { IfOk result (λ found. found ≡ lines available items.now) }
     ensures divide { IfOk result (λ found. Divide 0 (length items.now) found) }
 {
     let mut ends = Vec::new(alloc);
-    let mut from = 0;
-    while from < items.len() {
-        from = forward_end(items, sums, from, available);
-        ends.push(from)?;
+    let mut stop = Stop {
+        end: 0,
+        place: Place::first(),
+    };
+    while stop.end < items.len() {
+        stop = forward_end(items, stop.end, stop.place, available);
+        ends.push(stop.end)?;
     }
     Ok(Lines { ends })
 }

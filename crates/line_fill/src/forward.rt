@@ -1,19 +1,20 @@
 //! Lines of items whose lengths are not below 0. No piece is narrower than a shorter one that begins with it, so a line goes on
 //! up to the first end that it doesn't reach (CSS Text 3, 5.1).
 
-ghost use Rattle.std.specs.Prelude.{◌≡◌, ◌<◌, ◌≤◌, List, length, true};
-ghost use Rattle.line_fill.specs.declared.item.FillItem.{FillItem};
+ghost use Rattle.std.specs.Prelude.{◌≡◌, ◌+◌, ◌<◌, ◌≤◌, ◌^◌, int_le, length, true, unsigned_abs};
 ghost use Rattle.std.specs.List.{All};
-ghost use Rattle.line_fill.specs.Filling.{fits, line_end};
-ghost use Rattle.line_fill.specs.Forward.{IsForward, last_or};
-ghost use Rattle.line_fill.specs.Sums.{StandFor};
+ghost use Rattle.line_fill.specs.Filling.{line_end};
+ghost use Rattle.line_fill.specs.Forward.{IsForward, last_or, piece_after, piece_at};
+ghost use Rattle.line_fill.specs.Item.{lengths_of, spread};
+ghost use Rattle.line_fill.specs.Sums.{place_before, width_between};
 
 use crate::FillItem;
 use crate::ahead::break_behind;
-use crate::sums::Sums;
+use crate::sums::Place;
 use style_types::Breaking;
 
 /// Whether no length is below 0.
+#[inline(never)]
 pub(crate) fn are_forward(items: &[FillItem]) -> bool
     ensures { result ≡ true → All IsForward items.now }
 {
@@ -31,47 +32,106 @@ fn is_forward(item: &FillItem) -> bool
     item.advance >= 0 && item.before >= 0 && item.after >= 0
 }
 
-/// Where the line ends that begins at a place.
-pub(crate) fn forward_end(items: &[FillItem], sums: &Sums, from: usize, available: i64) -> usize
+/// An end of a line, and what the place there tells of the items before it.
+#[derive(Clone, Copy)]
+pub(crate) struct Stop {
+    pub(crate) end: usize,
+    pub(crate) place: Place,
+}
+
+/// Where the line ends that begins at a place, which tells this of the items before it.
+#[inline(never)]
+pub(crate) fn forward_end(items: &[FillItem], from: usize, start: Place, available: i64) -> Stop
     requires forward { All IsForward items.now }
-    requires sums { StandFor items.now sums.now }
+    requires room { spread items.now ≤ 2 ^ 60 }
     requires from { from < length items.now }
-    ensures value { result ≡ line_end available items.now from }
-    ensures later { from < result }
-    ensures within { result ≤ length items.now }
+    requires start { start ≡ place_before items.now from }
+    ensures value { result.end ≡ line_end available items.now from }
+    ensures place { result.place ≡ place_before items.now result.end }
+    ensures later { from < result.end }
+    ensures within { result.end ≤ length items.now }
 {
     let mut last = None;
+    let mut piece = Piece::from(start);
     for place in from..items.len() {
+        piece = piece.after(items[place], place + 1);
         match break_behind(items, place) {
             Breaking::No => {}
             Breaking::May => {
-                if !fits(sums, from, place + 1, available) {
-                    return last_or(last, place + 1);
+                if !piece.fits(available) {
+                    return last_or(last, piece.stop(place + 1));
                 }
-                last = Some(place + 1);
+                last = Some(piece.stop(place + 1));
             }
             Breaking::Must => {
-                if !fits(sums, from, place + 1, available) {
-                    return last_or(last, place + 1);
+                if !piece.fits(available) {
+                    return last_or(last, piece.stop(place + 1));
                 }
-                return place + 1;
+                return piece.stop(place + 1);
             }
         }
     }
-    items.len()
+    piece.stop(items.len())
 }
 
-// Whether the line fits up to an end.
-fn fits(sums: &Sums, from: usize, end: usize, available: i64) -> bool
-    requires order { from ≤ end }
-    requires within { end < length sums.now }
-    ensures { (items : List FillItem) → StandFor items sums.now → result ≡ fits available items from end }
-{
-    sums.width(from, end) <= available
+// A piece of a paragraph, by its start, its end, and the place behind its last item that is no space, or its start where there
+// is none.
+#[derive(Clone, Copy)]
+struct Piece {
+    start: Place,
+    end: Place,
+    content: Place,
+}
+
+impl Piece {
+    // No item from this place on.
+    fn from(start: Place) -> Piece
+        ensures { result ≡ piece_at start }
+    {
+        Piece {
+            start,
+            end: start,
+            content: start,
+        }
+    }
+
+    // With one item more, which is the one of this number.
+    fn after(self, item: FillItem, count: usize) -> Piece
+        requires { unsigned_abs self.end.edges + unsigned_abs self.end.advances + lengths_of item ≤ 2 ^ 60 }
+        ensures { result ≡ piece_after self item count }
+    {
+        let end = self.end.after(item, count);
+        Piece {
+            start: self.start,
+            end,
+            content: if item.space { self.content } else { end },
+        }
+    }
+
+    // Whether it is not wider than this.
+    fn fits(self, available: i64) -> bool
+        requires start { unsigned_abs self.start.edges + unsigned_abs self.start.advances ≤ 2 ^ 60 }
+        requires end { unsigned_abs self.end.edges ≤ 2 ^ 60 }
+        requires content { unsigned_abs self.content.advances ≤ 2 ^ 60 }
+        ensures { result ≡ int_le (width_between self.start self.end self.content) available }
+    {
+        self.start.width(self.end, self.content) <= available
+    }
+
+    // A line may end behind it, at this place.
+    fn stop(self, end: usize) -> Stop
+        ensures end { result.end ≡ end }
+        ensures place { result.place ≡ self.end }
+    {
+        Stop {
+            end,
+            place: self.end,
+        }
+    }
 }
 
 // The last end that fits, else the first.
-fn last_or(last: Option<usize>, first: usize) -> usize
+fn last_or(last: Option<Stop>, first: Stop) -> Stop
     ensures { result ≡ last_or last first }
 {
     match last {

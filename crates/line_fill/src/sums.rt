@@ -40,16 +40,13 @@ impl Model for Sums {
 
 impl Sums {
     /// The sums of a paragraph, of which all lengths, without their signs, come to at most 2^60.
+    #[inline(never)]
     pub fn new(alloc: Global, items: &[FillItem]) -> Result<Sums, AllocError>
         requires { spread items.now ≤ 2 ^ 60 }
         ensures { IfOk result (λ sums. StandFor items.now sums) }
     {
         let mut places = Vec::with_capacity(alloc, items.len() + 1)?;
-        let mut place = Place {
-            edges: 0,
-            advances: 0,
-            solid: 0,
-        };
+        let mut place = Place::first();
         places.push(place)?;
         for item in items {
             place = place.after(*item, places.len());
@@ -93,8 +90,19 @@ impl Sums {
 }
 
 impl Place {
+    // The place before all items.
+    pub(crate) fn first() -> Place
+        ensures { (items : List FillItem) → result ≡ place_before items 0 }
+    {
+        Place {
+            edges: 0,
+            advances: 0,
+            solid: 0,
+        }
+    }
+
     // The next place, with one item more before it.
-    fn after(self, item: FillItem, count: usize) -> Place
+    pub(crate) fn after(self, item: FillItem, count: usize) -> Place
         requires { unsigned_abs self.edges + unsigned_abs self.advances + lengths_of item ≤ 2 ^ 60 }
         ensures { result ≡ place_after self item count }
     {
@@ -115,7 +123,7 @@ impl Place {
     }
 
     // How wide the piece is from here to another place, where its content ends at a third.
-    fn width(self, end: Place, content: Place) -> i64
+    pub(crate) fn width(self, end: Place, content: Place) -> i64
         requires start { unsigned_abs self.edges + unsigned_abs self.advances ≤ 2 ^ 60 }
         requires end { unsigned_abs end.edges ≤ 2 ^ 60 }
         requires content { unsigned_abs content.advances ≤ 2 ^ 60 }

@@ -1,19 +1,27 @@
-use Rattle.std.proofs.Common.{◌≡◌, w64, to_z, of_z}
+use Rattle.std.proofs.Common.{◌≡◌, sym, subst, List, ℕ, w64, to_z, of_z}
 use Rattle.std.specs.Prelude.{pos, false}
 use Rattle.std.proofs.lemmas.Int.{to_z-of_z}
 use Rattle.style_types.specs.declared.breaking.Breaking.TheVariants.{No}
 use Rattle.line_fill.specs.declared.item.FillItem.{FillItem}
 use Rattle.line_fill.specs.Filling.{line_end}
-use Rattle.line_fill.proofs.Lining.{Filled, filled_on}
+use Rattle.line_fill.proofs.Lining.{Filled, filled_first, filled_on}
 use Rattle.line_fill.proofs.filling.forward_lines.Goals as goal
 
 plain : FillItem
 plain = record { advance = pos 0; before = pos 0; after = pos 0; space = false; end = No }
 
-pub loop-from-preserved : goal.loop-from-preserved
-loop-from-preserved c =
+pub loop-stop-init : goal.loop-stop-init
+loop-stop-init c =
+    let P : List ℕ → Type 0 = λ ends. Filled (to_z w64 (of_z w64 c.args.available)) c.args.items.now ends 0 in
+    record { filled = subst P (sym c.new-ends.ensures.items) (filled_first (to_z w64 (of_z w64 c.args.available)) c.args.items.now); told = c.first.ensures c.args.items.now }
+
+pub loop-stop-preserved : goal.loop-stop-preserved
+loop-stop-preserved c =
     let given : to_z w64 (of_z w64 c.args.available) ≡ c.args.available = to_z-of_z w64 c.args.available c.ranges.available in
-    let filled : Filled c.args.available c.args.items.now c.loop-from.ends.items c.loop-from.from = rw given at c.loop-from.invariant in
-    let is : c.forward_end-from.result ≡ line_end c.args.available c.args.items.now c.loop-from.from = rw given at c.forward_end-from.ensures.value in
-    rw given (filled_on c.args.available c.args.items.now c.loop-from.ends.items _ c.loop-from.from c.forward_end-from.result plain c.loop-from-test.true is c.forward_end-from.ensures.later c.forward_end-from.ensures.within
-    c.in_ok-push.ensures.items filled)
+    let filled : Filled c.args.available c.args.items.now c.loop-stop.ends.items c.loop-stop.stop.end = rw given at c.loop-stop.invariant.filled in
+    let is : c.forward_end-stop.result.end ≡ line_end c.args.available c.args.items.now c.loop-stop.stop.end = rw given at c.forward_end-stop.ensures.value in
+    rw given (record {
+      filled = filled_on c.args.available c.args.items.now c.loop-stop.ends.items _ c.loop-stop.stop.end c.forward_end-stop.result.end plain c.loop-stop-test.true is c.forward_end-stop.ensures.later c.forward_end-stop.ensures.within
+          c.in_ok-push.ensures.items filled;
+      told = c.forward_end-stop.ensures.place;
+    })

@@ -1,6 +1,10 @@
-use Rattle.std.proofs.Common.{rules, ◌≡◌, length}
-use Rattle.line_fill.proofs.Summing.{room_after, summed_on, summed_all, stand_near}
+use Rattle.std.proofs.Common.{rules, ◌≡◌, ◌∙◌, ap, List, [], ◌∷◌, ◌++◌, length}
+use Rattle.line_fill.specs.declared.sums.Place.{Place}
+use Rattle.line_fill.proofs.Summing.{room_after, summed_first, summed_on, summed_all, stand_near}
 use Rattle.line_fill.proofs.sums.Sums.new.Goals as goal
+
+pub loop-item-init : goal.loop-item-init
+loop-item-init c = summed_first c.args.items.now c.push.new.self.items c.first-place.result (c.first-place.ensures c.args.items.now) (c.in_ok-push.ensures.items ∙ ap (λ (ps : List Place). ps ++ c.first-place.result ∷ []) c.in_ok-places.ensures.items)
 
 pub after-place-requires : goal.after-place-requires
 after-place-requires c = room_after c.args.items.now c.loop-item.place c.loop-item.item-index _ c.loop-item-test.true c.loop-item.invariant.at c.requires
