@@ -1,6 +1,6 @@
 //! A line that is one run of text outside all inline boxes, from left to right (CSS 2, 9.4.2 and 10.8).
 
-ghost use Rattle.std.specs.Prelude.{◌≡◌, ◌+◌, ◌≤◌, ◌^◌, IfOk, unsigned_abs};
+ghost use Rattle.std.specs.Prelude.{◌≡◌, ◌+◌, ◌≤◌, ◌^◌, [], IfOk, unsigned_abs};
 ghost use Rattle.style_types.specs.Fragment.{Pieces, before, pieces_of};
 ghost use Rattle.line_place.specs.Line.{Line};
 ghost use Rattle.line_place.specs.Placing as rule;
@@ -13,7 +13,7 @@ use crate::walk::{text_rect, unnumbered, without_inner};
 use bidi_order::laws::level_zero_stays;
 use std::alloc::{AllocError, Global};
 use std::rc::Rc;
-use style_types::{Align, Fragment, FragmentKind, LineFragment, RunUnits, UnitKind};
+use style_types::{Align, Fragment, FragmentKind, Fragments, LineFragment, RunUnits, UnitKind};
 
 /// Units of one text node and one form on a line of their own, without the Spaces at its end, in a paragraph of level 0 and
 /// outside all inline boxes. Lengths are in units of 1/64 px.
@@ -41,16 +41,35 @@ pub fn place_text(alloc: Global, text: TextLine) -> Result<LineFragment, AllocEr
     ensures under { IfOk result (λ made. (line : Line) → IsText (text_of text) line → made.under ≡ rule.line_under line) }
     ensures parts { IfOk result (λ made. (line : Line) → IsText (text_of text) line → pieces_of made.parts.items ≡ rule.parts line) }
 {
+    let empty = Rc::new(alloc, Vec::new(alloc))?;
+    let made = place_text_over(alloc, text, &empty)?;
+    Ok(made)
+}
+
+/// Places the same line, whose run shares `empty` as the list of what is inside it, which is nothing.
+pub fn place_text_over(
+    alloc: Global,
+    text: TextLine,
+    empty: &Rc<Fragments>,
+) -> Result<LineFragment, AllocError>
+    requires reach { unsigned_abs text.available + unsigned_abs text.extent + extents_reach text.strut ≤ 2 ^ 60 }
+    requires empty { empty.now.value.items ≡ [] }
+    ensures strut { IfOk result (λ made. (made.over ≡ text.strut.over) × (made.under ≡ text.strut.under)) }
+    ensures over { IfOk result (λ made. (line : Line) → IsText (text_of text) line → made.over ≡ rule.line_over line) }
+    ensures under { IfOk result (λ made. (line : Line) → IsText (text_of text) line → made.under ≡ rule.line_under line) }
+    ensures parts { IfOk result (λ made. (line : Line) → IsText (text_of text) line → pieces_of made.parts.items ≡ rule.parts line) }
+{
     level_zero_stays();
     let (over, under) = (text.strut.over, text.strut.under);
-    let fragment = run_of(alloc, text)?;
+    let fragment = run_of(alloc, text, empty)?;
     let mut parts = Vec::with_capacity(alloc, 1)?;
     parts.push(fragment)?;
     Ok(LineFragment { over, under, parts })
 }
 
 // Its run.
-fn run_of(alloc: Global, text: TextLine) -> Result<Fragment, AllocError>
+fn run_of(alloc: Global, text: TextLine, empty: &Rc<Fragments>) -> Result<Fragment, AllocError>
+    requires empty { empty.now.value.items ≡ [] }
     requires reach { unsigned_abs text.available + unsigned_abs text.extent + extents_reach text.strut ≤ 2 ^ 60 }
     ensures { IfOk result (λ made. (next : Pieces) → before made next ≡ text_piece (text_of text) next) }
 {
@@ -62,7 +81,6 @@ fn run_of(alloc: Global, text: TextLine) -> Result<Fragment, AllocError>
         natural: None,
         units: Rc::new(alloc, text.units)?,
     };
-    let empty = Rc::new(alloc, Vec::new(alloc))?;
-    let made = without_inner(&empty, unnumbered(text.node), rect, kind)?;
+    let made = without_inner(empty, unnumbered(text.node), rect, kind)?;
     Ok(made)
 }

@@ -144,9 +144,9 @@ pub fn run_unit(
     }
 }
 
-// The same glyphs once more. One character, as most units have, is no call.
+/// The same glyphs once more. One character, as most units have, is no call.
 #[inline(always)]
-pub(crate) fn copy_of(alloc: Global, glyphs: &Glyphs) -> Result<Glyphs, AllocError>
+pub fn copy_of(alloc: Global, glyphs: &Glyphs) -> Result<Glyphs, AllocError>
     ensures { IfOk result (λ own. own ≡ glyphs.now) }
 {
     match only_character(glyphs) {
