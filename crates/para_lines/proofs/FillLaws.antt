@@ -1,6 +1,6 @@
 -- The items of a paragraph as lines are filled with them, item by item.
 use Rattle.std.specs.Prelude.{IfSome}
-use Rattle.std.proofs.Common.{◌≡◌, ◌∙◌, refl, sym, ap, arith, true, false, None, ℕ, suc, ◌+◌, ◌*◌, ◌<◌, ◌≤◌, ◌^◌, List, [], ◌∷◌, ◌++◌, length, map, get_or, drop, reverse, Option, Some, append_assoc, append-nil, ℤ, pos, ◌+ℤ◌, unsigned_abs}
+use Rattle.std.proofs.Common.{◌≡◌, ◌∙◌, refl, sym, ap, arith, true, false, None, ℕ, zero, suc, ◌+◌, ◌*◌, ◌<◌, ◌≤◌, ◌^◌, List, [], ◌∷◌, ◌++◌, length, map, get_or, drop, reverse, Option, Some, append_assoc, append-nil, ℤ, pos, ◌+ℤ◌, unsigned_abs}
 use Rattle.std.proofs.lemmas.Int.{ints}
 use Rattle.std.proofs.lemmas.List.{drop-map, drop_all, drop_more, reverse-append}
 use Rattle.style_types.specs.declared.breaking.Breaking.{Breaking}
@@ -10,7 +10,7 @@ use Rattle.para_prepare.specs.declared.item.PreparedItem.{PreparedItem}
 use Rattle.para_prepare.specs.Preparation.{Preparation}
 use Rattle.para_lines.specs.declared.filling.BoxSide.{BoxSide}
 use Rattle.para_lines.specs.declared.filling.BoxSide.TheVariants.{Start, End}
-use Rattle.para_lines.specs.Around.{fresh, has}
+use Rattle.para_lines.specs.Around.{chains, fresh, has}
 use Rattle.para_lines.specs.Boxes.{apart, chain_at, chain_behind, innermost}
 use Rattle.para_lines.specs.Filling.{advance_of, closing_edges, fill_item, fill_items, fill_items_from, first_chain, item_chains, opening_edges, past}
 use Rattle.para_lines.specs.Prepared.{edge_of, edges_of, first_source, source_before, source_behind}
@@ -57,6 +57,14 @@ pub no_edges : (inline : Option ℤ) (entries : List Entry) (side : BoxSide) (pl
     → pos 0 ≡ edges_of inline entries side (apart (chain_at entries place) (chain_behind entries other))
 no_edges inline entries side place other at_ =
     sym (ap (edges_of inline entries side) (ap (λ (o : Option ℕ). apart (chain_at entries place) (chain_behind entries o)) at_ ∙ none_apart (chain_at entries place) (chain_at entries place) (λ box in_. in_)))
+
+-- no box stands round the one item of a paragraph
+pub chain_alone : (entries : List Entry) (place : ℕ) → length entries ≡ 1 → place < 1 → chain_at entries place ≡ []
+unfolding chains
+chain_alone [] place one first = absurd (omega arith)
+chain_alone (entry ∷ more ∷ entries) place one first = absurd (omega arith)
+chain_alone (entry ∷ []) zero one first = refl
+chain_alone (entry ∷ []) (suc place) one first = absurd (omega arith)
 
 -- where a loop over a chain stands, which sums the edges of its boxes that aren't in another
 pub record Edging (inline : Option ℤ) (entries : List Entry) (side : BoxSide) (chain other : List ℕ) (inside : Option ℕ) (edges : ℤ) : Type 0 where

@@ -167,8 +167,8 @@ pub setting_ready : (setting : code_setting.Setting) (prepared : Preparation) (a
     → AreBoxes setting.boxes.now → IsBounded setting.container.now.style → pos 0 ≤ℤ setting.container.now.size → setting.container.now.size ≤ℤ pos (2 ^ 32) → setting.standings.now ≡ made
     → map (standing_of (entries_in setting)) made ≡ rule.standings (entries_in setting) prepared (map atom_of atoms) (map (λ (item : FillItem). item.advance) fills)
     → fills ≡ fill_items inline (entries_in setting) prepared (atom_extents (map atom_of atoms)) → All (IsAble (length setting.boxes.now.items.now)) made
-    → AreWhole prepared → AreNear prepared.items → length prepared.items ≤ 2 ^ 21 → total atom_reach (map atom_of atoms) ≤ 2 ^ 57 → IsSetting setting
-setting_ready setting prepared atoms inline fills made boxes style low high same are is able whole near few most =
+    → AreWhole prepared → AreNear prepared.items → length prepared.items ≤ 2 ^ 21 → total atom_reach (map atom_of atoms) ≤ 2 ^ 57 → setting.empty.now.value.items ≡ [] → IsSetting setting
+setting_ready setting prepared atoms inline fills made boxes style low high same are is able whole near few most empty =
     let entries : List Entry = entries_in setting in
     let P : List code.Standing → Type 0 = λ ss. All (IsAble (length setting.boxes.now.items.now)) ss in
     let Q : List code.Standing → Type 0 = λ ss. RiseIn 0 ss in
@@ -188,6 +188,7 @@ setting_ready setting prepared atoms inline fills made boxes style low high same
       rise = subst Q (sym same) (standings_rise entries made prepared.items prepared.levels prepared.classes prepared.bases (map (λ (item : FillItem). item.advance) fills) (map atom_of atoms) are near.rise);
       few = subst R (sym same) (omega arith);
       reach = subst S (sym same) (subst T (sym whole_are) (standings_reach inline entries prepared (map atom_of atoms) near.advances few most));
+      empty = empty;
     }
 
 pub lines_all : (tables : List (Option Table)) (container : Container) (entries : List Entry) (prepared : Preparation) (atoms : List rule.Atom) (s t : ℤ) (fills : List FillItem) (standings : List Standing) (ends : List ℕ)

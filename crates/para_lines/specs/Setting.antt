@@ -1,5 +1,5 @@
 -- What the lines of a paragraph are made from, and the line of some of its items (CSS 2, 9.4.2).
-use Rattle.std.specs.Prelude.{ℕ, ◌+◌, ◌*◌, ◌≤◌, ◌^◌, List, [], drop, take, length, map, All, Option, pos, ◌≤ℤ◌}
+use Rattle.std.specs.Prelude.{◌≡◌, ℕ, ◌+◌, ◌*◌, ◌≤◌, ◌^◌, List, [], drop, take, length, map, All, Option, pos, ◌≤ℤ◌}
 use Rattle.std.specs.List.{slice_range}
 use Rattle.face_api.specs.Table.{Table}
 use Rattle.style_types.specs.Item.{Entry, entries_of}
@@ -46,3 +46,4 @@ pub record IsSetting (setting : code.Setting) : Type 0 where
   pub rise : RiseIn 0 setting.standings.now
   pub few : length setting.standings.now ≤ 2 ^ 21
   pub reach : total standing_reach (standings_in setting) ≤ 2 ^ 58
+  pub empty : setting.empty.now.value.items ≡ []

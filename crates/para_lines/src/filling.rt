@@ -1,7 +1,7 @@
 //! The items of a paragraph as lines are filled with them (CSS 2, 9.4.2).
 
-ghost use Rattle.std.specs.Prelude.{◌≡◌, ◌+◌, ◌-◌, ◌<◌, ◌≤◌, ◌^◌, [], All, IfOk, IfSome, length, drop, pos, slice_index_or, unsigned_abs};
-ghost use Rattle.style_types.specs.Item.{entries_of};
+ghost use Rattle.std.specs.Prelude.{◌≡◌, ◌+◌, ◌-◌, ◌<◌, ◌≤◌, ◌^◌, [], ℤ, All, IfOk, IfSome, List, Option, length, drop, pos, slice_index_or, unsigned_abs};
+ghost use Rattle.style_types.specs.Item.{Entry, entries_of};
 ghost use Rattle.style_types.specs.declared.breaking.Breaking.{Breaking};
 ghost use Rattle.para_prepare.specs.declared.item.PreparedItem.{PreparedItem};
 ghost use Rattle.para_lines.specs.Boxes.{AreBoxes, apart, chain_at, chain_behind};
@@ -29,7 +29,52 @@ pub(crate) enum BoxSide {
 pub(crate) type FillItems = Vec<FillItem>;
 
 /// The items of a paragraph whose containing block has this inline size, or one that isn't known, and whose atoms advance so.
+#[inline(never)]
 pub(crate) fn fill_items(
+    alloc: Global,
+    boxes: &Boxes,
+    prepared: &PreparedLists,
+    inline: Option<i64>,
+    advances: &[i64],
+) -> Result<FillItems, AllocError>
+    requires boxes { AreBoxes boxes.now }
+    requires whole { IsWhole prepared.now }
+    requires sources { AreSources (length boxes.now.items.now) prepared.now.items.now }
+    requires inline { IsInlineSize inline }
+    ensures { IfOk result (λ made. made.items ≡ fill_items inline (entries_of boxes.now.items.now) (preparation_of prepared.now) advances.now) }
+{
+    if boxes.items.len() == 1 {
+        let made = items_of_one(alloc, prepared, advances)?;
+        Ok(made)
+    } else {
+        let made = items_of_many(alloc, boxes, prepared, inline, advances)?;
+        Ok(made)
+    }
+}
+
+// The same in a paragraph of one item, as most are, which stands in no inline box.
+#[inline(never)]
+fn items_of_one(
+    alloc: Global,
+    prepared: &PreparedLists,
+    advances: &[i64],
+) -> Result<FillItems, AllocError>
+    requires whole { IsWhole prepared.now }
+    requires sources { AreSources 1 prepared.now.items.now }
+    ensures { IfOk result (λ made. (inline : Option ℤ) (entries : List Entry) → length entries ≡ 1 → made.items ≡ fill_items inline entries (preparation_of prepared.now) advances.now) }
+{
+    let mut made = Vec::with_capacity(alloc, prepared.items.len())?;
+    let mut advances = advances;
+    for place in 0..prepared.items.len() {
+        made.push(item_alone(prepared, place, advances))?;
+        advances = past(&prepared.items[place].what, advances);
+    }
+    Ok(made)
+}
+
+// The same in any paragraph.
+#[inline(never)]
+fn items_of_many(
     alloc: Global,
     boxes: &Boxes,
     prepared: &PreparedLists,
@@ -49,6 +94,23 @@ pub(crate) fn fill_items(
         advances = past(&prepared.items[place].what, advances);
     }
     Ok(made)
+}
+
+// A prepared item in a paragraph of one item: no box begins before it or ends behind it.
+fn item_alone(prepared: &PreparedLists, place: usize, advances: &[i64]) -> FillItem
+    requires whole { IsWhole prepared.now }
+    requires sources { AreSources 1 prepared.now.items.now }
+    requires place { place < length prepared.now.items.now }
+    ensures { (inline : Option ℤ) (entries : List Entry) (item : PreparedItem) (end_ : Breaking) → length entries ≡ 1 → item ≡ slice_index_or prepared.now.items.now place item → end_ ≡ slice_index_or prepared.now.breaks.now place end_ → result ≡ fill_item inline entries item end_ (chain_behind entries (source_before prepared.now.items.now place)) (chain_at entries item.source) (chain_behind entries (source_behind prepared.now.items.now place)) (rule.advance_of item.what advances.now) }
+{
+    let item = &prepared.items[place];
+    FillItem {
+        advance: advance_of(&item.what, advances),
+        before: 0,
+        after: 0,
+        space: is_space(&item.what),
+        end: prepared.breaks[place],
+    }
 }
 
 // An item with the edges of the boxes that begin before it and end behind it.
@@ -156,8 +218,22 @@ fn edge_of(boxes: &Boxes, inline: Option<i64>, side: BoxSide, place: usize) -> i
     }
 }
 
-/// How far an item advances, where these are the advances of the atoms from it on.
+/// How far an item advances, where these are the advances of the atoms from it on. Most items are units.
+#[inline(always)]
 pub(crate) fn advance_of(what: &PreparedContent, advances: &[i64]) -> i64
+    ensures { result ≡ rule.advance_of what.now advances.now }
+{
+    match what {
+        PreparedContent::Unit { advance, .. } => *advance,
+        PreparedContent::Combined { .. }
+        | PreparedContent::Atom { .. }
+        | PreparedContent::Break { .. } => other_advance(what, advances),
+    }
+}
+
+// The same of what is no unit.
+#[inline(never)]
+fn other_advance(what: &PreparedContent, advances: &[i64]) -> i64
     ensures { result ≡ rule.advance_of what.now advances.now }
 {
     match what {

@@ -101,10 +101,12 @@ fn lines_of<L: Ledger>(
     let fills = fills_of(alloc, boxes, lists, container.size, atoms)?;
     let lines = fill(alloc, &fills, container.size, arranged)?;
     let standings = standings(alloc, lists, &fills, atoms)?;
+    let empty = Rc::new(alloc, Vec::new(alloc))?;
     let setting = Setting {
         boxes,
         container,
         standings: &standings,
+        empty: &empty,
     };
     let made = stacked(alloc, &setting, faces, lines.ends())?;
     Ok(made)

@@ -24,7 +24,8 @@ use crate::units::{unit_line, units_in};
 use face_api::{Face, Faces};
 use line_place::{LineInput, place_line};
 use std::alloc::{AllocError, Global};
-use style_types::LineFragment;
+use std::rc::Rc;
+use style_types::{Fragments, LineFragment};
 
 /// What all lines of a paragraph are made from: its boxes, its container, and all its items.
 #[derive(Clone, Copy, Debug)]
@@ -32,6 +33,8 @@ pub(crate) struct Setting<'a> {
     pub(crate) boxes: &'a Boxes<'a>,
     pub(crate) container: &'a Container,
     pub(crate) standings: &'a [Standing<'a>],
+    /// What is inside each run: nothing.
+    pub(crate) empty: &'a Rc<Fragments>,
 }
 
 impl<'a> Setting<'a> {
@@ -58,7 +61,7 @@ impl<'a> Setting<'a> {
         let standings = &self.standings[from..end];
         match text_in(self.boxes, standings) {
             Some(text) => {
-                let made = text_line(alloc, self.container, faces, standings, text)?;
+                let made = text_line(alloc, self.container, faces, standings, text, self.empty)?;
                 Ok(made)
             }
             None => {

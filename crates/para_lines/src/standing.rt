@@ -40,6 +40,7 @@ pub(crate) struct Standing<'a> {
 pub(crate) type Standings<'a> = Vec<Standing<'a>>;
 
 /// The items of a prepared paragraph with the extents that lines are filled with, and with its atoms in order.
+#[inline(never)]
 pub(crate) fn standings<'a>(
     alloc: Global,
     lists: &PreparedLists<'a>,

@@ -20,10 +20,11 @@ use crate::line::extents_in;
 use crate::paragraph::Container;
 use crate::standing::{Standing, content};
 use face_api::{Face, Faces};
-use line_place::{TextLine, place_text, run_unit};
+use line_place::{TextLine, copy_of, place_text_over, run_unit};
 use para_prepare::PreparedContent;
 use std::alloc::{AllocError, Global};
-use style_types::{LineFragment, RunUnit, RunUnits, UnitKind};
+use std::rc::Rc;
+use style_types::{Fragments, LineFragment, RunUnit, RunUnits, UnitKind};
 
 /// The text node and the form of units.
 #[derive(Clone, Copy, Debug)]
@@ -103,6 +104,7 @@ pub(crate) fn name_of(what: &PreparedContent) -> Option<TextName>
 }
 
 // Whether these are units of this node and form at level 0, which come from this item of the paragraph.
+#[inline(never)]
 fn are_of(standings: &[Standing], source: usize, name: TextName) -> bool
     ensures { result ≡ true → All (IsUnitFrom source name) standings.now }
 {
@@ -131,14 +133,16 @@ pub(crate) fn is_unit(what: &PreparedContent, name: TextName) -> bool
     }
 }
 
-/// The line of these items, which are this text.
+/// The line of these items, which are this text. Its run shares `empty` as the list of what is inside it, which is nothing.
 pub(crate) fn text_line(
     alloc: Global,
     container: &Container,
     faces: &Faces,
     standings: &[Standing],
     text: Text,
+    empty: &Rc<Fragments>,
 ) -> Result<LineFragment, AllocError>
+    requires empty { empty.now.value.items ≡ [] }
     requires style { IsBounded container.now.style }
     requires low { pos 0 ≤ℤ container.now.size }
     requires high { container.now.size ≤ℤ pos (2 ^ 32) }
@@ -164,7 +168,7 @@ pub(crate) fn text_line(
         extent,
         units,
     };
-    let made = place_text(alloc, line)?;
+    let made = place_text_over(alloc, line, empty)?;
     Ok(made)
 }
 
@@ -184,6 +188,7 @@ fn extent_of(standings: &[Standing]) -> i64
 }
 
 // What they show as units of a run.
+#[inline(never)]
 fn units_of(alloc: Global, standings: &[Standing]) -> Result<RunUnits, AllocError>
     requires atoms { All HasOwnAtom standings.now }
     ensures { IfOk result (λ made. made.items ≡ map unit_in (map bare standings.now)) }
@@ -195,7 +200,36 @@ fn units_of(alloc: Global, standings: &[Standing]) -> Result<RunUnits, AllocErro
     Ok(made)
 }
 
+// Most are units, and most of these are one character.
+#[inline(always)]
 fn unit_of(alloc: Global, standing: &Standing) -> Result<RunUnit, AllocError>
+    requires atom { HasOwnAtom standing.now }
+    ensures { IfOk result (λ made. made ≡ unit_in (bare standing.now)) }
+{
+    match &standing.item.what {
+        PreparedContent::Unit {
+            first,
+            end,
+            glyphs,
+            ..
+        } => Ok(RunUnit {
+            first: *first,
+            end: *end,
+            extent: standing.extent,
+            glyphs: copy_of(alloc, glyphs)?,
+        }),
+        PreparedContent::Combined { .. }
+        | PreparedContent::Atom { .. }
+        | PreparedContent::Break { .. } => {
+            let made = other_unit(alloc, standing)?;
+            Ok(made)
+        }
+    }
+}
+
+// The same of any item.
+#[inline(never)]
+fn other_unit(alloc: Global, standing: &Standing) -> Result<RunUnit, AllocError>
     requires atom { HasOwnAtom standing.now }
     ensures { IfOk result (λ made. made ≡ unit_in (bare standing.now)) }
 {

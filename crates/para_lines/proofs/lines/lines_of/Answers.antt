@@ -39,7 +39,7 @@ stacked-requires-clause-set g c =
     c.requires.boxes c.requires.style c.requires.low c.requires.high c.deref-3.ensures.value (c.in_ok-standings.ensures.are entries) (c.deref-2.ensures.value ∙ c.in_ok-fills.ensures)
     (c.in_ok-standings.ensures.able (length c.args.boxes.now.items.now) c.requires.sources c.requires.atoms near)
     (record { levels = c.requires.whole.levels; classes = c.requires.whole.classes; bases = c.requires.whole.bases; breaks = c.requires.whole.breaks })
-    c.requires.near c.requires.few c.requires.reach
+    c.requires.near c.requires.few c.requires.reach (ap (λ (v : _). v.items) c.in_ok-empty.ensures.ok ∙ c.new.ensures.items)
 
 pub stacked-requires-clause-divide : goal.stacked-requires-clause-divide
 stacked-requires-clause-divide g c =

@@ -3,13 +3,12 @@ use Rattle.std.proofs.lemmas.List.{get_or_default}
 use Rattle.style_types.specs.declared.breaking.Breaking.{Breaking}
 use Rattle.style_types.specs.declared.breaking.Breaking.TheVariants.{No}
 use Rattle.para_prepare.specs.declared.item.PreparedItem.{PreparedItem}
-use Rattle.style_types.specs.Item.{entries_of}
 use Rattle.para_lines.specs.Prepared.{preparation_of}
 use Rattle.para_lines.proofs.FillLaws.{filling_all, filling_on}
-use Rattle.para_lines.proofs.filling.fill_items.Goals as goal
+use Rattle.para_lines.proofs.filling.items_of_one.Goals as goal
 
 pub loop-place-preserved : goal.loop-place-preserved
-loop-place-preserved c =
+loop-place-preserved c inline entries one =
     let items : List PreparedItem = c.args.prepared.now.items.now in
     let breaks : List Breaking = c.args.prepared.now.breaks.now in
     let k : ℕ = c.loop-place.place in
@@ -19,10 +18,10 @@ loop-place-preserved c =
     let many : length breaks ≡ length items = c.requires.whole.breaks in
     let read : item ≡ get_or items k item = get_or_default items k c.index-prepared-place.result item lt in
     let read_end : end_ ≡ get_or breaks k end_ = get_or_default breaks k No end_ (omega arith) in
-    rw c.past-advances.ensures (filling_on c.args.inline (entries_of c.args.boxes.now.items.now) items breaks c.args.advances.now c.loop-place.advances.now c.loop-place.made.items _ k item end_ c.fill_item.result
-    lt many read read_end (c.fill_item.ensures item end_ read read_end) c.in_ok-push.ensures.items c.loop-place.invariant)
+    rw c.past-advances.ensures (filling_on inline entries items breaks c.args.advances.now c.loop-place.advances.now c.loop-place.made.items _ k item end_ c.item_alone.result
+    lt many read read_end (c.item_alone.ensures inline entries item end_ one read read_end) c.in_ok-push.ensures.items (c.loop-place.invariant inline entries one))
 
 pub returns : goal.returns
-returns c =
+returns c inline entries one =
     let past : length c.args.prepared.now.items.now ≤ c.loop-place.place = search rules in
-    filling_all c.args.inline (entries_of c.args.boxes.now.items.now) (preparation_of c.args.prepared.now) c.args.advances.now c.loop-place.advances.now c.loop-place.made.items c.loop-place.place past c.loop-place.invariant
+    filling_all inline entries (preparation_of c.args.prepared.now) c.args.advances.now c.loop-place.advances.now c.loop-place.made.items c.loop-place.place past (c.loop-place.invariant inline entries one)

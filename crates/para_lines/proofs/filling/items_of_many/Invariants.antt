@@ -1,6 +1,6 @@
 use Rattle.style_types.specs.Item.{entries_of}
 use Rattle.para_lines.proofs.FillLaws.{Filling}
-use Rattle.para_lines.proofs.filling.fill_items.Given as goal
+use Rattle.para_lines.proofs.filling.items_of_many.Given as goal
 
 abbrev pub invariant-loop-place : goal.invariant-loop-place
 invariant-loop-place l =
