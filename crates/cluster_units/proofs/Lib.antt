@@ -1,3 +1,4 @@
+pub mod ClassLaws
 pub mod Examples
 pub mod JoinLaws
 pub mod Order

@@ -1,5 +1,5 @@
 -- In plain text each character is a cluster.
-use Rattle.std.proofs.Common.{◌≡◌, ℕ, Bool, true, false, not, ◌||◌, List, [], ◌∷◌, ◌++◌, map, unwrap_or, inl, inr, ap, ap₂, sym, ◌∙◌, refl, arith}
+use Rattle.std.proofs.Common.{◌≡◌, ℕ, Bool, true, false, not, ◌||◌, List, [], ◌∷◌, ◌++◌, length, map, unwrap_or, inl, inr, ap, ap₂, sym, ◌∙◌, refl, arith}
 use Rattle.std.specs.List.{list_all}
 use Rattle.std.proofs.lemmas.Bool.{and_parts, and_right, cases_Bool, not-true}
 use Rattle.ucd_breaks.specs.GraphemeClusterBreak.{grapheme_cluster_break}
@@ -16,6 +16,7 @@ use Rattle.unicode_segmentation.specs.Segments.{cut}
 use Rattle.unicode_segmentation.proofs.GraphemeLemmas.{is_grapheme_break-inside, joins_emoji-not_zwj}
 use Rattle.cluster_units.specs.Cluster.{clusters}
 use Rattle.cluster_units.specs.Plain.{is_plain}
+use Rattle.cluster_units.proofs.Pieces.{total}
 
 -- the values of these characters: none joins another of them
 abbrev is_loose : GraphemeClusterBreak → Bool
@@ -91,6 +92,10 @@ cut_plain before (c ∷ cs) all =
 -- each character as a piece
 abbrev pub pieces : List ℕ → List (List ℕ)
 pieces = map (λ c. c ∷ [])
+
+pub total_pieces : (text : List ℕ) → total (pieces text) ≡ length text
+total_pieces [] = refl
+total_pieces (c ∷ text) = let rest = total_pieces text in omega arith
 
 pub plain_pieces : (text : List ℕ) → list_all is_plain text ≡ true → pieces text ≡ clusters text
 plain_pieces text all = sym (cut_plain [] text all)

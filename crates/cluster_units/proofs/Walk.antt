@@ -22,7 +22,7 @@ use Rattle.cluster_units.specs.Unit.{combines, combined_unit, kind_by, kind_of, 
 use Rattle.cluster_units.specs.declared.cluster.Cluster.{Cluster}
 use Rattle.cluster_units.specs.declared.unit.Unit.{Unit}
 use Rattle.cluster_units.proofs.JoinLaws.{with_onto, with_apart, joined_more, joined_none}
-use Rattle.cluster_units.proofs.Pieces.{total, total_is}
+use Rattle.cluster_units.proofs.Pieces.{total}
 use Rattle.std.proofs.lemmas.List.Elements.{All-nil}
 
 -- ---- which units are combined runs
@@ -142,18 +142,18 @@ module _ (style : Style) (table : Table) where
 
 -- ---- how far the walk over the pieces has come
 
-module _ (style : Style) (table : Table) (text : List ℕ) where
-  -- the units made and those of the pieces that are left are those of the text
+module _ (style : Style) (table : Table) (text : List ℕ) (all : List Unit) where
+  -- the units made and those of the pieces that are left are those of all pieces, which have the characters of the text
   pub record IsUnderway (made : List Unit) (place : ℕ) (left : List (List ℕ)) : Type 0 where
-    pub units : joined made (units_from style table place left) ≡ units_of style table text
+    pub units : joined made (units_from style table place left) ≡ all
     pub count : place + total left ≡ length text
     pub near : AreWithin (655360 * (1048576 - length left)) made
     pub few : length left ≤ 1048576
 
-  pub begins : (left : List (List ℕ)) → left ≡ clusters text → length left ≤ 1048576 → IsUnderway [] 0 left
-  begins left are few = record {
-    units = ap (units_from style table 0) are ∙ sym (whole style table text);
-    count = let all : total left ≡ length text = ap total are ∙ total_is text in omega arith;
+  pub begins : (left : List (List ℕ)) → units_from style table 0 left ≡ all → total left ≡ length text → length left ≤ 1048576 → IsUnderway [] 0 left
+  begins left are whole few = record {
+    units = are;
+    count = omega arith;
     near = All-nil _;
     few = few;
   }
@@ -173,7 +173,7 @@ module _ (style : Style) (table : Table) (text : List ℕ) where
     few = let few = at.few in omega arith;
   }
 
-  pub ends : (made : List Unit) (place : ℕ) (left : List (List ℕ)) → left ≡ [] → IsUnderway made place left → made ≡ units_of style table text
+  pub ends : (made : List Unit) (place : ℕ) (left : List (List ℕ)) → left ≡ [] → IsUnderway made place left → made ≡ all
   ends made place left none at = sym (joined_none made) ∙ ap (λ left. joined made (units_from style table place left)) (sym none) ∙ at.units
 
   pub room : (made : List Unit) (place : ℕ) (left : List (List ℕ)) → IsUnderway made place left → AreWithin (2 ^ 50) made

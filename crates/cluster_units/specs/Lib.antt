@@ -1,3 +1,4 @@
+pub mod Classes
 pub mod Cluster
 pub mod Laws
 pub mod Plain

@@ -1,7 +1,6 @@
 //! Text in which each character is a cluster (UAX 29, 3.1.1), as in most scripts without marks.
 
-ghost use Rattle.std.specs.Prelude.{◌≡◌, ◌≤◌, pos, ◌≤ℤ◌, length, true, IfOk};
-ghost use Rattle.std.specs.List.{list_all};
+ghost use Rattle.std.specs.Prelude.{◌≡◌, ◌≤◌, pos, ◌≤ℤ◌, length, IfOk, IfSome};
 ghost use Rattle.std.specs.Str.{chars};
 ghost use Rattle.cluster_units.specs.Plain as plain;
 ghost use Rattle.cluster_units.specs.Plain.{is_plain};
@@ -13,17 +12,6 @@ use crate::text::add_cluster;
 use face_api::Face;
 use std::alloc::{AllocError, Global};
 use style_types::Style;
-
-// Whether the text has characters alone that are clusters by themselves: neither marks nor carriage returns.
-pub(crate) fn is_plain(text: &str) -> bool
-    ensures { result ≡ list_all is_plain (chars text.now) }
-{
-    text.chars().all(
-        |c: char| -> bool
-            ensures { result ≡ is_plain c }
-        { is_plain_character(c) },
-    )
-}
 
 /// Whether a character is a cluster by itself among its like (UAX 29, 3.1.1): one of Latin text, but for the carriage return,
 /// or one further on that is neither a mark nor joins others.
@@ -66,22 +54,24 @@ fn is_wide(c: char) -> bool
     )
 }
 
-// The units of a plain text by this face.
+// The units of a text by this face, if it is plain.
 pub(crate) fn plain_units(
     alloc: Global,
     text: &str,
     style: &Style,
     face: &dyn Face,
-) -> Result<Units, AllocError>
+) -> Result<Option<Units>, AllocError>
     requires bytes { length text.now ≤ 1048576 }
-    requires plain { list_all is_plain (chars text.now) ≡ true }
     requires low { pos 0 ≤ℤ style.now.font_size }
     requires high { style.now.font_size ≤ℤ pos 65536 }
-    ensures { IfOk result (λ units. units.items ≡ units_of style.now (table face.now) (chars text.now)) }
+    ensures { IfOk result (λ made. IfSome made (λ units. units.items ≡ units_of style.now (table face.now) (chars text.now))) }
 {
     let mut units = Vec::with_capacity(alloc, text.len())?;
     let mut place = 0;
     for c in text.chars() {
+        if !is_plain_character(c) {
+            return Ok(None);
+        }
         let cluster = Cluster {
             first: place,
             end: place + 1,
@@ -90,5 +80,5 @@ pub(crate) fn plain_units(
         add_cluster(&mut units, cluster, style, face)?;
         place = cluster.end;
     }
-    Ok(units)
+    Ok(Some(units))
 }

@@ -9,7 +9,7 @@ ghost use Rattle.cluster_units.specs.Unit.{lone_unit, units_of};
 ghost use Rattle.cluster_units.specs.Text.{added, joined, merged, is_combined, AreWithin};
 
 use crate::cluster::{Cluster, cluster_at};
-use crate::plain::{is_plain, plain_units};
+use crate::plain::plain_units;
 use crate::single::unit_of;
 use crate::{Unit, Units};
 use face_api::{Face, Faces};
@@ -50,8 +50,8 @@ fn all_units(alloc: Global, text: &str, style: &Style, face: &dyn Face) -> Resul
     requires high { style.now.font_size ≤ℤ pos 65536 }
     ensures { IfOk result (λ units. units.items ≡ units_of style.now (table face.now) (chars text.now)) }
 {
-    if is_plain(text) {
-        return plain_units(alloc, text, style, face);
+    if let Some(units) = plain_units(alloc, text, style, face)? {
+        return Ok(units);
     }
     let mut units = Vec::new(alloc);
     let mut place = 0;

@@ -7,8 +7,7 @@ use Rattle.std.proofs.lemmas.Grind.{common_steps}
 use Rattle.cluster_units.specs.Cluster.{is_control, is_control_class}
 use Rattle.wm_chars.specs.Repertoire.{row_of, break_class}
 use Rattle.wm_chars.specs.declared.classes.BreakClass.{BreakClass}
-use Rattle.para_prepare.specs.Marker.{is_bidi_control}
-use Rattle.para_prepare.specs.White.{solid, passed, is_white, sign_of}
+use Rattle.para_prepare.specs.Marks.{is_bidi_control}
 
 -- a character that is found in a row of controls is in some row of controls
 found_among : {Row : Type 0} (has : Row → Bool) (class : Row → BreakClass) (rows : List Row)
@@ -84,17 +83,3 @@ controls_are c = elim (cases_Bool (is_bidi_control c)) [
     | inr apart ↦ other ∙ sym apart
   ]
 ]
-
--- ---- the signs of characters
-
-pub passed_is : (c : ℕ) (white control : Bool) → white ≡ is_white c → white ≡ false → control ≡ is_bidi_control c → control ≡ true → passed ≡ sign_of c
-passed_is c white control w is_not k is =
-    let not_white : is_white c ≡ false = sym w ∙ is_not in
-    let control : is_control c ≡ true = sym (controls_are c) ∙ sym k ∙ is in
-    rw (not_white, control) refl
-
-pub solid_is : (c : ℕ) (white control : Bool) → white ≡ is_white c → white ≡ false → control ≡ is_bidi_control c → control ≡ false → solid ≡ sign_of c
-solid_is c white control w is_not k is =
-    let not_white : is_white c ≡ false = sym w ∙ is_not in
-    let no_control : is_control c ≡ false = sym (controls_are c) ∙ sym k ∙ is in
-    rw (not_white, no_control) refl

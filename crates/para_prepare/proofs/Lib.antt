@@ -2,6 +2,7 @@ pub mod AloneLaws
 pub mod AloneParts
 pub mod AtomLaws
 pub mod Begins
+pub mod CommonLaws
 pub mod ContentLaws
 pub mod Controls
 pub mod Ends
@@ -11,7 +12,6 @@ pub mod FlatRuns
 pub mod InsideLaws
 pub mod KeptLaws
 pub mod LastLetter
-pub mod MarkerLaws
 pub mod MoreItems
 pub mod NoEnds
 pub mod OneSize

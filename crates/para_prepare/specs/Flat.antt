@@ -14,7 +14,7 @@ use Rattle.para_prepare.specs.declared.standing.Standing.{Standing}
 use Rattle.para_prepare.specs.Breaks.{break_class_of}
 use Rattle.para_prepare.specs.Glyph.{class_of}
 use Rattle.para_prepare.specs.Items.{first_place, item_of, place_behind}
-use Rattle.para_prepare.specs.Marker.{is_bidi_control}
+use Rattle.para_prepare.specs.Marks.{is_bidi_control}
 use Rattle.cluster_units.specs.Plain.{is_plain}
 use Rattle.cluster_units.specs.Text.{is_combined}
 use Rattle.cluster_units.specs.declared.unit.Unit.{Unit}

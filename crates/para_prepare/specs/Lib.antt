@@ -9,7 +9,7 @@ pub mod Inside
 pub mod Items
 pub mod Kept
 pub mod Limits
-pub mod Marker
+pub mod Marks
 pub mod Parts
 pub mod Preparation
 pub mod Reach

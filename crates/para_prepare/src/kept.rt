@@ -1,16 +1,16 @@
 //! The kept characters of a paragraph (CSS Text 3, 4.1), and their text.
 
-ghost use Rattle.std.specs.Prelude.{◌≡◌, ◌≤◌, ◌<◌, ◌+◌, ◌^◌, ◌++◌, [], ◌∷◌, length, drop, encode_utf8_all, IfOk, OnOk};
+ghost use Rattle.std.specs.Prelude.{◌≡◌, ◌≤◌, ◌<◌, ◌^◌, ◌&&◌, ◌||◌, false, not, ◌++◌, [], ◌∷◌, length, map, encode_utf8_all, IfOk, OnOk};
 ghost use Rattle.std.specs.Str.{chars};
 ghost use Rattle.std.specs.String.{string_bytes};
 ghost use Rattle.style_types.specs.Item.{entry_of, entries_of};
 ghost use Rattle.para_prepare.specs.Kept.{kept, kept_in, joined, ends_from, chars_of};
 ghost use Rattle.para_prepare.specs.Limits.{text_bytes};
-ghost use Rattle.para_prepare.specs.White.{as_kept, chosen, signs_in};
+ghost use Rattle.para_prepare.specs.Marks.{follows_all, follows_at, is_bidi_control, is_kept_with, marks_with, space_if};
+ghost use Rattle.para_prepare.specs.White.{chosen, leads, sign_of, signs, signs_in};
 
 use crate::letter::Letter;
-use crate::marker::is_white;
-use crate::white::marks;
+use crate::white::{is_bidi_control, is_white, leads};
 use bumpalo::Bump;
 use std::alloc::{AllocError, Global};
 use style_types::Item;
@@ -26,21 +26,38 @@ pub(crate) struct Kept<'a> {
     pub(crate) ends: Vec<usize, &'a Bump>,
 }
 
-/// The kept characters of these items. A white space character that is kept is U+0020.
+/// The kept characters of these items: of white space what directly follows content that isn't white, where more content comes
+/// before the next line break. Inline boxes' ends and bidi controls between are passed over. White space that is kept is U+0020.
 pub(crate) fn kept_letters<'a>(arena: &'a Bump, items: &[Item]) -> Result<Kept<'a>, AllocError>
     requires bytes { text_bytes (entries_of items.now) ≤ 1048576 }
     ensures letters { IfOk result (λ k. k.letters.items ≡ joined (kept (entries_of items.now))) }
     ensures ends { IfOk result (λ k. k.ends.items ≡ ends_from 0 (kept (entries_of items.now))) }
 {
-    let marks = marks(arena, items)?;
-    let mut letters = Vec::with_capacity(arena, marks.len())?;
+    let mut keeper = Keeper {
+        letters: Vec::with_capacity(arena, room_for(items))?,
+        follows: false,
+    };
     let mut ends = Vec::with_capacity(arena, items.len())?;
-    let mut place = 0;
-    for item in items {
-        place = add_item(&mut letters, item, &marks, place)?;
-        ends.push(letters.len())?;
+    for i in 0..items.len() {
+        let (_, behind) = items.split_at(i + 1);
+        keeper.add_item(&items[i], behind)?;
+        ends.push(keeper.letters.len())?;
     }
-    Ok(Kept { letters, ends })
+    Ok(Kept {
+        letters: keeper.letters,
+        ends,
+    })
+}
+
+// As many as the characters of the texts at least. It is only a measure of room.
+fn room_for(items: &[Item]) -> usize {
+    let mut room = 0usize;
+    for item in items {
+        if let Item::Text { text, .. } = item {
+            room = room.saturating_add(text.as_str().len());
+        }
+    }
+    room
 }
 
 /// The text of these characters.
@@ -55,67 +72,89 @@ pub(crate) fn text_of(alloc: Global, letters: &[Letter]) -> Result<String, Alloc
     Ok(text)
 }
 
-// Adds the kept characters of an item, whose marks begin at this place, and answers where they end.
-fn add_item(
-    letters: &mut Letters,
-    item: &Item,
-    marks: &[bool],
-    place: usize,
-) -> Result<usize, AllocError>
-    requires marks { place + length (signs_in (entry_of item.now)) ≤ length marks.now }
-    requires few { length (signs_in (entry_of item.now)) < 2 ^ 32 }
-    ensures letters { OnOk result (letters.new.items ≡ letters.old.items ++ kept_in (entry_of item.now) (drop place marks.now)) }
-    ensures place { IfOk result (λ end_. end_ ≡ place + length (signs_in (entry_of item.now))) }
-{
-    match item {
-        Item::Text { text, .. } => add_text(letters, text.as_str(), marks, place),
-        Item::Open { .. } | Item::Close { .. } | Item::Atom { .. } | Item::Break { .. } => Ok(
-            place + 1,
-        ),
-    }
+// The kept characters so far, and whether content that isn't white stands directly before what comes next.
+#[derive(Drop)]
+struct Keeper<'a> {
+    letters: Letters<'a>,
+    follows: bool,
 }
 
-// The same of a text.
-fn add_text(
-    letters: &mut Letters,
-    text: &str,
-    marks: &[bool],
-    place: usize,
-) -> Result<usize, AllocError>
-    requires marks { place + length (chars text.now) ≤ length marks.now }
-    requires few { length (chars text.now) < 2 ^ 32 }
-    ensures letters { OnOk result (letters.new.items ≡ letters.old.items ++ chosen 0 (chars text.now) (drop place marks.now)) }
-    ensures place { IfOk result (λ end_. end_ ≡ place + length (chars text.now)) }
-{
-    let mut count = 0;
-    for c in text.chars() {
-        add_character(letters, marks[place + count], count as u32, c)?;
-        count += 1;
+impl Keeper<'_> {
+    // Adds the kept characters of an item that has these items behind it.
+    fn add_item(&mut self, item: &Item, behind: &[Item]) -> Result<(), AllocError>
+        requires few { length (signs_in (entry_of item.now)) < 2 ^ 32 }
+        ensures letters { OnOk result (self.new.letters.items ≡ self.old.letters.items ++ kept_in (entry_of item.now) (marks_with (signs_in (entry_of item.now) ++ signs (entries_of behind.now)) self.old.follows)) }
+        ensures follows { OnOk result (self.new.follows ≡ follows_all (signs_in (entry_of item.now)) self.old.follows) }
+    {
+        match item {
+            Item::Text { text, .. } => self.add_text(text.as_str(), behind),
+            Item::Open { .. } | Item::Close { .. } => Ok(()),
+            Item::Atom { .. } => {
+                self.follows = true;
+                Ok(())
+            }
+            Item::Break { .. } => {
+                self.follows = false;
+                Ok(())
+            }
+        }
     }
-    Ok(place + count)
-}
 
-// Adds the character at this place of its text, if it is kept.
-fn add_character(
-    letters: &mut Letters,
-    is_kept: bool,
-    place: u32,
-    c: char,
-) -> Result<(), AllocError>
-    ensures { OnOk result (letters.new.items ≡ letters.old.items ++ chosen place (c ∷ []) (is_kept ∷ [])) }
-{
-    if is_kept {
-        letters.push(Letter {
-            place,
-            char: as_kept(c),
-        })?;
+    // The same of a text.
+    fn add_text(&mut self, text: &str, behind: &[Item]) -> Result<(), AllocError>
+        requires few { length (chars text.now) < 2 ^ 32 }
+        ensures letters { OnOk result (self.new.letters.items ≡ self.old.letters.items ++ chosen 0 (chars text.now) (marks_with (map sign_of (chars text.now) ++ signs (entries_of behind.now)) self.old.follows)) }
+        ensures follows { OnOk result (self.new.follows ≡ follows_all (map sign_of (chars text.now)) self.old.follows) }
+    {
+        let mut place = 0;
+        let mut rest = text.chars();
+        while let Some(c) = rest.next() {
+            self.add_character(c, place, rest.as_str(), behind)?;
+            place += 1;
+        }
+        Ok(())
     }
-    Ok(())
-}
 
-// White space becomes U+0020.
-fn as_kept(c: char) -> char
-    ensures { result ≡ as_kept c }
-{
-    if is_white(c) { ' ' } else { c }
+    // Adds the character at this place of its text, if it is kept; the rest of the text and these items stand behind it.
+    #[inline(always)]
+    #[tactic(auto, using(crate::proofs::WhiteLaws::other_follows))]
+    fn add_character(
+        &mut self,
+        c: char,
+        place: u32,
+        rest: &str,
+        behind: &[Item],
+    ) -> Result<(), AllocError>
+        ensures letters { OnOk result (self.new.letters.items ≡ self.old.letters.items ++ chosen place (c ∷ []) (is_kept_with (sign_of c) self.old.follows (leads (map sign_of (chars rest.now) ++ signs (entries_of behind.now))) ∷ [])) }
+        ensures follows { OnOk result (self.new.follows ≡ follows_at (sign_of c) self.old.follows) }
+    {
+        if is_white(c) {
+            self.add_white(place, rest, behind)
+        } else {
+            self.add_other(c, place)
+        }
+    }
+
+    // Adds white space.
+    fn add_white(&mut self, place: u32, rest: &str, behind: &[Item]) -> Result<(), AllocError>
+        ensures letters { OnOk result (self.new.letters.items ≡ self.old.letters.items ++ space_if (self.old.follows && leads (map sign_of (chars rest.now) ++ signs (entries_of behind.now))) place) }
+        ensures follows { OnOk result (self.new.follows ≡ false) }
+    {
+        if self.follows && leads(rest, behind) {
+            self.letters.push(Letter { place, char: ' ' })?;
+        }
+        self.follows = false;
+        Ok(())
+    }
+
+    // Adds a character that isn't white.
+    #[inline(always)]
+    fn add_other(&mut self, c: char, place: u32) -> Result<(), AllocError>
+        ensures letters { OnOk result (self.new.letters.items ≡ self.old.letters.items ++ (record { place = place; char = c }) ∷ []) }
+        ensures follows { OnOk result (self.new.follows ≡ (self.old.follows || not (is_bidi_control c))) }
+    {
+        self.letters.push(Letter { place, char: c })?;
+        self.follows |= !is_bidi_control(c);
+        Ok(())
+    }
 }

@@ -14,7 +14,6 @@ mod item;
 mod items;
 mod kept;
 mod letter;
-mod marker;
 mod parts;
 mod preparation;
 mod singles;

@@ -7,6 +7,7 @@ use crate::bidi_text::Around;
 use bumpalo::Bump;
 use cluster_units::Unit;
 use style_types::{BoxName, Glyphs};
+use wm_chars::laws::characters_stand_in_one_row;
 use wm_chars::{BidiClass, bidi_class};
 
 /// Kept characters of a paragraph that stand side by side: places in the list of all of them.
@@ -60,12 +61,31 @@ pub(crate) enum Part {
 pub(crate) type Parts<'a> = Vec<Part, &'a Bump>;
 
 /// The class of a character in a text that is set upright, where each is strong from left to right, or not.
+#[inline(never)]
 pub(crate) fn class_in(upright: bool, c: char) -> BidiClass
     ensures { result ≡ parts.class_in upright c }
 {
     if upright {
-        BidiClass::L
+        return BidiClass::L;
+    }
+    if is_common(c) {
+        characters_stand_in_one_row();
+        return BidiClass::L;
+    }
+    bidi_class(c).unwrap_or(BidiClass::ON)
+}
+
+// A Latin letter of ASCII, kana, Han or a Hangul syllable, as most characters of text are.
+#[inline(always)]
+fn is_common(c: char) -> bool
+    ensures { result ≡ parts.is_common c }
+{
+    if c < '\u{3041}' {
+        matches!(c, 'A'..='Z' | 'a'..='z')
     } else {
-        bidi_class(c).unwrap_or(BidiClass::ON)
+        matches!(
+            c,
+            '\u{3041}'..='\u{3096}' | '\u{30A1}'..='\u{30FA}' | '\u{4E00}'..='\u{9FFF}' | '\u{AC00}'..='\u{D7A3}'
+        )
     }
 }

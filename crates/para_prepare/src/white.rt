@@ -1,48 +1,85 @@
-//! Which white space of a paragraph is kept (CSS Text 3, 4.1).
+//! White space, and the content beside it that decides whether it is kept (CSS Text 3, 4.1).
 
-ghost use Rattle.std.specs.Prelude.{◌≡◌, ◌++◌, List, IfOk, OnOk, map};
+ghost use Rattle.std.specs.Prelude.{◌≡◌, ◌++◌, map, unwrap_or};
+ghost use Rattle.std.specs.List.{list_any};
 ghost use Rattle.std.specs.Str.{chars};
 ghost use Rattle.style_types.specs.Item.{entry_of, entries_of};
-ghost use Rattle.para_prepare.specs.Marker.{HasMet};
-ghost use Rattle.para_prepare.specs.White.{Sign, marks, sign_of, signs_in};
+ghost use Rattle.para_prepare.specs.Marks as marks;
+ghost use Rattle.para_prepare.specs.Marks.{is_bidi_control};
+ghost use Rattle.para_prepare.specs.White.{is_white, leads, sign_of, signs};
 
-use crate::marker::Marker;
-use bumpalo::Bump;
-use std::alloc::AllocError;
 use style_types::Item;
 
-/// For each character of the texts, each end of an inline box, each inline-block and each line break in order, whether it
-/// is kept (CSS Text 3, 4.1): of white space what directly follows content that isn't white, where more content comes
-/// before the next line break. Inline boxes' ends and bidi controls between are passed over.
-pub(crate) fn marks<'a>(arena: &'a Bump, items: &[Item]) -> Result<Vec<bool, &'a Bump>, AllocError>
-    ensures { IfOk result (λ m. m.items ≡ marks (entries_of items.now)) }
+/// Whether content comes first in the rest of a text and the items behind it: white space, inline boxes' ends and bidi
+/// controls are passed over, a line break is an end.
+pub(crate) fn leads(rest: &str, behind: &[Item]) -> bool
+    ensures { result ≡ leads (map sign_of (chars rest.now) ++ signs (entries_of behind.now)) }
 {
-    let mut marker = Marker::new(arena);
-    for item in items {
-        add_item(&mut marker, item)?;
-    }
-    marker.settle();
-    Ok(marker.marks)
+    has_content(rest) || leads_in(behind)
 }
 
-// Adds what one item has.
-fn add_item(marker: &mut Marker, item: &Item) -> Result<(), AllocError>
-    ensures { (signs : List Sign) → HasMet marker.old signs → OnOk result (HasMet marker.new (signs ++ signs_in (entry_of item.now))) }
+// The same of items alone.
+fn leads_in(items: &[Item]) -> bool
+    ensures { result ≡ leads (signs (entries_of items.now)) }
+{
+    for item in items {
+        if let Some(leads) = tells(item) {
+            return leads;
+        }
+    }
+    false
+}
+
+// Whether content comes first in what stands from this item on, where the item tells it by itself.
+fn tells(item: &Item) -> Option<bool>
+    ensures { result ≡ marks.tells (entry_of item.now) }
 {
     match item {
-        Item::Text { text, .. } => add_text(marker, text.as_str()),
-        Item::Open { .. } | Item::Close { .. } => marker.add_passed(),
-        Item::Atom { .. } => marker.add_solid(),
-        Item::Break { .. } => marker.add_broken(),
+        Item::Text { text, .. } => {
+            if has_content(text.as_str()) {
+                Some(true)
+            } else {
+                None
+            }
+        }
+        Item::Open { .. } | Item::Close { .. } => None,
+        Item::Atom { .. } => Some(true),
+        Item::Break { .. } => Some(false),
     }
 }
 
-// Adds the characters of a text.
-fn add_text(marker: &mut Marker, text: &str) -> Result<(), AllocError>
-    ensures { (signs : List Sign) → HasMet marker.old signs → OnOk result (HasMet marker.new (signs ++ map sign_of (chars text.now))) }
+// Whether a text has a character that is content.
+fn has_content(text: &str) -> bool
+    ensures { result ≡ list_any marks.is_content (chars text.now) }
 {
-    for c in text.chars() {
-        marker.add_character(c)?;
-    }
-    Ok(())
+    text.chars().any(
+        |c: char| -> bool
+            ensures { result ≡ marks.is_content c }
+        { is_content(c) },
+    )
+}
+
+// A character that is neither white space nor a bidi control.
+fn is_content(c: char) -> bool
+    ensures { result ≡ marks.is_content c }
+{
+    !is_white(c) && !is_bidi_control(c)
+}
+
+/// Is it a tab, a line feed, a form feed, a carriage return or a space? One comparison tells it from a letter.
+pub(crate) fn is_white(c: char) -> bool
+    ensures { result ≡ is_white c }
+{
+    c <= ' ' && matches!(c, ' ' | '\n' | '\t' | '\u{C}' | '\r')
+}
+
+/// The bidi controls of the repertoire. One comparison tells them from Latin letters.
+pub(crate) fn is_bidi_control(c: char) -> bool
+    ensures { result ≡ is_bidi_control c }
+{
+    c >= '\u{61C}'
+        && matches!(
+            c,
+            '\u{61C}' | '\u{200E}'..='\u{200F}' | '\u{202A}'..='\u{202E}' | '\u{2066}'..='\u{2069}'
+        )
 }

@@ -3,10 +3,10 @@ use Rattle.std.specs.Str.{chars}
 use Rattle.std.proofs.lemmas.List.{length-map}
 use Rattle.unicode_segmentation.specs.Iter.{graphemes_left}
 use Rattle.cluster_units.specs.Cluster.{clusters, cluster_of}
-use Rattle.cluster_units.specs.Unit.{lone_unit}
+use Rattle.cluster_units.specs.Unit.{lone_unit, units_of}
 use Rattle.cluster_units.specs.Text.{added}
-use Rattle.cluster_units.proofs.Pieces.{pieces_are, fewer_chars}
-use Rattle.cluster_units.proofs.Walk.{IsUnderway, begins, goes_on, ends, place_within}
+use Rattle.cluster_units.proofs.Pieces.{pieces_are, fewer_chars, total, total_is}
+use Rattle.cluster_units.proofs.Walk.{IsUnderway, begins, goes_on, ends, place_within, units_from, whole}
 use Rattle.cluster_units.proofs.text.all_units.Goals as goal
 
 pub loop-piece-init : goal.loop-piece-init
@@ -19,33 +19,33 @@ loop-piece-init g c =
     let few = c.graphemes-piece-items.ensures.len in
     let bytes = c.requires.bytes in
     let long : length (map chars (graphemes_left c.into_iter-piece-iterator.result)) ≤ 1048576 = omega (arith, length-map (graphemes_left c.into_iter-piece-iterator.result) chars, ap length same) in
-    (tt, tt, subst (λ made. IsUnderway c.args.style.now table (chars text) made 0 (map chars (graphemes_left c.into_iter-piece-iterator.result))) (sym c.new-units.ensures.items) (begins c.args.style.now table (chars text) _ left long))
+    (tt, tt, subst (λ made. IsUnderway c.args.style.now table (chars text) (units_of c.args.style.now table (chars text)) made 0 (map chars (graphemes_left c.into_iter-piece-iterator.result))) (sym c.new-units.ensures.items) (begins c.args.style.now table (chars text) _ _ (ap (units_from c.args.style.now table 0) left ∙ sym (whole c.args.style.now table (chars text))) (ap total left ∙ total_is (chars text)) long))
 
 pub cluster_at-cluster-requires : goal.cluster_at-cluster-requires
 cluster_at-cluster-requires g c =
     let table = (goal.Face-dyn g c.args.face.now).table c.args.face.now.1 in
-    let at = subst (λ left. IsUnderway c.args.style.now table (chars c.args.text.now) c.loop-piece.units.items c.loop-piece.place left) (ap (map chars) c.in-Some.ensures.steps) c.loop-piece.invariant.2 in
+    let at = subst (λ left. IsUnderway c.args.style.now table (chars c.args.text.now) (units_of c.args.style.now table (chars c.args.text.now)) c.loop-piece.units.items c.loop-piece.place left) (ap (map chars) c.in-Some-piece.ensures.steps) c.loop-piece.invariant.2 in
     let bytes = c.requires.bytes in
     let few = fewer_chars c.args.text.now c.utf8.text in
     let short : length (chars c.args.text.now) ≤ 1048576 = omega arith in
-    place_within c.args.style.now table (chars c.args.text.now) c.loop-piece.units.items c.loop-piece.place (chars c.in-Some.piece.now) (map chars (graphemes_left c.next.new.self)) short at
+    place_within c.args.style.now table (chars c.args.text.now) _ c.loop-piece.units.items c.loop-piece.place (chars c.in-Some-piece.piece.now) (map chars (graphemes_left c.next.new.self)) short at
 
 pub loop-piece-preserved : goal.loop-piece-preserved
 loop-piece-preserved g c =
     let table = (goal.Face-dyn g c.args.face.now).table c.args.face.now.1 in
     let text = chars c.args.text.now in
     let left = map chars (graphemes_left c.next.new.self) in
-    let at = subst (λ left. IsUnderway c.args.style.now table text c.loop-piece.units.items c.loop-piece.place left) (ap (map chars) c.in-Some.ensures.steps) c.loop-piece.invariant.2 in
-    let made : c.add_cluster.new.units.items ≡ added c.loop-piece.units.items (lone_unit c.args.style.now table (cluster_of c.loop-piece.place (chars c.in-Some.piece.now))) =
+    let at = subst (λ left. IsUnderway c.args.style.now table text (units_of c.args.style.now table text) c.loop-piece.units.items c.loop-piece.place left) (ap (map chars) c.in-Some-piece.ensures.steps) c.loop-piece.invariant.2 in
+    let made : c.add_cluster.new.units.items ≡ added c.loop-piece.units.items (lone_unit c.args.style.now table (cluster_of c.loop-piece.place (chars c.in-Some-piece.piece.now))) =
     c.in_ok-add_cluster.ensures.items ∙ ap (λ cluster. added c.loop-piece.units.items (lone_unit c.args.style.now table cluster)) c.cluster_at-cluster.ensures in
-    let place : c.loop-piece.place + length (chars c.in-Some.piece.now) ≡ c.cluster_at-cluster.result.end = sym (ap (λ cluster. cluster.end) c.cluster_at-cluster.ensures) in (
+    let place : c.loop-piece.place + length (chars c.in-Some-piece.piece.now) ≡ c.cluster_at-cluster.result.end = sym (ap (λ cluster. cluster.end) c.cluster_at-cluster.ensures) in (
       tt,
       tt,
-      subst (λ place. IsUnderway c.args.style.now table text c.add_cluster.new.units.items place left) place
-          (goes_on c.args.style.now table text c.loop-piece.units.items c.add_cluster.new.units.items c.loop-piece.place (chars c.in-Some.piece.now) left made c.add_cluster.ensures.near at),
+      subst (λ place. IsUnderway c.args.style.now table text (units_of c.args.style.now table text) c.add_cluster.new.units.items place left) place
+          (goes_on c.args.style.now table text _ c.loop-piece.units.items c.add_cluster.new.units.items c.loop-piece.place (chars c.in-Some-piece.piece.now) left made c.add_cluster.ensures.near at),
     )
 
 pub returns : goal.returns
 returns g c =
     let table = (goal.Face-dyn g c.args.face.now).table c.args.face.now.1 in
-    ends c.args.style.now table (chars c.args.text.now) c.loop-piece.units.items c.loop-piece.place (map chars (graphemes_left c.loop-piece.piece-iterator)) (ap (map chars) c.in-None.ensures.steps.0) c.loop-piece.invariant.2
+    ends c.args.style.now table (chars c.args.text.now) _ c.loop-piece.units.items c.loop-piece.place (map chars (graphemes_left c.loop-piece.piece-iterator)) (ap (map chars) c.in-None.ensures.steps.0) c.loop-piece.invariant.2
