@@ -1,11 +1,11 @@
 -- What a declaration declares: values of its longhands.
-use Rattle.std.proofs.Common.{◌≡◌, ℕ, zero, suc, ◌<◌, length, get_or, arith, Bool, true, false, cond, List, [], ◌∷◌, ◌++◌, codes, Some, None, Ok, Err, refl, sym, ap, subst, ◌∙◌}
-use Rattle.std.specs.Prelude.{⊤, map, zip, slice_get, is_some, Option, option_map}
+use Rattle.std.proofs.Common.{◌≡◌, ℕ, zero, suc, ◌<◌, length, get_or, arith, Bool, true, false, cond, List, [], ◌∷◌, codes, Some, None, refl, sym, ap, subst, ◌∙◌}
+use Rattle.std.specs.Prelude.{⊤, map, zip, slice_get, is_some, Option}
 use Rattle.std.specs.List.{All, AllByRecursion}
 use Rattle.std.proofs.lemmas.List.Elements.{All-append, All-cons, All-from_recursion, All-head, All-map, All-nil, All-tail, recursion_from_All}
 use Rattle.reading.specs.Names.{lowered, named}
 use Rattle.style_types.specs.Table.{IsRowOf, rows}
-use Rattle.style_types.specs.Value.{HasSayable, IsAmong, IsValueBy, IsValueOf}
+use Rattle.style_types.specs.Value.{HasSayable, IsAmong, IsValueOf}
 use Rattle.style_types.specs.declared.property.Property.{Property}
 use Rattle.style_types.specs.declared.property.Property.TheVariants as longhands
 use Rattle.style_types.specs.declared.shorthand.Longhands.{Longhands}
@@ -13,9 +13,8 @@ use Rattle.style_types.specs.declared.shorthand.Longhands.TheVariants.{One, Ends
 use Rattle.style_types.specs.declared.shorthand.Shorthand.{Shorthand}
 use Rattle.style_types.specs.declared.shorthand.Shorthand.TheVariants.{Round, Border}
 use Rattle.style_types.specs.declared.table.PropertyRow.{PropertyRow}
-use Rattle.style_types.specs.declared.table.TheConstants.{LINES, MARGINS, PADDINGS, PROPERTIES, WIDTHS}
+use Rattle.style_types.specs.declared.table.TheConstants.{LINES, MARGINS, PADDINGS, WIDTHS}
 use Rattle.style_types.specs.declared.table.Values.{Values}
-use Rattle.style_types.specs.declared.value.Declaration.{Declaration}
 use Rattle.style_types.specs.declared.value.Value.{Value}
 use Rattle.style_types.specs.declared.value.Value.TheVariants as values
 use Rattle.css_tokens.specs.Tokens as tokens
@@ -23,7 +22,7 @@ use Rattle.css_tokens.specs.Tokens.{Lexeme}
 use Rattle.css_values.specs.declared.border.Found.{Found}
 use Rattle.css_values.specs.declared.judging.Manner.{Manner}
 use Rattle.css_values.specs.Answered.{IsKept}
-use Rattle.css_values.specs.Border.{and_then, by_name, nothing, or_initial, pieces, with_colour, with_length, with_piece, with_style, with_width}
+use Rattle.css_values.specs.Border.{and_then, by_name, nothing, or_initial, pieces, with_colour, with_length, with_piece}
 use Rattle.css_values.specs.Judging.{declared_by, expanded, if_value, meaning, placed, property_or, shorthand_or_unknown}
 use Rattle.css_values.specs.Longhand.{is_name, is_one_of, is_word, longhand, single}
 use Rattle.css_values.specs.Shorthand.{all_have, alone, at_ends, before_others, borders, each, each_then, given_by, given_to, initial_of, listed, round_sides, shorthand, spread}

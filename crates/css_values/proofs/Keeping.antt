@@ -1,10 +1,10 @@
 -- Declarations: what is kept is a value of its property, with numbers that a style sheet can say.
-use Rattle.std.proofs.Common.{◌≡◌, ℕ, Bool, true, false, cond, List, [], ◌∷◌, ◌++◌, length, codes, Ok, Err, refl, sym, ap, subst, ◌∙◌}
+use Rattle.std.proofs.Common.{◌≡◌, ℕ, Bool, true, false, cond, List, [], ◌++◌, length, codes, Ok, Err, ap, subst}
 use Rattle.std.specs.Prelude.{⊤, IfOk, Option, Some, None, Result}
 use Rattle.std.specs.List.{All}
 use Rattle.std.proofs.lemmas.List.Elements.{All-append, All-nil}
-use Rattle.reading.specs.Readers.{ReadOr, give, follow, mapped, choice, strip, starts, repeat}
-use Rattle.reading.proofs.SpellLaws.{ok, stop, bind_ok, same_answer, told_ok}
+use Rattle.reading.specs.Readers.{give, follow, mapped, strip, starts, repeat}
+use Rattle.reading.proofs.SpellLaws.{ok, bind_ok, same_answer, told_ok}
 use Rattle.reading.proofs.Turns.{repeat_keeps}
 use Rattle.style_types.specs.declared.value.Declaration.{Declaration}
 use Rattle.css_tokens.specs.Lexing.{gap}
@@ -14,7 +14,7 @@ use Rattle.css_values.specs.Answered.{IsKept}
 use Rattle.css_values.specs.Declarations.{Stated, are_too_many, at_rule_ahead, before_rest, counted, declaration, declarations, declared, goes_on, item, judged, refused_at, stated, turn, unless_at, unsupported, with_stated}
 use Rattle.reading.specs.Stop.{Gives}
 use Rattle.css_values.specs.Error.{Fault, Stop, spelled, syntax}
-use Rattle.css_values.specs.Judging.{expanded, is_unsupported}
+use Rattle.css_values.specs.Judging.{is_unsupported}
 use Rattle.css_values.proofs.Declaring.{placed_are_kept}
 use Rattle.css_values.proofs.Sayable.{AreSaid, stated_is_said}
 

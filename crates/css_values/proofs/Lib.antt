@@ -11,6 +11,7 @@ mod ByLength
 pub mod ComponentLaws
 pub mod DeclarationLaws
 pub mod AnsweredLaws
+mod ReportLaws
 mod NameRows
 mod Sayable
 mod Taking

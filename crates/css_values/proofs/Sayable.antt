@@ -1,14 +1,14 @@
 -- The numbers of what is read: none is greater than a style sheet can say.
-use Rattle.std.proofs.Common.{◌≡◌, ℕ, Bool, true, false, cond, ℤ, List, [], ◌∷◌, ◌++◌, length, take, codes, ◌-◌, refl, sym, ap, subst, ◌∙◌}
+use Rattle.std.proofs.Common.{◌≡◌, ℕ, Bool, true, false, cond, List, [], ◌∷◌, ◌++◌, length, take, codes, ◌-◌, subst}
 use Rattle.std.specs.Prelude.{⊤}
 use Rattle.std.specs.List.{All}
 use Rattle.std.proofs.lemmas.List.Elements.{All-nil, All-push, All-take}
-use Rattle.reading.specs.Readers.{Read, give, follow, mapped, choice, one_of, strip, repeat}
+use Rattle.reading.specs.Readers.{give, follow, mapped, one_of, strip, repeat}
 use Rattle.reading.proofs.SpellLaws.{ok, stop, bind_ok, same_answer}
 use Rattle.reading.proofs.Turns.{repeat_keeps}
 use Rattle.style_types.specs.Value.{IsSayable}
 use Rattle.css_tokens.specs.Grammar.{IsToken}
-use Rattle.css_tokens.specs.Lexing.{gap, name_ahead, token}
+use Rattle.css_tokens.specs.Lexing.{gap, token}
 use Rattle.css_tokens.specs.Tokens as tokens
 use Rattle.css_tokens.specs.Tokens.{Lexeme}
 use Rattle.css_tokens.proofs.NumberBounds.{number_is_small}

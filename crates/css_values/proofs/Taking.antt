@@ -1,8 +1,8 @@
 -- Values: what is read for a property is a value of it.
-use Rattle.std.proofs.Common.{◌≡◌, inl, inr, ℕ, zero, suc, ◌<◌, ◌≤◌, ◌-◌, Bool, true, false, cond, ℤ, pos, List, [], ◌∷◌, length, codes, Some, None, refl, sym, ap, subst, ◌∙◌, arith}
-use Rattle.std.specs.Prelude.{⊤, T, ◌&&◌, ◌||◌, ◌≤ℤ◌, negsuc, int_le, nat_le, find, map, bytes_eq, Option, option_map, Ok, Err}
+use Rattle.std.proofs.Common.{◌≡◌, inl, inr, ℕ, suc, ◌≤◌, ◌-◌, Bool, true, false, cond, ℤ, pos, List, [], ◌∷◌, codes, Some, None, refl, sym, ap, subst, ◌∙◌, arith}
+use Rattle.std.specs.Prelude.{⊤, T, ◌&&◌, ◌||◌, ◌≤ℤ◌, int_le, nat_le, find, bytes_eq, Option, option_map, Ok, Err}
 use Rattle.std.specs.Int.Signed.{le_z_yes}
-use Rattle.std.specs.List.{All, Contains, list_all, list_any}
+use Rattle.std.specs.List.{All, Contains, list_all}
 use Rattle.std.proofs.lemmas.Bool.{and_parts}
 use Rattle.std.proofs.lemmas.List.Elements.{All-from_recursion, All-head, All-tail}
 use Rattle.std.proofs.lemmas.Slice.Eq.{bytes_eq-Decides}

@@ -9,6 +9,7 @@ pub mod Error
 pub mod Judging
 pub mod Longhand
 pub mod Reading
+pub mod Reports
 pub mod Shorthand
 pub mod Tables
 pub mod Value

@@ -28,10 +28,10 @@ const MOST_DECLARATIONS: usize = 65_536;
 
 /// A declaration as it stands, and the text from its name on.
 #[derive(Debug, Drop)]
-struct Stated<'a> {
-    name: &'a str,
-    value: Written<'a>,
-    left: &'a str,
+pub(crate) struct Stated<'a> {
+    pub name: &'a str,
+    pub value: Written<'a>,
+    pub left: &'a str,
 }
 
 /// Reads the declarations of a style attribute (CSS Style Attributes, 3): to the end of the text, with shorthands
@@ -116,8 +116,8 @@ fn behind_gap(
     Ok((all, rest))
 }
 
-// In a rule they end before a `}`, elsewhere with the text.
-fn list_ends(within: Within, text: &str) -> bool
+/// Do declarations end here? In a rule they end before a `}`, elsewhere with the text.
+pub fn list_ends(within: Within, text: &str) -> bool
     ensures { result ≡ readers.list_ends within text.now }
 {
     match within {
@@ -178,14 +178,18 @@ fn declaration<'a>(
     Ok(rest)
 }
 
-fn is_rule(within: Within) -> bool
+pub(crate) fn is_rule(within: Within) -> bool
     ensures { result ≡ readers.is_rule within }
 {
     matches!(within, Within::Rule { .. })
 }
 
 #[tactic(auto, unfolding(crate::specs::Declarations::stated))]
-fn next_stated(alloc: Global, within: Within, text: &str) -> Result<(Stated<'_>, &str), Stop<'_>>
+pub(crate) fn next_stated(
+    alloc: Global,
+    within: Within,
+    text: &str,
+) -> Result<(Stated<'_>, &str), Stop<'_>>
     ensures read { Gives (λ s. (stated_of s.0, s.1.now)) result (spelled (readers.stated within) text.now) }
     ensures shorter { IfOk result (λ s. length s.1.now < length text.now) }
 {
@@ -245,7 +249,7 @@ fn judge<'a>(
 }
 
 // In a sheet an `@` begins a rule that the profile doesn't have.
-fn refused_at(within: Within, at_sign: Option<&str>) -> Option<&str>
+pub(crate) fn refused_at(within: Within, at_sign: Option<&str>) -> Option<&str>
     ensures { text_of result ≡ readers.refused_at within (text_of at_sign.entry) }
 {
     match within {

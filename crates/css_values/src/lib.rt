@@ -12,11 +12,13 @@ pub mod laws;
 mod longhand;
 mod names;
 mod refused;
+mod reports;
 mod shorthand;
 mod value;
 mod within;
 mod words;
 
-pub use declarations::{declarations_within, read_declarations, told};
+pub use declarations::{declarations_within, list_ends, read_declarations, told};
 pub use error::{CssError, Refusal, Stop};
+pub use reports::{Fate, Report, next_report};
 pub use within::Within;
