@@ -19,9 +19,10 @@ use style_types::Selector;
 /// The greatest count of rules in the sheets of a document.
 const MOST_RULES: usize = 4_096;
 
-/// The selectors, where `rules` rules stand before them.
+/// Reads the selectors of a rule, where `rules` rules stand before them, and the `{` behind them (Selectors 3, 4 to 6).
+/// What is left stands behind it.
 #[tactic(auto, unfolding(crate::specs::Sheet::heads))]
-pub(crate) fn heads(
+pub fn rule_heads(
     alloc: Global,
     rules: usize,
     text: &str,

@@ -15,6 +15,7 @@ mod weighing;
 
 pub use counts::Specificity;
 pub use default::{DEFAULT_SHEET, default_is_read, default_sheet};
+pub use heads::rule_heads;
 pub use sheet::read_sheet;
 pub use styled::read_styled;
 pub use weighing::specificity;

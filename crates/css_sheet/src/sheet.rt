@@ -11,7 +11,7 @@ ghost use Rattle.style_types.specs.Rule.{rulings_of, selector_of};
 ghost use Rattle.css_sheet.specs.Sheet as readers;
 ghost use Rattle.css_sheet.specs.Views.{sheet_of, PutsRule, PutsRules};
 
-use crate::heads::heads;
+use crate::heads::rule_heads;
 use css_tokens::gap;
 use css_values::{CssError, Stop, Within, declarations_within, told};
 use reading::strip;
@@ -85,7 +85,7 @@ fn rule<'a>(
     ensures read { Gives (λ rest. (sheet_of sheet.new, rest.now)) result (readers.rule end (sheet_of sheet.old) text.now) }
     ensures shorter { IfOk result (λ rest. length rest.now < length text.now) }
 {
-    let (selectors, rest) = heads(alloc, sheet.rules.len(), text)?;
+    let (selectors, rest) = rule_heads(alloc, sheet.rules.len(), text)?;
     block(alloc, end, sheet, selectors, rest)
 }
 

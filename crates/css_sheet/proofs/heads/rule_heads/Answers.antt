@@ -3,7 +3,7 @@ use Rattle.std.specs.Prelude.{not}
 use Rattle.std.proofs.lemmas.Result.{err_from_is_err_and}
 use Rattle.css_sheet.specs.Views.{heads_of}
 use Rattle.css_sheet.proofs.Heading.{IsHeading, heading_starts, heading_goes_on, heading_stops, heading_ends}
-use Rattle.css_sheet.proofs.heads.heads.Goals as goal
+use Rattle.css_sheet.proofs.heads.rule_heads.Goals as goal
 
 pub loop-opened-init : goal.loop-opened-init
 loop-opened-init c = (

@@ -1,0 +1,10 @@
+use Rattle.std.proofs.Common.{◌≤◌, ◌-◌, length}
+use denote.Text.{Utf8}
+use denote.Shadow.{shadow}
+use Rattle.report_styles.proofs.going_on.behind_declaration.Given as goal
+
+abbrev pub invariant-loop-piece : goal.invariant-loop-piece
+invariant-loop-piece l = shadow (Utf8 l.rest) × (length l.rest ≤ length l.fn.text - 1)
+
+abbrev pub decreases-loop-piece : goal.decreases-loop-piece
+decreases-loop-piece l = length l.rest

@@ -1,0 +1,48 @@
+//! The program `report_styles` takes a document on standard input and tells what becomes of each declaration of its style
+//! sheets and style attributes, for those who want to know why one has no effect (tools/lint). It judges by the readers
+//! that `wm_layout` reads with. What these would stop at is told, and the program goes on behind it.
+//!
+//! A line is one of these, with a place in bytes:
+//!
+//! - `Kept PLACE NAME`: the declaration declares something.
+//! - `UnknownName PLACE NAME`: it is dropped, since no property has its name.
+//! - `InvalidValue PLACE NAME`: it is dropped, since its property doesn't take its value.
+//! - `Unsupported PLACE NAME`: the document is refused for it.
+//! - `refused KIND PLACE`: the document is refused, since the text doesn't go on there as HTML or CSS does, or for a
+//!   selector or a rule that the profile doesn't have.
+//! - `unread: REASON`: the input could not be read.
+//!
+//! The sheets come first, then the attributes, each in the order of the document. In an attribute the place is that of
+//! the attribute's name.
+#![tactic(auto)]
+
+mod going_on;
+mod reporting;
+
+use html_read::{HtmlError, read_document};
+use io_edge::{StdSource, read_all};
+use reporting::report_document;
+use std::alloc::Global;
+use std::io;
+use std::io::{BufWriter, Write};
+
+/// How many bytes a document may have.
+const GREATEST_LENGTH: usize = 1_048_576;
+
+fn main(rt: HostRuntime) -> io::Result<()> {
+    let mut output = BufWriter::new(rt.alloc(), io::writer(&rt))?;
+    let mut source = StdSource::new(rt.reader());
+    match read_all(rt.alloc(), &mut source, GREATEST_LENGTH) {
+        Ok(bytes) => report(rt.alloc(), bytes.as_slice(), &mut output)?,
+        Err(error) => writeln!(output, "unread: {error}")?,
+    }
+    output.flush()
+}
+
+fn report<W: Write>(alloc: Global, bytes: &[u8], output: &mut W) -> io::Result<()> {
+    match read_document(alloc, bytes) {
+        Ok(document) => report_document(alloc, &document, output),
+        Err(HtmlError::Refused { kind, place }) => writeln!(output, "refused {kind:?} {place}"),
+        Err(HtmlError::Memory) => Err(io::ErrorKind::OutOfMemory.into()),
+    }
+}
