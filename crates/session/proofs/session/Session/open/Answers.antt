@@ -1,8 +1,11 @@
-use Rattle.std.proofs.Common.{◌∙◌, sym, subst, List, map, Err, ap, arith}
+use Rattle.std.proofs.Common.{◌≡◌, ◌∙◌, [], sym, subst, List, map, Err, ap, arith}
 use Rattle.std.proofs.lemmas.Result.{err_from_is_err_and}
 use Rattle.face_api.specs.Faces.{faces_of}
 use Rattle.style_types.specs.Rule.{Ruling, rulings_of}
+use Rattle.style_types.specs.Tree.{Nodes}
 use Rattle.html_read.specs.Values.{nodes_of}
+use Rattle.box_gen.specs.Boxes.{root_caught}
+use Rattle.box_gen.specs.Orthogonal.{root_past}
 use Rattle.dom_store.specs.State.{State, state_of}
 use Rattle.style_tree.specs.Styling.{styled_document}
 use Rattle.cascade.specs.Index.{index_rules}
@@ -12,6 +15,9 @@ use Rattle.session.specs.Opening.{MakesBoxes}
 use Rattle.session.proofs.Fresh.{few_boxes, fits, right, same_opened, stand}
 use Rattle.session.proofs.Refusals.{refused_opening}
 use Rattle.session.proofs.session.Session.open.Goals as goal
+
+pub boxes_in-requires-clause-rules : goal.boxes_in-requires-clause-rules
+boxes_in-requires-clause-rules g c = subst AreSaidRules (sym (c.in_ok-rules.ensures ∙ ap rulings_of c.deref.ensures.value)) c.requires.rules
 
 pub returns-in_err-boxes-clause-opens : goal.returns-in_err-boxes-clause-opens
 returns-in_err-boxes-clause-opens g c =
@@ -23,6 +29,26 @@ returns-in_err-boxes-clause-opens g c =
     let refused = refused_opening nodes own (rulings_of c.args.styled.now.rules.items) error c.in_ok-document.ensures.stores.0 (subst P (c.in_ok-rules.ensures ∙ ap rulings_of c.deref.ensures.value) (subst Q c.in_ok-document.ensures.stores.1 c.in_err-boxes.ensures.makes)) in
     let p = err_from_is_err_and c.from_residual-in_err-boxes.result c.from_residual-in_err-boxes.ensures.1 in
     rw (p.1, p.2) refused
+
+pub returns-clause-opens : goal.returns-clause-opens
+returns-clause-opens g c =
+    let nodes = nodes_of c.args.read.now.nodes.items in
+    let own = map (λ own. own.items) c.args.styled.now.styles.items in
+    let rules = rulings_of c.args.styled.now.rules.items in
+    let state = state_of c.in_ok-document.document in
+    let stores = c.in_ok-document.ensures.stores in
+    let makes = c.in_ok-boxes.ensures.makes in
+    let ruled : index_rules c.in_ok-rules.rules ≡ rules = c.in_ok-rules.ensures ∙ ap rulings_of c.deref.ensures.value in
+    let as_read : styled_document (index_rules c.in_ok-rules.rules) state ≡ styled_document rules (opened nodes own) =
+    ap (λ (r : List Ruling). styled_document r state) ruled ∙ ap (styled_document rules) stores.1 in (
+      record {
+        few = stores.0;
+        turns = subst (λ (tree : Nodes). root_past tree ≡ []) as_read makes.0;
+        blocks = subst (λ (tree : Nodes). root_caught tree ≡ []) as_read makes.1;
+      },
+      stores.1,
+      ruled,
+    )
 
 pub grown-requires : goal.grown-requires
 grown-requires g c =
