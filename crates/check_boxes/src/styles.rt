@@ -3,6 +3,7 @@
 use Direction::{Ltr, Rtl};
 use WritingMode::{HorizontalTb, SidewaysLr, SidewaysRl, VerticalLr, VerticalRl};
 use std::process::Abort;
+use std::rc::Rc;
 use std::test::*;
 use style_types::{
     Declaration, Joint, Part, Property, Rule, Selector, Style, TextOrientation, Value,
@@ -131,7 +132,7 @@ fn copies_are_made(rt: HostRuntime) -> Result<(), Fail> {
     })?;
     let rule = Rule {
         selector: Selector { parts },
-        declarations,
+        declarations: Rc::new(alloc, declarations)?,
     };
     let copy = copy_of_rules(alloc, std::slice::from_ref(&rule))?;
     assert_eq!(rt; copy.len(), 1);
