@@ -1,4 +1,3 @@
-pub mod ClassLaws
 pub mod Examples
 pub mod JoinLaws
 pub mod Order

@@ -1,4 +1,3 @@
-pub mod Classes
 pub mod Cluster
 pub mod Laws
 pub mod Plain

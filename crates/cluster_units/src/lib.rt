@@ -1,7 +1,6 @@
 //! The units of text: grapheme clusters with their orientation and advance, and combined runs.
 #![tactic(auto)]
 
-mod classes;
 mod cluster;
 pub mod laws;
 mod plain;

@@ -9,12 +9,11 @@ ghost use Rattle.cluster_units.specs.Plain as plain;
 ghost use Rattle.cluster_units.specs.Unit as spec;
 
 use crate::Unit;
-use crate::classes::class_of_character;
 use crate::cluster::Cluster;
 use face_api::Face;
 use style_types::{Combine, Style, TextOrientation, UnitKind};
-use wm_chars::BreakClass;
 use wm_chars::laws::upright_from_u_3000;
+use wm_chars::{BreakClass, break_class};
 use wm_modes::WritingMode;
 
 /// The unit of a plain character at this place of its text, by this face; None of a bidi control. No units are combined in
@@ -33,7 +32,7 @@ pub fn character_unit(c: char, place: usize, style: &Style, face: &dyn Face) -> 
         end: place + 1,
         head: c,
     };
-    match class_of_character(c) {
+    match break_class(c) {
         Some(BreakClass::Control) => None,
         Some(class) => {
             let kind = kind_of(style, c, Some(class));
@@ -61,7 +60,7 @@ pub(crate) fn unit_of(cluster: Cluster, style: &Style, face: &dyn Face) -> Optio
     ensures unit { result ≡ spec.lone_unit style.now (table face.now) cluster }
     ensures near { IfSome result (λ unit. unsigned_abs unit.natural ≤ 655360) }
 {
-    let class = class_of_character(cluster.head);
+    let class = break_class(cluster.head);
     if is_control(class) {
         return None;
     }

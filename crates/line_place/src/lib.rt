@@ -17,6 +17,6 @@ mod walk;
 pub use leading::extents;
 pub use line::{Extents, LineBox, LineBoxes, LineContent, LineInput, LineItem, LineItems};
 pub use place::place_line;
-pub use text_line::{TextLine, place_text, place_text_over};
+pub use text_line::{TextLine, place_text};
 pub use unit_line::{TextUnit, TextUnits, UnitLine, place_units};
 pub use walk::{copy_of, run_unit};

@@ -31,23 +31,10 @@ pub struct TextLine {
     pub units: RunUnits,
 }
 
-/// Places a line that has this text alone: its only run as a fragment, and how far it reaches over and under its baseline, in
-/// units of 1/64 px, as `place_line` does (CSS 2, 9.4.2 and 10.8). The lengths that come in, without their signs, sum to at
-/// most 2^60.
-pub fn place_text(alloc: Global, text: TextLine) -> Result<LineFragment, AllocError>
-    requires reach { unsigned_abs text.available + unsigned_abs text.extent + extents_reach text.strut ≤ 2 ^ 60 }
-    ensures strut { IfOk result (λ made. (made.over ≡ text.strut.over) × (made.under ≡ text.strut.under)) }
-    ensures over { IfOk result (λ made. (line : Line) → IsText (text_of text) line → made.over ≡ rule.line_over line) }
-    ensures under { IfOk result (λ made. (line : Line) → IsText (text_of text) line → made.under ≡ rule.line_under line) }
-    ensures parts { IfOk result (λ made. (line : Line) → IsText (text_of text) line → pieces_of made.parts.items ≡ rule.parts line) }
-{
-    let empty = Rc::new(alloc, Vec::new(alloc))?;
-    let made = place_text_over(alloc, text, &empty)?;
-    Ok(made)
-}
-
-/// Places the same line, whose run shares `empty` as the list of what is inside it, which is nothing.
-pub fn place_text_over(
+/// Places a line that has this text alone: its only run as a fragment, which shares `empty` as the list of what is inside it,
+/// and how far it reaches over and under its baseline, in units of 1/64 px, as `place_line` does (CSS 2, 9.4.2 and 10.8). The
+/// lengths that come in, without their signs, sum to at most 2^60.
+pub fn place_text(
     alloc: Global,
     text: TextLine,
     empty: &Rc<Fragments>,

@@ -20,7 +20,7 @@ use crate::line::extents_in;
 use crate::paragraph::Container;
 use crate::standing::{Standing, content};
 use face_api::{Face, Faces};
-use line_place::{TextLine, copy_of, place_text_over, run_unit};
+use line_place::{TextLine, copy_of, place_text, run_unit};
 use para_prepare::PreparedContent;
 use std::alloc::{AllocError, Global};
 use std::rc::Rc;
@@ -168,7 +168,7 @@ pub(crate) fn text_line(
         extent,
         units,
     };
-    let made = place_text_over(alloc, line, empty)?;
+    let made = place_text(alloc, line, empty)?;
     Ok(made)
 }
 

@@ -2,7 +2,6 @@ pub mod AloneLaws
 pub mod AloneParts
 pub mod AtomLaws
 pub mod Begins
-pub mod CommonLaws
 pub mod ContentLaws
 pub mod Controls
 pub mod Ends

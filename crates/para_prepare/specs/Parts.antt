@@ -1,6 +1,6 @@
 -- The content of a paragraph once its texts are cut: ends of inline boxes, bidi controls, items (CSS Writing Modes 4, 5.1
 -- and 9.1; UAX 29).
-use Rattle.std.specs.Prelude.{ℕ, Bool, ◌&&◌, ◌||◌, nat_le, nat_lt, if◌then◌else◌, List, [], ◌∷◌, ◌++◌, map, drop, Option, unwrap_or}
+use Rattle.std.specs.Prelude.{ℕ, Bool, ◌&&◌, if◌then◌else◌, List, [], ◌∷◌, ◌++◌, map, drop, Option, unwrap_or}
 use Rattle.std.specs.List.{slice_range}
 use Rattle.face_api.specs.Table.{Table}
 use Rattle.face_api.specs.Living.{used_table}
@@ -27,13 +27,6 @@ sets_upright style = is_vertical style.mode && is_upright style.orientation
 -- the class of a character in a text that is set upright or not (CSS Writing Modes 4, 5.1)
 abbrev pub class_in : (upright : Bool) → ℕ → BidiClass
 class_in upright c = if upright then L else unwrap_or (bidi_class c) ON
-
--- Latin letters of ASCII, kana, Han and Hangul syllables of the repertoire
-abbrev pub is_common : ℕ → Bool
-is_common c =
-    if nat_lt c 0x3041
-    then (nat_le 0x41 c && nat_le c 0x5A) || (nat_le 0x61 c && nat_le c 0x7A)
-    else (((nat_le 0x3041 c && nat_le c 0x3096) || (nat_le 0x30A1 c && nat_le c 0x30FA)) || ((nat_le 0x4E00 c && nat_le c 0x9FFF) || (nat_le 0xAC00 c && nat_le c 0xD7A3)))
 
 -- an item as it comes from its node: a unit with its kept characters, a combined run with the units inside it in visual order,
 -- an inline-block, a line break

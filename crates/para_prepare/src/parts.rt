@@ -7,7 +7,6 @@ use crate::bidi_text::Around;
 use bumpalo::Bump;
 use cluster_units::Unit;
 use style_types::{BoxName, Glyphs};
-use wm_chars::laws::characters_stand_in_one_row;
 use wm_chars::{BidiClass, bidi_class};
 
 /// Kept characters of a paragraph that stand side by side: places in the list of all of them.
@@ -68,24 +67,5 @@ pub(crate) fn class_in(upright: bool, c: char) -> BidiClass
     if upright {
         return BidiClass::L;
     }
-    if is_common(c) {
-        characters_stand_in_one_row();
-        return BidiClass::L;
-    }
     bidi_class(c).unwrap_or(BidiClass::ON)
-}
-
-// A Latin letter of ASCII, kana, Han or a Hangul syllable, as most characters of text are.
-#[inline(always)]
-fn is_common(c: char) -> bool
-    ensures { result ≡ parts.is_common c }
-{
-    if c < '\u{3041}' {
-        matches!(c, 'A'..='Z' | 'a'..='z')
-    } else {
-        matches!(
-            c,
-            '\u{3041}'..='\u{3096}' | '\u{30A1}'..='\u{30FA}' | '\u{4E00}'..='\u{9FFF}' | '\u{AC00}'..='\u{D7A3}'
-        )
-    }
 }

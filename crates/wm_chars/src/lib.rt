@@ -5,6 +5,7 @@
 mod classes;
 pub mod laws;
 mod pairs;
+mod ranges;
 mod repertoire;
 mod rows;
 

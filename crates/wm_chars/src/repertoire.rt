@@ -6,18 +6,31 @@ ghost use Rattle.wm_chars.specs.Repertoire as repertoire;
 ghost use Rattle.wm_chars.specs.declared.rows.TheConstants.{ROWS};
 
 use crate::classes::{BidiClass, BreakClass, Orient};
+use crate::ranges::is_ideograph;
 use crate::rows::{
-    EMBEDDING_CLASSES, ISOLATE_CLASSES, PRINTABLE_CLASSES, ROWS, ROWS_BEFORE_ASCII,
-    ROWS_BEFORE_BLOCK, ROWS_BEFORE_HAN, ROWS_BEFORE_KANA, Row,
+    EMBEDDING_CLASSES, ISOLATE_CLASSES, PRINTABLE_BREAKS, PRINTABLE_CLASSES, ROWS,
+    ROWS_BEFORE_ASCII, ROWS_BEFORE_BLOCK, ROWS_BEFORE_HAN, ROWS_BEFORE_KANA, Row,
 };
 
 /// The bidi class of a character (UAX 9, table 4), or None exactly where it isn't in the repertoire.
+#[inline(always)]
 pub fn bidi_class(c: char) -> Option<BidiClass>
     ensures { result ≡ repertoire.bidi_class c }
 {
     if ' ' <= c && c <= '~' {
         return Some(PRINTABLE_CLASSES[c as usize - 0x20]);
     }
+    if is_ideograph(c) {
+        return Some(BidiClass::L);
+    }
+    further_class(c)
+}
+
+// The bidi class of a character, by ranges where most characters of a script share it.
+#[inline(never)]
+fn further_class(c: char) -> Option<BidiClass>
+    ensures { result ≡ repertoire.bidi_class c }
+{
     if c < '\u{05D0}' {
         return class_before_hebrew(c);
     }
@@ -72,29 +85,9 @@ fn class_from_formatting(c: char) -> Option<BidiClass>
     class_in_rows(c)
 }
 
-// The bidi class of a character from U+3000 on. The letters of Kana, Han and Hangul are four rows.
+// The bidi class of a character from U+3000 on. The commonest of the punctuation of CJK are neutral.
 #[inline(always)]
 fn class_from_u_3000(c: char) -> Option<BidiClass>
-    ensures { result ≡ repertoire.bidi_class c }
-{
-    if '\u{3041}' <= c && c <= '\u{3096}' {
-        return Some(BidiClass::L);
-    }
-    if '\u{30A1}' <= c && c <= '\u{30FA}' {
-        return Some(BidiClass::L);
-    }
-    if '\u{4E00}' <= c && c <= '\u{9FFF}' {
-        return Some(BidiClass::L);
-    }
-    if '\u{AC00}' <= c && c <= '\u{D7A3}' {
-        return Some(BidiClass::L);
-    }
-    punctuation_class(c)
-}
-
-// The bidi class of a character that is likely one of the punctuation of CJK, whose commonest are neutral.
-#[inline(always)]
-fn punctuation_class(c: char) -> Option<BidiClass>
     ensures { result ≡ repertoire.bidi_class c }
 {
     if '\u{3001}' <= c && c <= '\u{3002}' {
@@ -126,8 +119,23 @@ pub fn orientation(c: char) -> Option<Orient>
 
 /// What a character means for the places where a line may end, or None exactly where it isn't in the
 /// repertoire.
-#[tactic(auto, unfolding(crate::specs::Repertoire::break_class))]
+#[inline(always)]
 pub fn break_class(c: char) -> Option<BreakClass>
+    ensures { result ≡ repertoire.break_class c }
+{
+    if ' ' <= c && c <= '~' {
+        return Some(PRINTABLE_BREAKS[c as usize - 0x20]);
+    }
+    if is_ideograph(c) {
+        return Some(BreakClass::Ideographic);
+    }
+    break_in_rows(c)
+}
+
+// The break class of a character by the row in which it stands.
+#[inline(never)]
+#[tactic(auto, unfolding(crate::specs::Repertoire::break_class))]
+fn break_in_rows(c: char) -> Option<BreakClass>
     ensures { result ≡ repertoire.break_class c }
 {
     row_of(c).map(|row| row.breaks)

@@ -166,6 +166,18 @@ pub(crate) static PRINTABLE_CLASSES: [BidiClass; 95] = [
     L, L, L, L, L, L, L, L, ON, ON, ON, ON,
 ];
 
+// The break class of each character from the space to the tilde, as its row has it.
+pub(crate) static PRINTABLE_BREAKS: [BreakClass; 95] = [
+    Space, Close, Other, Other, Other, Other, Other, Other, Open, Close, Other, Other, Close,
+    Other, Close, Other, Other, Other, Other, Other, Other, Other, Other, Other, Other, Other,
+    Close, Close, Other, Other, Other, Close, Other, Other, Other, Other, Other, Other, Other,
+    Other, Other, Other, Other, Other, Other, Other, Other, Other, Other, Other, Other, Other,
+    Other, Other, Other, Other, Other, Other, Other, Open, Other, Close, Other, Other, Other,
+    Other, Other, Other, Other, Other, Other, Other, Other, Other, Other, Other, Other, Other,
+    Other, Other, Other, Other, Other, Other, Other, Other, Other, Other, Other, Other, Other,
+    Open, Other, Close, Other,
+];
+
 // The bidi class of each character from U+202A to U+202E, as its row has it.
 pub(crate) static EMBEDDING_CLASSES: [BidiClass; 5] = [LRE, RLE, PDF, LRO, RLO];
 

@@ -11,8 +11,8 @@ extent_of-extent-requires g c = omega (arith, take_reach c.args.standings.now c.
 pub units_of-requires : goal.units_of-requires
 units_of-requires g c = record { atoms = all_take HasOwnAtom c.args.standings.now c.args.text.count c.requires.count c.requires.atoms }
 
-pub place_text_over-requires-clause-reach : goal.place_text_over-requires-clause-reach
-place_text_over-requires-clause-reach g c =
+pub place_text-requires-clause-reach : goal.place_text-requires-clause-reach
+place_text-requires-clause-reach g c =
     let t = take_reach c.args.standings.now c.args.text.count in
     let r = c.requires.reach in
     text_near c.args.container.now.size c.extent_of-extent.result c.extents_in-strut.result (total item_reach (map bare (take c.args.text.count c.args.standings.now))) c.requires.low c.requires.high

@@ -4,7 +4,7 @@ use Rattle.style_types.specs.Fragment.{none, pieces_of}
 use Rattle.style_types.specs.declared.fragment.Fragment.{Fragment}
 use Rattle.line_place.specs.TextLine.{text_of}
 use Rattle.line_place.proofs.TextLaws.{text_over, text_parts, text_under}
-use Rattle.line_place.proofs.text_line.place_text_over.Goals as goal
+use Rattle.line_place.proofs.text_line.place_text.Goals as goal
 
 pub returns-clause-over : goal.returns-clause-over
 returns-clause-over c line is =

@@ -1,4 +1,4 @@
--- Characters of one break class.
+-- Characters that share a bidi class and a break class.
 use Rattle.std.specs.Prelude.{ℕ, Bool, ◌&&◌, ◌||◌, nat_le}
 
 -- kana, Han and Hangul syllables of the repertoire
