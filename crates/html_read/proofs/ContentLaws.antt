@@ -186,7 +186,7 @@ begun_void base opened nodes start e = rw e refl
 abbrev LeadsTo : (size : ℕ) → Base → Content → List ℕ → Content → List ℕ → Type 0
 LeadsTo size base = Leads (goes_on base) (turn size base)
 
-tag_size : (text : List ℕ) → IsTag text → 0 < length text
+pub tag_size : (text : List ℕ) → IsTag text → 0 < length text
 tag_size text t = subst (λ (s : List ℕ). 0 < length s) (sym t.is) (omega arith)
 
 start_leads : (size : ℕ) (base : Base) (state later : Content) (text gap_ letters rest : List ℕ) (start : Start) → IsStart size text (gap_ ++ rest) start → IsGap gap_ letters → NoText rest
@@ -300,7 +300,7 @@ put_makes base mid later x y e =
     let t = (mapped_spells (λ letters. with_letters base mid letters) gap_spells).takes x later y e in
     record { gap_text = t.0; letters = t.1.0; is_gap = t.1.1; then_ = t.1.2; parts = t.2 }
 
-never : (r : Read ⊤) (later : Content) (y : List ℕ) → read_or syntax (r >>= λ (u : ⊤ × List ℕ). refuse u.1) ≡ good (later, y) → ⊥
+pub never : (r : Read ⊤) (later : Content) (y : List ℕ) → read_or syntax (r >>= λ (u : ⊤ × List ℕ). refuse u.1) ≡ good (later, y) → ⊥
 never (Ok x) later y e = absurd cc
 never (Err left) later y e = absurd cc
 

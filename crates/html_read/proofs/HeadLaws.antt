@@ -75,7 +75,7 @@ opening_not_white second text rest o = ap (λ (s : List ℕ). next_is is_white (
 pub opening_no_misc : (second : ℕ) (text rest : List ℕ) → eqb second 33 ≡ false → IsOpening second text → NoMisc (codes "<!") (text ++ rest)
 opening_no_misc second text rest differs o = rw (opening_not_white second text rest o) (opening_starts second 33 text rest differs o)
 
-opening_some : (second : ℕ) (text : List ℕ) → IsOpening second text → 0 < length text
+pub opening_some : (second : ℕ) (text : List ℕ) → IsOpening second text → 0 < length text
 opening_some second text o = subst (λ (s : List ℕ). 0 < length s) (sym o.is) (omega arith)
 
 -- ---- the parts of the head

@@ -8,6 +8,7 @@ use Rattle.reading.specs.Readers.{ReadOr}
 use Rattle.html_tokens.specs.Error.{Stop}
 use Rattle.html_tokens.specs.Error.{Fault}
 use Rattle.reading.specs.Stop.{Stops}
+use Rattle.html_read.specs.Places.{placed_document, placed_input}
 use Rattle.html_read.specs.Reading.{document, input}
 use Rattle.html_read.specs.Values.{Whole}
 
@@ -20,3 +21,15 @@ input_read bytes text rest whole same is e = (rest, input_is bytes text same is 
 
 pub input_stops : (bytes text : List ℕ) (stop_ : Stop) → text ≡ bytes → IsUtf8 bytes → Stops stop_ (document (length text) text) → Stops stop_ (input bytes)
 input_stops bytes text stop_ same is e = subst (λ (r : ReadOr Fault Whole). Stops stop_ r) (sym (input_is bytes text same is)) e
+
+-- ---- the same with the places of nodes
+
+places_are : (bytes text : List ℕ) → text ≡ bytes → IsUtf8 bytes → placed_input bytes ≡ placed_document (length text) text
+unfolding placed_input
+places_are bytes text same is = rw (same, eq-eqb (utf8_valid_len bytes) (length bytes) (utf8_valid_len-IsUtf8 bytes is)) refl
+
+pub places_read : (bytes text rest places : List ℕ) → text ≡ bytes → IsUtf8 bytes → placed_document (length text) text ≡ Ok (places, rest) → (behind : List ℕ) × (placed_input bytes ≡ Ok (places, behind))
+places_read bytes text rest places same is e = (rest, places_are bytes text same is ∙ e)
+
+pub places_stop : (bytes text : List ℕ) (stop_ : Stop) → text ≡ bytes → IsUtf8 bytes → Stops stop_ (placed_document (length text) text) → Stops stop_ (placed_input bytes)
+places_stop bytes text stop_ same is e = subst (λ (r : ReadOr Fault (List ℕ)). Stops stop_ r) (sym (places_are bytes text same is)) e

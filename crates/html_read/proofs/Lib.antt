@@ -15,3 +15,5 @@ mod OrderLaws
 mod TextNodes
 mod EndLaws
 mod Tails
+mod PlaceLaws
+mod PlacedContents

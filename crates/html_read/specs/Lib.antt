@@ -2,6 +2,7 @@ pub mod Answered
 pub mod Error
 pub mod Grammar
 pub mod Judging
+pub mod Places
 pub mod Reading
 pub mod Shape
 pub mod Tree

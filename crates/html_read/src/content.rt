@@ -23,9 +23,9 @@ pub(crate) enum Base {
     Fragment,
 }
 
-// An element that is open: its name as it is written, and its place in the list of nodes.
+/// An element that is open: its name as it is written, and its place in the list of nodes.
 #[derive(Clone, Copy, Debug)]
-struct Open<'a> {
+pub(crate) struct Open<'a> {
     name: &'a str,
     number: usize,
 }
@@ -50,9 +50,9 @@ pub(crate) fn content<'a>(
     Ok(rest)
 }
 
-// There is more to read.
+/// There is more to read.
 #[tactic(auto, unfolding(crate::specs::Reading::goes_on))]
-fn goes_on(base: Base, opened: &[Open<'_>], text: &str) -> bool
+pub(crate) fn goes_on(base: Base, opened: &[Open<'_>], text: &str) -> bool
     ensures { (nodes : List Node) → result ≡ readers.goes_on base (readers.content_of (opened_of opened.now) nodes) text.now }
 {
     !(opened.is_empty() && base_ends(base, text))
@@ -85,8 +85,9 @@ fn turn<'a>(
     with_gap(alloc, base, opened, nodes, rest)
 }
 
+/// A start tag, an end tag or a `br`.
 #[tactic(auto, unfolding(crate::specs::Reading::markup))]
-fn markup<'a>(
+pub(crate) fn markup<'a>(
     alloc: Global,
     size: usize,
     base: Base,
@@ -169,9 +170,9 @@ fn base_parent(base: Base) -> Option<usize>
     }
 }
 
-// The text up to the next tag; an empty one is no node.
+/// The text up to the next tag; an empty one is no node.
 #[tactic(auto, unfolding(crate::specs::Reading::with_gap))]
-fn with_gap<'a>(
+pub(crate) fn with_gap<'a>(
     alloc: Global,
     base: Base,
     opened: &[Open<'a>],

@@ -80,8 +80,8 @@ fn answer_fragment(alloc: Global, text: &str) -> Result<ReadNodes, HtmlError>
     }
 }
 
-// The refusal with its place in an input of this size.
-fn told(size: usize, stop: Stop<'_, Refusal>) -> HtmlError
+/// The refusal with its place in an input of this size.
+pub(crate) fn told(size: usize, stop: Stop<'_, Refusal>) -> HtmlError
     ensures { Tells size stop.entry result }
 {
     match stop {
@@ -127,9 +127,9 @@ fn document(alloc: Global, text: &str) -> Result<(ReadDocument, &str), Stop<'_, 
     Ok((document, rest))
 }
 
-// What stands before the start tag of `html`.
+/// What stands before the start tag of `html`.
 #[tactic(auto, unfolding(crate::specs::Reading::prolog))]
-fn prolog(text: &str) -> Result<&str, &[u8]>
+pub(crate) fn prolog(text: &str) -> Result<&str, &[u8]>
     ensures { Answers (λ rest. (tt, rest.now)) result (readers.prolog text.now) }
 {
     let rest = maybe_mark(text)?;
@@ -192,8 +192,8 @@ fn body(
     Ok((nodes, end_tag("body", rest)?))
 }
 
-// The nodes of `html` and `body`.
-fn roots(
+/// The nodes of `html` and `body`.
+pub(crate) fn roots(
     alloc: Global,
     html: Attributes,
     body: Attributes,

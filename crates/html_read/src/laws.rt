@@ -1,7 +1,7 @@
 //! The laws between what is read and the grammar. These functions do nothing: their contracts are the laws.
 
 ghost use Rattle.std.specs.Prelude.{◌≡◌, ◌≤◌, ◌↔◌, ℕ, Bool, true, false, List, [], ◌∷◌, ◌++◌, length, Result, Ok, Err, IfOk, IfErr, ◌==◌};
-ghost use Rattle.reading.specs.Readers.{starts};
+ghost use Rattle.reading.specs.Readers.{mapped, starts};
 ghost use Rattle.reading.specs.Placed.{SpellsPlaced};
 ghost use Rattle.reading.specs.Places.{IsViable, StopsInPlace};
 ghost use Rattle.reading.specs.Spelling.{Anything, Spells};
@@ -11,6 +11,7 @@ ghost use Rattle.html_read.specs.Error.{Told};
 ghost use Rattle.html_read.specs.Grammar as grammar;
 ghost use Rattle.html_tokens.specs.Grammar.{IsEndName};
 ghost use Rattle.html_tokens.specs.Text.{in_text};
+ghost use Rattle.html_read.specs.Places.{ArePlaces, placed_input};
 ghost use Rattle.html_read.specs.Reading as judging;
 ghost use Rattle.html_read.specs.Shape.{AreTexts, IsFragmentShaped, IsInDocumentOrder, IsShaped, text_bytes};
 ghost use Rattle.html_read.specs.Tree.{AreNodes};
@@ -91,6 +92,13 @@ pub fn calls_answer_by_the_grammar<X>()
         → IfOk answer (λ x. IsTheDocument bytes (view x) × IsShaped (view x).nodes) × IfErr answer (λ error. RefusesDocument bytes error) }
     ensures fragments { (view : X → List Node) (text : List ℕ) (answer : Result X HtmlError) → Told (length text) view answer (judging.fragment text)
         → IfOk answer (λ x. IsTheFragment text (view x) × IsFragmentShaped (view x)) × IfErr answer (λ error. RefusesFragment text error) }
+{}
+
+/// Where the nodes of a document begin.
+pub fn nodes_begin_in_place()
+    // The bytes are read as without places, which are as many as the nodes.
+    ensures alike { (bytes : List ℕ) → mapped (λ places. length places) placed_input bytes ≡ mapped (λ whole. length whole.nodes) judging.input bytes }
+    ensures found { (bytes places rest : List ℕ) → placed_input bytes ≡ Ok (places, rest) → ArePlaces bytes places }
 {}
 
 /// What stands before `html` stops at the first byte with which it doesn't go on.
