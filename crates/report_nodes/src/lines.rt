@@ -1,0 +1,32 @@
+//! The lines that are written.
+
+ghost use Rattle.std.specs.Prelude.{OnOk};
+ghost use Rattle.std.specs.Io.KnownBytes.{Appends};
+ghost use Rattle.report_nodes.specs.Lines as spec;
+
+use std::io;
+use std::io::Write;
+
+/// Writes a line for each.
+#[tactic(auto, using(crate::proofs::Joining::writing_starts, crate::proofs::Joining::writing_goes_on, crate::proofs::Joining::writing_ends))]
+pub(crate) fn write_places<W: Write>(places: &[usize], output: &mut W) -> io::Result<()>
+    ensures { OnOk result (Appends (W.contents output.old) (W.contents output.new) (spec.lines places.now)) }
+{
+    for place in places {
+        write_place(*place, output)?;
+    }
+    Ok(())
+}
+
+fn write_place<W: Write>(place: usize, output: &mut W) -> io::Result<()>
+    ensures { OnOk result (Appends (W.contents output.old) (W.contents output.new) (spec.line place)) }
+{
+    writeln!(output, "{place}")
+}
+
+/// Writes the line of a refusal.
+pub(crate) fn write_refused<W: Write>(word: &str, place: usize, output: &mut W) -> io::Result<()>
+    ensures { OnOk result (Appends (W.contents output.old) (W.contents output.new) (spec.refused_line word.now place)) }
+{
+    writeln!(output, "refused {word} {place}")
+}

@@ -1,0 +1,48 @@
+//! The program `report_nodes` takes a document on standard input and tells where each of its nodes begins, for those who
+//! are told a node by its number (tools/where). It reads as `wm_layout` does.
+//!
+//! Line N, counted from 0, is the place in bytes at which node N begins: of an element that of the `<` of its start tag,
+//! of a text that behind the tag before it. Where there is no document, there is one line:
+//!
+//! - `refused KIND PLACE`: the document is refused, with the place in bytes.
+//! - `unread: REASON`: the input could not be read.
+#![tactic(auto)]
+
+mod lines;
+
+ghost use Rattle.std.specs.Prelude.{OnOk};
+ghost use Rattle.std.specs.Io.KnownBytes.{Appends};
+ghost use Rattle.report_nodes.specs.Lines.{report_of};
+
+use html_read::{HtmlError, node_places};
+use io_edge::{StdSource, read_all};
+use lines::{write_places, write_refused};
+use std::alloc::Global;
+use std::io;
+use std::io::{BufWriter, Write};
+
+/// How many bytes a document may have.
+const GREATEST_LENGTH: usize = 1_048_576;
+
+fn main(rt: HostRuntime) -> io::Result<()> {
+    let mut output = BufWriter::new(rt.alloc(), io::writer(&rt))?;
+    let mut source = StdSource::new(rt.reader());
+    match read_all(rt.alloc(), &mut source, GREATEST_LENGTH) {
+        Ok(bytes) => report(rt.alloc(), bytes.as_slice(), &mut output)?,
+        Err(error) => writeln!(output, "unread: {error}")?,
+    }
+    output.flush()
+}
+
+/// Writes the places of the nodes of the document that the bytes begin with, or the line of its refusal. An error comes of
+/// writing, or of want of memory.
+#[tactic(auto, unfolding(crate::specs::Lines::report_of))]
+fn report<W: Write>(alloc: Global, bytes: &[u8], output: &mut W) -> io::Result<()>
+    ensures { OnOk result (Appends (W.contents output.old) (W.contents output.new) (report_of bytes.now)) }
+{
+    match node_places(alloc, bytes) {
+        Ok(places) => write_places(&places, output),
+        Err(HtmlError::Refused { kind, place }) => write_refused(kind.word(), place, output),
+        Err(HtmlError::Memory) => Err(io::ErrorKind::OutOfMemory.into()),
+    }
+}
