@@ -2,7 +2,8 @@
 
 Places are counted in characters. The engine tells a byte, a node or a line of a script; of a `style` attribute and of a line of
 a script that isn't read it tells the start alone. There the part that was refused is given to the program by itself, in a small
-document, and its place counts where it is refused by the same kind.
+document, and its place counts where it is refused by the same kind. Where a node begins tells the program report_nodes, which
+reads the document as the engine does.
 """
 import dataclasses
 import re
@@ -50,9 +51,10 @@ class Known:
 
 
 class Input:
-    """The bytes of a file as characters, where a byte that is no UTF-8 counts as one; and the document in it, if it is whole."""
+    """The bytes of a file as characters, where a byte that is no UTF-8 counts as one; and the document in it, if it is whole.
+    Where its nodes begin tells a function from the input to their places in bytes, which is asked once it is needed."""
 
-    def __init__(self, name, data):
+    def __init__(self, name, data, tell_begins=None):
         self.name = "standard input" if name == "-" else name
         self.data = data
         self.text = data.decode("utf-8", "surrogateescape")
@@ -62,6 +64,7 @@ class Input:
         except listing.InputError as error:
             self.broken = error
         self.nodes = [] if self.broken else self.found.nodes
+        self.tell_begins, self.begins = tell_begins, None
 
     def characters_before(self, byte):
         """The place in characters of a byte, or of the character that it is a part of."""
@@ -99,6 +102,14 @@ class Input:
         if number >= len(self.nodes):
             raise listing.InputError(f"the document in {self.name} has {len(self.nodes)} nodes, and none of the number {number}")
         return self.nodes[number]
+
+    def begin(self, number):
+        """The place at which a node of the document begins."""
+        if self.begins is None:
+            self.begins = self.tell_begins(self.data)
+        if number >= len(self.begins):
+            raise listing.InputError(f"the document in {self.name} is read with {len(self.begins)} nodes")
+        return self.characters_before(self.begins[number])
 
 
 # What a refusal is about.
@@ -221,7 +232,7 @@ def told_node(given, number):
     if number >= len(given.nodes):
         return f"node {number} isn't written in the document: an edit brought it, or none has this number"
     node = given.nodes[number]
-    return f"node {number} is {named(node)} at {given.position(node.begin)}"
+    return f"node {number} is {named(node)} at {given.position(given.begin(number))}"
 
 
 def named(node):
@@ -231,7 +242,7 @@ def named(node):
 def place_of_node(given, number, rows):
     node = given.node(number)
     around = (told_node(given, node.parent),) if rows[0].kind == "BlockInInline" and node.parent is not None else ()
-    return Place(node.begin, tuple(rows), (f"node {number} is {named(node)}", *around))
+    return Place(given.begin(number), tuple(rows), (f"node {number} is {named(node)}", *around))
 
 
 def place_of_edit(given, number, rows):
