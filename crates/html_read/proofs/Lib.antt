@@ -15,5 +15,6 @@ mod OrderLaws
 mod TextNodes
 mod EndLaws
 mod Tails
+mod Agreeing
 mod PlaceLaws
 mod PlacedContents

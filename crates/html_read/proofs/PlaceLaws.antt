@@ -7,8 +7,8 @@ use Rattle.std.proofs.lemmas.Bool.{lt-ltb, le-ltb}
 use Rattle.std.proofs.lemmas.List.Elements.{All-append}
 use Rattle.std.proofs.lemmas.List.Quantifiers.{all_pairs_push}
 use Rattle.std.specs.Str.Lossy.{utf8_valid_len}
-use Rattle.reading.specs.Readers.{Read, ReadOr, ReaderOr, ◌>>=◌, give, follow, mapped, read_or, strip, starts, after, turns, repeat}
-use Rattle.reading.proofs.SpellLaws.{ok, stop, bind_ok, same_answer, mapped_spells, telling_spells}
+use Rattle.reading.specs.Readers.{ReadOr, ReaderOr, ◌>>=◌, give, follow, mapped, strip, starts, after, repeat}
+use Rattle.reading.proofs.SpellLaws.{bind_ok, same_answer, mapped_spells, telling_spells}
 use Rattle.html_tokens.specs.declared.error.Refusal.TheVariants.{Utf8}
 use Rattle.html_tokens.specs.declared.tag.Tag.TheVariants.{Html, Body}
 use Rattle.html_tokens.specs.Error.{Fault, Judged, syntax, spelled}
@@ -25,77 +25,11 @@ use Rattle.html_read.specs.Places.{Placed, placed, with_place, placed_step, plac
 use Rattle.html_read.specs.Reading.{Start, Open, Content, content_of, parent_in, goes_on, begun, ending, markup, with_letters, with_gap, turn, content, start_of, start_tag, end_tag, maybe_head, prolog, body, html, ended, document, input}
 use Rattle.html_read.specs.Tree.{roots, with_text}
 use Rattle.html_read.specs.Values.{Acting, element, text, Node, TextAt, Whole}
+use Rattle.html_read.proofs.Agreeing.{Agree, agree_view, agree_follow, agree_first, agree_then, agree_told, agree_cond, agree_repeat, agree_mapped}
 use Rattle.html_read.proofs.ContentLaws.{start_is_tag, tag_size, never}
 use Rattle.html_read.proofs.DocumentLaws.{prolog_spells}
 use Rattle.html_read.proofs.HeadLaws.{opening_start, opening_some, misc_here, maybe_head_spells}
 use Rattle.html_read.proofs.TagLaws.{start_of_spells, start_tag_spells, end_tag_spells}
-
--- ---- two readers side by side
-
--- they stop alike, and what they read is so related
-abbrev Agree : {E A B : Type 0} → (A → B → List ℕ → Type 0) → ReadOr E A → ReadOr E B → Type 0
-Agree R (Ok x) (Ok y) = (x.1 ≡ y.1) × R x.0 y.0 x.1
-Agree R (Ok x) (Err e) = ⊥
-Agree R (Err e) (Ok y) = ⊥
-Agree R (Err e) (Err f) = e ≡ f
-
-agree_same : {E A : Type 0} (R : A → A → List ℕ → Type 0) (r : ReadOr E A) → ((x : A) (rest : List ℕ) → r ≡ Ok (x, rest) → R x x rest) → Agree R r r
-agree_same R (Ok x) is = (refl, is x.0 x.1 refl)
-agree_same R (Err e) is = refl
-
--- another view of what the other reads
-agree_view : {E A B : Type 0} (R : B → A → List ℕ → Type 0) (view : A → B) (r : ReadOr E A) → ((x : A) (rest : List ℕ) → r ≡ Ok (x, rest) → R (view x) x rest)
-    → Agree R (r >>= λ (x : A × List ℕ). give (view x.0) x.1) r
-agree_view R view (Ok x) is = (refl, is x.0 x.1 refl)
-agree_view R view (Err e) is = refl
-
-agree_follow : {E A B C D : Type 0} (R : A → B → List ℕ → Type 0) (S : C → D → List ℕ → Type 0) (r : ReadOr E A) (q : ReadOr E B) (f : A → ReaderOr E C) (g : B → ReaderOr E D)
-    → Agree R r q → ((x : A) (y : B) (rest : List ℕ) → R x y rest → Agree S (f x rest) (g y rest)) → Agree S (r >>= λ (x : A × List ℕ). f x.0 x.1) (q >>= λ (y : B × List ℕ). g y.0 y.1)
-agree_follow R S (Ok x) (Ok y) f g is later = subst (λ (rest : List ℕ). Agree S (f x.0 x.1) (g y.0 rest)) is.0 (later x.0 y.0 x.1 is.1)
-agree_follow R S (Ok x) (Err e) f g is later = absurd is
-agree_follow R S (Err e) (Ok y) f g is later = absurd is
-agree_follow R S (Err e) (Err h) f g is later = is
-
--- the same reader, and behind it two others
-agree_first : {E A C D : Type 0} (S : C → D → List ℕ → Type 0) (r : ReadOr E A) (f : A → ReaderOr E C) (g : A → ReaderOr E D)
-    → ((x : A) (rest : List ℕ) → r ≡ Ok (x, rest) → Agree S (f x rest) (g x rest)) → Agree S (r >>= λ (x : A × List ℕ). f x.0 x.1) (r >>= λ (x : A × List ℕ). g x.0 x.1)
-agree_first S (Ok x) f g later = later x.0 x.1 refl
-agree_first S (Err e) f g later = refl
-
--- the second reader goes on, and never stops there
-agree_then : {E A B D : Type 0} (R : A → B → List ℕ → Type 0) (S : A → D → List ℕ → Type 0) (r : ReadOr E A) (q : ReadOr E B) (g : B → List ℕ → D)
-    → Agree R r q → ((x : A) (y : B) (rest : List ℕ) → R x y rest → S x (g y rest) rest) → Agree S r (q >>= λ (y : B × List ℕ). Ok (g y.0 y.1, y.1))
-agree_then R S (Ok x) (Ok y) g is later = (is.0, subst (λ (rest : List ℕ). S x.0 (g y.0 rest) x.1) is.0 (later x.0 y.0 x.1 is.1))
-agree_then R S (Ok x) (Err e) g is later = absurd is
-agree_then R S (Err e) (Ok y) g is later = absurd is
-agree_then R S (Err e) (Err h) g is later = is
-
-agree_told : {E A B : Type 0} (R : A → B → List ℕ → Type 0) (told : List ℕ → E) (r : Read A) (q : Read B) → Agree R r q → Agree R (read_or told r) (read_or told q)
-agree_told R told (Ok x) (Ok y) is = is
-agree_told R told (Ok x) (Err e) is = absurd is
-agree_told R told (Err e) (Ok y) is = absurd is
-agree_told R told (Err e) (Err f) is = ap told is
-
-agree_cond : {E A B : Type 0} (R : A → B → List ℕ → Type 0) (t : Bool) (r s : ReadOr E A) (q p : ReadOr E B) → Agree R r q → Agree R s p → Agree R (cond t r s) (cond t q p)
-agree_cond R true r s q p is other = is
-agree_cond R false r s q p is other = other
-
-agree_turns : {E S T : Type 0} (R : S → T → List ℕ → Type 0) (goes : S → List ℕ → Bool) (turn_ : S → ReaderOr E S) (going : T → List ℕ → Bool) (turning : T → ReaderOr E T)
-    → ((s : S) (t : T) (x : List ℕ) → R s t x → goes s x ≡ going t x) → ((s : S) (t : T) (x : List ℕ) → R s t x → Agree R (turn_ s x) (turning t x))
-    → (fuel : ℕ) (s : S) (t : T) (x : List ℕ) → R s t x → Agree R (turns goes turn_ fuel s x) (turns going turning fuel t x)
-unfolding turns
-agree_turns R goes turn_ going turning alike once zero s t x is = (refl, is)
-agree_turns R goes turn_ going turning alike once (suc fuel) s t x is =
-    let here = agree_cond R (goes s x) (follow (turn_ s) (turns goes turn_ fuel) x) (Ok (s, x)) (follow (turning t) (turns going turning fuel) x) (Ok (t, x))
-    (agree_follow R R (turn_ s x) (turning t x) (turns goes turn_ fuel) (turns going turning fuel) (once s t x is) (agree_turns R goes turn_ going turning alike once fuel))
-    (refl, is) in
-    subst (λ (b : Bool). Agree R (cond (goes s x) (follow (turn_ s) (turns goes turn_ fuel) x) (Ok (s, x))) (cond b (follow (turning t) (turns going turning fuel) x) (Ok (t, x)))) (alike s t x is) here
-
-agree_repeat : {E S T : Type 0} (R : S → T → List ℕ → Type 0) (goes : S → List ℕ → Bool) (turn_ : S → ReaderOr E S) (going : T → List ℕ → Bool) (turning : T → ReaderOr E T)
-    → ((s : S) (t : T) (x : List ℕ) → R s t x → goes s x ≡ going t x) → ((s : S) (t : T) (x : List ℕ) → R s t x → Agree R (turn_ s x) (turning t x))
-    → (s : S) (t : T) (x : List ℕ) → R s t x → Agree R (repeat goes turn_ s x) (repeat going turning t x)
-unfolding repeat
-agree_repeat R goes turn_ going turning alike once s t x is = agree_turns R goes turn_ going turning alike once (suc (length x)) s t x is
 
 -- ---- nodes and their places, behind which these bytes are left
 
@@ -291,6 +225,13 @@ content_agrees bytes nodes places here is =
 
 -- ---- documents
 
+-- the end tag of `body`, and what ends a document, behind which this is given
+abbrev body_ends : {A : Type 0} → A → Judged A
+body_ends x = mapped (λ u. x) (end_tag (codes "body"))
+
+abbrev html_ends : {A : Type 0} → A → Judged A
+html_ends x = spelled (follow (misc (codes "<!")) (λ u. mapped (λ u. x) (end_of (codes "html"))))
+
 -- these are the places of the nodes
 abbrev AreOf : (bytes places : List ℕ) → List Node → Type 0
 AreOf bytes places nodes = AreReadAt bytes nodes places × AllPairs (λ earlier later. earlier < later) places × All (λ place. place < length bytes) places
@@ -336,67 +277,53 @@ body_agrees : (bytes : List ℕ) (page : Acting) (place : ℕ) (here : List ℕ)
 unfolding placed_body body
 body_agrees bytes page place here is =
     let size = length bytes in
-    agree_first (AreIn bytes) (start_of size (codes "<body") false here)
-    (λ (acting : Acting). follow (placed_content size (placed (content_of [] (roots page acting)) (place ∷ (size - length here) ∷ []))) (λ places. mapped (λ u. places) (end_tag (codes "body"))))
-    (λ (acting : Acting). follow (content size bases.Body (roots page acting)) (λ nodes. mapped (λ u. nodes) (end_tag (codes "body"))))
+    let places_of : Acting → Judged (List ℕ) = λ acting. placed_content size (placed (content_of [] (roots page acting)) (place ∷ (size - length here) ∷ [])) in
+    let nodes_of : Acting → Judged (List Node) = λ acting. content size bases.Body (roots page acting) in
+    agree_first (AreIn bytes) (start_of size (codes "<body") false here) (λ acting. follow (places_of acting) body_ends) (λ acting. follow (nodes_of acting) body_ends)
     (λ acting rest e.
-    agree_follow (StandIn bytes) (AreIn bytes) (placed_content size (placed (content_of [] (roots page acting)) (place ∷ (size - length here) ∷ [])) rest) (content size bases.Body (roots page acting) rest)
-    (λ (places : List ℕ). mapped (λ (u : ⊤). places) (end_tag (codes "body"))) (λ (nodes : List Node). mapped (λ (u : ⊤). nodes) (end_tag (codes "body")))
+    agree_follow (StandIn bytes) (AreIn bytes) (places_of acting rest) (nodes_of acting rest) body_ends body_ends
     (content_agrees bytes (roots page acting) (place ∷ (size - length here) ∷ []) rest (body_begins bytes page acting place here rest is e))
     (λ places nodes there s. agree_first (AreIn bytes) (end_tag (codes "body") there) (λ (u : ⊤). give places) (λ (u : ⊤). give nodes) (λ u more ends. (refl, are_of bytes places nodes there s))))
 
 abbrev AreOfBoth : (bytes places : List ℕ) → List Node × List TextAt → (rest : List ℕ) → Type 0
 AreOfBoth bytes places read rest = AreOf bytes places read.0
 
+html_ends_agree : (bytes places : List ℕ) (nodes : List Node) (sheets : List TextAt) (here : List ℕ) → AreOf bytes places nodes → Agree (AreOfBoth bytes) (html_ends places here) (html_ends (nodes, sheets) here)
+html_ends_agree bytes places nodes sheets here is =
+    let told : List ℕ → ReaderOr (List ℕ) (List ℕ) = λ x. mapped (λ (u : ⊤). x) (end_of (codes "html")) in
+    let read : List Node × List TextAt → ReaderOr (List ℕ) (List Node × List TextAt) = λ x. mapped (λ (u : ⊤). x) (end_of (codes "html")) in
+    agree_told (AreOfBoth bytes) syntax (follow (misc (codes "<!")) (λ u. told places) here) (follow (misc (codes "<!")) (λ u. read (nodes, sheets)) here)
+    (agree_first (AreOfBoth bytes) (misc (codes "<!") here) (λ (u : ⊤). told places) (λ (u : ⊤). read (nodes, sheets))
+    (λ u more e. agree_first (AreOfBoth bytes) (end_of (codes "html") more) (λ (u : ⊤). give places) (λ (u : ⊤). give (nodes, sheets)) (λ u end_ f. (refl, is))))
+
+-- what stands behind the start tag of `html`, where this reads `body`
+abbrev behind_html : {A B : Type 0} (size : ℕ) → Judged A → (A → List TextAt → B) → Judged B
+behind_html size inner made = follow (spelled (misc (codes "<!"))) (λ u. follow (maybe_head size) (λ sheets. follow inner (λ read. html_ends (made read sheets))))
+
+behind_html_agrees : (bytes : List ℕ) (page : Acting) (place : ℕ) (here : List ℕ) → Stand bytes (html_node page ∷ []) (place ∷ []) here
+    → Agree (AreOfBoth bytes) (behind_html (length bytes) (placed_body (length bytes) page place) (λ places sheets. places) here) (behind_html (length bytes) (body (length bytes) page) (λ nodes sheets. (nodes, sheets)) here)
+behind_html_agrees bytes page place here is =
+    let size = length bytes in
+    let places_of : Judged (List ℕ) = placed_body size page place in
+    let nodes_of : Judged (List Node) = body size page in
+    agree_first (AreOfBoth bytes) (spelled (misc (codes "<!")) here)
+    (λ (u : ⊤). follow (maybe_head size) (λ sheets. follow places_of html_ends)) (λ (u : ⊤). follow (maybe_head size) (λ sheets. follow nodes_of (λ nodes. html_ends (nodes, sheets))))
+    (λ u there e.
+    let m = (telling_spells syntax misc_here).takes here u there e in
+    agree_first (AreOfBoth bytes) (maybe_head size there) (λ (sheets : List TextAt). follow places_of html_ends) (λ (sheets : List TextAt). follow nodes_of (λ nodes. html_ends (nodes, sheets)))
+    (λ sheets rest f.
+    let h = (maybe_head_spells size).takes there sheets rest f in
+    let stands = stand_on bytes (html_node page ∷ []) (place ∷ []) there h.0 rest (stand_on bytes (html_node page ∷ []) (place ∷ []) here m.0 there is m.2) h.2 in
+    agree_follow (AreIn bytes) (AreOfBoth bytes) (places_of rest) (nodes_of rest) html_ends (λ (nodes : List Node). html_ends (nodes, sheets))
+    (body_agrees bytes page place rest stands) (λ places nodes last s. html_ends_agree bytes places nodes sheets last s)))
+
 html_agrees : (bytes here : List ℕ) → Stand bytes [] [] here → Agree (AreOfBoth bytes) (placed_html (length bytes) here) (html (length bytes) here)
 unfolding placed_html html
 html_agrees bytes here is =
     let size = length bytes in
-    let place = size - length here in
     agree_first (AreOfBoth bytes) (start_of size (codes "<html") false here)
-    (λ (acting : Acting). follow (spelled (misc (codes "<!"))) (λ u. follow (maybe_head size) (λ sheets. follow (placed_body size acting place) (λ places.
-    spelled (follow (misc (codes "<!")) (λ u. mapped (λ u. places) (end_of (codes "html"))))))))
-    (λ (acting : Acting). follow (spelled (misc (codes "<!"))) (λ u. follow (maybe_head size) (λ sheets. follow (body size acting) (λ nodes.
-    spelled (follow (misc (codes "<!")) (λ u. mapped (λ u. (nodes, sheets)) (end_of (codes "html"))))))))
-    (λ acting rest e. behind_html bytes acting place rest (html_begins bytes acting here rest is e))
-  where
-    last : (bytes places there : List ℕ) (nodes : List Node) (sheets : List TextAt) → AreOf bytes places nodes
-        → Agree (AreOfBoth bytes) (spelled (follow (misc (codes "<!")) (λ u. mapped (λ u. places) (end_of (codes "html")))) there) (spelled (follow (misc (codes "<!")) (λ u. mapped (λ u. (nodes, sheets)) (end_of (codes "html")))) there)
-    last bytes places there nodes sheets is =
-        agree_told (AreOfBoth bytes) syntax (follow (misc (codes "<!")) (λ u. mapped (λ u. places) (end_of (codes "html"))) there) (follow (misc (codes "<!")) (λ u. mapped (λ u. (nodes, sheets)) (end_of (codes "html"))) there)
-        (agree_first (AreOfBoth bytes) (misc (codes "<!") there) (λ (u : ⊤). mapped (λ (u : ⊤). places) (end_of (codes "html"))) (λ (u : ⊤). mapped (λ (u : ⊤). (nodes, sheets)) (end_of (codes "html")))
-        (λ u more e. agree_first (AreOfBoth bytes) (end_of (codes "html") more) (λ (u : ⊤). give places) (λ (u : ⊤). give (nodes, sheets)) (λ u end_ f. (refl, is))))
-
-    behind_head : (bytes : List ℕ) (acting : Acting) (place : ℕ) (sheets : List TextAt) (here : List ℕ) → Stand bytes (html_node acting ∷ []) (place ∷ []) here
-        → Agree (AreOfBoth bytes)
-        (follow (placed_body (length bytes) acting place) (λ places. spelled (follow (misc (codes "<!")) (λ u. mapped (λ u. places) (end_of (codes "html"))))) here)
-        (follow (body (length bytes) acting) (λ nodes. spelled (follow (misc (codes "<!")) (λ u. mapped (λ u. (nodes, sheets)) (end_of (codes "html"))))) here)
-    behind_head bytes acting place sheets here is =
-        agree_follow (AreIn bytes) (AreOfBoth bytes) (placed_body (length bytes) acting place here) (body (length bytes) acting here)
-        (λ (places : List ℕ). spelled (follow (misc (codes "<!")) (λ (u : ⊤). mapped (λ (u : ⊤). places) (end_of (codes "html")))))
-        (λ (nodes : List Node). spelled (follow (misc (codes "<!")) (λ (u : ⊤). mapped (λ (u : ⊤). (nodes, sheets)) (end_of (codes "html")))))
-        (body_agrees bytes acting place here is) (λ places nodes there s. last bytes places there nodes sheets s)
-
-    behind_html : (bytes : List ℕ) (acting : Acting) (place : ℕ) (here : List ℕ) → Stand bytes (html_node acting ∷ []) (place ∷ []) here
-        → Agree (AreOfBoth bytes)
-        (follow (spelled (misc (codes "<!"))) (λ u. follow (maybe_head (length bytes)) (λ sheets. follow (placed_body (length bytes) acting place) (λ places.
-        spelled (follow (misc (codes "<!")) (λ u. mapped (λ u. places) (end_of (codes "html"))))))) here)
-        (follow (spelled (misc (codes "<!"))) (λ u. follow (maybe_head (length bytes)) (λ sheets. follow (body (length bytes) acting) (λ nodes.
-        spelled (follow (misc (codes "<!")) (λ u. mapped (λ u. (nodes, sheets)) (end_of (codes "html"))))))) here)
-    behind_html bytes acting place here is =
-        let size = length bytes in
-        agree_first (AreOfBoth bytes) (spelled (misc (codes "<!")) here)
-        (λ (u : ⊤). follow (maybe_head size) (λ sheets. follow (placed_body size acting place) (λ places. spelled (follow (misc (codes "<!")) (λ u. mapped (λ u. places) (end_of (codes "html")))))))
-        (λ (u : ⊤). follow (maybe_head size) (λ sheets. follow (body size acting) (λ nodes. spelled (follow (misc (codes "<!")) (λ u. mapped (λ u. (nodes, sheets)) (end_of (codes "html")))))))
-        (λ u there e.
-        let m = (telling_spells syntax misc_here).takes here u there e in
-        agree_first (AreOfBoth bytes) (maybe_head size there)
-        (λ (sheets : List TextAt). follow (placed_body size acting place) (λ places. spelled (follow (misc (codes "<!")) (λ u. mapped (λ u. places) (end_of (codes "html"))))))
-        (λ (sheets : List TextAt). follow (body size acting) (λ nodes. spelled (follow (misc (codes "<!")) (λ u. mapped (λ u. (nodes, sheets)) (end_of (codes "html"))))))
-        (λ sheets rest f.
-        let h = (maybe_head_spells size).takes there sheets rest f in
-        behind_head bytes acting place sheets rest
-        (stand_on bytes (html_node acting ∷ []) (place ∷ []) there h.0 rest (stand_on bytes (html_node acting ∷ []) (place ∷ []) here m.0 there is m.2) h.2)))
+    (λ (page : Acting). behind_html size (placed_body size page (size - length here)) (λ places sheets. places)) (λ (page : Acting). behind_html size (body size page) (λ nodes sheets. (nodes, sheets)))
+    (λ page rest e. behind_html_agrees bytes page (size - length here) rest (html_begins bytes page here rest is e))
 
 abbrev AreOfWhole : (bytes places : List ℕ) → Whole → (rest : List ℕ) → Type 0
 AreOfWhole bytes places whole rest = AreOf bytes places whole.nodes
@@ -418,14 +345,6 @@ places_agree bytes =
     (document (length bytes) bytes) (Err (Utf8, drop (utf8_valid_len bytes) bytes)) (document_agrees bytes) refl
 
 -- ---- what follows
-
-agree_mapped : {E A B C : Type 0} (R : A → B → List ℕ → Type 0) (view : A → C) (other : B → C) (r : ReadOr E A) (q : ReadOr E B) → Agree R r q
-    → ((x : A) (y : B) (rest : List ℕ) → R x y rest → view x ≡ other y) → (r >>= λ (x : A × List ℕ). give (view x.0) x.1) ≡ (q >>= λ (y : B × List ℕ). give {E = E} (other y.0) y.1)
-agree_mapped {E = E} {C = C} R view other (Ok x) (Ok y) is same =
-    ap (λ (c : C). ok {E = E} (c, x.1)) (same x.0 y.0 x.1 is.1) ∙ ap (λ (rest : List ℕ). ok {E = E} (other y.0, rest)) is.0
-agree_mapped R view other (Ok x) (Err e) is same = absurd is
-agree_mapped R view other (Err e) (Ok y) is same = absurd is
-agree_mapped {C = C} R view other (Err e) (Err f) is same = ap (λ g. stop {A = C} g) is
 
 pub read_alike : (bytes : List ℕ) → mapped (λ places. length places) placed_input bytes ≡ mapped (λ whole. length whole.nodes) input bytes
 read_alike bytes =
