@@ -1,9 +1,13 @@
 //! Where to go on behind what is refused (CSS Syntax 3, 2.2 and 5.4).
 
-ghost use Rattle.std.specs.Prelude.{◌<◌, ◌≤◌, ◌-◌, length, IfSome};
+ghost use Rattle.std.specs.Prelude.{◌≡◌, ◌<◌, ◌≤◌, length, option_map, IfOk, IfSome};
+ghost use Rattle.reading.specs.Readers.{Answers};
+ghost use Rattle.css_tokens.specs.Tokens.{lexeme_of};
+ghost use Rattle.report_styles.specs.GoingOn as readers;
+ghost use Rattle.report_styles.specs.GoingOn.{IsBehind};
 
 use css_tokens::{Token, comment, next_token};
-use reading::{first, starts, strip};
+use reading::{first, starts};
 
 /// A piece of a text, as far as it plays a part in where a declaration or a rule ends.
 #[derive(Clone, Copy, PartialEq, Eq)]
@@ -18,46 +22,92 @@ enum Piece {
     Other,
 }
 
+/// What is passed over.
+#[derive(Clone, Copy)]
+enum Passed {
+    Declaration { in_rule: bool },
+    Rule { is_at_rule: bool },
+}
+
+/// Where it ends: before a piece, or behind it.
+#[derive(Clone, Copy)]
+enum End {
+    Before,
+    Behind,
+}
+
 /// The text behind the `;` with which the declaration ends that begins here, or from the `}` of its rule on; none where
 /// it goes to the end.
+#[tactic(auto, unfolding(crate::specs::GoingOn::behind_declaration))]
 pub(crate) fn behind_declaration(text: &str, in_rule: bool) -> Option<&str>
-    ensures shorter { IfSome result (λ rest. length rest.now ≤ length text.now - 1) }
+    ensures read { option_map (λ rest. rest.now) result ≡ readers.behind_declaration in_rule text.now }
+    ensures shorter { IfSome result (λ rest. length rest.now < length text.now) }
 {
-    let (first, mut rest) = next_piece(text)?;
-    let mut depth = deeper(0, first);
-    while let Some((piece, after)) = next_piece(rest) {
-        if depth == 0 && piece == Piece::Semicolon {
-            return Some(after);
-        }
-        if depth == 0 && in_rule && piece == Piece::BlockEnd {
-            return Some(rest);
-        }
-        depth = deeper(depth, piece);
-        rest = after;
+    match next_piece(text) {
+        Ok((piece, rest)) => behind(Passed::Declaration { in_rule }, deeper(0, piece), rest),
+        Err(_) => None,
     }
-    None
 }
 
 /// The text behind the rule that begins here: behind the `}` of its block, or, where it is an at-rule, behind a `;`
 /// before one; none where it goes to the end.
+#[tactic(auto, unfolding(crate::specs::GoingOn::behind_rule))]
 pub(crate) fn behind_rule(text: &str) -> Option<&str>
+    ensures read { option_map (λ rest. rest.now) result ≡ readers.behind_rule text.now }
     ensures shorter { IfSome result (λ rest. length rest.now < length text.now) }
 {
     let is_at_rule = starts("@", text);
-    let mut depth = 0;
+    behind(Passed::Rule { is_at_rule }, 0, text)
+}
+
+// The text behind it, where `depth` brackets and blocks of it are open.
+fn behind(passed: Passed, depth: usize, text: &str) -> Option<&str>
+    ensures read { option_map (λ rest. rest.now) result ≡ readers.behind passed depth text.now }
+    ensures shorter { IfSome result (λ rest. IsBehind passed rest.now text.now) }
+{
+    let mut depth = depth;
     let mut rest = text;
-    while let Some((piece, after)) = next_piece(rest) {
+    while let Ok((piece, after)) = next_piece(rest) {
+        match ends_at(passed, depth, piece) {
+            Some(End::Before) => return Some(rest),
+            Some(End::Behind) => return Some(after),
+            None => {}
+        }
         depth = deeper(depth, piece);
         rest = after;
-        if depth == 0 && (piece == Piece::BlockEnd || is_at_rule && piece == Piece::Semicolon) {
-            return Some(rest);
-        }
     }
     None
 }
 
+/// Whether it ends at this piece, before which `depth` brackets and blocks are open.
+fn ends_at(passed: Passed, depth: usize, piece: Piece) -> Option<End>
+    ensures { result ≡ readers.ends_at passed depth piece }
+{
+    match (passed, piece) {
+        (Passed::Declaration { .. }, Piece::Semicolon) => only_if(depth == 0, End::Behind),
+        (Passed::Declaration { in_rule }, Piece::BlockEnd) => only_if(
+            depth == 0 && in_rule,
+            End::Before,
+        ),
+        (Passed::Rule { .. }, Piece::BlockEnd) => only_if(depth <= 1, End::Behind),
+        (Passed::Rule { is_at_rule }, Piece::Semicolon) => only_if(
+            depth == 0 && is_at_rule,
+            End::Behind,
+        ),
+        _ => None,
+    }
+}
+
+fn only_if(holds: bool, end: End) -> Option<End>
+    ensures { result ≡ readers.only_if holds end }
+{
+    if holds { Some(end) } else { None }
+}
+
 /// How many brackets and blocks are open behind this piece.
-fn deeper(depth: usize, piece: Piece) -> usize {
+fn deeper(depth: usize, piece: Piece) -> usize
+    ensures { result ≡ readers.deeper depth piece }
+{
     match piece {
         Piece::Opening | Piece::BlockBegin => depth.saturating_add(1),
         Piece::Closing | Piece::BlockEnd => depth.saturating_sub(1),
@@ -66,22 +116,23 @@ fn deeper(depth: usize, piece: Piece) -> usize {
 }
 
 /// The next piece and the text behind it. There is none at the end of the text, nor where a comment isn't ended.
-fn next_piece(text: &str) -> Option<(Piece, &str)>
-    ensures shorter { IfSome result (λ p. length p.1.now < length text.now) }
+#[tactic(auto, unfolding(crate::specs::GoingOn::piece))]
+fn next_piece(text: &str) -> Result<(Piece, &str), &[u8]>
+    ensures read { Answers (λ p. (p.0, p.1.now)) result (readers.piece text.now) }
+    ensures shorter { IfOk result (λ p. length p.1.now < length text.now) }
 {
     if starts("/*", text) {
-        return match comment(text) {
-            Ok(rest) => Some((Piece::Other, rest)),
-            Err(_) => None,
-        };
+        return Ok((Piece::Other, comment(text)?));
     }
     match next_token(text) {
-        Ok((token, rest)) => Some((piece_of(token), rest)),
-        Err(_) => next_sign(text),
+        Ok((token, rest)) => Ok((piece_of(token), rest)),
+        Err(_) => lone_sign(text),
     }
 }
 
-fn piece_of(token: Token<'_>) -> Piece {
+fn piece_of(token: Token<'_>) -> Piece
+    ensures { result ≡ readers.piece_of (lexeme_of token.entry) }
+{
     match token {
         Token::Function(_) | Token::Round | Token::Square => Piece::Opening,
         Token::Sign(b';') => Piece::Semicolon,
@@ -89,15 +140,21 @@ fn piece_of(token: Token<'_>) -> Piece {
     }
 }
 
-/// The same where no token comes.
-fn next_sign(text: &str) -> Option<(Piece, &str)>
-    ensures shorter { IfSome result (λ p. length p.1.now < length text.now) }
+// A byte that is no token.
+#[tactic(auto, unfolding(reading::specs::Readers::one_of))]
+fn lone_sign(text: &str) -> Result<(Piece, &str), &[u8]>
+    ensures read { Answers (λ p. (p.0, p.1.now)) result (readers.lone_sign text.now) }
+    ensures shorter { IfOk result (λ p. length p.1.now < length text.now) }
 {
-    let (byte, rest) = first(text)?;
-    Some((sign(byte), rest))
+    match first(text) {
+        Some((byte, rest)) => Ok((sign(byte), rest)),
+        None => Err(text.as_bytes()),
+    }
 }
 
-fn sign(byte: u8) -> Piece {
+fn sign(byte: u8) -> Piece
+    ensures { result ≡ readers.sign byte }
+{
     match byte {
         b')' | b']' => Piece::Closing,
         b'{' => Piece::BlockBegin,

@@ -18,13 +18,20 @@
 
 mod going_on;
 mod reporting;
+mod telling;
+mod writing;
+
+ghost use Rattle.std.specs.Prelude.{OnOk};
+ghost use Rattle.std.specs.Io.KnownBytes.{Appends};
+ghost use Rattle.report_styles.specs.Lines.{report_of};
 
 use html_read::{HtmlError, read_document};
 use io_edge::{StdSource, read_all};
-use reporting::report_document;
+use reporting::told_of;
 use std::alloc::Global;
 use std::io;
 use std::io::{BufWriter, Write};
+use writing::{write_all_told, write_refused};
 
 /// How many bytes a document may have.
 const GREATEST_LENGTH: usize = 1_048_576;
@@ -39,10 +46,17 @@ fn main(rt: HostRuntime) -> io::Result<()> {
     output.flush()
 }
 
-fn report<W: Write>(alloc: Global, bytes: &[u8], output: &mut W) -> io::Result<()> {
+/// Writes what is told of the document that the bytes begin with, or the line of its refusal. An error comes of writing,
+/// or of want of memory.
+fn report<W: Write>(alloc: Global, bytes: &[u8], output: &mut W) -> io::Result<()>
+    ensures { OnOk result (Appends (W.contents output.old) (W.contents output.new) (report_of bytes.now)) }
+{
     match read_document(alloc, bytes) {
-        Ok(document) => report_document(alloc, &document, output),
-        Err(HtmlError::Refused { kind, place }) => writeln!(output, "refused {kind:?} {place}"),
+        Ok(document) => {
+            let told = told_of(alloc, &document)?;
+            write_all_told(&told, output)
+        }
+        Err(HtmlError::Refused { kind, place }) => write_refused(kind.word(), place, output),
         Err(HtmlError::Memory) => Err(io::ErrorKind::OutOfMemory.into()),
     }
 }

@@ -1,197 +1,305 @@
 //! The declarations of a document, one after the other.
 
-ghost use Rattle.std.specs.Prelude.{◌<◌, ◌≤◌, ◌-◌, length, IfOk, IfSome};
+ghost use Rattle.std.specs.Prelude.{◌≡◌, ◌<◌, ◌≤◌, [], List, length, IfOk, OnOk};
+ghost use Rattle.reading.specs.Readers.{repeat};
+ghost use Rattle.html_read.specs.Values.{kind_of, nodes_of, sheets_of, text_at, whole_of};
+ghost use Rattle.report_styles.specs.Told as readers;
+ghost use Rattle.report_styles.specs.Told.{Telling};
+ghost use Rattle.report_styles.specs.Views.{all_of, Goes};
 
 use crate::going_on::{behind_declaration, behind_rule};
+use crate::telling::{Halt, Places, Told, tell, tell_refusal};
 use css_sheet::rule_heads;
 use css_tokens::gap;
-use css_values::{CssError, Refusal, Report, Stop, Within, list_ends, next_report, told};
-use html_read::{PlacedText, ReadDocument, ReadKind};
+use css_values::{Refusal, Stop, Within, list_ends, next_report};
+use html_read::{PlacedText, ReadDocument, ReadKind, ReadNode};
 use reading::strip;
-use std::alloc::Global;
-use std::io;
-use std::io::Write;
+use std::alloc::{AllocError, Global};
 
-/// Tells of the sheets of a document, and then of its style attributes.
-pub(crate) fn report_document<W: Write>(
-    alloc: Global,
-    document: &ReadDocument,
-    output: &mut W,
-) -> io::Result<()> {
-    for sheet in &document.sheets {
-        report_sheet(alloc, sheet, output)?;
-    }
-    for node in &document.nodes {
-        if let ReadKind::Element { attributes, .. } = &node.kind {
-            if let Some(style) = &attributes.style {
-                report_attribute(alloc, style, output)?;
-            }
-        }
-    }
-    Ok(())
-}
-
-fn report_sheet<W: Write>(alloc: Global, sheet: &PlacedText, output: &mut W) -> io::Result<()> {
-    let text = sheet.text.as_str();
-    let end = sheet.place.saturating_add(text.len());
-    let mut rest = text;
-    while let Some(after) = report_rule(alloc, end, rest, output)? {
-        rest = after;
-    }
-    Ok(())
-}
-
-// A rule, and the text behind it; none where no rule comes.
-fn report_rule<'a, W: Write>(
-    alloc: Global,
-    end: usize,
-    text: &'a str,
-    output: &mut W,
-) -> io::Result<Option<&'a str>>
-    ensures shorter { IfOk result (λ behind. IfSome behind (λ rest. length rest.now < length text.now)) }
+/// What is told of the sheets of a document, and then of its style attributes.
+#[tactic(auto, unfolding(crate::specs::Told::told_of_document))]
+pub(crate) fn told_of(alloc: Global, document: &ReadDocument) -> Result<Vec<Told<'_>>, AllocError>
+    ensures told { IfOk result (λ told. all_of told.items ≡ readers.told_of_document (whole_of document.now)) }
 {
-    let Some(rest) = behind_gap(text, end, None, output)? else {
-        return Ok(None);
-    };
-    if rest.is_empty() {
-        return Ok(None);
+    let mut told = Vec::new(alloc);
+    tell_sheets(alloc, &document.sheets, &mut told)?;
+    tell_nodes(alloc, &document.nodes, &mut told)?;
+    Ok(told)
+}
+
+#[tactic(auto, using(crate::proofs::Walking::sheets_go_on, crate::proofs::Walking::sheets_end))]
+fn tell_sheets<'a>(
+    alloc: Global,
+    sheets: &'a [PlacedText],
+    told: &mut Vec<Told<'a>>,
+) -> Result<(), AllocError>
+    ensures told { OnOk result (all_of told.new.items ≡ readers.with_sheets (all_of told.old.items) (sheets_of sheets.now)) }
+{
+    for sheet in sheets {
+        tell_sheet(alloc, sheet, told)?;
     }
-    match rule_heads(alloc, 0, rest) {
-        Ok((selectors, block)) => {
-            let behind = report_block(alloc, selectors.len(), end, block, output)?;
-            Ok(Some(behind))
-        }
-        Err(stop) => {
-            tell_stop(stop, end, None, output)?;
-            Ok(behind_rule(rest))
-        }
+    Ok(())
+}
+
+fn tell_sheet<'a>(
+    alloc: Global,
+    sheet: &'a PlacedText,
+    told: &mut Vec<Told<'a>>,
+) -> Result<(), AllocError>
+    ensures told { OnOk result (all_of told.new.items ≡ readers.with_sheet (all_of told.old.items) (text_at sheet.now)) }
+{
+    let text = sheet.text.as_str();
+    let places = Places {
+        end: sheet.place.saturating_add(text.len()),
+        at: None,
+    };
+    to_end(rules(alloc, places, text, told))
+}
+
+// Telling may end within the text; what was told stands.
+fn to_end(read: Result<&str, Halt>) -> Result<(), AllocError>
+    ensures { (told : List readers.Told) (telling : Telling) → Goes read.entry told telling → OnOk result (told ≡ readers.all_told telling) }
+{
+    match read {
+        Ok(_) | Err(Halt::End) => Ok(()),
+        Err(Halt::Memory) => Err(AllocError),
     }
 }
 
-// The declarations of a rule, and the text behind its `}`.
-#[tactic(auto, using(reading::proofs::Shorter::strip_strict))]
-fn report_block<'a, W: Write>(
+#[tactic(auto, using(crate::proofs::Walking::nodes_go_on, crate::proofs::Walking::nodes_end))]
+fn tell_nodes<'a>(
     alloc: Global,
-    selectors: usize,
-    end: usize,
+    nodes: &'a [ReadNode],
+    told: &mut Vec<Told<'a>>,
+) -> Result<(), AllocError>
+    ensures told { OnOk result (all_of told.new.items ≡ readers.with_nodes (all_of told.old.items) (nodes_of nodes.now)) }
+{
+    for node in nodes {
+        tell_node(alloc, &node.kind, told)?;
+    }
+    Ok(())
+}
+
+fn tell_node<'a>(
+    alloc: Global,
+    kind: &'a ReadKind,
+    told: &mut Vec<Told<'a>>,
+) -> Result<(), AllocError>
+    ensures told { OnOk result (all_of told.new.items ≡ readers.with_kind (all_of told.old.items) (kind_of kind.now)) }
+{
+    match kind {
+        ReadKind::Element { attributes, .. } => match &attributes.style {
+            Some(style) => tell_attribute(alloc, style, told),
+            None => Ok(()),
+        },
+        ReadKind::Text { .. } => Ok(()),
+    }
+}
+
+fn tell_attribute<'a>(
+    alloc: Global,
+    style: &'a PlacedText,
+    told: &mut Vec<Told<'a>>,
+) -> Result<(), AllocError>
+    ensures told { OnOk result (all_of told.new.items ≡ readers.with_attribute (all_of told.old.items) (text_at style.now)) }
+{
+    let text = style.text.as_str();
+    let places = Places {
+        end: text.len(),
+        at: Some(style.place),
+    };
+    to_end(declarations(alloc, Within::Attribute, places, text, told))
+}
+
+// The rules of a sheet.
+#[tactic(auto, unfolding(crate::specs::Told::rules))]
+fn rules<'a>(
+    alloc: Global,
+    places: Places,
     text: &'a str,
-    output: &mut W,
-) -> io::Result<&'a str>
-    ensures shorter { IfOk result (λ rest. length rest.now ≤ length text.now - 1) }
+    told: &mut Vec<Told<'a>>,
+) -> Result<&'a str, Halt>
+    ensures read { Goes result (all_of told.new.items) (readers.rules places (all_of told.old.items) text.now) }
+{
+    let rest = past_gap(places, text, told)?;
+    let rest = rules_behind_gap(alloc, places, rest, told)?;
+    Ok(rest)
+}
+
+fn rules_behind_gap<'a>(
+    alloc: Global,
+    places: Places,
+    text: &'a str,
+    told: &mut Vec<Told<'a>>,
+) -> Result<&'a str, Halt>
+    ensures { Goes result (all_of told.new.items) (repeat readers.has_rule (readers.rule_turn places) (all_of told.old.items) text.now) }
+{
+    let mut rest = text;
+    while has_rule(rest) {
+        rest = rule_turn(alloc, places, rest, told)?;
+    }
+    Ok(rest)
+}
+
+fn has_rule(text: &str) -> bool
+    ensures { result ≡ readers.has_rule [] text.now }
+{
+    !text.is_empty()
+}
+
+// A rule, and the gap behind it.
+fn rule_turn<'a>(
+    alloc: Global,
+    places: Places,
+    text: &'a str,
+    told: &mut Vec<Told<'a>>,
+) -> Result<&'a str, Halt>
+    ensures read { Goes result (all_of told.new.items) (readers.rule_turn places (all_of told.old.items) text.now) }
+    ensures shorter { IfOk result (λ rest. length rest.now < length text.now) }
+{
+    let rest = rule(alloc, places, text, told)?;
+    let rest = past_gap(places, rest, told)?;
+    Ok(rest)
+}
+
+fn rule<'a>(
+    alloc: Global,
+    places: Places,
+    text: &'a str,
+    told: &mut Vec<Told<'a>>,
+) -> Result<&'a str, Halt>
+    ensures read { Goes result (all_of told.new.items) (readers.rule places (all_of told.old.items) text.now) }
+    ensures shorter { IfOk result (λ rest. length rest.now < length text.now) }
+{
+    match rule_heads(alloc, 0, text) {
+        Ok((selectors, rest)) => block(alloc, places, selectors.len(), rest, told),
+        Err(Stop::Refused(kind, left)) => {
+            tell_refusal(places, kind, left, told)?;
+            behind_rule(text).ok_or(Halt::End)
+        }
+        Err(Stop::Memory) => Err(Halt::Memory),
+    }
+}
+
+// The declarations of a rule, and its `}`.
+#[tactic(auto, using(reading::proofs::Shorter::strip_strict))]
+fn block<'a>(
+    alloc: Global,
+    places: Places,
+    selectors: usize,
+    text: &'a str,
+    told: &mut Vec<Told<'a>>,
+) -> Result<&'a str, Halt>
+    ensures read { Goes result (all_of told.new.items) (readers.block places selectors (all_of told.old.items) text.now) }
+    ensures shorter { IfOk result (λ rest. length rest.now < length text.now) }
 {
     let within = Within::Rule {
         selectors,
         before: 0,
     };
-    let Some(rest) = report_declarations(alloc, within, None, end, text, output)? else {
-        return Ok("");
-    };
-    match strip("}", rest) {
-        Ok(rest) => Ok(rest),
-        Err(left) => {
-            tell_stop(Stop::Refused(Refusal::CssSyntax, left), end, None, output)?;
-            Ok("")
-        }
-    }
+    let rest = declarations(alloc, within, places, text, told)?;
+    let rest = past_block_end(places, rest, told)?;
+    Ok(rest)
 }
 
-fn report_attribute<W: Write>(alloc: Global, style: &PlacedText, output: &mut W) -> io::Result<()> {
-    let text = style.text.as_str();
-    report_declarations(
-        alloc,
-        Within::Attribute,
-        Some(style.place),
-        text.len(),
-        text,
-        output,
-    )?;
-    Ok(())
-}
-
-// Declarations up to where they end, and the text from there on; none where a refusal takes all of it. All is told at
-// `at`, where there is one.
-fn report_declarations<'a, W: Write>(
+// Declarations up to where they end.
+#[tactic(auto, unfolding(crate::specs::Told::declarations))]
+fn declarations<'a>(
     alloc: Global,
     within: Within,
-    at: Option<usize>,
-    end: usize,
+    places: Places,
     text: &'a str,
-    output: &mut W,
-) -> io::Result<Option<&'a str>>
-    ensures shorter { IfOk result (λ behind. IfSome behind (λ rest. length rest.now ≤ length text.now)) }
+    told: &mut Vec<Told<'a>>,
+) -> Result<&'a str, Halt>
+    ensures read { Goes result (all_of told.new.items) (readers.declarations within places (all_of told.old.items) text.now) }
+    ensures shorter { IfOk result (λ rest. length rest.now ≤ length text.now) }
 {
-    let Some(mut rest) = behind_gap(text, end, at, output)? else {
-        return Ok(None);
-    };
-    while !rest.is_empty() && !list_ends(within, rest) {
-        let Some(after) = report_next(alloc, within, at, end, rest, output)? else {
-            return Ok(None);
-        };
-        rest = after;
-    }
-    Ok(Some(rest))
+    let rest = past_gap(places, text, told)?;
+    let rest = declarations_behind_gap(alloc, within, places, rest, told)?;
+    Ok(rest)
 }
 
-// A declaration, and the text behind it; none where a refusal takes all of it.
-fn report_next<'a, W: Write>(
+fn declarations_behind_gap<'a>(
     alloc: Global,
     within: Within,
-    at: Option<usize>,
-    end: usize,
+    places: Places,
     text: &'a str,
-    output: &mut W,
-) -> io::Result<Option<&'a str>>
-    ensures shorter { IfOk result (λ behind. IfSome behind (λ rest. length rest.now ≤ length text.now - 1)) }
+    told: &mut Vec<Told<'a>>,
+) -> Result<&'a str, Halt>
+    ensures read { Goes result (all_of told.new.items) (repeat (readers.has_declaration within) (readers.declaration within places) (all_of told.old.items) text.now) }
+    ensures shorter { IfOk result (λ rest. length rest.now ≤ length text.now) }
 {
-    match next_report(alloc, within, end, text) {
+    let mut rest = text;
+    while has_declaration(within, rest) {
+        rest = declaration(alloc, within, places, rest, told)?;
+    }
+    Ok(rest)
+}
+
+fn has_declaration(within: Within, text: &str) -> bool
+    ensures { result ≡ readers.has_declaration within [] text.now }
+{
+    !(text.is_empty() || list_ends(within, text))
+}
+
+fn declaration<'a>(
+    alloc: Global,
+    within: Within,
+    places: Places,
+    text: &'a str,
+    told: &mut Vec<Told<'a>>,
+) -> Result<&'a str, Halt>
+    ensures read { Goes result (all_of told.new.items) (readers.declaration within places (all_of told.old.items) text.now) }
+    ensures shorter { IfOk result (λ rest. length rest.now < length text.now) }
+{
+    match next_report(alloc, within, places.end, text) {
         Ok((report, rest)) => {
-            tell(report, at, output)?;
-            Ok(Some(rest))
+            tell(places, report, told)?;
+            Ok(rest)
         }
-        Err(stop) => {
-            tell_stop(stop, end, at, output)?;
-            Ok(behind_declaration(text, matches!(within, Within::Rule { .. })))
+        Err(Stop::Refused(kind, left)) => {
+            tell_refusal(places, kind, left, told)?;
+            behind_declaration(text, is_in_rule(within)).ok_or(Halt::End)
         }
+        Err(Stop::Memory) => Err(Halt::Memory),
     }
 }
 
-// The text behind a gap; none where a comment in it isn't ended.
-fn behind_gap<'a, W: Write>(
-    text: &'a str,
-    end: usize,
-    at: Option<usize>,
-    output: &mut W,
-) -> io::Result<Option<&'a str>>
-    ensures shorter { IfOk result (λ behind. IfSome behind (λ rest. length rest.now ≤ length text.now)) }
+fn is_in_rule(within: Within) -> bool
+    ensures { result ≡ readers.is_in_rule within }
+{
+    matches!(within, Within::Rule { .. })
+}
+
+// The text behind a gap; a comment in it that isn't ended is told.
+fn past_gap<'a>(places: Places, text: &'a str, told: &mut Vec<Told<'_>>) -> Result<&'a str, Halt>
+    ensures read { Goes result (all_of told.new.items) (readers.past_gap places (all_of told.old.items) text.now) }
+    ensures shorter { IfOk result (λ rest. length rest.now ≤ length text.now) }
 {
     match gap(text) {
-        Ok((_, rest)) => Ok(Some(rest)),
+        Ok((_, rest)) => Ok(rest),
         Err(left) => {
-            tell_stop(Stop::Refused(Refusal::CssSyntax, left), end, at, output)?;
-            Ok(None)
+            tell_refusal(places, Refusal::CssSyntax, left, told)?;
+            Err(Halt::End)
         }
     }
 }
 
-fn tell<W: Write>(report: Option<Report<'_>>, at: Option<usize>, output: &mut W) -> io::Result<()> {
-    match report {
-        Some(Report { name, place, fate }) => {
-            writeln!(output, "{fate:?} {} {name}", at.unwrap_or(place))
+// The text behind the `}` of a rule; that there is none is told.
+#[tactic(auto, using(reading::proofs::Shorter::strip_strict))]
+fn past_block_end<'a>(
+    places: Places,
+    text: &'a str,
+    told: &mut Vec<Told<'_>>,
+) -> Result<&'a str, Halt>
+    ensures read { Goes result (all_of told.new.items) (readers.past_block_end places (all_of told.old.items) text.now) }
+    ensures shorter { IfOk result (λ rest. length rest.now < length text.now) }
+{
+    match strip("}", text) {
+        Ok(rest) => Ok(rest),
+        Err(left) => {
+            tell_refusal(places, Refusal::CssSyntax, left, told)?;
+            Err(Halt::End)
         }
-        None => Ok(()),
-    }
-}
-
-fn tell_stop<W: Write>(
-    stop: Stop<'_>,
-    end: usize,
-    at: Option<usize>,
-    output: &mut W,
-) -> io::Result<()> {
-    match told(end, stop) {
-        CssError::Refused { kind, place } => {
-            writeln!(output, "refused {kind:?} {}", at.unwrap_or(place))
-        }
-        CssError::Memory => Err(io::ErrorKind::OutOfMemory.into()),
     }
 }

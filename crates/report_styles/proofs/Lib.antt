@@ -1,0 +1,5 @@
+mod Seeking
+mod Turning
+mod Walking
+mod Joining
+mod Whole

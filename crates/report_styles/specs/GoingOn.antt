@@ -1,0 +1,88 @@
+-- Where reading goes on behind what is refused: behind a declaration, or behind a rule. CSS Syntax 3, 2.2 and 5.4.
+use Rattle.std.specs.Prelude.{◌≤◌, ◌<◌, ℕ, zero, suc, ◌+◌, ◌-◌, ◌^◌, min, nat_le, Bool, ◌&&◌, ◌||◌, ◌==◌, if◌then◌else◌, List, length, codes, Option, Some, None, Ok, Err}
+use Rattle.std.specs.Char.{is_ascii}
+use Rattle.reading.specs.Readers.{Read, Reader, mapped, choice, starts, one_of, can_read}
+use Rattle.css_tokens.specs.Lexing.{comment, token}
+use Rattle.css_tokens.specs.Tokens as tokens
+use Rattle.css_tokens.specs.Tokens.{Lexeme}
+use Rattle.report_styles.specs.declared.going_on.Piece.{Piece}
+use Rattle.report_styles.specs.declared.going_on.Piece.TheVariants as pieces
+use Rattle.report_styles.specs.declared.going_on.Passed.{Passed}
+use Rattle.report_styles.specs.declared.going_on.Passed.TheVariants as passing
+use Rattle.report_styles.specs.declared.going_on.End.{End}
+use Rattle.report_styles.specs.declared.going_on.End.TheVariants as ends
+
+-- ---- the pieces of a text: its comments and tokens, and each other byte
+
+abbrev pub piece_of : Lexeme → Piece
+piece_of (tokens.function name) = pieces.Opening
+piece_of tokens.round = pieces.Opening
+piece_of tokens.square = pieces.Opening
+piece_of (tokens.sign byte) = if byte == 59 then pieces.Semicolon else pieces.Other
+piece_of lexeme = pieces.Other
+
+-- ) and ], { and }
+abbrev pub sign : (byte : ℕ) → Piece
+sign byte = if byte == 41 || byte == 93 then pieces.Closing else (if byte == 123 then pieces.BlockBegin else (if byte == 125 then pieces.BlockEnd else pieces.Other))
+
+abbrev pub lone_sign : Reader Piece
+lone_sign = mapped sign (one_of is_ascii)
+
+unfoldable pub piece : Reader Piece
+piece = choice (starts (codes "/*")) (mapped (λ u. pieces.Other) comment) (choice (can_read token) (mapped piece_of token) lone_sign)
+
+-- ---- how they nest
+
+-- how many brackets and blocks are open behind a piece, held at the last number of usize
+abbrev pub deeper : (depth : ℕ) → Piece → ℕ
+deeper depth pieces.Opening = min (depth + 1) (2 ^ 64 - 1)
+deeper depth pieces.BlockBegin = min (depth + 1) (2 ^ 64 - 1)
+deeper depth pieces.Closing = depth - 1
+deeper depth pieces.BlockEnd = depth - 1
+deeper depth at_level = depth
+
+abbrev pub only_if : Bool → End → Option End
+only_if holds end_ = if holds then Some end_ else None
+
+-- whether it ends at a piece, before which `depth` of them are open: a declaration behind a `;`, in a rule also before the
+-- rule's `}`; a rule behind the `}` of its block, an at-rule also behind a `;` before a block
+abbrev pub ends_at : Passed → (depth : ℕ) → Piece → Option End
+ends_at (passing.Declaration in_rule) depth pieces.Semicolon = only_if (depth == 0) ends.Behind
+ends_at (passing.Declaration in_rule) depth pieces.BlockEnd = only_if (depth == 0 && in_rule) ends.Before
+ends_at (passing.Rule is_at_rule) depth pieces.BlockEnd = only_if (nat_le depth 1) ends.Behind
+ends_at (passing.Rule is_at_rule) depth pieces.Semicolon = only_if (depth == 0 && is_at_rule) ends.Behind
+ends_at passed depth within = None
+
+-- ---- piece by piece up to the first end; none where the text ends before
+
+abbrev pub at_end : (later : List ℕ → Option (List ℕ)) → Option End → (here behind : List ℕ) → Option (List ℕ)
+at_end later (Some ends.Before) here behind = Some here
+at_end later (Some ends.Behind) here behind = Some behind
+at_end later None here behind = later behind
+
+abbrev pub at_piece : (later : ℕ → List ℕ → Option (List ℕ)) → Passed → (depth : ℕ) → (here : List ℕ) → Read Piece → Option (List ℕ)
+at_piece later passed depth here (Ok p) = at_end (later (deeper depth p.0)) (ends_at passed depth p.0) here p.1
+at_piece later passed depth here (Err left) = None
+
+unfoldable pub seek : (fuel : ℕ) → Passed → (depth : ℕ) → List ℕ → Option (List ℕ)
+seek zero passed depth text = None
+seek (suc fuel) passed depth text = at_piece (seek fuel passed) passed depth text (piece text)
+
+abbrev pub behind : Passed → (depth : ℕ) → List ℕ → Option (List ℕ)
+behind passed depth text = seek (suc (length text)) passed depth text
+
+-- a declaration has a piece at least, whatever it is
+abbrev pub behind_first : (in_rule : Bool) → Read Piece → Option (List ℕ)
+behind_first in_rule (Ok p) = behind (passing.Declaration in_rule) (deeper 0 p.0) p.1
+behind_first in_rule (Err left) = None
+
+unfoldable pub behind_declaration : (in_rule : Bool) → List ℕ → Option (List ℕ)
+behind_declaration in_rule text = behind_first in_rule (piece text)
+
+unfoldable pub behind_rule : List ℕ → Option (List ℕ)
+behind_rule text = behind (passing.Rule (starts (codes "@") text)) 0 text
+
+-- the search ends behind a rule, and behind a declaration or where it begins
+abbrev pub IsBehind : Passed → (rest text : List ℕ) → Type 0
+IsBehind (passing.Declaration in_rule) rest text = length rest ≤ length text
+IsBehind (passing.Rule is_at_rule) rest text = length rest < length text

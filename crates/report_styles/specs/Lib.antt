@@ -1,0 +1,4 @@
+pub mod GoingOn
+pub mod Told
+pub mod Lines
+pub mod Views
