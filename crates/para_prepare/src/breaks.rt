@@ -67,10 +67,10 @@ pub(crate) fn breaks_of(
     };
     let mut before = *first;
     for after in rest {
-        out.push(break_between(before, *after))?;
+        out.push_reserved(break_between(before, *after));
         before = *after;
     }
-    out.push(break_at_end(before))?;
+    out.push_reserved(break_at_end(before));
     Ok(out)
 }
 
