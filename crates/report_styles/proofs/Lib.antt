@@ -3,3 +3,4 @@ mod Turning
 mod Walking
 mod Joining
 mod Whole
+mod Examples
