@@ -1,5 +1,5 @@
 -- Some texts and documents, told by computation. Where a theorem has the lines, they are what the program writes.
-use Rattle.std.specs.Prelude.{◌≡◌, true, false, [], ◌∷◌, codes, Some, None, Ok, Err, refl}
+use Rattle.std.specs.Prelude.{◌≡◌, true, false, [], ◌∷◌, codes, Some, None, refl}
 use Rattle.std.specs.Fmt.{digits}
 use Rattle.reading.specs.Readers.{strip, starts, one_of, run_of, skip, until, up_to, after, joined, turns, repeat, many, strip_either_case}
 use Rattle.reading.specs.White.{white, spaces}
@@ -13,7 +13,6 @@ use Rattle.css_values.specs.Shorthand.{each, shorthand}
 use Rattle.css_values.specs.Value.{value, ends_important}
 use Rattle.css_values.specs.Declarations.{property_name, stated, declaration}
 use Rattle.css_values.specs.Reports.{next}
-use Rattle.css_values.specs.declared.within.Within.TheVariants as within_
 use Rattle.css_sheet.specs.Selector.{selector_name, type_name, compound, selector}
 use Rattle.css_sheet.specs.Sheet.{heads}
 use Rattle.html_tokens.specs.declared.tag.Tag.TheVariants as tags

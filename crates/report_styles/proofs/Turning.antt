@@ -1,6 +1,5 @@
 -- Telling, turn by turn.
-use Rattle.std.proofs.Common.{◌≡◌, Bool, true, false, ℕ, ◌<◌, List, length, Ok, Err, refl, sym, ◌∙◌}
-use Rattle.reading.specs.Readers.{ReadOr, ReaderOr}
+use Rattle.std.proofs.Common.{◌≡◌, Bool, true, ℕ, List, Err}
 use Rattle.reading.proofs.Turns.{IsTurning, turning_stops}
 use Rattle.report_styles.specs.declared.telling.Halt.{Halt}
 use Rattle.report_styles.specs.declared.telling.Halt.TheVariants as halts

@@ -1,5 +1,5 @@
 -- The sheets and the nodes of a document, one after the other.
-use Rattle.std.proofs.Common.{◌≡◌, ℕ, ◌<◌, ◌≤◌, ◌+◌, List, [], ◌∷◌, length, drop, get_or, sym, ap, ◌∙◌}
+use Rattle.std.proofs.Common.{◌≡◌, ℕ, ◌<◌, ◌≤◌, ◌+◌, List, [], length, drop, get_or, sym, ap, ◌∙◌}
 use Rattle.std.proofs.lemmas.List.{drop_all, drop_more}
 use Rattle.html_read.specs.declared.node.PlacedText.{PlacedText}
 use Rattle.html_read.specs.declared.node.ReadNode.{ReadNode}

@@ -1,8 +1,8 @@
 -- What is told of a document: what becomes of each declaration of its sheets and then of its style attributes, and what
 -- is refused. Behind a refusal it goes on. A reader here is given what was told before, and gives it with what it tells;
 -- where a refusal takes all the rest, it stops with what was told.
-use Rattle.std.specs.Prelude.{ℕ, Bool, true, false, not, ◌||◌, List, [], ◌∷◌, ◌++◌, codes, length, Option, Some, None, unwrap_or, Result, Ok, Err}
-use Rattle.reading.specs.Readers.{ReadOr, ReaderOr, Reader, Read, follow, repeat, strip}
+use Rattle.std.specs.Prelude.{ℕ, Bool, true, false, not, ◌||◌, List, [], ◌∷◌, ◌++◌, codes, length, Option, Some, None, unwrap_or, Ok, Err}
+use Rattle.reading.specs.Readers.{ReadOr, ReaderOr, Read, follow, repeat, strip}
 use Rattle.reading.specs.Stop.{place_before, end_of}
 use Rattle.css_tokens.specs.Lexing.{gap}
 use Rattle.css_values.specs.declared.error.Refusal.{Refusal}

@@ -1,6 +1,5 @@
 use Rattle.std.proofs.Common.{rules, arith, sym, ◌∙◌}
 use Rattle.std.proofs.lemmas.Result.{err_from_is_err_and}
-use Rattle.reading.specs.Readers.{repeat}
 use Rattle.reading.proofs.Turns.{turning_starts, turning_goes_on, turning_ends}
 use Rattle.report_styles.specs.Told.{declaration, has_declaration}
 use Rattle.report_styles.specs.Views.{all_of}
