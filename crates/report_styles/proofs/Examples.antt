@@ -73,7 +73,7 @@ a_block_is_open : lines (with_sheet [] (record { text = codes "p { height: auto"
 unfolding strip starts one_of run_of skip until up_to after joined turns repeat many strip_either_case white spaces comment gap name_ahead name hash_ahead hash string_piece string numeric named sign_token token sign point number_ahead decimals number is_refused is_unsupported meaning expanded properties shorthands keywords widths refusals colours resets single face_number entries first_face family longhand pieces each shorthand value ends_important property_name stated declaration next selector_name type_name compound selector heads piece seek behind_declaration behind_rule declarations rules told_of_document digits
 a_block_is_open = refl
 
-a_declaration_stops : lines (with_sheet [] (record { text = codes "p { width ) 1px; a:b} i {}"; place = 19 })) ≡ codes "refused CssSyntax 29\nrefused CssSyntax 35\n"
+a_declaration_stops : lines (with_sheet [] (record { text = codes "p { width ) 1px; a:b} i {}"; place = 19 })) ≡ codes "refused CssSyntax 29\nUnknownName 36 a\n"
 unfolding strip starts one_of run_of skip until up_to after joined turns repeat many strip_either_case white spaces comment gap name_ahead name hash_ahead hash string_piece string numeric named sign_token token sign point number_ahead decimals number is_refused is_unsupported meaning expanded properties shorthands keywords widths refusals colours resets single face_number entries first_face family longhand pieces each shorthand value ends_important property_name stated declaration next selector_name type_name compound selector heads piece seek behind_declaration behind_rule declarations rules told_of_document digits
 a_declaration_stops = refl
 

@@ -46,11 +46,6 @@ with_report places told (Some r) = told ++ judged (record { name = r.name; place
 abbrev pub with_refusal : Places → List Told → Fault → List Told
 with_refusal places told fault = told ++ refused fault.0 (place_in places fault.1) ∷ []
 
--- it goes on there, if anywhere
-abbrev pub goes_on_at : List Told → Option (List ℕ) → Telling
-goes_on_at told (Some rest) = Ok (told, rest)
-goes_on_at told None = Err told
-
 -- past what was read; where it couldn't be, nothing more is read
 abbrev pub passed : {A : Type 0} → Places → List Told → Read A → Telling
 passed places told (Ok x) = Ok (told, x.1)
@@ -62,6 +57,16 @@ past_gap places told text = passed places told (gap text)
 abbrev pub past_block_end : Places → Teller
 past_block_end places told text = passed places told (strip (codes "}") text)
 
+-- it goes on there, if anywhere
+abbrev pub goes_on_at : List Told → Option (List ℕ) → Telling
+goes_on_at told (Some rest) = Ok (told, rest)
+goes_on_at told None = Err told
+
+-- behind the gap there
+abbrev pub goes_on_past_gap : Places → List Told → Option (List ℕ) → Telling
+goes_on_past_gap places told (Some rest) = past_gap places told rest
+goes_on_past_gap places told None = Err told
+
 -- ---- declarations
 
 abbrev pub is_in_rule : Within → Bool
@@ -70,7 +75,7 @@ is_in_rule (within_.Rule selectors before) = true
 
 abbrev pub declaration_by : Within → Places → List Told → (text : List ℕ) → ReadOr Fault (Option Reported) → Telling
 declaration_by within places told text (Ok r) = Ok (with_report places told r.0, r.1)
-declaration_by within places told text (Err fault) = goes_on_at (with_refusal places told fault) (behind_declaration (is_in_rule within) text)
+declaration_by within places told text (Err fault) = goes_on_past_gap places (with_refusal places told fault) (behind_declaration (is_in_rule within) text)
 
 abbrev pub declaration : Within → Places → Teller
 declaration within places told text = declaration_by within places told text (reports.next within places.end text)

@@ -3,6 +3,7 @@
 ghost use Rattle.std.specs.Prelude.{◌≡◌, ◌<◌, ◌≤◌, [], List, length, IfOk, OnOk};
 ghost use Rattle.reading.specs.Readers.{repeat};
 ghost use Rattle.html_read.specs.Values.{kind_of, nodes_of, sheets_of, text_at, whole_of};
+ghost use Rattle.report_styles.specs.GoingOn.{behind_declaration};
 ghost use Rattle.report_styles.specs.Told as readers;
 ghost use Rattle.report_styles.specs.Told.{Telling};
 ghost use Rattle.report_styles.specs.Views.{all_of, Goes};
@@ -259,9 +260,25 @@ fn declaration<'a>(
         }
         Err(Stop::Refused(kind, left)) => {
             tell_refusal(places, kind, left, told)?;
-            behind_declaration(text, is_in_rule(within)).ok_or(Halt::End)
+            behind_refused(within, places, text, told)
         }
         Err(Stop::Memory) => Err(Halt::Memory),
+    }
+}
+
+// The text behind a refused declaration, and behind the gap there.
+fn behind_refused<'a>(
+    within: Within,
+    places: Places,
+    text: &'a str,
+    told: &mut Vec<Told<'_>>,
+) -> Result<&'a str, Halt>
+    ensures read { Goes result (all_of told.new.items) (readers.goes_on_past_gap places (all_of told.old.items) (behind_declaration (readers.is_in_rule within) text.now)) }
+    ensures shorter { IfOk result (λ rest. length rest.now < length text.now) }
+{
+    match behind_declaration(text, is_in_rule(within)) {
+        Some(rest) => past_gap(places, rest, told),
+        None => Err(Halt::End),
     }
 }
 
