@@ -102,7 +102,7 @@ seeks_first available items from inside = record { on = λ h. refl; out = λ h. 
 break_with : (items : List FillItem) (q : ℕ) (d : FillItem) → q < length items → break_at items q ≡ break_before (drop (q + 1) items) (get_or items q d).end
 break_with items q d inside = let m = drop_more items q d inside in rw m refl
 
-break_inside : (items : List FillItem) (q : ℕ) (d : FillItem) → q + 1 < length items → break_at items q ≡ (get_or items q d).end
+pub break_inside : (items : List FillItem) (q : ℕ) (d : FillItem) → q + 1 < length items → break_at items q ≡ (get_or items q d).end
 break_inside items q d inside =
     let m = drop_more items (q + 1) d inside in
     break_with items q d (omega arith) ∙ rw m refl

@@ -325,8 +325,10 @@ last_end None first = refl
 last_end (Some stop) first = refl
 
 -- one item more in a step of the loop
-pub piece_next : (items : List FillItem) (from q : ℕ) (d : FillItem) (piece next : Piece) → q < length items → from ≤ q → IsPiece items from q piece → next ≡ piece_after piece (get_or items q d) (q + 1) → IsPiece items from (q + 1) next
-piece_next items from q d piece next inside order is made = subst (IsPiece items from (q + 1)) (sym made) (piece_more items from q d piece inside order is)
+pub piece_next : (items : List FillItem) (from q : ℕ) (d own : FillItem) (piece next : Piece) → q < length items → from ≤ q → IsPiece items from q piece → own ≡ get_or items q d → next ≡ piece_after piece own (q + 1)
+    → IsPiece items from (q + 1) next
+piece_next items from q d own piece next inside order is read made =
+    subst (IsPiece items from (q + 1)) (sym (made ∙ ap (λ (item : FillItem). piece_after piece item (q + 1)) read)) (piece_more items from q d piece inside order is)
 
 -- where the line stops at the last end that fits, or here
 module _ (available : ℤ) (items : List FillItem) (from q : ℕ) (last : Option Stop) (here stopped : Stop) (end_ : here.end ≡ q + 1) (is : stopped ≡ last_or last here) where

@@ -11,6 +11,7 @@ ghost use Rattle.line_fill.specs.Sums.{StandFor};
 use crate::FillItem;
 use crate::ahead::{Ahead, all_ahead, is_within};
 use crate::forward::{Stop, are_forward, forward_end};
+use crate::source::{FillSource, Listed};
 use crate::sums::{Place, Sums};
 use std::alloc::{AllocError, Global};
 use std::marker::Model;
@@ -56,32 +57,74 @@ pub fn fill<M: Ledger>(
     ensures lines { IfOk result (λ found. found ≡ lines available items.now) }
     ensures divide { IfOk result (λ found. Divide 0 (length items.now) found) }
 {
+    let lines = fill_from(alloc, &Listed { items }, available, arranged)?;
+    Ok(lines)
+}
+
+/// The same of items that are read one at a time. They are copied into a list only where some length is below 0.
+pub fn fill_from<S: FillSource, M: Ledger>(
+    alloc: Global,
+    source: &S,
+    available: i64,
+    arranged: &mut Steps<M>,
+) -> Result<Lines, AllocError>
+    requires { spread (S.items source.now) ≤ 2 ^ 60 }
+    ensures ticks { arranged.new ≡ arranged.old + 1 }
+    ensures lines { IfOk result (λ found. found ≡ lines available (S.items source.now)) }
+    ensures divide { IfOk result (λ found. Divide 0 (length (S.items source.now)) found) }
+{
     arranged.tick();
-    if are_forward(items) {
-        let lines = forward_lines(alloc, items, available)?;
+    if are_forward(source) {
+        let lines = forward_lines(alloc, source, available)?;
         Ok(lines)
     } else {
-        let sums = Sums::new(alloc, items)?;
-        let aheads = all_ahead(alloc, items, &sums)?;
-        let lines = lines_of(alloc, items, &Reach { sums, aheads }, available)?;
+        let items = listed(alloc, source)?;
+        let lines = other_lines(alloc, &items, available)?;
         Ok(lines)
     }
 }
 
-// The lines of items whose lengths are not below 0.
-fn forward_lines(alloc: Global, items: &[FillItem], available: i64) -> Result<Lines, AllocError>
-    requires forward { All IsForward items.now }
-    requires room { spread items.now ≤ 2 ^ 60 }
+// The items of a source as a list.
+fn listed<S: FillSource>(alloc: Global, source: &S) -> Result<Vec<FillItem>, AllocError>
+    ensures { IfOk result (λ made. made.items ≡ S.items source.now) }
+{
+    let mut made = Vec::with_capacity(alloc, source.count())?;
+    for place in 0..source.count() {
+        made.push(source.item(place))?;
+    }
+    Ok(made)
+}
+
+// The lines of any items.
+fn other_lines(alloc: Global, items: &[FillItem], available: i64) -> Result<Lines, AllocError>
+    requires { spread items.now ≤ 2 ^ 60 }
     ensures lines { IfOk result (λ found. found ≡ lines available items.now) }
     ensures divide { IfOk result (λ found. Divide 0 (length items.now) found) }
+{
+    let sums = Sums::new(alloc, items)?;
+    let aheads = all_ahead(alloc, items, &sums)?;
+    let lines = lines_of(alloc, items, &Reach { sums, aheads }, available)?;
+    Ok(lines)
+}
+
+// The lines of items whose lengths are not below 0.
+fn forward_lines<S: FillSource>(
+    alloc: Global,
+    source: &S,
+    available: i64,
+) -> Result<Lines, AllocError>
+    requires forward { All IsForward (S.items source.now) }
+    requires room { spread (S.items source.now) ≤ 2 ^ 60 }
+    ensures lines { IfOk result (λ found. found ≡ lines available (S.items source.now)) }
+    ensures divide { IfOk result (λ found. Divide 0 (length (S.items source.now)) found) }
 {
     let mut ends = Vec::new(alloc);
     let mut stop = Stop {
         end: 0,
         place: Place::first(),
     };
-    while stop.end < items.len() {
-        stop = forward_end(items, stop.end, stop.place, available);
+    while stop.end < source.count() {
+        stop = forward_end(source, stop.end, stop.place, available);
         ends.push(stop.end)?;
     }
     Ok(Lines { ends })

@@ -1,33 +1,35 @@
 //! Lines of items whose lengths are not below 0. No piece is narrower than a shorter one that begins with it, so a line goes on
 //! up to the first end that it doesn't reach (CSS Text 3, 5.1).
 
-ghost use Rattle.std.specs.Prelude.{◌≡◌, ◌+◌, ◌<◌, ◌≤◌, ◌^◌, int_le, length, true, unsigned_abs};
+ghost use Rattle.std.specs.Prelude.{◌≡◌, ◌+◌, ◌<◌, ◌≤◌, ◌^◌, int_le, length, slice_index_or, true, unsigned_abs};
 ghost use Rattle.std.specs.List.{All};
+ghost use Rattle.line_fill.specs.Ahead.{break_at};
 ghost use Rattle.line_fill.specs.Filling.{line_end};
+ghost use Rattle.line_fill.specs.declared.item.FillItem.{FillItem};
 ghost use Rattle.line_fill.specs.Forward.{IsForward, last_or, piece_after, piece_at};
 ghost use Rattle.line_fill.specs.Item.{lengths_of, spread};
 ghost use Rattle.line_fill.specs.Sums.{place_before, width_between};
 
 use crate::FillItem;
-use crate::ahead::break_behind;
+use crate::source::FillSource;
 use crate::sums::Place;
 use style_types::Breaking;
 
 /// Whether no length is below 0.
 #[inline(never)]
-pub(crate) fn are_forward(items: &[FillItem]) -> bool
-    ensures { result ≡ true → All IsForward items.now }
+pub(crate) fn are_forward<S: FillSource>(source: &S) -> bool
+    ensures { result ≡ true → All IsForward (S.items source.now) }
 {
-    for item in items {
-        if !is_forward(item) {
+    for place in 0..source.count() {
+        if !is_forward(source.item(place)) {
             return false;
         }
     }
     true
 }
 
-fn is_forward(item: &FillItem) -> bool
-    ensures { result ≡ true → IsForward item.now }
+fn is_forward(item: FillItem) -> bool
+    ensures { result ≡ true → IsForward item }
 {
     item.advance >= 0 && item.before >= 0 && item.after >= 0
 }
@@ -41,21 +43,27 @@ pub(crate) struct Stop {
 
 /// Where the line ends that begins at a place, which tells this of the items before it.
 #[inline(never)]
-pub(crate) fn forward_end(items: &[FillItem], from: usize, start: Place, available: i64) -> Stop
-    requires forward { All IsForward items.now }
-    requires room { spread items.now ≤ 2 ^ 60 }
-    requires from { from < length items.now }
-    requires start { start ≡ place_before items.now from }
-    ensures value { result.end ≡ line_end available items.now from }
-    ensures place { result.place ≡ place_before items.now result.end }
+pub(crate) fn forward_end<S: FillSource>(
+    source: &S,
+    from: usize,
+    start: Place,
+    available: i64,
+) -> Stop
+    requires forward { All IsForward (S.items source.now) }
+    requires room { spread (S.items source.now) ≤ 2 ^ 60 }
+    requires from { from < length (S.items source.now) }
+    requires start { start ≡ place_before (S.items source.now) from }
+    ensures value { result.end ≡ line_end available (S.items source.now) from }
+    ensures place { result.place ≡ place_before (S.items source.now) result.end }
     ensures later { from < result.end }
-    ensures within { result.end ≤ length items.now }
+    ensures within { result.end ≤ length (S.items source.now) }
 {
     let mut last = None;
     let mut piece = Piece::from(start);
-    for place in from..items.len() {
-        piece = piece.after(items[place], place + 1);
-        match break_behind(items, place) {
+    for place in from..source.count() {
+        let own = source.item(place);
+        piece = piece.after(own, place + 1);
+        match break_behind(source, place, own) {
             Breaking::No => {}
             Breaking::May => {
                 if !piece.fits(available) {
@@ -71,7 +79,21 @@ pub(crate) fn forward_end(items: &[FillItem], from: usize, start: Place, availab
             }
         }
     }
-    piece.stop(items.len())
+    piece.stop(source.count())
+}
+
+// Whether a line ends behind an item, which is the one at this place. The text ends with a forced break.
+#[inline(always)]
+fn break_behind<S: FillSource>(source: &S, place: usize, item: FillItem) -> Breaking
+    requires place { place < length (S.items source.now) }
+    requires item { (d : FillItem) → item ≡ slice_index_or (S.items source.now) place d }
+    ensures { result ≡ break_at (S.items source.now) place }
+{
+    if source.count() == place + 1 {
+        Breaking::Must
+    } else {
+        item.end
+    }
 }
 
 // A piece of a paragraph, by its start, its end, and the place behind its last item that is no space, or its start where there

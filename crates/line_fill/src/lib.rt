@@ -8,10 +8,12 @@ mod forward;
 mod item;
 pub mod laws;
 mod sizes;
+mod source;
 mod sums;
 mod widest;
 
-pub use filling::{Lines, fill};
+pub use filling::{Lines, fill, fill_from};
 pub use item::{FillItem, Intrinsic};
 pub use sizes::intrinsic;
+pub use source::FillSource;
 pub use sums::Sums;

@@ -1,4 +1,4 @@
-use Rattle.std.proofs.Common.{◌≡◌, sym, subst, List, ℕ, w64, to_z, of_z}
+use Rattle.std.proofs.Common.{◌≡◌, ◌<◌, arith, length, sym, subst, List, ℕ, w64, to_z, of_z}
 use Rattle.std.specs.Prelude.{pos, false}
 use Rattle.std.proofs.lemmas.Int.{to_z-of_z}
 use Rattle.style_types.specs.declared.breaking.Breaking.TheVariants.{No}
@@ -11,17 +11,22 @@ plain : FillItem
 plain = record { advance = pos 0; before = pos 0; after = pos 0; space = false; end = No }
 
 pub loop-stop-init : goal.loop-stop-init
-loop-stop-init c =
-    let P : List ℕ → Type 0 = λ ends. Filled (to_z w64 (of_z w64 c.args.available)) c.args.items.now ends 0 in
-    record { filled = subst P (sym c.new-ends.ensures.items) (filled_first (to_z w64 (of_z w64 c.args.available)) c.args.items.now); told = c.first.ensures c.args.items.now }
+loop-stop-init g c =
+    let items : List FillItem = g.S.FillSource.items c.args.source.now in
+    let P : List ℕ → Type 0 = λ ends. Filled (to_z w64 (of_z w64 c.args.available)) items ends 0 in
+    record { filled = subst P (sym c.new-ends.ensures.items) (filled_first (to_z w64 (of_z w64 c.args.available)) items); told = c.first.ensures items }
 
 pub loop-stop-preserved : goal.loop-stop-preserved
-loop-stop-preserved c =
+loop-stop-preserved g c =
+    let items : List FillItem = g.S.FillSource.items c.args.source.now in
     let given : to_z w64 (of_z w64 c.args.available) ≡ c.args.available = to_z-of_z w64 c.args.available c.ranges.available in
-    let filled : Filled c.args.available c.args.items.now c.loop-stop.ends.items c.loop-stop.stop.end = rw given at c.loop-stop.invariant.filled in
-    let is : c.forward_end-stop.result.end ≡ line_end c.args.available c.args.items.now c.loop-stop.stop.end = rw given at c.forward_end-stop.ensures.value in
+    let filled : Filled c.args.available items c.loop-stop.ends.items c.loop-stop.stop.end = rw given at c.loop-stop.invariant.filled in
+    let is : c.forward_end-stop.result.end ≡ line_end c.args.available items c.loop-stop.stop.end = rw given at c.forward_end-stop.ensures.value in
+    let t = c.loop-stop-test.true in
+    let n = c.count.ensures in
+    let inside : c.loop-stop.stop.end < length items = omega (arith, t, n) in
     rw given (record {
-      filled = filled_on c.args.available c.args.items.now c.loop-stop.ends.items _ c.loop-stop.stop.end c.forward_end-stop.result.end plain c.loop-stop-test.true is c.forward_end-stop.ensures.later c.forward_end-stop.ensures.within
+      filled = filled_on c.args.available items c.loop-stop.ends.items _ c.loop-stop.stop.end c.forward_end-stop.result.end plain inside is c.forward_end-stop.ensures.later c.forward_end-stop.ensures.within
           c.in_ok-push.ensures.items filled;
       told = c.forward_end-stop.ensures.place;
     })

@@ -4,5 +4,5 @@ use Rattle.line_fill.specs.Forward.{IsForward}
 use Rattle.line_fill.proofs.forward.are_forward.Given as goal
 
 -- those before the place are
-abbrev pub invariant-loop-item : goal.invariant-loop-item
-invariant-loop-item l = (k : ℕ) (d : FillItem) → k < l.item-index → IsForward (slice_index_or l.items k d)
+abbrev pub invariant-loop-place : goal.invariant-loop-place
+invariant-loop-place g l = (k : ℕ) (d : FillItem) → k < l.place → IsForward (slice_index_or (g.S.FillSource.items l.source) k d)
