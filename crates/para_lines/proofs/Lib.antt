@@ -1,3 +1,4 @@
+pub mod AloneLaws
 pub mod Chaining
 pub mod Examples
 pub mod FillLaws

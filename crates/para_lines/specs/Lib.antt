@@ -1,3 +1,4 @@
+pub mod Alone
 pub mod Around
 pub mod Boxes
 pub mod Edges

@@ -66,7 +66,7 @@ fn items_of_one(
     let mut made = Vec::with_capacity(alloc, prepared.items.len())?;
     let mut advances = advances;
     for place in 0..prepared.items.len() {
-        made.push(item_alone(prepared, place, advances))?;
+        made.push_reserved(item_alone(prepared, place, advances));
         advances = past(&prepared.items[place].what, advances);
     }
     Ok(made)
@@ -90,7 +90,7 @@ fn items_of_many(
     let mut made = Vec::with_capacity(alloc, prepared.items.len())?;
     let mut advances = advances;
     for place in 0..prepared.items.len() {
-        made.push(fill_item(boxes, prepared, inline, place, advances))?;
+        made.push_reserved(fill_item(boxes, prepared, inline, place, advances));
         advances = past(&prepared.items[place].what, advances);
     }
     Ok(made)

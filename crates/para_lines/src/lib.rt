@@ -1,6 +1,7 @@
 //! The lines of a paragraph: prepared text, filled and placed (CSS 2, 9.4.2 and 10.8).
 #![tactic(auto)]
 
+mod alone;
 mod boxes;
 mod edges;
 mod filling;

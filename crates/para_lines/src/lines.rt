@@ -20,6 +20,7 @@ ghost use Rattle.para_lines.specs.Prepared.{AreSources, IsWhole, preparation_of}
 ghost use Rattle.para_lines.specs.Reach.{AreNear, HoldsWithin, IsInReach, IsLineWithin, IsNearLine, atom_reach};
 ghost use Rattle.para_lines.specs.Setting.{IsSetting, entries_in, line_between, lines_reach, room_between, standings_in};
 
+use crate::alone::{Alone, standings_alone};
 use crate::boxes::{Boxes, Places, inline_boxes};
 use crate::filling::{FillItems, fill_items};
 use crate::paragraph::{Atom, Container};
@@ -27,7 +28,7 @@ use crate::prepared::{PreparedLists, lists_of};
 use crate::setting::Setting;
 use crate::standing::standings;
 use face_api::{Face, Faces};
-use line_fill::fill;
+use line_fill::{fill, fill_from};
 use para_prepare::Prepared;
 use std::alloc::{AllocError, Global};
 use std::rc::Rc;
@@ -98,6 +99,84 @@ fn lines_of<L: Ledger>(
     ensures near { IfOk result (λ made. All IsNearLine made.items) }
     ensures spread { IfOk result (λ made. (each most : ℕ) → All (IsInReach each most) (map atom_of atoms.now) → spread (pieces_of made.items) ≤ length boxes.now.items.now * (5 * 2 ^ 39) + length lists.now.items.now * 2 ^ 36 + atoms_in lists.now.items.now * (16 * each + 2 ^ 38) + most) }
 {
+    if boxes.items.len() == 1 {
+        let made = lines_of_one(alloc, boxes, lists, container, atoms, faces, arranged)?;
+        Ok(made)
+    } else {
+        let made = lines_of_many(alloc, boxes, lists, container, atoms, faces, arranged)?;
+        Ok(made)
+    }
+}
+
+// The same of a paragraph of one item, as most are: its lines are filled from what they are made of.
+fn lines_of_one<L: Ledger>(
+    alloc: Global,
+    boxes: &Boxes,
+    lists: &PreparedLists,
+    container: &Container,
+    atoms: &[Atom],
+    faces: &Faces,
+    arranged: &mut Steps<L>,
+) -> Result<Fragments, AllocError>
+    requires one { length boxes.now.items.now ≡ 1 }
+    requires boxes { AreBoxes boxes.now }
+    requires whole { IsWhole lists.now }
+    requires sources { AreSources (length boxes.now.items.now) lists.now.items.now }
+    requires near { AreNear lists.now.items.now }
+    requires few { length lists.now.items.now ≤ 2 ^ 21 }
+    requires style { IsBounded container.now.style }
+    requires low { pos 0 ≤ℤ container.now.size }
+    requires high { container.now.size ≤ℤ pos (2 ^ 32) }
+    requires atoms { atoms_in lists.now.items.now ≤ length atoms.now }
+    requires reach { total atom_reach (map atom_of atoms.now) ≤ 2 ^ 57 }
+    ensures ticks { OnOk result (arranged.new ≡ arranged.old + 1) }
+    ensures most { (arranged.old ≤ arranged.new) × (arranged.new ≤ arranged.old + 1) }
+    ensures lines { IfOk result (λ made. pieces_of made.items ≡ rule.paragraph_lines (faces_of ⟦<dyn Face as Face>⟧ faces.now) container.now (entries_of boxes.now.items.now) (preparation_of lists.now) (map atom_of atoms.now)) }
+    ensures near { IfOk result (λ made. All IsNearLine made.items) }
+    ensures spread { IfOk result (λ made. (each most : ℕ) → All (IsInReach each most) (map atom_of atoms.now) → spread (pieces_of made.items) ≤ length boxes.now.items.now * (5 * 2 ^ 39) + length lists.now.items.now * 2 ^ 36 + atoms_in lists.now.items.now * (16 * each + 2 ^ 38) + most) }
+{
+    let standings = standings_alone(alloc, lists, atoms)?;
+    let source = Alone {
+        standings: &standings,
+    };
+    let lines = fill_from(alloc, &source, container.size, arranged)?;
+    let empty = Rc::new(alloc, Vec::new(alloc))?;
+    let setting = Setting {
+        boxes,
+        container,
+        standings: &standings,
+        empty: &empty,
+    };
+    let made = stacked(alloc, &setting, faces, lines.ends())?;
+    Ok(made)
+}
+
+// The same of any paragraph.
+fn lines_of_many<L: Ledger>(
+    alloc: Global,
+    boxes: &Boxes,
+    lists: &PreparedLists,
+    container: &Container,
+    atoms: &[Atom],
+    faces: &Faces,
+    arranged: &mut Steps<L>,
+) -> Result<Fragments, AllocError>
+    requires boxes { AreBoxes boxes.now }
+    requires whole { IsWhole lists.now }
+    requires sources { AreSources (length boxes.now.items.now) lists.now.items.now }
+    requires near { AreNear lists.now.items.now }
+    requires few { length lists.now.items.now ≤ 2 ^ 21 }
+    requires style { IsBounded container.now.style }
+    requires low { pos 0 ≤ℤ container.now.size }
+    requires high { container.now.size ≤ℤ pos (2 ^ 32) }
+    requires atoms { atoms_in lists.now.items.now ≤ length atoms.now }
+    requires reach { total atom_reach (map atom_of atoms.now) ≤ 2 ^ 57 }
+    ensures ticks { OnOk result (arranged.new ≡ arranged.old + 1) }
+    ensures most { (arranged.old ≤ arranged.new) × (arranged.new ≤ arranged.old + 1) }
+    ensures lines { IfOk result (λ made. pieces_of made.items ≡ rule.paragraph_lines (faces_of ⟦<dyn Face as Face>⟧ faces.now) container.now (entries_of boxes.now.items.now) (preparation_of lists.now) (map atom_of atoms.now)) }
+    ensures near { IfOk result (λ made. All IsNearLine made.items) }
+    ensures spread { IfOk result (λ made. (each most : ℕ) → All (IsInReach each most) (map atom_of atoms.now) → spread (pieces_of made.items) ≤ length boxes.now.items.now * (5 * 2 ^ 39) + length lists.now.items.now * 2 ^ 36 + atoms_in lists.now.items.now * (16 * each + 2 ^ 38) + most) }
+{
     let fills = fills_of(alloc, boxes, lists, container.size, atoms)?;
     let lines = fill(alloc, &fills, container.size, arranged)?;
     let standings = standings(alloc, lists, &fills, atoms)?;
@@ -129,7 +208,7 @@ fn fills_of(
 {
     let mut extents = Vec::with_capacity(alloc, atoms.len())?;
     for atom in atoms {
-        extents.push(atom.extent)?;
+        extents.push_reserved(atom.extent);
     }
     let made = fill_items(alloc, boxes, lists, Some(size), &extents)?;
     Ok(made)

@@ -22,6 +22,7 @@ use line_fill::FillItem;
 use line_place::{LineContent, LineItem, LineItems};
 use para_prepare::{PreparedContent, PreparedItem};
 use std::alloc::{AllocError, Global};
+use style_types::Breaking;
 use wm_chars::BidiClass;
 
 /// An item of a paragraph on its way to a line: all that is prepared of it, its extent along the line, and the atoms from it on.
@@ -32,6 +33,8 @@ pub(crate) struct Standing<'a> {
     pub(crate) class: BidiClass,
     /// The base level of its bidi paragraph.
     pub(crate) base: u8,
+    /// Whether a line may end behind it.
+    pub(crate) end: Breaking,
     pub(crate) extent: i64,
     pub(crate) atoms: &'a [Atom],
 }
@@ -56,7 +59,7 @@ pub(crate) fn standings<'a>(
     let mut atoms = atoms;
     for place in 0..lists.items.len() {
         let standing = standing_at(lists, fills, place, atoms);
-        made.push(standing)?;
+        made.push_reserved(standing);
         atoms = past(&standing.item.what, atoms);
     }
     Ok(made)
@@ -84,6 +87,7 @@ fn standing_at<'a>(
         level: lists.levels[place],
         class: lists.classes[place],
         base: lists.bases[place],
+        end: lists.breaks[place],
         extent: fills[place].advance,
         atoms,
     }
@@ -104,7 +108,7 @@ pub(crate) fn line_items<'a>(
 {
     let mut made = Vec::with_capacity(alloc, standings.len())?;
     for k in 0..standings.len() {
-        made.push(line_item(boxes, seated, &standings[k]))?;
+        made.push_reserved(line_item(boxes, seated, &standings[k]));
     }
     Ok(made)
 }

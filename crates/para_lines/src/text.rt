@@ -195,7 +195,7 @@ fn units_of(alloc: Global, standings: &[Standing]) -> Result<RunUnits, AllocErro
 {
     let mut made = Vec::with_capacity(alloc, standings.len())?;
     for k in 0..standings.len() {
-        made.push(unit_of(alloc, &standings[k])?)?;
+        made.push_reserved(unit_of(alloc, &standings[k])?);
     }
     Ok(made)
 }

@@ -131,7 +131,7 @@ fn own_levels(alloc: Global, standings: &[Standing]) -> Result<LevelList, AllocE
 {
     let mut made = Vec::with_capacity(alloc, standings.len())?;
     for standing in standings {
-        made.push(standing.level)?;
+        made.push_reserved(standing.level);
     }
     Ok(made)
 }
@@ -142,7 +142,7 @@ fn own_classes(alloc: Global, standings: &[Standing]) -> Result<ClassList, Alloc
 {
     let mut made = Vec::with_capacity(alloc, standings.len())?;
     for standing in standings {
-        made.push(standing.class)?;
+        made.push_reserved(standing.class);
     }
     Ok(made)
 }
@@ -154,7 +154,7 @@ fn units_of<'a>(alloc: Global, standings: &[Standing<'a>]) -> Result<TextUnits<'
 {
     let mut made = Vec::with_capacity(alloc, standings.len())?;
     for k in 0..standings.len() {
-        made.push(text_unit(&standings[k]))?;
+        made.push_reserved(text_unit(&standings[k]));
     }
     Ok(made)
 }

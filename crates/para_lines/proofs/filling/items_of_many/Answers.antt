@@ -19,10 +19,18 @@ loop-place-preserved c =
     let many : length breaks ≡ length items = c.requires.whole.breaks in
     let read : item ≡ get_or items k item = get_or_default items k c.index-prepared-place.result item lt in
     let read_end : end_ ≡ get_or breaks k end_ = get_or_default breaks k No end_ (omega arith) in
-    rw c.past-advances.ensures (filling_on c.args.inline (entries_of c.args.boxes.now.items.now) items breaks c.args.advances.now c.loop-place.advances.now c.loop-place.made.items _ k item end_ c.fill_item.result
-    lt many read read_end (c.fill_item.ensures item end_ read read_end) c.in_ok-push.ensures.items c.loop-place.invariant)
+    record {
+      done =
+          rw c.past-advances.ensures (filling_on c.args.inline (entries_of c.args.boxes.now.items.now) items breaks c.args.advances.now c.loop-place.advances.now c.loop-place.made.items _ k item end_ c.fill_item.result
+          lt many read read_end (c.fill_item.ensures item end_ read read_end) c.push_reserved.ensures.items c.loop-place.invariant.done);
+      room =
+          let r = c.loop-place.invariant.room in
+          let n = c.push_reserved.ensures.len in
+          let w = c.push_reserved.ensures.capacity in
+          omega (arith, r, n, w, lt);
+    }
 
 pub returns : goal.returns
 returns c =
     let past : length c.args.prepared.now.items.now ≤ c.loop-place.place = search rules in
-    filling_all c.args.inline (entries_of c.args.boxes.now.items.now) (preparation_of c.args.prepared.now) c.args.advances.now c.loop-place.advances.now c.loop-place.made.items c.loop-place.place past c.loop-place.invariant
+    filling_all c.args.inline (entries_of c.args.boxes.now.items.now) (preparation_of c.args.prepared.now) c.args.advances.now c.loop-place.advances.now c.loop-place.made.items c.loop-place.place past c.loop-place.invariant.done

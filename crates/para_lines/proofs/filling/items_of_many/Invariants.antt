@@ -1,7 +1,11 @@
+use Rattle.std.proofs.Common.{◌≤◌, ◌+◌, ◌-◌, length}
+use Rattle.std.specs.Vec.{vec_capacity, vec_len}
 use Rattle.style_types.specs.Item.{entries_of}
 use Rattle.para_lines.proofs.FillLaws.{Filling}
 use Rattle.para_lines.proofs.filling.items_of_many.Given as goal
 
 abbrev pub invariant-loop-place : goal.invariant-loop-place
-invariant-loop-place l =
-    Filling l.inline (entries_of l.boxes.items.now) l.prepared.items.now l.prepared.breaks.now l.fn.advances l.advances l.made.items l.place
+invariant-loop-place l = record {
+  done : Filling l.inline (entries_of l.boxes.items.now) l.prepared.items.now l.prepared.breaks.now l.fn.advances l.advances l.made.items l.place;
+  room : vec_len l.made + (length l.prepared.items.now - l.place) ≤ vec_capacity l.made;
+}

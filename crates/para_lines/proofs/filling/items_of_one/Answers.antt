@@ -8,7 +8,7 @@ use Rattle.para_lines.proofs.FillLaws.{filling_all, filling_on}
 use Rattle.para_lines.proofs.filling.items_of_one.Goals as goal
 
 pub loop-place-preserved : goal.loop-place-preserved
-loop-place-preserved c inline entries one =
+loop-place-preserved c =
     let items : List PreparedItem = c.args.prepared.now.items.now in
     let breaks : List Breaking = c.args.prepared.now.breaks.now in
     let k : ℕ = c.loop-place.place in
@@ -18,10 +18,18 @@ loop-place-preserved c inline entries one =
     let many : length breaks ≡ length items = c.requires.whole.breaks in
     let read : item ≡ get_or items k item = get_or_default items k c.index-prepared-place.result item lt in
     let read_end : end_ ≡ get_or breaks k end_ = get_or_default breaks k No end_ (omega arith) in
-    rw c.past-advances.ensures (filling_on inline entries items breaks c.args.advances.now c.loop-place.advances.now c.loop-place.made.items _ k item end_ c.item_alone.result
-    lt many read read_end (c.item_alone.ensures inline entries item end_ one read read_end) c.in_ok-push.ensures.items (c.loop-place.invariant inline entries one))
+    record {
+      done = λ inline entries one.
+          rw c.past-advances.ensures (filling_on inline entries items breaks c.args.advances.now c.loop-place.advances.now c.loop-place.made.items _ k item end_ c.item_alone.result
+          lt many read read_end (c.item_alone.ensures inline entries item end_ one read read_end) c.push_reserved.ensures.items (c.loop-place.invariant.done inline entries one));
+      room =
+          let r = c.loop-place.invariant.room in
+          let n = c.push_reserved.ensures.len in
+          let w = c.push_reserved.ensures.capacity in
+          omega (arith, r, n, w, lt);
+    }
 
 pub returns : goal.returns
 returns c inline entries one =
     let past : length c.args.prepared.now.items.now ≤ c.loop-place.place = search rules in
-    filling_all inline entries (preparation_of c.args.prepared.now) c.args.advances.now c.loop-place.advances.now c.loop-place.made.items c.loop-place.place past (c.loop-place.invariant inline entries one)
+    filling_all inline entries (preparation_of c.args.prepared.now) c.args.advances.now c.loop-place.advances.now c.loop-place.made.items c.loop-place.place past (c.loop-place.invariant.done inline entries one)

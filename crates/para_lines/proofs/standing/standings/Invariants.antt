@@ -1,8 +1,11 @@
-use Rattle.std.proofs.Common.{List}
+use Rattle.std.proofs.Common.{◌≤◌, ◌+◌, ◌-◌, List, length}
+use Rattle.std.specs.Vec.{vec_capacity, vec_len}
 use Rattle.style_types.specs.Item.{Entry}
 use Rattle.para_lines.proofs.StandLaws.{Standings}
 use Rattle.para_lines.proofs.standing.standings.Given as goal
 
 abbrev pub invariant-loop-place : goal.invariant-loop-place
-invariant-loop-place l =
-    (entries : List Entry) → Standings entries l.lists.items.now l.lists.levels.now l.lists.classes.now l.lists.bases.now l.fills l.fn.atoms l.atoms l.made.items l.place
+invariant-loop-place l = record {
+  done : (entries : List Entry) → Standings entries l.lists.items.now l.lists.levels.now l.lists.classes.now l.lists.bases.now l.fills l.fn.atoms l.atoms l.made.items l.place;
+  room : vec_len l.made + (length l.lists.items.now - l.place) ≤ vec_capacity l.made;
+}

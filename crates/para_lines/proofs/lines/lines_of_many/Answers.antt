@@ -14,7 +14,7 @@ use Rattle.para_lines.specs.Prepared.{preparation_of}
 use Rattle.para_lines.proofs.RoomLaws.{atoms_near, count_of, extents_reach, fills_count, lines_all, setting_ready}
 use Rattle.para_lines.proofs.Spreading.{fill_spread}
 use Rattle.para_lines.proofs.SpreadLaws.{lines_within}
-use Rattle.para_lines.proofs.lines.lines_of.Goals as goal
+use Rattle.para_lines.proofs.lines.lines_of_many.Goals as goal
 
 pub fill-requires : goal.fill-requires
 fill-requires g c =
