@@ -1,5 +1,5 @@
 -- The items of a paragraph that is one item, one by one.
-use Rattle.std.proofs.Common.{◌≡◌, ◌∙◌, refl, sym, ap, arith, subst, ℕ, suc, ◌+◌, ◌<◌, ◌≤◌, List, [], ◌∷◌, ◌++◌, length, map, get_or, Option, ℤ, pos}
+use Rattle.std.proofs.Common.{◌≡◌, ◌∙◌, refl, sym, ap, arith, subst, ℕ, suc, ◌+◌, ◌<◌, List, [], ◌∷◌, ◌++◌, length, map, get_or, Option, ℤ, pos}
 use Rattle.std.proofs.lemmas.List.{get_or_append_left, length-map, map_push}
 use Rattle.std.proofs.Math.Seq.{get_or-append_seam}
 use Rattle.wm_chars.specs.declared.classes.BidiClass.{BidiClass}

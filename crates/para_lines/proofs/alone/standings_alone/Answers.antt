@@ -1,15 +1,12 @@
-use Rattle.std.proofs.Common.{rules, ◌≡◌, ◌<◌, ◌≤◌, ◌∙◌, [], ◌∷◌, refl, sym, ap, arith, subst, length, map, List, None, ℕ}
-use Rattle.std.proofs.lemmas.List.{length-map}
+use Rattle.std.proofs.Common.{rules, ◌≡◌, ◌<◌, ◌≤◌, ◌∙◌, [], ◌∷◌, refl, ap, arith, length, map, List, None}
 use Rattle.style_types.specs.Item.{Entry}
 use Rattle.line_fill.specs.declared.item.FillItem.{FillItem}
-use Rattle.para_prepare.specs.Preparation.{Preparation}
-use Rattle.para_lines.specs.declared.standing.Standing as code
 use Rattle.para_lines.specs.Alone.{fill_alone}
 use Rattle.para_lines.specs.Around.{no_entry}
 use Rattle.para_lines.specs.Lines.{atom_extents}
 use Rattle.para_lines.specs.Paragraph.{atom_of}
 use Rattle.para_lines.specs.Prepared.{preparation_of}
-use Rattle.para_lines.proofs.AloneLaws.{AreAlone, alone_first, alone_on}
+use Rattle.para_lines.proofs.AloneLaws.{alone_first, alone_on}
 use Rattle.para_lines.proofs.FillLaws.{filling_all}
 use Rattle.para_lines.proofs.RoomLaws.{fills_count}
 use Rattle.para_lines.proofs.StandLaws.{standings_all}

@@ -5,15 +5,13 @@ use Rattle.style_types.specs.Item.{Entry, entries_of, entry_of}
 use Rattle.line_fill.specs.declared.item.FillItem.{FillItem}
 use Rattle.line_fill.specs.Item.{spread}
 use Rattle.line_fill.specs.Filling.{Divide, lines}
-use Rattle.para_prepare.specs.Preparation.{Preparation}
 use Rattle.para_lines.specs.Alone.{fill_alone}
-use Rattle.para_lines.specs.Filling.{fill_items}
 use Rattle.para_lines.specs.Line.{standing_of}
 use Rattle.para_lines.specs.Lines as rule
 use Rattle.para_lines.specs.Lines.{atom_extents}
 use Rattle.para_lines.specs.Paragraph.{atom_of}
 use Rattle.para_lines.specs.Prepared.{AreSources, preparation_of}
-use Rattle.para_lines.proofs.RoomLaws.{atoms_near, count_of, extents_reach, fills_count, lines_all, setting_ready}
+use Rattle.para_lines.proofs.RoomLaws.{atoms_near, extents_reach, lines_all, setting_ready}
 use Rattle.para_lines.proofs.Spreading.{fill_spread}
 use Rattle.para_lines.proofs.SpreadLaws.{lines_within}
 use Rattle.para_lines.proofs.lines.lines_of_one.Goals as goal
