@@ -15,8 +15,14 @@ use dom_store::{Node, NodeKind};
 use std::alloc::{AllocError, Global};
 use style_types::{Letters, Rule, Rules};
 
-/// How many names a line may have whose rules are looked up at once, without a look at how many they are.
+/// What it may cost to look up the names of a line where no look is taken at how many rules they find.
 const FEW: usize = 8;
+
+/// How many rules are tried in about the time of the look-ups for one name.
+const TRIED: usize = 16;
+
+/// How many bytes of a name are looked up in about the time of another look-up.
+const BYTES: usize = 32;
 
 /// Rules, with the place of each on a shelf.
 #[derive(Drop)]
@@ -217,10 +223,12 @@ impl Filed {
         Ok(())
     }
 
-    /// Whether the rules that are found for a line are fewer than all. A name that stands at many elements of the line, or
-    /// many times at one, finds its rules each time.
+    /// Whether what is found for a line takes less than to try all rules. A name that stands at many elements of the line,
+    /// or many times at one, finds its rules each time. Takes no more steps than there are rules, and a few.
     pub(crate) fn finds_fewer(&self, line: &[&Node]) -> bool {
-        names_of(line) <= FEW || self.left_of(line) > 0
+        let most = FEW.max(self.rules.len() / TRIED);
+        let cost = cost_of(line, most);
+        cost <= FEW || (cost <= most && self.left_of(line) > 0)
     }
 
     // What is left of the weight of all rules when those that are found for the line are taken from it.
@@ -286,15 +294,32 @@ fn weight_of(rules: &[Rule]) -> usize {
     sum
 }
 
-// How many ids and classes the elements of a line have together.
-fn names_of(line: &[&Node]) -> usize {
-    let mut count: usize = 0;
+// What it costs to look up the ids and the classes of the elements of a line. No more are counted once it is above `most`.
+fn cost_of(line: &[&Node], most: usize) -> usize {
+    let mut cost = 0;
     for node in line {
         if let NodeKind::Element { id, classes, .. } = &node.kind {
-            count = count
-                .saturating_add(classes.len())
-                .saturating_add(id.is_some() as usize);
+            cost = cost_behind(cost, most, id, classes);
         }
     }
-    count
+    cost
+}
+
+// The same with the names of one element, to the cost of others.
+fn cost_behind(cost: usize, most: usize, id: &Option<Letters>, classes: &[Letters]) -> usize {
+    let mut cost = match id {
+        Some(id) => with_name(cost, id),
+        None => cost,
+    };
+    for name in classes {
+        if cost > most {
+            break;
+        }
+        cost = with_name(cost, name);
+    }
+    cost
+}
+
+fn with_name(cost: usize, name: &Letters) -> usize {
+    cost.saturating_add(name.len() / BYTES).saturating_add(1)
 }
