@@ -18,4 +18,5 @@ pub mod Shelving
 mod UpperNames
 pub mod Filing
 pub mod Candidates
+mod Sets
 mod Examples

@@ -1,6 +1,7 @@
 pub mod Chain
 pub mod Chains
 pub mod Claims
+pub mod ClassSets
 pub mod Filing
 pub mod Index
 pub mod Kept

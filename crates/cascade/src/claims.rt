@@ -11,8 +11,9 @@ ghost use Rattle.cascade.specs.Sheet.{origin_in};
 
 use crate::claim::{Claim, Key, Origin};
 use crate::matching::matches_line;
+use crate::seen::Seen;
 use css_sheet::{Specificity, specificity};
-use dom_store::{Node, NodeKind};
+use dom_store::NodeKind;
 use html_tokens::Tag;
 use std::alloc::{AllocError, Global};
 use style_types::{Declaration, Keyword, Property, Rule, Value};
@@ -39,10 +40,10 @@ pub(crate) fn claims(
     alloc: Global,
     rules: &[Rule],
     defaults: &[Rule],
-    line: &[&Node],
+    line: Seen<'_, '_>,
 ) -> Result<Vec<Claim>, AllocError>
     requires { rulings_of defaults.now ≡ default_rules }
-    ensures { IfOk result (λ all. all.items ≡ definitions.claims (rulings_of rules.now) (whats_of line.now)) }
+    ensures { IfOk result (λ all. all.items ≡ definitions.claims (rulings_of rules.now) (whats_of line.entry.nodes.now)) }
 {
     let mut all = Vec::new(alloc);
     put_rules(&mut all, Sheet::Author, rules, line)?;
@@ -144,9 +145,9 @@ pub(crate) fn put_rule_if_matching(
     sheet: Sheet,
     place: usize,
     rule: &Rule,
-    line: &[&Node],
+    line: Seen<'_, '_>,
 ) -> Result<(), AllocError>
-    ensures { OnOk result (all.new.items ≡ all.old.items ++ definitions.claims_of_rule (origin_in sheet) place (ruling_of rule.now) (whats_of line.now)) }
+    ensures { OnOk result (all.new.items ≡ all.old.items ++ definitions.claims_of_rule (origin_in sheet) place (ruling_of rule.now) (whats_of line.entry.nodes.now)) }
 {
     if matches_line(&rule.selector.parts, line) {
         put_rule(all, sheet, place, rule)
@@ -161,9 +162,9 @@ fn put_rules(
     all: &mut Vec<Claim>,
     sheet: Sheet,
     rules: &[Rule],
-    line: &[&Node],
+    line: Seen<'_, '_>,
 ) -> Result<(), AllocError>
-    ensures { OnOk result (all.new.items ≡ all.old.items ++ definitions.claims_of_rules (origin_in sheet) 0 (rulings_of rules.now) (whats_of line.now)) }
+    ensures { OnOk result (all.new.items ≡ all.old.items ++ definitions.claims_of_rules (origin_in sheet) 0 (rulings_of rules.now) (whats_of line.entry.nodes.now)) }
 {
     let mut place = 0;
     for rule in rules {
@@ -175,11 +176,15 @@ fn put_rules(
 
 /// What the first of the line itself says: its style attribute and its `dir`, which stands behind the `rules` rules of
 /// the default sheet.
-pub(crate) fn put_own(all: &mut Vec<Claim>, rules: usize, line: &[&Node]) -> Result<(), AllocError>
+pub(crate) fn put_own(
+    all: &mut Vec<Claim>,
+    rules: usize,
+    line: Seen<'_, '_>,
+) -> Result<(), AllocError>
     requires { rules ≡ length default_rules }
-    ensures { OnOk result (all.new.items ≡ all.old.items ++ definitions.claims_of_element (whats_of line.now)) }
+    ensures { OnOk result (all.new.items ≡ all.old.items ++ definitions.claims_of_element (whats_of line.entry.nodes.now)) }
 {
-    match line {
+    match line.nodes {
         [node, ..] => put_own_of(all, rules, &node.kind),
         [] => Ok(()),
     }

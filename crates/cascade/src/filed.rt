@@ -10,6 +10,7 @@ ghost use Rattle.cascade.specs.Sheet.{origin_in};
 
 use crate::claim::Claim;
 use crate::claims::{Sheet, put_rule_if_matching};
+use crate::seen::Seen;
 use crate::shelves::Shelves;
 use dom_store::{Node, NodeKind};
 use std::alloc::{AllocError, Global};
@@ -54,12 +55,12 @@ impl Filed {
         &self,
         all: &mut Vec<Claim>,
         sheet: Sheet,
-        line: &[&Node],
+        line: Seen<'_, '_>,
     ) -> Result<(), AllocError>
-        ensures { OnOk result (all.new.items ≡ all.old.items ++ claims_under (origin_in sheet) self.now.rules.items self.now.shelves (headings (whats_of line.now)) (whats_of line.now)) }
+        ensures { OnOk result (all.new.items ≡ all.old.items ++ claims_under (origin_in sheet) self.now.rules.items self.now.shelves (headings (whats_of line.entry.nodes.now)) (whats_of line.entry.nodes.now)) }
     {
         self.put_at(all, sheet, &self.shelves.others, line)?;
-        if let [node, above @ ..] = line {
+        if let [node, above @ ..] = line.nodes {
             self.put_of(all, sheet, &node.kind, line)?;
             self.put_of_above(all, sheet, above, line)?;
         }
@@ -73,9 +74,9 @@ impl Filed {
         all: &mut Vec<Claim>,
         sheet: Sheet,
         above: &[&Node],
-        line: &[&Node],
+        line: Seen<'_, '_>,
     ) -> Result<(), AllocError>
-        ensures { OnOk result (all.new.items ≡ all.old.items ++ claims_under (origin_in sheet) self.now.rules.items self.now.shelves (upper_headings (whats_of above.now)) (whats_of line.now)) }
+        ensures { OnOk result (all.new.items ≡ all.old.items ++ claims_under (origin_in sheet) self.now.rules.items self.now.shelves (upper_headings (whats_of above.now)) (whats_of line.entry.nodes.now)) }
     {
         for node in above {
             self.put_of_upper(all, sheet, &node.kind, line)?;
@@ -89,9 +90,9 @@ impl Filed {
         all: &mut Vec<Claim>,
         sheet: Sheet,
         kind: &NodeKind,
-        line: &[&Node],
+        line: Seen<'_, '_>,
     ) -> Result<(), AllocError>
-        ensures { OnOk result (all.new.items ≡ all.old.items ++ claims_under (origin_in sheet) self.now.rules.items self.now.shelves (upper_headings_of (what_of kind.now)) (whats_of line.now)) }
+        ensures { OnOk result (all.new.items ≡ all.old.items ++ claims_under (origin_in sheet) self.now.rules.items self.now.shelves (upper_headings_of (what_of kind.now)) (whats_of line.entry.nodes.now)) }
     {
         match kind {
             NodeKind::Element { id, classes, .. } => {
@@ -108,9 +109,9 @@ impl Filed {
         all: &mut Vec<Claim>,
         sheet: Sheet,
         id: &Option<Letters>,
-        line: &[&Node],
+        line: Seen<'_, '_>,
     ) -> Result<(), AllocError>
-        ensures { OnOk result (all.new.items ≡ all.old.items ++ claims_under (origin_in sheet) self.now.rules.items self.now.shelves (headings_of_id of_upper_id (option_map (λ i. string_bytes i) id.now)) (whats_of line.now)) }
+        ensures { OnOk result (all.new.items ≡ all.old.items ++ claims_under (origin_in sheet) self.now.rules.items self.now.shelves (headings_of_id of_upper_id (option_map (λ i. string_bytes i) id.now)) (whats_of line.entry.nodes.now)) }
     {
         if let Some(id) = id {
             self.put_at(all, sheet, self.shelves.by_upper_id.under(id), line)?;
@@ -124,9 +125,9 @@ impl Filed {
         all: &mut Vec<Claim>,
         sheet: Sheet,
         classes: &[Letters],
-        line: &[&Node],
+        line: Seen<'_, '_>,
     ) -> Result<(), AllocError>
-        ensures { OnOk result (all.new.items ≡ all.old.items ++ claims_under (origin_in sheet) self.now.rules.items self.now.shelves (map of_upper_class (map (λ c. string_bytes c) classes.now)) (whats_of line.now)) }
+        ensures { OnOk result (all.new.items ≡ all.old.items ++ claims_under (origin_in sheet) self.now.rules.items self.now.shelves (map of_upper_class (map (λ c. string_bytes c) classes.now)) (whats_of line.entry.nodes.now)) }
     {
         for name in classes {
             self.put_at(all, sheet, self.shelves.by_upper_class.under(name), line)?;
@@ -140,9 +141,9 @@ impl Filed {
         all: &mut Vec<Claim>,
         sheet: Sheet,
         kind: &NodeKind,
-        line: &[&Node],
+        line: Seen<'_, '_>,
     ) -> Result<(), AllocError>
-        ensures { OnOk result (all.new.items ≡ all.old.items ++ claims_under (origin_in sheet) self.now.rules.items self.now.shelves (headings_of (what_of kind.now)) (whats_of line.now)) }
+        ensures { OnOk result (all.new.items ≡ all.old.items ++ claims_under (origin_in sheet) self.now.rules.items self.now.shelves (headings_of (what_of kind.now)) (whats_of line.entry.nodes.now)) }
     {
         match kind {
             NodeKind::Element {
@@ -165,9 +166,9 @@ impl Filed {
         all: &mut Vec<Claim>,
         sheet: Sheet,
         id: &Option<Letters>,
-        line: &[&Node],
+        line: Seen<'_, '_>,
     ) -> Result<(), AllocError>
-        ensures { OnOk result (all.new.items ≡ all.old.items ++ claims_under (origin_in sheet) self.now.rules.items self.now.shelves (headings_of_id of_id (option_map (λ i. string_bytes i) id.now)) (whats_of line.now)) }
+        ensures { OnOk result (all.new.items ≡ all.old.items ++ claims_under (origin_in sheet) self.now.rules.items self.now.shelves (headings_of_id of_id (option_map (λ i. string_bytes i) id.now)) (whats_of line.entry.nodes.now)) }
     {
         if let Some(id) = id {
             self.put_at(all, sheet, self.shelves.by_id.under(id), line)?;
@@ -181,9 +182,9 @@ impl Filed {
         all: &mut Vec<Claim>,
         sheet: Sheet,
         classes: &[Letters],
-        line: &[&Node],
+        line: Seen<'_, '_>,
     ) -> Result<(), AllocError>
-        ensures { OnOk result (all.new.items ≡ all.old.items ++ claims_under (origin_in sheet) self.now.rules.items self.now.shelves (map of_class (map (λ c. string_bytes c) classes.now)) (whats_of line.now)) }
+        ensures { OnOk result (all.new.items ≡ all.old.items ++ claims_under (origin_in sheet) self.now.rules.items self.now.shelves (map of_class (map (λ c. string_bytes c) classes.now)) (whats_of line.entry.nodes.now)) }
     {
         for class in classes {
             self.put_at(all, sheet, self.shelves.by_class.under(class), line)?;
@@ -198,9 +199,9 @@ impl Filed {
         all: &mut Vec<Claim>,
         sheet: Sheet,
         places: &[usize],
-        line: &[&Node],
+        line: Seen<'_, '_>,
     ) -> Result<(), AllocError>
-        ensures { OnOk result (all.new.items ≡ all.old.items ++ claims_at (origin_in sheet) self.now.rules.items places.now (whats_of line.now)) }
+        ensures { OnOk result (all.new.items ≡ all.old.items ++ claims_at (origin_in sheet) self.now.rules.items places.now (whats_of line.entry.nodes.now)) }
     {
         for place in places {
             self.put_if(all, sheet, *place, line)?;
@@ -213,9 +214,9 @@ impl Filed {
         all: &mut Vec<Claim>,
         sheet: Sheet,
         place: usize,
-        line: &[&Node],
+        line: Seen<'_, '_>,
     ) -> Result<(), AllocError>
-        ensures { OnOk result (all.new.items ≡ all.old.items ++ claims_if (origin_in sheet) place (slice_get self.now.rules.items place) (whats_of line.now)) }
+        ensures { OnOk result (all.new.items ≡ all.old.items ++ claims_if (origin_in sheet) place (slice_get self.now.rules.items place) (whats_of line.entry.nodes.now)) }
     {
         if let Some(rule) = self.rules.get(place) {
             put_rule_if_matching(all, sheet, place, rule, line)?;

@@ -12,10 +12,12 @@ ghost use Rattle.cascade.specs.Winners.{AreSaidRules, AreSaidWinners};
 
 use crate::claim::Claim;
 use crate::claims::{Sheet, claims, put_own};
+use crate::class_sets::ClassSets;
 use crate::defaults::Defaults;
 use crate::filed::Filed;
 use crate::kept::KeptLine;
 use crate::line::line_of;
+use crate::seen::Seen;
 use crate::winning::winners_among;
 use css_sheet::default_sheet;
 use dom_store::{Document, Node};
@@ -43,9 +45,10 @@ pub fn winners(
     ensures said { AreSaidRules (rulings_of rules.now) → IsSaidState (state_of document.now) → IfOk result (λ w. AreSaidWinners w.items) }
 {
     let defaults = default_sheet(alloc)?;
+    let none = ClassSets::none();
     let winners = match line_of(document, node) {
-        Some(line) => winners_on(alloc, rules, &defaults, line.nodes(), parent)?,
-        None => winners_on(alloc, rules, &defaults, &[], parent)?,
+        Some(line) => winners_on(alloc, rules, &defaults, line.seen(&none), parent)?,
+        None => winners_on(alloc, rules, &defaults, Seen::plain(&[], &none), parent)?,
     };
     Ok(winners)
 }
@@ -55,11 +58,11 @@ fn winners_on(
     alloc: Global,
     rules: &[Rule],
     defaults: &[Rule],
-    line: &[&Node],
+    line: Seen<'_, '_>,
     parent: &Style,
 ) -> Result<Winners, AllocError>
     requires { rulings_of defaults.now ≡ default_rules }
-    ensures { IfOk result (λ w. w.items ≡ definitions.winners (rulings_of rules.now) (whats_of line.now) parent.now) }
+    ensures { IfOk result (λ w. w.items ≡ definitions.winners (rulings_of rules.now) (whats_of line.entry.nodes.now) parent.now) }
 {
     let claims = claims(alloc, rules, defaults, line)?;
     let winners = winners_among(alloc, &claims, parent)?;
@@ -100,9 +103,10 @@ impl RuleIndex {
         // those of the winners.
         ensures said { AreSaidRules (index_rules self.now) → IsSaidState (state_of document.now) → IfOk result (λ w. AreSaidWinners w.items) }
     {
+        let none = ClassSets::none();
         let winners = match line_of(document, node) {
-            Some(line) => self.winners_on(alloc, line.nodes(), parent)?,
-            None => self.winners_on(alloc, &[], parent)?,
+            Some(line) => self.winners_on(alloc, line.seen(&none), parent)?,
+            None => self.winners_on(alloc, Seen::plain(&[], &none), parent)?,
         };
         Ok(winners)
     }
@@ -123,8 +127,8 @@ impl RuleIndex {
         ensures winners { IfOk result (λ w. w.items ≡ definitions.winners (index_rules self.now) (line (kept_state kept.old) number) parent.now) }
         ensures said { AreSaidRules (index_rules self.now) → IsSaidState (kept_state kept.old) → IfOk result (λ w. AreSaidWinners w.items) }
     {
-        let winners = if kept.enter(number, node) {
-            self.winners_on(alloc, kept.nodes(), parent)?
+        let winners = if kept.enter(alloc, number, node) {
+            self.winners_on(alloc, kept.seen(), parent)?
         } else {
             self.winners(alloc, kept.document(), number, parent)?
         };
@@ -135,12 +139,12 @@ impl RuleIndex {
     fn winners_on(
         &self,
         alloc: Global,
-        line: &[&Node],
+        line: Seen<'_, '_>,
         parent: &Style,
     ) -> Result<Winners, AllocError>
-        ensures { IfOk result (λ w. w.items ≡ definitions.winners (index_rules self.now) (whats_of line.now) parent.now) }
+        ensures { IfOk result (λ w. w.items ≡ definitions.winners (index_rules self.now) (whats_of line.entry.nodes.now) parent.now) }
     {
-        if self.rules.finds_fewer(line) {
+        if self.rules.finds_fewer(line.nodes) {
             let winners = self.winners_found(alloc, line, parent)?;
             return Ok(winners);
         }
@@ -153,10 +157,10 @@ impl RuleIndex {
     fn winners_found(
         &self,
         alloc: Global,
-        line: &[&Node],
+        line: Seen<'_, '_>,
         parent: &Style,
     ) -> Result<Winners, AllocError>
-        ensures { IfOk result (λ w. w.items ≡ definitions.winners (index_rules self.now) (whats_of line.now) parent.now) }
+        ensures { IfOk result (λ w. w.items ≡ definitions.winners (index_rules self.now) (whats_of line.entry.nodes.now) parent.now) }
     {
         let claims = self.claims(alloc, line)?;
         let winners = winners_among(alloc, &claims, parent)?;
@@ -164,8 +168,8 @@ impl RuleIndex {
     }
 
     // The declarations that count for the first of a line.
-    fn claims(&self, alloc: Global, line: &[&Node]) -> Result<Vec<Claim>, AllocError>
-        ensures { IfOk result (λ all. all.items ≡ found_claims self.now (whats_of line.now)) }
+    fn claims(&self, alloc: Global, line: Seen<'_, '_>) -> Result<Vec<Claim>, AllocError>
+        ensures { IfOk result (λ all. all.items ≡ found_claims self.now (whats_of line.entry.nodes.now)) }
     {
         let mut all = Vec::with_capacity(alloc, ROOM)?;
         self.rules.put_claims(&mut all, Sheet::Author, line)?;

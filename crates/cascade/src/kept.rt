@@ -6,8 +6,11 @@ ghost use Rattle.cascade.specs.Line.{whats_of};
 ghost use Rattle.cascade.specs.Chain.{first_number};
 ghost use Rattle.cascade.specs.Kept.{IsKept, kept_state, kept_numbers, kept_whats};
 
+use crate::class_sets::ClassSets;
 use crate::line::{MOST, put};
+use crate::seen::Seen;
 use dom_store::{Document, Node};
+use std::alloc::Global;
 
 /// The line of the node that was looked at last. A node whose parent stands in it has the nodes from there on in common
 /// with that one, so that only the others are looked up in the document.
@@ -18,6 +21,8 @@ pub struct KeptLine<'a> {
     nodes: [&'a Node; MOST],
     numbers: [u32; MOST],
     start: usize,
+    // The classes of those that have many.
+    sets: ClassSets,
 }
 
 impl<'a> KeptLine<'a> {
@@ -31,6 +36,7 @@ impl<'a> KeptLine<'a> {
             nodes: [any; MOST],
             numbers: [0; MOST],
             start: MOST,
+            sets: ClassSets::none(),
         }
     }
 
@@ -42,26 +48,29 @@ impl<'a> KeptLine<'a> {
     }
 
     /// The line that is kept.
-    pub(crate) fn nodes(&self) -> &[&'a Node]
+    pub(crate) fn seen<'l>(&'l self) -> Seen<'l, 'a>
         requires { IsKept self.now }
-        ensures { whats_of result.now ≡ kept_whats self.now }
+        ensures { whats_of result.nodes.now ≡ kept_whats self.now }
     {
-        &self.nodes[self.start..]
+        Seen {
+            nodes: &self.nodes[self.start..],
+            sets: &self.sets,
+        }
     }
 
     /// Keeps the line of this node from now on, unless it has more than 64 nodes.
-    pub(crate) fn enter(&mut self, number: u32, node: &'a Node) -> bool
+    pub(crate) fn enter(&mut self, alloc: Global, number: u32, node: &'a Node) -> bool
         requires kept { IsKept self.old }
         requires here { (kept_state self.old).node_at number ≡ Some (entry_of node.now) }
         ensures same { kept_state self.new ≡ kept_state self.old }
         ensures kept { IsKept self.new }
         ensures line { result ≡ true → kept_whats self.new ≡ line (kept_state self.old) number }
     {
-        self.climb(number, node, MOST)
+        self.climb(alloc, number, node, MOST)
     }
 
     // The same, where no more than `most` nodes above it are looked up.
-    fn climb(&mut self, number: u32, node: &'a Node, most: usize) -> bool
+    fn climb(&mut self, alloc: Global, number: u32, node: &'a Node, most: usize) -> bool
         requires kept { IsKept self.old }
         requires here { (kept_state self.old).node_at number ≡ Some (entry_of node.now) }
         ensures same { kept_state self.new ≡ kept_state self.old }
@@ -76,11 +85,11 @@ impl<'a> KeptLine<'a> {
             let Some(above) = self.document.node(parent) else {
                 return false;
             };
-            if most == 0 || !self.climb(parent, above, most - 1) {
+            if most == 0 || !self.climb(alloc, parent, above, most - 1) {
                 return false;
             }
         }
-        self.begin_with(number, node)
+        self.begin_with(alloc, number, node)
     }
 
     // Leaves the nodes before the one of this number, and all of them where it isn't there.
@@ -105,7 +114,7 @@ impl<'a> KeptLine<'a> {
     }
 
     // Puts a child of the first node before it, where there is room.
-    fn begin_with(&mut self, number: u32, node: &'a Node) -> bool
+    fn begin_with(&mut self, alloc: Global, number: u32, node: &'a Node) -> bool
         requires kept { IsKept self.old }
         requires here { (kept_state self.old).node_at number ≡ Some (entry_of node.now) }
         requires under { first_number (kept_numbers self.old) ≡ node.now.parent }
@@ -117,6 +126,8 @@ impl<'a> KeptLine<'a> {
             return false;
         }
         let place = self.start - 1;
+        let height = MOST - self.start;
+        self.sets.put(alloc, height, &node.kind);
         put(&mut self.nodes, place, node);
         self.numbers[place] = number;
         self.start = place;

@@ -3,6 +3,7 @@
 
 mod claim;
 mod claims;
+mod class_sets;
 mod defaults;
 mod filed;
 mod index;
@@ -11,6 +12,7 @@ pub mod laws;
 mod line;
 mod matching;
 mod places;
+mod seen;
 mod shelves;
 mod winning;
 

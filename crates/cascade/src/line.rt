@@ -1,9 +1,11 @@
 //! The line of a node, which selectors are matched against (DOM, 4.2, narrowed).
 
-ghost use Rattle.std.specs.Prelude.{◌≡◌, ◌≤◌, ◌<◌, length, slice_set, [], take, IfSome, IfNone, option_map, option_and_then};
+ghost use Rattle.std.specs.Prelude.{◌≡◌, ◌≤◌, ◌<◌, length, slice_set, [], take, None, IfSome, IfNone, option_map, option_and_then};
 ghost use Rattle.dom_store.specs.State.{entry_of, line, state_of};
 ghost use Rattle.cascade.specs.Line.{whats_of};
 
+use crate::class_sets::ClassSets;
+use crate::seen::Seen;
 use dom_store::{Document, Node};
 
 /// How many nodes a line has at most: no node stands deeper.
@@ -21,10 +23,11 @@ pub(crate) struct Line<'a> {
 
 impl<'a> Line<'a> {
     /// The nodes, from the node up.
-    pub(crate) fn nodes(&self) -> &[&'a Node]
-        ensures { result.now ≡ take self.now.length self.now.nodes }
+    pub(crate) fn seen<'l>(&'l self, none: &'l ClassSets) -> Seen<'l, 'a>
+        requires { none.now.at ≡ None }
+        ensures { result.nodes.now ≡ take self.now.length self.now.nodes }
     {
-        &self.nodes[..self.length]
+        Seen::plain(&self.nodes[..self.length], none)
     }
 }
 

@@ -1,41 +1,45 @@
 //! Which elements a selector matches (Selectors 3, 4 to 8).
 
-ghost use Rattle.std.specs.Prelude.{◌≡◌, ◌-◌, ◌≤◌, IfSome, length, map, option_map, reverse};
+ghost use Rattle.std.specs.Prelude.{◌≡◌, ◌-◌, ◌≤◌, ℕ, List, IfSome, length, map, option_map, reverse};
 ghost use Rattle.std.specs.String.{string_bytes};
 ghost use Rattle.style_types.specs.Rule.{compound_of, compounds_of, selector_of};
 ghost use Rattle.dom_store.specs.State.{line, state_of, what_of};
 ghost use Rattle.cascade.specs.Chains as chains;
+ghost use Rattle.cascade.specs.ClassSets.{AreClasses, AreOf, is_in, set_at};
 ghost use Rattle.cascade.specs.Line.{whats_of};
 ghost use Rattle.cascade.specs.Matching as definitions;
 
+use crate::class_sets::{ClassSet, ClassSets};
 use crate::line::line_of;
+use crate::seen::Seen;
 use dom_store::{Document, Node, NodeKind};
 use html_tokens::Tag;
 use style_types::{Joint, Letters, Part, Selector};
 
 /// What is left to match, and the nodes above.
-type Left<'p, 'n> = (&'p [Part], &'n [&'n Node]);
+type Left<'p, 'l, 'n> = (&'p [Part], &'l [&'n Node]);
 
 /// Whether the selector matches the element. It matches no text, and nothing where no such node lives. Each compound is
 /// compared with each node of the line at most once. Takes no memory.
 pub fn matches(s: &Selector, document: &Document, node: u32) -> bool
     ensures { result ≡ definitions.matches (selector_of s.now) (line (state_of document.now) node) }
 {
+    let none = ClassSets::none();
     match line_of(document, node) {
-        Some(line) => matches_line(&s.parts, line.nodes()),
-        None => matches_line(&s.parts, &[]),
+        Some(line) => matches_line(&s.parts, line.seen(&none)),
+        None => matches_line(&s.parts, Seen::plain(&[], &none)),
     }
 }
 
 /// The same for a line.
-pub(crate) fn matches_line(parts: &[Part], line: &[&Node]) -> bool
-    ensures { result ≡ definitions.matches (compounds_of parts.now) (whats_of line.now) }
+pub(crate) fn matches_line(parts: &[Part], line: Seen<'_, '_>) -> bool
+    ensures { result ≡ definitions.matches (compounds_of parts.now) (whats_of line.entry.nodes.now) }
 {
-    let Some((mut left, mut above)) = behind_chain(parts, line) else {
+    let Some((mut left, mut above)) = behind_chain(parts, line.nodes, line.sets) else {
         return false;
     };
     while !left.is_empty() {
-        let Some((parts, line)) = behind_nearest(left, above) else {
+        let Some((parts, line)) = behind_nearest(left, above, line.sets) else {
             return false;
         };
         left = parts;
@@ -46,13 +50,19 @@ pub(crate) fn matches_line(parts: &[Part], line: &[&Node]) -> bool
 
 // What is left behind the last chain of compounds joined by `>`, at the first place where that matches: what is left
 // above it contains what is left above any other.
-fn behind_nearest<'p, 'n>(parts: &'p [Part], line: &'n [&'n Node]) -> Option<Left<'p, 'n>>
+fn behind_nearest<'p, 'l, 'n>(
+    parts: &'p [Part],
+    line: &'l [&'n Node],
+    sets: &ClassSets,
+) -> Option<Left<'p, 'l, 'n>>
+    requires { AreOf sets.now line.now }
+    ensures sets { IfSome result (λ left. AreOf sets.now left.1.now) }
     ensures found { option_map (λ left. (reverse (compounds_of left.0.now), whats_of left.1.now)) result ≡ chains.behind_nearest (reverse (compounds_of parts.now)) (whats_of line.now) }
     ensures shorter { IfSome result (λ left. length left.0.now ≤ length parts.now - 1) }
 {
     let mut rest = line;
     loop {
-        if let Some(left) = behind_chain(parts, rest) {
+        if let Some(left) = behind_chain(parts, rest, sets) {
             return Some(left);
         }
         let [_, above @ ..] = rest else {
@@ -63,7 +73,13 @@ fn behind_nearest<'p, 'n>(parts: &'p [Part], line: &'n [&'n Node]) -> Option<Lef
 }
 
 // What is left behind the last chain, where that matches from the first of the line on.
-fn behind_chain<'p, 'n>(parts: &'p [Part], line: &'n [&'n Node]) -> Option<Left<'p, 'n>>
+fn behind_chain<'p, 'l, 'n>(
+    parts: &'p [Part],
+    line: &'l [&'n Node],
+    sets: &ClassSets,
+) -> Option<Left<'p, 'l, 'n>>
+    requires { AreOf sets.now line.now }
+    ensures sets { IfSome result (λ left. AreOf sets.now left.1.now) }
     ensures found { option_map (λ left. (reverse (compounds_of left.0.now), whats_of left.1.now)) result ≡ chains.behind_chain (reverse (compounds_of parts.now)) (whats_of line.now) }
     ensures shorter { IfSome result (λ left. length left.0.now ≤ length parts.now - 1) }
 {
@@ -73,16 +89,18 @@ fn behind_chain<'p, 'n>(parts: &'p [Part], line: &'n [&'n Node]) -> Option<Left<
     let [node, above @ ..] = line else {
         return None;
     };
-    if !fits(last, &node.kind) {
+    if !fits(last, &node.kind, sets, above.len()) {
         return None;
     }
     match last.joint {
-        Joint::Child => behind_chain(left, above),
+        Joint::Child => behind_chain(left, above, sets),
         Joint::Descendant => Some((left, above)),
     }
 }
 
-fn fits(part: &Part, kind: &NodeKind) -> bool
+// Whether the compound fits the node, above which stand so many.
+fn fits(part: &Part, kind: &NodeKind, sets: &ClassSets, height: usize) -> bool
+    requires { AreClasses (set_at sets.now height) (what_of kind.now) }
     ensures { result ≡ definitions.fits (compound_of part.now) (what_of kind.now) }
 {
     match kind {
@@ -93,7 +111,7 @@ fn fits(part: &Part, kind: &NodeKind) -> bool
             ..
         } => {
             fits_type(&part.tag, *tag)
-                && has_classes(classes, &part.classes)
+                && has_classes_in(sets.at(height), classes, &part.classes)
                 && has_ids(id, &part.ids)
         }
         NodeKind::Text { .. } => false,
@@ -106,6 +124,17 @@ fn fits_type(name: &Option<Letters>, tag: Tag) -> bool
     match name {
         Some(name) => name.as_str() == tag.name(),
         None => true,
+    }
+}
+
+// The same as `has_classes`, where there may be a set of the element's own.
+fn has_classes_in(set: Option<&ClassSet>, own: &[Letters], classes: &[Letters]) -> bool
+    requires { IfSome set (λ set. (class : List ℕ) → is_in set.now class ≡ definitions.has_class (map (λ c. string_bytes c) own.now) class) }
+    ensures { result ≡ definitions.each (definitions.has_class (map (λ c. string_bytes c) own.now)) (map (λ c. string_bytes c) classes.now) }
+{
+    match set {
+        Some(set) => set.has_each(classes),
+        None => has_classes(own, classes),
     }
 }
 

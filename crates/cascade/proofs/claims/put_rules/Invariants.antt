@@ -8,5 +8,5 @@ use Rattle.cascade.proofs.claims.put_rules.Given as goal
 abbrev pub invariant-loop-rule : goal.invariant-loop-rule
 invariant-loop-rule l =
     (l.place ≡ l.rule-index)
-    × (l.all.items ++ claims_of_rules (origin_in l.sheet) l.place (rulings_of (drop l.rule-index l.rules)) (whats_of l.line)
-    ≡ l.initial.all.items ++ claims_of_rules (origin_in l.sheet) 0 (rulings_of l.rules) (whats_of l.line))
+    × (l.all.items ++ claims_of_rules (origin_in l.sheet) l.place (rulings_of (drop l.rule-index l.rules)) (whats_of l.line.nodes.now)
+    ≡ l.initial.all.items ++ claims_of_rules (origin_in l.sheet) 0 (rulings_of l.rules) (whats_of l.line.nodes.now))

@@ -5,5 +5,5 @@ use Rattle.cascade.specs.Sheet.{origin_in}
 use Rattle.cascade.proofs.filed.Filed.put_at.Given as goal
 
 abbrev pub invariant-loop-place : goal.invariant-loop-place
-invariant-loop-place l = l.all.items ++ claims_at (origin_in l.sheet) l.self.rules.items (drop l.place-index l.places) (whats_of l.line)
-    ≡ l.initial.all.items ++ claims_at (origin_in l.sheet) l.self.rules.items l.places (whats_of l.line)
+invariant-loop-place l = l.all.items ++ claims_at (origin_in l.sheet) l.self.rules.items (drop l.place-index l.places) (whats_of l.line.nodes.now)
+    ≡ l.initial.all.items ++ claims_at (origin_in l.sheet) l.self.rules.items l.places (whats_of l.line.nodes.now)

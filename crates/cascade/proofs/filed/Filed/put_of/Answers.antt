@@ -16,7 +16,7 @@ returns-in_ok-put_of_classes-in-Element c =
     let origin = origin_in c.args.sheet in
     let rules = c.args.self.now.rules.items in
     let shelves = c.args.self.now.shelves in
-    let line = whats_of c.args.line.now in
+    let line = whats_of c.args.line.nodes.now in
     let all = c.args.all.now.items in
     let by_type = c.in_ok-put_at-in-Element.ensures ∙ ap (λ (places : List ℕ). all ++ claims_at origin rules places line) (c.under.ensures ∙ ap (places_under shelves.by_type) c.name.ensures.name) in
     let by_class = c.in_ok-put_of_classes-in-Element.ensures
@@ -29,5 +29,5 @@ returns-in_ok-put_of_classes-in-Element c =
 
 pub returns-in-Text : goal.returns-in-Text
 returns-in-Text c =
-    under_nothing c.args.all.now.items (origin_in c.args.sheet) c.args.self.now.rules.items c.args.self.now.shelves (whats_of c.args.line.now)
-    ∙ ap (λ (kind : NodeKind). c.args.all.now.items ++ claims_under (origin_in c.args.sheet) c.args.self.now.rules.items c.args.self.now.shelves (headings_of (what_of kind)) (whats_of c.args.line.now)) (sym c.in-Text.is)
+    under_nothing c.args.all.now.items (origin_in c.args.sheet) c.args.self.now.rules.items c.args.self.now.shelves (whats_of c.args.line.nodes.now)
+    ∙ ap (λ (kind : NodeKind). c.args.all.now.items ++ claims_under (origin_in c.args.sheet) c.args.self.now.rules.items c.args.self.now.shelves (headings_of (what_of kind)) (whats_of c.args.line.nodes.now)) (sym c.in-Text.is)

@@ -10,9 +10,9 @@ use Rattle.cascade.proofs.index.RuleIndex.winners.Goals as goal
 pub returns-clause-winners : goal.returns-clause-winners
 returns-clause-winners c = elim c.match-line_of.branch [
   | in-Some+in_ok-winners-in-Some w ↦
-      ap (λ v. v.items) w.winners-is ∙ w.in_ok-winners-in-Some.ensures ∙ ap (λ (line : List What). winners (index_rules c.args.self.now) line c.args.parent.now) (ap whats_of w.nodes.ensures ∙ w.in-Some.ensures.some)
+      ap (λ v. v.items) w.winners-is ∙ w.in_ok-winners-in-Some.ensures ∙ ap (λ (line : List What). winners (index_rules c.args.self.now) line c.args.parent.now) (ap whats_of w.seen.ensures ∙ w.in-Some.ensures.some)
   | in-None+in_ok-winners-in-None w ↦
-      ap (λ v. v.items) w.winners-is ∙ w.in_ok-winners-in-None.ensures ∙ ap (λ (line : List What). winners (index_rules c.args.self.now) line c.args.parent.now) (sym w.in-None.ensures.none)
+      ap (λ v. v.items) w.winners-is ∙ w.in_ok-winners-in-None.ensures ∙ ap (λ (line : List What). winners (index_rules c.args.self.now) line c.args.parent.now) (ap whats_of w.plain.ensures ∙ sym w.in-None.ensures.none)
 ]
 
 pub returns-clause-said : goal.returns-clause-said

@@ -9,5 +9,5 @@ pub returns : goal.returns
 returns c =
     let index = c.args.self.now in
     c.in_ok-winners.ensures ∙ ap (λ (list : List Claim). winners_in list c.args.parent.now) (c.deref.ensures.value ∙ c.in_ok-claims.ensures)
-    ∙ winners_are_same index.rules.rules.items index.defaults.filed.rules.items index.rules.shelves index.defaults.filed.shelves (whats_of c.args.line.now) c.args.parent.now
+    ∙ winners_are_same index.rules.rules.items index.defaults.filed.rules.items index.rules.shelves index.defaults.filed.shelves (whats_of c.args.line.nodes.now) c.args.parent.now
     index.rules.are_shelved index.defaults.filed.are_shelved index.defaults.are_default

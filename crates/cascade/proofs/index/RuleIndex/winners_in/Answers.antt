@@ -11,7 +11,7 @@ pub returns-clause-winners : goal.returns-clause-winners
 returns-clause-winners c = elim c.if-enter.branch [
   | then-enter+in_ok-winners w ↦
       ap (λ v. v.items) w.winners-is ∙ w.in_ok-winners.ensures
-      ∙ ap (λ (line : List What). winners (index_rules c.args.self.now) line c.args.parent.now) (w.nodes.ensures ∙ c.enter.ensures.line w.if-enter.true)
+      ∙ ap (λ (line : List What). winners (index_rules c.args.self.now) line c.args.parent.now) (w.seen.ensures ∙ c.enter.ensures.line w.if-enter.true)
   | else-enter+in_ok-winners-2 w ↦
       ap (λ v. v.items) w.winners-is ∙ w.in_ok-winners-2.ensures.winners
       ∙ ap (λ (state : State). winners (index_rules c.args.self.now) (line state c.args.number) c.args.parent.now) (w.document.ensures ∙ c.enter.ensures.same)
