@@ -1,5 +1,5 @@
 -- The lines that are written.
-use Rattle.std.specs.Prelude.{ℕ, List, [], ◌∷◌, ◌++◌, codes, length, Ok, Err}
+use Rattle.std.specs.Prelude.{ℕ, List, ◌++◌, codes, length, flat_map, Ok, Err}
 use Rattle.std.specs.Fmt.{decimal}
 use Rattle.reading.specs.Readers.{ReadOr}
 use Rattle.html_tokens.specs.Error.{Fault, kind_word}
@@ -9,16 +9,12 @@ use Rattle.html_read.specs.Places.{placed_input}
 abbrev pub line : (place : ℕ) → List ℕ
 line place = decimal place ++ codes "\n"
 
-abbrev pub lines : (places : List ℕ) → List ℕ
-lines [] = []
-lines (place ∷ places) = line place ++ lines places
-
 abbrev pub refused_line : (word : List ℕ) → (place : ℕ) → List ℕ
 refused_line word place = codes "refused " ++ word ++ codes " " ++ decimal place ++ codes "\n"
 
 -- what is written for an input of this size that was read so
 abbrev pub lines_by : (size : ℕ) → ReadOr Fault (List ℕ) → List ℕ
-lines_by size (Ok read) = lines read.0
+lines_by size (Ok read) = flat_map line read.0
 lines_by size (Err fault) = refused_line (kind_word fault.0) (place_in size fault.1)
 
 -- what is written for an input

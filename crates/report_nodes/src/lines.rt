@@ -1,6 +1,6 @@
 //! The lines that are written.
 
-ghost use Rattle.std.specs.Prelude.{OnOk};
+ghost use Rattle.std.specs.Prelude.{OnOk, flat_map};
 ghost use Rattle.std.specs.Io.KnownBytes.{Appends};
 ghost use Rattle.report_nodes.specs.Lines as spec;
 
@@ -8,9 +8,8 @@ use std::io;
 use std::io::Write;
 
 /// Writes a line for each.
-#[tactic(auto, using(crate::proofs::Joining::writing_starts, crate::proofs::Joining::writing_goes_on, crate::proofs::Joining::writing_ends))]
 pub(crate) fn write_places<W: Write>(places: &[usize], output: &mut W) -> io::Result<()>
-    ensures { OnOk result (Appends (W.contents output.old) (W.contents output.new) (spec.lines places.now)) }
+    ensures { OnOk result (Appends (W.contents output.old) (W.contents output.new) (flat_map spec.line places.now)) }
 {
     for place in places {
         write_place(*place, output)?;
