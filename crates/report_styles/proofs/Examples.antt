@@ -21,13 +21,21 @@ use Rattle.report_styles.specs.GoingOn.{piece, seek, behind_declaration, behind_
 use Rattle.report_styles.specs.Lines.{lines}
 use Rattle.report_styles.specs.Told.{declarations, rules, with_sheet, with_attribute, told_of_document}
 
-a_semicolon_in_brackets : behind_declaration true (codes "@a f(;) [;] {;};b:c") ≡ Some (codes "b:c")
+a_semicolon_in_brackets : behind_declaration true (codes "a f(;) [;] {;};b:c") ≡ Some (codes "b:c")
 unfolding strip starts one_of run_of skip until up_to after joined turns repeat many strip_either_case white spaces comment gap name_ahead name hash_ahead hash string_piece string numeric named sign_token token sign point number_ahead decimals number is_refused is_unsupported meaning expanded properties shorthands keywords widths refusals colours resets single face_number entries first_face family longhand pieces each shorthand value ends_important property_name stated declaration next selector_name type_name compound selector heads piece seek behind_declaration behind_rule declarations rules told_of_document digits
 a_semicolon_in_brackets = refl
 
 before_the_end_of_its_rule : behind_declaration true (codes "a:b)}c") ≡ Some (codes "}c")
 unfolding strip starts one_of run_of skip until up_to after joined turns repeat many strip_either_case white spaces comment gap name_ahead name hash_ahead hash string_piece string numeric named sign_token token sign point number_ahead decimals number is_refused is_unsupported meaning expanded properties shorthands keywords widths refusals colours resets single face_number entries first_face family longhand pieces each shorthand value ends_important property_name stated declaration next selector_name type_name compound selector heads piece seek behind_declaration behind_rule declarations rules told_of_document digits
 before_the_end_of_its_rule = refl
+
+an_at_rule_ends_at_its_block : behind_declaration true (codes "@a (;) {;} b:c;d") ≡ Some (codes " b:c;d")
+unfolding strip starts one_of run_of skip until up_to after joined turns repeat many strip_either_case white spaces comment gap name_ahead name hash_ahead hash string_piece string numeric named sign_token token sign point number_ahead decimals number is_refused is_unsupported meaning expanded properties shorthands keywords widths refusals colours resets single face_number entries first_face family longhand pieces each shorthand value ends_important property_name stated declaration next selector_name type_name compound selector heads piece seek behind_declaration behind_rule declarations rules told_of_document digits
+an_at_rule_ends_at_its_block = refl
+
+an_at_rule_before_the_end_of_its_rule : behind_declaration true (codes "@a}c") ≡ Some (codes "}c")
+unfolding strip starts one_of run_of skip until up_to after joined turns repeat many strip_either_case white spaces comment gap name_ahead name hash_ahead hash string_piece string numeric named sign_token token sign point number_ahead decimals number is_refused is_unsupported meaning expanded properties shorthands keywords widths refusals colours resets single face_number entries first_face family longhand pieces each shorthand value ends_important property_name stated declaration next selector_name type_name compound selector heads piece seek behind_declaration behind_rule declarations rules told_of_document digits
+an_at_rule_before_the_end_of_its_rule = refl
 
 past_a_block_end_in_an_attribute : behind_declaration false (codes "a}b;c") ≡ Some (codes "c")
 unfolding strip starts one_of run_of skip until up_to after joined turns repeat many strip_either_case white spaces comment gap name_ahead name hash_ahead hash string_piece string numeric named sign_token token sign point number_ahead decimals number is_refused is_unsupported meaning expanded properties shorthands keywords widths refusals colours resets single face_number entries first_face family longhand pieces each shorthand value ends_important property_name stated declaration next selector_name type_name compound selector heads piece seek behind_declaration behind_rule declarations rules told_of_document digits
@@ -64,6 +72,10 @@ behind_a_selector = refl
 an_at_rule_in_a_rule : lines (with_sheet [] (record { text = codes "p { @x y;width: 0 } q"; place = 19 })) ≡ codes "refused Unsupported 23\nKept 28 width\nrefused CssSyntax 40\n"
 unfolding strip starts one_of run_of skip until up_to after joined turns repeat many strip_either_case white spaces comment gap name_ahead name hash_ahead hash string_piece string numeric named sign_token token sign point number_ahead decimals number is_refused is_unsupported meaning expanded properties shorthands keywords widths refusals colours resets single face_number entries first_face family longhand pieces each shorthand value ends_important property_name stated declaration next selector_name type_name compound selector heads piece seek behind_declaration behind_rule declarations rules told_of_document digits
 an_at_rule_in_a_rule = refl
+
+behind_the_block_of_an_at_rule : lines (with_sheet [] (record { text = codes "a{@x{} height:1px; width:2px}"; place = 19 })) ≡ codes "refused Unsupported 21\nKept 26 height\nKept 38 width\n"
+unfolding strip starts one_of run_of skip until up_to after joined turns repeat many strip_either_case white spaces comment gap name_ahead name hash_ahead hash string_piece string numeric named sign_token token sign point number_ahead decimals number is_refused is_unsupported meaning expanded properties shorthands keywords widths refusals colours resets single face_number entries first_face family longhand pieces each shorthand value ends_important property_name stated declaration next selector_name type_name compound selector heads piece seek behind_declaration behind_rule declarations rules told_of_document digits
+behind_the_block_of_an_at_rule = refl
 
 a_comment_is_open : lines (with_sheet [] (record { text = codes "p { width: 0 } /* x"; place = 19 })) ≡ codes "Kept 23 width\nrefused CssSyntax 38\n"
 unfolding strip starts one_of run_of skip until up_to after joined turns repeat many strip_either_case white spaces comment gap name_ahead name hash_ahead hash string_piece string numeric named sign_token token sign point number_ahead decimals number is_refused is_unsupported meaning expanded properties shorthands keywords widths refusals colours resets single face_number entries first_face family longhand pieces each shorthand value ends_important property_name stated declaration next selector_name type_name compound selector heads piece seek behind_declaration behind_rule declarations rules told_of_document digits

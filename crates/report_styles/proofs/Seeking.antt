@@ -72,13 +72,22 @@ no_end same = absurd cc
 
 pub before_is_behind : (passed : Passed) (depth : ℕ) (p : Piece) (rest text : List ℕ) → ends_at passed depth p ≡ Some ends.Before → length rest ≤ length text → IsBehind passed rest text
 before_is_behind (passing.Declaration in_rule) depth p rest text is le = le
-before_is_behind (passing.Rule is_at_rule) depth pieces.BlockEnd rest text is le = absurd (never_before _ is)
-before_is_behind (passing.Rule is_at_rule) depth pieces.Semicolon rest text is le = absurd (never_before _ is)
-before_is_behind (passing.Rule is_at_rule) depth pieces.Opening rest text is le = absurd (no_end is)
-before_is_behind (passing.Rule is_at_rule) depth pieces.Closing rest text is le = absurd (no_end is)
-before_is_behind (passing.Rule is_at_rule) depth pieces.BlockBegin rest text is le = absurd (no_end is)
-before_is_behind (passing.Rule is_at_rule) depth pieces.Other rest text is le = absurd (no_end is)
+before_is_behind (passing.AtRule true) depth p rest text is le = le
+before_is_behind (passing.AtRule false) depth pieces.BlockEnd rest text is le = absurd (never_before _ is)
+before_is_behind (passing.AtRule false) depth pieces.Semicolon rest text is le = absurd (never_before _ is)
+before_is_behind (passing.AtRule false) depth pieces.Opening rest text is le = absurd (no_end is)
+before_is_behind (passing.AtRule false) depth pieces.Closing rest text is le = absurd (no_end is)
+before_is_behind (passing.AtRule false) depth pieces.BlockBegin rest text is le = absurd (no_end is)
+before_is_behind (passing.AtRule false) depth pieces.Other rest text is le = absurd (no_end is)
+before_is_behind passing.StyleRule depth pieces.BlockEnd rest text is le = absurd (never_before _ is)
+before_is_behind passing.StyleRule depth pieces.Semicolon rest text is le = absurd (no_end is)
+before_is_behind passing.StyleRule depth pieces.Opening rest text is le = absurd (no_end is)
+before_is_behind passing.StyleRule depth pieces.Closing rest text is le = absurd (no_end is)
+before_is_behind passing.StyleRule depth pieces.BlockBegin rest text is le = absurd (no_end is)
+before_is_behind passing.StyleRule depth pieces.Other rest text is le = absurd (no_end is)
 
 pub shorter_is_behind : (passed : Passed) (rest text : List ℕ) → length rest < length text → IsBehind passed rest text
 shorter_is_behind (passing.Declaration in_rule) rest text lt = omega (arith, lt)
-shorter_is_behind (passing.Rule is_at_rule) rest text lt = lt
+shorter_is_behind (passing.AtRule true) rest text lt = omega (arith, lt)
+shorter_is_behind (passing.AtRule false) rest text lt = lt
+shorter_is_behind passing.StyleRule rest text lt = lt

@@ -1,5 +1,7 @@
 -- Where reading goes on behind what is refused: behind a declaration, or behind a rule. CSS Syntax 3, 2.2 and 5.4.
-use Rattle.std.specs.Prelude.{◌≤◌, ◌<◌, ℕ, zero, suc, ◌+◌, ◌-◌, ◌^◌, min, nat_le, Bool, ◌&&◌, ◌||◌, ◌==◌, if◌then◌else◌, List, length, codes, Option, Some, None, Ok, Err}
+-- Here, other than there, any closing bracket closes any bracket, and at the top level a `}` that closes nothing ends the
+-- rule.
+use Rattle.std.specs.Prelude.{◌≤◌, ◌<◌, ℕ, zero, suc, ◌+◌, ◌-◌, ◌^◌, min, nat_le, Bool, true, false, ◌&&◌, ◌||◌, ◌==◌, if◌then◌else◌, List, length, codes, Option, Some, None, Ok, Err}
 use Rattle.std.specs.Char.{is_ascii}
 use Rattle.reading.specs.Readers.{Read, Reader, mapped, choice, starts, one_of, can_read}
 use Rattle.css_tokens.specs.Lexing.{comment, token}
@@ -44,13 +46,18 @@ deeper depth at_level = depth
 abbrev pub only_if : Bool → End → Option End
 only_if holds end_ = if holds then Some end_ else None
 
--- whether it ends at a piece, before which `depth` of them are open: a declaration behind a `;`, in a rule also before the
--- rule's `}`; a rule behind the `}` of its block, an at-rule also behind a `;` before a block
+-- whether a rule ends at a `}`: behind that of its block, or before that of the rule in which it stands
+abbrev pub block_end : (in_rule : Bool) → (depth : ℕ) → Option End
+block_end in_rule depth = if in_rule && depth == 0 then Some ends.Before else only_if (nat_le depth 1) ends.Behind
+
+-- whether it ends at a piece, before which `depth` of them are open: a declaration and an at-rule behind a `;`, a
+-- declaration in a rule also before the rule's `}`
 abbrev pub ends_at : Passed → (depth : ℕ) → Piece → Option End
 ends_at (passing.Declaration in_rule) depth pieces.Semicolon = only_if (depth == 0) ends.Behind
-ends_at (passing.Declaration in_rule) depth pieces.BlockEnd = only_if (depth == 0 && in_rule) ends.Before
-ends_at (passing.Rule is_at_rule) depth pieces.BlockEnd = only_if (nat_le depth 1) ends.Behind
-ends_at (passing.Rule is_at_rule) depth pieces.Semicolon = only_if (depth == 0 && is_at_rule) ends.Behind
+ends_at (passing.Declaration in_rule) depth pieces.BlockEnd = only_if (in_rule && depth == 0) ends.Before
+ends_at (passing.AtRule in_rule) depth pieces.Semicolon = only_if (depth == 0) ends.Behind
+ends_at (passing.AtRule in_rule) depth pieces.BlockEnd = block_end in_rule depth
+ends_at passing.StyleRule depth pieces.BlockEnd = block_end false depth
 ends_at passed depth within = None
 
 -- ---- piece by piece up to the first end; none where the text ends before
@@ -71,18 +78,28 @@ seek (suc fuel) passed depth text = at_piece (seek fuel passed) passed depth tex
 abbrev pub behind : Passed → (depth : ℕ) → List ℕ → Option (List ℕ)
 behind passed depth text = seek (suc (length text)) passed depth text
 
--- a declaration has a piece at least, whatever it is
-abbrev pub behind_first : (in_rule : Bool) → Read Piece → Option (List ℕ)
-behind_first in_rule (Ok p) = behind (passing.Declaration in_rule) (deeper 0 p.0) p.1
-behind_first in_rule (Err left) = None
+-- ---- what begins there
+
+abbrev pub among_declarations : (in_rule : Bool) → List ℕ → Passed
+among_declarations in_rule text = if starts (codes "@") text then passing.AtRule in_rule else passing.Declaration in_rule
+
+abbrev pub among_rules : List ℕ → Passed
+among_rules text = if starts (codes "@") text then passing.AtRule false else passing.StyleRule
+
+-- what stands among declarations has a piece at least, whatever it is
+abbrev pub behind_first : Passed → Read Piece → Option (List ℕ)
+behind_first passed (Ok p) = behind passed (deeper 0 p.0) p.1
+behind_first passed (Err left) = None
 
 unfoldable pub behind_declaration : (in_rule : Bool) → List ℕ → Option (List ℕ)
-behind_declaration in_rule text = behind_first in_rule (piece text)
+behind_declaration in_rule text = behind_first (among_declarations in_rule text) (piece text)
 
 unfoldable pub behind_rule : List ℕ → Option (List ℕ)
-behind_rule text = behind (passing.Rule (starts (codes "@") text)) 0 text
+behind_rule text = behind (among_rules text) 0 text
 
--- the search ends behind a rule, and behind a declaration or where it begins
+-- the search ends behind a rule, and behind what stands among declarations or where it begins
 abbrev pub IsBehind : Passed → (rest text : List ℕ) → Type 0
 IsBehind (passing.Declaration in_rule) rest text = length rest ≤ length text
-IsBehind (passing.Rule is_at_rule) rest text = length rest < length text
+IsBehind (passing.AtRule true) rest text = length rest ≤ length text
+IsBehind (passing.AtRule false) rest text = length rest < length text
+IsBehind passing.StyleRule rest text = length rest < length text

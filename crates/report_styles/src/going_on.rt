@@ -1,4 +1,5 @@
-//! Where to go on behind what is refused (CSS Syntax 3, 2.2 and 5.4).
+//! Where to go on behind what is refused (CSS Syntax 3, 2.2 and 5.4). Here, other than there, any closing bracket closes
+//! any bracket, and at the top level a `}` that closes nothing ends the rule.
 
 ghost use Rattle.std.specs.Prelude.{◌≡◌, ◌<◌, ◌≤◌, length, option_map, IfOk, IfSome};
 ghost use Rattle.reading.specs.Readers.{Answers};
@@ -26,7 +27,9 @@ enum Piece {
 #[derive(Clone, Copy)]
 enum Passed {
     Declaration { in_rule: bool },
-    Rule { is_at_rule: bool },
+    AtRule { in_rule: bool },
+    /// A rule with selectors.
+    StyleRule,
 }
 
 /// Where it ends: before a piece, or behind it.
@@ -36,16 +39,26 @@ enum End {
     Behind,
 }
 
-/// The text behind the `;` with which the declaration ends that begins here, or from the `}` of its rule on; none where
-/// it goes to the end.
+/// The text behind the declaration or the at-rule that begins here, or from the `}` of the rule on in which it stands;
+/// none where it goes to the end.
 #[tactic(auto, unfolding(crate::specs::GoingOn::behind_declaration))]
 pub(crate) fn behind_declaration(text: &str, in_rule: bool) -> Option<&str>
     ensures read { option_map (λ rest. rest.now) result ≡ readers.behind_declaration in_rule text.now }
     ensures shorter { IfSome result (λ rest. length rest.now < length text.now) }
 {
     match next_piece(text) {
-        Ok((piece, rest)) => behind(Passed::Declaration { in_rule }, deeper(0, piece), rest),
+        Ok((piece, rest)) => behind(among_declarations(in_rule, text), deeper(0, piece), rest),
         Err(_) => None,
+    }
+}
+
+fn among_declarations(in_rule: bool, text: &str) -> Passed
+    ensures { result ≡ readers.among_declarations in_rule text.now }
+{
+    if starts("@", text) {
+        Passed::AtRule { in_rule }
+    } else {
+        Passed::Declaration { in_rule }
     }
 }
 
@@ -56,8 +69,17 @@ pub(crate) fn behind_rule(text: &str) -> Option<&str>
     ensures read { option_map (λ rest. rest.now) result ≡ readers.behind_rule text.now }
     ensures shorter { IfSome result (λ rest. length rest.now < length text.now) }
 {
-    let is_at_rule = starts("@", text);
-    behind(Passed::Rule { is_at_rule }, 0, text)
+    behind(among_rules(text), 0, text)
+}
+
+fn among_rules(text: &str) -> Passed
+    ensures { result ≡ readers.among_rules text.now }
+{
+    if starts("@", text) {
+        Passed::AtRule { in_rule: false }
+    } else {
+        Passed::StyleRule
+    }
 }
 
 // The text behind it, where `depth` brackets and blocks of it are open.
@@ -84,17 +106,27 @@ fn ends_at(passed: Passed, depth: usize, piece: Piece) -> Option<End>
     ensures { result ≡ readers.ends_at passed depth piece }
 {
     match (passed, piece) {
-        (Passed::Declaration { .. }, Piece::Semicolon) => only_if(depth == 0, End::Behind),
+        (Passed::Declaration { .. } | Passed::AtRule { .. }, Piece::Semicolon) => {
+            only_if(depth == 0, End::Behind)
+        }
         (Passed::Declaration { in_rule }, Piece::BlockEnd) => only_if(
-            depth == 0 && in_rule,
+            in_rule && depth == 0,
             End::Before,
         ),
-        (Passed::Rule { .. }, Piece::BlockEnd) => only_if(depth <= 1, End::Behind),
-        (Passed::Rule { is_at_rule }, Piece::Semicolon) => only_if(
-            depth == 0 && is_at_rule,
-            End::Behind,
-        ),
+        (Passed::AtRule { in_rule }, Piece::BlockEnd) => block_end(in_rule, depth),
+        (Passed::StyleRule, Piece::BlockEnd) => block_end(false, depth),
         _ => None,
+    }
+}
+
+/// Whether a rule ends at this `}`: behind that of its block, or before that of the rule in which it stands.
+fn block_end(in_rule: bool, depth: usize) -> Option<End>
+    ensures { result ≡ readers.block_end in_rule depth }
+{
+    if in_rule && depth == 0 {
+        Some(End::Before)
+    } else {
+        only_if(depth <= 1, End::Behind)
     }
 }
 
