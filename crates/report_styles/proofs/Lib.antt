@@ -1,3 +1,4 @@
+mod OpenStrings
 mod Seeking
 mod Turning
 mod Walking

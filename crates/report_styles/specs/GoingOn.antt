@@ -3,7 +3,8 @@
 -- rule.
 use Rattle.std.specs.Prelude.{◌≤◌, ◌<◌, ℕ, zero, suc, ◌+◌, ◌-◌, ◌^◌, min, nat_le, Bool, true, false, ◌&&◌, ◌||◌, ◌==◌, if◌then◌else◌, List, length, codes, Option, Some, None, Ok, Err}
 use Rattle.std.specs.Char.{is_ascii}
-use Rattle.reading.specs.Readers.{Read, Reader, mapped, choice, starts, one_of, can_read}
+use Rattle.reading.specs.Readers.{Read, Reader, mapped, choice, starts, next_is, one_of}
+use Rattle.css_tokens.specs.Characters.{is_quote}
 use Rattle.css_tokens.specs.Lexing.{comment, token}
 use Rattle.css_tokens.specs.Tokens as tokens
 use Rattle.css_tokens.specs.Tokens.{Lexeme}
@@ -14,7 +15,7 @@ use Rattle.report_styles.specs.declared.going_on.Passed.TheVariants as passing
 use Rattle.report_styles.specs.declared.going_on.End.{End}
 use Rattle.report_styles.specs.declared.going_on.End.TheVariants as ends
 
--- ---- the pieces of a text: its comments and tokens, and each other byte
+-- ---- the pieces of a text: its comments and tokens, strings that aren't closed, and each other byte
 
 abbrev pub piece_of : Lexeme → Piece
 piece_of (tokens.function name) = pieces.Opening
@@ -30,8 +31,16 @@ sign byte = if byte == 41 || byte == 93 then pieces.Closing else (if byte == 123
 abbrev pub lone_sign : Reader Piece
 lone_sign = mapped sign (one_of is_ascii)
 
+-- a string that isn't closed goes up to where its reading stops: before a line break, or at the end
+abbrev pub no_token : (text left : List ℕ) → Read Piece
+no_token text left = if next_is is_quote text then Ok (pieces.Other, left) else lone_sign text
+
+abbrev pub token_piece : (text : List ℕ) → Read Lexeme → Read Piece
+token_piece text (Ok t) = Ok (piece_of t.0, t.1)
+token_piece text (Err left) = no_token text left
+
 unfoldable pub piece : Reader Piece
-piece = choice (starts (codes "/*")) (mapped (λ u. pieces.Other) comment) (choice (can_read token) (mapped piece_of token) lone_sign)
+piece = choice (starts (codes "/*")) (mapped (λ u. pieces.Other) comment) (λ text. token_piece text (token text))
 
 -- ---- how they nest
 

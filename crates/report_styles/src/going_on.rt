@@ -1,8 +1,12 @@
 //! Where to go on behind what is refused (CSS Syntax 3, 2.2 and 5.4). Here, other than there, any closing bracket closes
 //! any bracket, and at the top level a `}` that closes nothing ends the rule.
 
-ghost use Rattle.std.specs.Prelude.{◌≡◌, ◌<◌, ◌≤◌, length, option_map, IfOk, IfSome};
-ghost use Rattle.reading.specs.Readers.{Answers};
+ghost use Rattle.std.specs.Prelude.{◌≡◌, ◌<◌, ◌≤◌, length, option_map, true, Err, IfOk, IfSome};
+ghost use Rattle.reading.specs.Cuts.{EndsWith};
+ghost use Rattle.reading.specs.Readers.{Answers, next_is};
+ghost use Rattle.css_tokens.specs.Characters.{is_quote};
+ghost use Rattle.css_tokens.specs.Cuts.{BeginsInAscii};
+ghost use Rattle.css_tokens.specs.Lexing.{token};
 ghost use Rattle.css_tokens.specs.Tokens.{lexeme_of};
 ghost use Rattle.report_styles.specs.GoingOn as readers;
 ghost use Rattle.report_styles.specs.GoingOn.{IsBehind};
@@ -158,8 +162,49 @@ fn next_piece(text: &str) -> Result<(Piece, &str), &[u8]>
     }
     match next_token(text) {
         Ok((token, rest)) => Ok((piece_of(token), rest)),
-        Err(_) => lone_sign(text),
+        Err(left) => no_token(text, left),
     }
+}
+
+/// A string that isn't closed, which is one piece, or else a byte. `left` is where the reading of a token stopped.
+fn no_token<'a>(text: &'a str, left: &'a [u8]) -> Result<(Piece, &'a str), &'a [u8]>
+    requires { token text.now ≡ Err left.now }
+    ensures read { Answers (λ p. (p.0, p.1.now)) result (readers.no_token text.now left.now) }
+    ensures shorter { IfOk result (λ p. length p.1.now < length text.now) }
+{
+    if quote_ahead(text) {
+        Ok((Piece::Other, behind_open_string(text, left)))
+    } else {
+        lone_sign(text)
+    }
+}
+
+fn quote_ahead(text: &str) -> bool
+    ensures { result ≡ next_is is_quote text.now }
+{
+    match first(text) {
+        Some((byte, _)) => byte == b'"' || byte == b'\'',
+        None => false,
+    }
+}
+
+#[tactic(auto, using(crate::proofs::OpenStrings::open_string_ends, crate::proofs::OpenStrings::open_string_in_ascii, crate::proofs::OpenStrings::open_string_shorter))]
+fn behind_open_string<'a>(text: &'a str, left: &[u8]) -> &'a str
+    requires quote { next_is is_quote text.now ≡ true }
+    requires stopped { token text.now ≡ Err left.now }
+    ensures left { result.now ≡ left.now }
+    ensures shorter { length result.now < length text.now }
+{
+    end_of(text, left)
+}
+
+// The bytes with which the text ends, as a text.
+fn end_of<'a>(text: &'a str, bytes: &[u8]) -> &'a str
+    requires ends { EndsWith text.now bytes.now }
+    requires ascii { BeginsInAscii bytes.now }
+    ensures { result.now ≡ bytes.now }
+{
+    text.split_at(text.len() - bytes.len()).1
 }
 
 fn piece_of(token: Token<'_>) -> Piece
