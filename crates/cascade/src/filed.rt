@@ -30,8 +30,6 @@ const BYTES: usize = 32;
 pub(crate) struct Filed {
     pub(crate) rules: Rules,
     pub(crate) shelves: Shelves,
-    // What all rules come to, each with its declarations.
-    weight: usize,
 
     ghost are_shelved: { AreShelved shelves rules.items (length rules.items) },
 }
@@ -42,12 +40,7 @@ impl Filed {
         ensures { IfOk result (λ filed. filed.rules ≡ rules) }
     {
         let shelves = Shelves::of(alloc, &rules)?;
-        let weight = weight_of(&rules);
-        Ok(Filed {
-            rules,
-            shelves,
-            weight,
-        })
+        Ok(Filed { rules, shelves })
     }
 
     /// The declarations of all rules that match the first of the line. Those of a rule may stand there more than once.
@@ -225,16 +218,17 @@ impl Filed {
     }
 
     /// Whether what is found for a line takes less than to try all rules. A name that stands at many elements of the line,
-    /// or many times at one, finds its rules each time. Takes no more steps than there are rules, and a few.
+    /// or many times at one, finds its rules each time. Where these and their declarations are more than there are rules, to try
+    /// all takes little more. Takes no more steps than there are rules, and a few.
     pub(crate) fn finds_fewer(&self, line: &[&Node]) -> bool {
         let most = FEW.max(self.rules.len() / TRIED);
         let cost = cost_of(line, most);
         cost <= FEW || (cost <= most && self.left_of(line) > 0)
     }
 
-    // What is left of the weight of all rules when those that are found for the line are taken from it.
+    // What is left of the count of all rules when the weight of those that are found for the line is taken from it.
     fn left_of(&self, line: &[&Node]) -> usize {
-        let mut left = self.weight;
+        let mut left = self.rules.len();
         for node in line {
             left = self.left_behind(left, &node.kind);
         }
@@ -267,7 +261,7 @@ impl Filed {
         left
     }
 
-    // The rest of a weight without the rules at these places.
+    // What is left without the rules at these places.
     fn without(&self, left: usize, places: &[usize]) -> usize {
         let mut left = left;
         for place in places {
@@ -285,14 +279,6 @@ impl Filed {
 // A rule counts as one more than its declarations.
 fn weight(rule: &Rule) -> usize {
     rule.declarations.len().saturating_add(1)
-}
-
-fn weight_of(rules: &[Rule]) -> usize {
-    let mut sum: usize = 0;
-    for rule in rules {
-        sum = sum.saturating_add(weight(rule));
-    }
-    sum
 }
 
 // What it costs to look up the ids and the classes of the elements of a line. No more are counted once it is above `most`.
