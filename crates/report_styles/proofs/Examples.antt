@@ -1,5 +1,5 @@
 -- Some texts and documents, told by computation. Where a theorem has the lines, they are what the program writes.
-use Rattle.std.specs.Prelude.{◌≡◌, true, false, [], ◌∷◌, codes, Some, None, refl}
+use Rattle.std.specs.Prelude.{◌≡◌, true, false, [], ◌∷◌, codes, Some, None, Err, refl}
 use Rattle.std.specs.Fmt.{digits}
 use Rattle.reading.specs.Readers.{strip, starts, one_of, run_of, skip, until, up_to, after, joined, turns, repeat, many, strip_either_case}
 use Rattle.reading.specs.White.{white, spaces}
@@ -11,15 +11,18 @@ use Rattle.css_values.specs.Longhand.{single, face_number, entries, first_face, 
 use Rattle.css_values.specs.Border.{pieces}
 use Rattle.css_values.specs.Shorthand.{each, shorthand}
 use Rattle.css_values.specs.Value.{value, ends_important}
+use Rattle.css_values.specs.declared.error.Refusal.TheVariants as refusal
+use Rattle.css_values.specs.Declarations as css
 use Rattle.css_values.specs.Declarations.{property_name, stated, declaration}
 use Rattle.css_values.specs.Reports.{next}
 use Rattle.css_sheet.specs.Selector.{selector_name, type_name, compound, selector}
-use Rattle.css_sheet.specs.Sheet.{heads}
+use Rattle.css_sheet.specs.Sheet.{heads, sheet}
+use Rattle.css_sheet.specs.Styled.{styling, sheets, attributes}
 use Rattle.html_tokens.specs.declared.tag.Tag.TheVariants as tags
 use Rattle.html_read.specs.Values as kinds
 use Rattle.report_styles.specs.GoingOn.{piece, seek, behind_declaration, behind_rule}
 use Rattle.report_styles.specs.Lines.{lines}
-use Rattle.report_styles.specs.Told.{declarations, rules, with_sheet, with_attribute, told_of_document}
+use Rattle.report_styles.specs.Told.{refused, declarations, rules, with_sheet, with_attribute, with_limits, told_of_document}
 
 a_semicolon_in_brackets : behind_declaration true (codes "a f(;) [;] {;};b:c") ≡ Some (codes "b:c")
 unfolding strip starts one_of run_of skip until up_to after joined turns repeat many strip_either_case white spaces comment gap name_ahead name hash_ahead hash string_piece string numeric named sign_token token sign point number_ahead decimals number is_refused is_unsupported meaning expanded properties shorthands keywords widths refusals colours resets single face_number entries first_face family longhand pieces each shorthand value ends_important property_name stated declaration next selector_name type_name compound selector heads piece seek behind_declaration behind_rule declarations rules told_of_document digits
@@ -106,5 +109,14 @@ unfolding strip starts one_of run_of skip until up_to after joined turns repeat 
 a_refusal_in_an_attribute = refl
 
 the_sheets_come_first : lines (told_of_document (record { nodes = record { parent = None; kind = kinds.element tags.P (record { id = None; classes = []; dir = None; style = Some (record { text = codes "a:b"; place = 9 }) }) } ∷ []; sheets = record { text = codes "p{c:d}"; place = 3 } ∷ []; length = 99 })) ≡ codes "UnknownName 5 c\nUnknownName 9 a\n"
-unfolding strip starts one_of run_of skip until up_to after joined turns repeat many strip_either_case white spaces comment gap name_ahead name hash_ahead hash string_piece string numeric named sign_token token sign point number_ahead decimals number is_refused is_unsupported meaning expanded properties shorthands keywords widths refusals colours resets single face_number entries first_face family longhand pieces each shorthand value ends_important property_name stated declaration next selector_name type_name compound selector heads piece seek behind_declaration behind_rule declarations rules told_of_document digits
+unfolding strip starts one_of run_of skip until up_to after joined turns repeat many strip_either_case white spaces comment gap name_ahead name hash_ahead hash string_piece string numeric named sign_token token sign point number_ahead decimals number is_refused is_unsupported meaning expanded properties shorthands keywords widths refusals colours resets single face_number entries first_face family longhand pieces each shorthand value ends_important property_name stated declaration next selector_name type_name compound selector heads piece seek behind_declaration behind_rule declarations rules styling sheets attributes sheet css.declarations told_of_document digits
 the_sheets_come_first = refl
+
+too_many_rules_are_told : with_limits (Err (refusal.TooManyRules, 7)) [] ≡ refused refusal.TooManyRules 7 ∷ []
+too_many_rules_are_told = refl
+
+too_many_rules_are_told_once : with_limits (Err (refusal.TooManyRules, 7)) (refused refusal.TooManyRules 5 ∷ []) ≡ refused refusal.TooManyRules 5 ∷ []
+too_many_rules_are_told_once = refl
+
+another_refusal_of_reading_was_told : with_limits (Err (refusal.CssSyntax, 7)) [] ≡ []
+another_refusal_of_reading_was_told = refl

@@ -1,10 +1,13 @@
--- The sheets and the nodes of a document, one after the other.
-use Rattle.std.proofs.Common.{◌≡◌, ℕ, ◌<◌, ◌≤◌, ◌+◌, List, [], length, drop, get_or, sym, ap, ◌∙◌}
+-- The sheets and the nodes of a document, one after the other, and what is told of them.
+use Rattle.std.proofs.Common.{◌≡◌, ℕ, ◌<◌, ◌≤◌, ◌+◌, Bool, ◌||◌, List, [], ◌∷◌, length, drop, get_or, refl, sym, ap, ◌∙◌}
+use Rattle.std.specs.List.{list_any}
 use Rattle.std.proofs.lemmas.List.{drop_all, drop_more}
 use Rattle.html_read.specs.declared.node.PlacedText.{PlacedText}
 use Rattle.html_read.specs.declared.node.ReadNode.{ReadNode}
 use Rattle.html_read.specs.Values.{kind_of, nodes_of, sheets_of, text_at}
-use Rattle.report_styles.specs.Told.{Told, with_kind, with_nodes, with_sheet, with_sheets}
+use Rattle.report_styles.specs.Told.{Told, is_limit, with_kind, with_nodes, with_sheet, with_sheets}
+use Rattle.report_styles.specs.Views.{all_of, told_of}
+use Rattle.report_styles.specs.declared.telling.Told as code
 
 -- what is told with the sheets that are left is what is told with all of them
 abbrev pub AreTelling : (begun : List Told) → (sheets : List PlacedText) → (i : ℕ) → (now : List Told) → Type 0
@@ -33,3 +36,8 @@ pub nodes_end : (begun now : List Told) (nodes : List ReadNode) (i : ℕ) → le
 nodes_end begun now nodes i le is =
     let none : drop i nodes ≡ [] = drop_all i nodes le in
     ap (λ (l : List ReadNode). with_nodes now (nodes_of l)) (sym none) ∙ is
+
+-- whether one of them tells of a limit
+pub limits_are : (told : List code.Told) → list_any (λ one. is_limit (told_of one)) told ≡ list_any is_limit (all_of told)
+limits_are [] = refl
+limits_are (one ∷ told) = ap (λ (b : Bool). is_limit (told_of one) || b) (limits_are told)

@@ -1,11 +1,14 @@
 -- What is told of a document: what becomes of each declaration of its sheets and then of its style attributes, and what
--- is refused. Behind a refusal it goes on. A reader here is given what was told before, and gives it with what it tells;
+-- is refused; at last, where reading refuses it so, that its sheets have too many rules or declarations. Behind a refusal
+-- it goes on. A reader here is given what was told before, and gives it with what it tells;
 -- where a refusal takes all the rest, it stops with what was told.
-use Rattle.std.specs.Prelude.{ℕ, Bool, true, false, not, ◌||◌, List, [], ◌∷◌, ◌++◌, codes, length, Option, Some, None, unwrap_or, Ok, Err}
+use Rattle.std.specs.Prelude.{ℕ, Bool, true, false, not, ◌||◌, List, [], ◌∷◌, ◌++◌, codes, if◌then◌else◌, length, Option, Some, None, unwrap_or, Ok, Err}
+use Rattle.std.specs.List.{list_any}
 use Rattle.reading.specs.Readers.{ReadOr, ReaderOr, Read, follow, repeat, strip}
 use Rattle.reading.specs.Stop.{place_before, end_of}
 use Rattle.css_tokens.specs.Lexing.{gap}
 use Rattle.css_values.specs.declared.error.Refusal.{Refusal}
+use Rattle.css_values.specs.declared.error.Refusal.TheVariants as kinds
 use Rattle.css_values.specs.declared.within.Within.{Within}
 use Rattle.css_values.specs.declared.within.Within.TheVariants as within_
 use Rattle.css_values.specs.Declarations.{list_ends}
@@ -13,8 +16,9 @@ use Rattle.css_values.specs.Error.{Fault, syntax}
 use Rattle.css_values.specs.Reports as reports
 use Rattle.css_values.specs.Reports.{Reported}
 use Rattle.css_values.specs.Value.{no_items}
-use Rattle.style_types.specs.Rule.{Compound}
+use Rattle.style_types.specs.Rule.{Compound, Styling}
 use Rattle.css_sheet.specs.Sheet.{heads}
+use Rattle.css_sheet.specs.Styled.{Placed, styling}
 use Rattle.html_read.specs.Values.{TextAt, Acting, Kind, Node, Whole}
 use Rattle.html_read.specs.Values as values
 use Rattle.report_styles.specs.declared.telling.Places.{Places}
@@ -88,13 +92,18 @@ declarations within places told = follow (past_gap places told) (repeat (has_dec
 
 -- ---- rules
 
-abbrev pub block : Places → (selectors : ℕ) → Teller
-block places selectors told = follow (declarations (within_.Rule selectors 0) places told) (past_block_end places)
+-- the counts of its selectors and of the declarations before it play no part
+abbrev pub in_block : Within
+in_block = within_.Rule 0 0
+
+abbrev pub block : Places → Teller
+block places told = follow (declarations in_block places told) (past_block_end places)
 
 abbrev pub rule_by : Places → List Told → (text : List ℕ) → ReadOr Fault (List (List Compound)) → Telling
-rule_by places told text (Ok h) = block places (length h.0) told h.1
+rule_by places told text (Ok h) = block places told h.1
 rule_by places told text (Err fault) = goes_on_at (with_refusal places told fault) (behind_rule text)
 
+-- no rule before it counts
 abbrev pub rule : Places → Teller
 rule places told text = rule_by places told text (heads 0 text)
 
@@ -108,7 +117,7 @@ has_rule told text = not (no_items text)
 unfoldable pub rules : Places → Teller
 rules places told = follow (past_gap places told) (repeat has_rule (rule_turn places))
 
--- ---- a document
+-- ---- the sheets and the attributes
 
 abbrev pub all_told : Telling → List Told
 all_told (Ok r) = r.0
@@ -142,5 +151,26 @@ abbrev pub with_nodes : List Told → List Node → List Told
 with_nodes told [] = told
 with_nodes told (node ∷ nodes) = with_nodes (with_kind told node.kind) nodes
 
+-- ---- the limits
+
+abbrev pub is_limit : Told → Bool
+is_limit (judged what) = false
+is_limit (refused kinds.TooManyRules place) = true
+is_limit (refused kind place) = false
+
+abbrev pub with_limit : List Told → Refusal → (place : ℕ) → List Told
+with_limit told kinds.TooManyRules place = told ++ refused kinds.TooManyRules place ∷ []
+with_limit told kind place = told
+
+abbrev pub with_read : List Told → Placed Styling → List Told
+with_read told (Ok styles) = told
+with_read told (Err fault) = with_limit told fault.0 fault.1
+
+-- where a rule with too many selectors was told, it isn't told again
+abbrev pub with_limits : Placed Styling → List Told → List Told
+with_limits read told = if list_any is_limit told then told else with_read told read
+
+-- ---- a document
+
 unfoldable pub told_of_document : Whole → List Told
-told_of_document document = with_nodes (with_sheets [] document.sheets) document.nodes
+told_of_document document = with_limits (styling document) (with_nodes (with_sheets [] document.sheets) document.nodes)

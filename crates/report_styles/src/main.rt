@@ -13,7 +13,8 @@
 //! - `unread: REASON`: the input could not be read.
 //!
 //! The sheets come first, then the attributes, each in the order of the document. In an attribute the place is that of
-//! the attribute's name.
+//! the attribute's name. Last comes `refused TooManyRules PLACE`, where reading stops for that: what else is refused
+//! before that place has to be mended first.
 #![tactic(auto)]
 
 mod going_on;

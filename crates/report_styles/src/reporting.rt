@@ -1,23 +1,25 @@
 //! The declarations of a document, one after the other.
 
 ghost use Rattle.std.specs.Prelude.{◌≡◌, ◌<◌, ◌≤◌, [], List, length, IfOk, OnOk};
+ghost use Rattle.std.specs.List.{list_any};
 ghost use Rattle.reading.specs.Readers.{repeat};
+ghost use Rattle.css_sheet.specs.Styled.{styling};
 ghost use Rattle.html_read.specs.Values.{kind_of, nodes_of, sheets_of, text_at, whole_of};
 ghost use Rattle.report_styles.specs.GoingOn.{behind_declaration};
 ghost use Rattle.report_styles.specs.Told as readers;
 ghost use Rattle.report_styles.specs.Told.{Telling};
-ghost use Rattle.report_styles.specs.Views.{all_of, Goes};
+ghost use Rattle.report_styles.specs.Views.{all_of, Goes, told_of};
 
 use crate::going_on::{behind_declaration, behind_rule};
 use crate::telling::{Halt, Places, Told, tell, tell_refusal};
-use css_sheet::rule_heads;
+use css_sheet::{read_styled, rule_heads};
 use css_tokens::gap;
-use css_values::{Refusal, Stop, Within, list_ends, next_report};
+use css_values::{CssError, Refusal, Stop, Within, list_ends, next_report};
 use html_read::{PlacedText, ReadDocument, ReadKind, ReadNode};
 use reading::strip;
 use std::alloc::{AllocError, Global};
 
-/// What is told of the sheets of a document, and then of its style attributes.
+/// What is told of the sheets of a document, then of its style attributes, and then of its limits.
 #[tactic(auto, unfolding(crate::specs::Told::told_of_document))]
 pub(crate) fn told_of(alloc: Global, document: &ReadDocument) -> Result<Vec<Told<'_>>, AllocError>
     ensures told { IfOk result (λ told. all_of told.items ≡ readers.told_of_document (whole_of document.now)) }
@@ -25,7 +27,53 @@ pub(crate) fn told_of(alloc: Global, document: &ReadDocument) -> Result<Vec<Told
     let mut told = Vec::new(alloc);
     tell_sheets(alloc, &document.sheets, &mut told)?;
     tell_nodes(alloc, &document.nodes, &mut told)?;
+    tell_limits(alloc, document, &mut told)?;
     Ok(told)
+}
+
+// That reading refuses the document for how many rules or declarations its sheets have is told once.
+fn tell_limits(
+    alloc: Global,
+    document: &ReadDocument,
+    told: &mut Vec<Told<'_>>,
+) -> Result<(), AllocError>
+    ensures { OnOk result (all_of told.new.items ≡ readers.with_limits (styling (whole_of document.now)) (all_of told.old.items)) }
+{
+    if is_limit_told(told) {
+        return Ok(());
+    }
+    match read_styled(alloc, document) {
+        Ok(_) => Ok(()),
+        Err(CssError::Refused { kind, place }) => tell_limit(kind, place, told),
+        Err(CssError::Memory) => Err(AllocError),
+    }
+}
+
+fn is_limit_told(told: &[Told<'_>]) -> bool
+    ensures { result ≡ list_any readers.is_limit (all_of told.now) }
+{
+    told.iter().any(|one| is_limit(one))
+}
+
+fn is_limit(told: &Told<'_>) -> bool
+    ensures { result ≡ readers.is_limit (told_of told.now) }
+{
+    match told {
+        Told::Judged(_) => false,
+        Told::Refused { kind, .. } => matches!(kind, Refusal::TooManyRules),
+    }
+}
+
+fn tell_limit(kind: Refusal, place: usize, told: &mut Vec<Told<'_>>) -> Result<(), AllocError>
+    ensures { OnOk result (all_of told.new.items ≡ readers.with_limit (all_of told.old.items) kind place) }
+{
+    match kind {
+        Refusal::TooManyRules => {
+            told.push(Told::Refused { kind, place })?;
+            Ok(())
+        }
+        Refusal::CssSyntax | Refusal::Unsupported => Ok(()),
+    }
 }
 
 #[tactic(auto, using(crate::proofs::Walking::sheets_go_on, crate::proofs::Walking::sheets_end))]
@@ -173,7 +221,7 @@ fn rule<'a>(
     ensures shorter { IfOk result (λ rest. length rest.now < length text.now) }
 {
     match rule_heads(alloc, 0, text) {
-        Ok((selectors, rest)) => block(alloc, places, selectors.len(), rest, told),
+        Ok((_, rest)) => block(alloc, places, rest, told),
         Err(Stop::Refused(kind, left)) => {
             tell_refusal(places, kind, left, told)?;
             behind_rule(text).ok_or(Halt::End)
@@ -187,15 +235,15 @@ fn rule<'a>(
 fn block<'a>(
     alloc: Global,
     places: Places,
-    selectors: usize,
     text: &'a str,
     told: &mut Vec<Told<'a>>,
 ) -> Result<&'a str, Halt>
-    ensures read { Goes result (all_of told.new.items) (readers.block places selectors (all_of told.old.items) text.now) }
+    ensures read { Goes result (all_of told.new.items) (readers.block places (all_of told.old.items) text.now) }
     ensures shorter { IfOk result (λ rest. length rest.now < length text.now) }
 {
+    // What is reported doesn't hang on these counts.
     let within = Within::Rule {
-        selectors,
+        selectors: 0,
         before: 0,
     };
     let rest = declarations(alloc, within, places, text, told)?;
