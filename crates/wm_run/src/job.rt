@@ -31,6 +31,7 @@ use wm_units::{Steps, View};
 ///
 /// The faces are one to eight, by numbers from 0 in the order of the list. The run owns them, and drops them when
 /// it ends. `prepared` counts paragraphs whose text is prepared, `arranged` lists of lines and of blocks that are put down.
+/// Both have no bytes when the program runs, and no clause says how much they count.
 pub fn run<S: Source, K: Sink, L: Ledger, M: Ledger>(
     alloc: Global,
     words: &Words,
