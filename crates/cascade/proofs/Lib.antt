@@ -15,6 +15,7 @@ pub mod SameClaims
 mod GreatestLaws
 pub mod SaidWinners
 pub mod Shelving
+pub mod Unnamed
 mod UpperNames
 pub mod Filing
 pub mod Candidates

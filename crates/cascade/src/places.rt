@@ -24,9 +24,14 @@ impl Places {
     }
 
     /// The places under a name, in the order in which they were put.
+    #[tactic(auto, using(crate::proofs::Unnamed::none_under))]
     pub(crate) fn under(&self, name: &str) -> &[usize]
         ensures { result.now ≡ places_under self.now name.now }
     {
+        // What has none, as most have for the default sheet, hashes no name.
+        if self.under.is_empty() {
+            return &[];
+        }
         match self.under.get(name) {
             Some(places) => places,
             None => &[],
