@@ -5,12 +5,10 @@ use Rattle.reading.specs.Readers.{ReadOr}
 use Rattle.html_tokens.specs.Error.{Fault, kind_word}
 use Rattle.html_read.specs.Error.{place_in}
 use Rattle.html_read.specs.Places.{placed_input}
+use Rattle.report_lines.specs.Lines.{refused_line}
 
 abbrev pub line : (place : ℕ) → List ℕ
 line place = decimal place ++ codes "\n"
-
-abbrev pub refused_line : (word : List ℕ) → (place : ℕ) → List ℕ
-refused_line word place = codes "refused " ++ word ++ codes " " ++ decimal place ++ codes "\n"
 
 -- what is written for an input of this size that was read so
 abbrev pub lines_by : (size : ℕ) → ReadOr Fault (List ℕ) → List ℕ

@@ -22,10 +22,3 @@ fn write_place<W: Write>(place: usize, output: &mut W) -> io::Result<()>
 {
     writeln!(output, "{place}")
 }
-
-/// Writes the line of a refusal.
-pub(crate) fn write_refused<W: Write>(word: &str, place: usize, output: &mut W) -> io::Result<()>
-    ensures { OnOk result (Appends (W.contents output.old) (W.contents output.new) (spec.refused_line word.now place)) }
-{
-    writeln!(output, "refused {word} {place}")
-}

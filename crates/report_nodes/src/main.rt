@@ -15,27 +15,28 @@ ghost use Rattle.std.specs.Io.KnownBytes.{Appends};
 ghost use Rattle.report_nodes.specs.Lines.{report_of};
 
 use html_read::{HtmlError, node_places};
-use io_edge::{StdSource, read_all};
-use lines::{write_places, write_refused};
+use lines::write_places;
+use report_lines::{Report, run, write_refused};
 use std::alloc::Global;
 use std::io;
-use std::io::{BufWriter, Write};
-
-/// How many bytes a document may have.
-const GREATEST_LENGTH: usize = 1_048_576;
+use std::io::Write;
 
 fn main(rt: HostRuntime) -> io::Result<()> {
-    let mut output = BufWriter::new(rt.alloc(), io::writer(&rt))?;
-    let mut source = StdSource::new(rt.reader());
-    match read_all(rt.alloc(), &mut source, GREATEST_LENGTH) {
-        Ok(bytes) => report(rt.alloc(), bytes.as_slice(), &mut output)?,
-        Err(error) => writeln!(output, "unread: {error}")?,
-    }
-    output.flush()
+    run(&rt, &Nodes)
 }
 
-/// Writes the places of the nodes of the document that the bytes begin with, or the line of its refusal. An error comes of
-/// writing, or of want of memory.
+/// The places of the nodes of a document.
+struct Nodes;
+
+impl Report for Nodes {
+    ghost due = { λ _. report_of };
+
+    fn write<W: Write>(&self, alloc: Global, bytes: &[u8], output: &mut W) -> io::Result<()> {
+        report(alloc, bytes, output)
+    }
+}
+
+/// Writes the places of the nodes of the document that the bytes begin with, or the line of its refusal.
 #[tactic(auto, unfolding(crate::specs::Lines::report_of))]
 fn report<W: Write>(alloc: Global, bytes: &[u8], output: &mut W) -> io::Result<()>
     ensures { OnOk result (Appends (W.contents output.old) (W.contents output.new) (report_of bytes.now)) }

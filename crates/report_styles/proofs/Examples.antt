@@ -1,5 +1,5 @@
 -- Some texts and documents, told by computation. Where a theorem has the lines, they are what the program writes.
-use Rattle.std.specs.Prelude.{◌≡◌, true, false, [], ◌∷◌, codes, Some, None, Err, refl}
+use Rattle.std.specs.Prelude.{◌≡◌, true, false, [], ◌∷◌, codes, Some, None, Err, flat_map, refl}
 use Rattle.std.specs.Fmt.{digits}
 use Rattle.reading.specs.Readers.{strip, starts, one_of, run_of, skip, until, up_to, after, joined, turns, repeat, many, strip_either_case}
 use Rattle.reading.specs.White.{white, spaces}
@@ -21,7 +21,7 @@ use Rattle.css_sheet.specs.Styled.{styling, sheets, attributes}
 use Rattle.html_tokens.specs.declared.tag.Tag.TheVariants as tags
 use Rattle.html_read.specs.Values as kinds
 use Rattle.report_styles.specs.GoingOn.{piece, seek, behind_declaration, behind_rule}
-use Rattle.report_styles.specs.Lines.{lines}
+use Rattle.report_styles.specs.Lines.{line}
 use Rattle.report_styles.specs.Told.{refused, declarations, rules, with_sheet, with_attribute, with_limits, told_of_document}
 
 a_semicolon_in_brackets : behind_declaration true (codes "a f(;) [;] {;};b:c") ≡ Some (codes "b:c")
@@ -72,43 +72,43 @@ a_semicolon_before_a_block : behind_rule (codes "p:hover; q { } r") ≡ Some (co
 unfolding strip starts one_of run_of skip until up_to after joined turns repeat many strip_either_case white spaces comment gap name_ahead name hash_ahead hash string_piece string numeric named sign_token token sign point number_ahead decimals number is_refused is_unsupported meaning expanded properties shorthands keywords widths refusals colours resets single face_number entries first_face family longhand pieces each shorthand value ends_important property_name stated declaration next selector_name type_name compound selector heads piece seek behind_declaration behind_rule declarations rules told_of_document digits
 a_semicolon_before_a_block = refl
 
-kept_and_dropped : lines (with_sheet [] (record { text = codes "p { color: red; width: 10px; margin: 1 2 }"; place = 19 })) ≡ codes "UnknownName 23 color\nKept 35 width\nInvalidValue 48 margin\n"
+kept_and_dropped : flat_map line (with_sheet [] (record { text = codes "p { color: red; width: 10px; margin: 1 2 }"; place = 19 })) ≡ codes "UnknownName 23 color\nKept 35 width\nInvalidValue 48 margin\n"
 unfolding strip starts one_of run_of skip until up_to after joined turns repeat many strip_either_case white spaces comment gap name_ahead name hash_ahead hash string_piece string numeric named sign_token token sign point number_ahead decimals number is_refused is_unsupported meaning expanded properties shorthands keywords widths refusals colours resets single face_number entries first_face family longhand pieces each shorthand value ends_important property_name stated declaration next selector_name type_name compound selector heads piece seek behind_declaration behind_rule declarations rules told_of_document digits
 kept_and_dropped = refl
 
-behind_a_selector : lines (with_sheet [] (record { text = codes "p:hover { height: 3px } b { float: left; ; height: 5em }"; place = 19 })) ≡ codes "refused Unsupported 20\nUnsupported 47 float\nKept 62 height\n"
+behind_a_selector : flat_map line (with_sheet [] (record { text = codes "p:hover { height: 3px } b { float: left; ; height: 5em }"; place = 19 })) ≡ codes "refused Unsupported 20\nUnsupported 47 float\nKept 62 height\n"
 unfolding strip starts one_of run_of skip until up_to after joined turns repeat many strip_either_case white spaces comment gap name_ahead name hash_ahead hash string_piece string numeric named sign_token token sign point number_ahead decimals number is_refused is_unsupported meaning expanded properties shorthands keywords widths refusals colours resets single face_number entries first_face family longhand pieces each shorthand value ends_important property_name stated declaration next selector_name type_name compound selector heads piece seek behind_declaration behind_rule declarations rules told_of_document digits
 behind_a_selector = refl
 
-an_at_rule_in_a_rule : lines (with_sheet [] (record { text = codes "p { @x y;width: 0 } q"; place = 19 })) ≡ codes "refused Unsupported 23\nKept 28 width\nrefused CssSyntax 40\n"
+an_at_rule_in_a_rule : flat_map line (with_sheet [] (record { text = codes "p { @x y;width: 0 } q"; place = 19 })) ≡ codes "refused Unsupported 23\nKept 28 width\nrefused CssSyntax 40\n"
 unfolding strip starts one_of run_of skip until up_to after joined turns repeat many strip_either_case white spaces comment gap name_ahead name hash_ahead hash string_piece string numeric named sign_token token sign point number_ahead decimals number is_refused is_unsupported meaning expanded properties shorthands keywords widths refusals colours resets single face_number entries first_face family longhand pieces each shorthand value ends_important property_name stated declaration next selector_name type_name compound selector heads piece seek behind_declaration behind_rule declarations rules told_of_document digits
 an_at_rule_in_a_rule = refl
 
-behind_the_block_of_an_at_rule : lines (with_sheet [] (record { text = codes "a{@x{} height:1px; width:2px}"; place = 19 })) ≡ codes "refused Unsupported 21\nKept 26 height\nKept 38 width\n"
+behind_the_block_of_an_at_rule : flat_map line (with_sheet [] (record { text = codes "a{@x{} height:1px; width:2px}"; place = 19 })) ≡ codes "refused Unsupported 21\nKept 26 height\nKept 38 width\n"
 unfolding strip starts one_of run_of skip until up_to after joined turns repeat many strip_either_case white spaces comment gap name_ahead name hash_ahead hash string_piece string numeric named sign_token token sign point number_ahead decimals number is_refused is_unsupported meaning expanded properties shorthands keywords widths refusals colours resets single face_number entries first_face family longhand pieces each shorthand value ends_important property_name stated declaration next selector_name type_name compound selector heads piece seek behind_declaration behind_rule declarations rules told_of_document digits
 behind_the_block_of_an_at_rule = refl
 
-a_comment_is_open : lines (with_sheet [] (record { text = codes "p { width: 0 } /* x"; place = 19 })) ≡ codes "Kept 23 width\nrefused CssSyntax 38\n"
+a_comment_is_open : flat_map line (with_sheet [] (record { text = codes "p { width: 0 } /* x"; place = 19 })) ≡ codes "Kept 23 width\nrefused CssSyntax 38\n"
 unfolding strip starts one_of run_of skip until up_to after joined turns repeat many strip_either_case white spaces comment gap name_ahead name hash_ahead hash string_piece string numeric named sign_token token sign point number_ahead decimals number is_refused is_unsupported meaning expanded properties shorthands keywords widths refusals colours resets single face_number entries first_face family longhand pieces each shorthand value ends_important property_name stated declaration next selector_name type_name compound selector heads piece seek behind_declaration behind_rule declarations rules told_of_document digits
 a_comment_is_open = refl
 
-a_block_is_open : lines (with_sheet [] (record { text = codes "p { height: auto"; place = 19 })) ≡ codes "refused CssSyntax 35\n"
+a_block_is_open : flat_map line (with_sheet [] (record { text = codes "p { height: auto"; place = 19 })) ≡ codes "refused CssSyntax 35\n"
 unfolding strip starts one_of run_of skip until up_to after joined turns repeat many strip_either_case white spaces comment gap name_ahead name hash_ahead hash string_piece string numeric named sign_token token sign point number_ahead decimals number is_refused is_unsupported meaning expanded properties shorthands keywords widths refusals colours resets single face_number entries first_face family longhand pieces each shorthand value ends_important property_name stated declaration next selector_name type_name compound selector heads piece seek behind_declaration behind_rule declarations rules told_of_document digits
 a_block_is_open = refl
 
-a_declaration_stops : lines (with_sheet [] (record { text = codes "p { width ) 1px; a:b} i {}"; place = 19 })) ≡ codes "refused CssSyntax 29\nUnknownName 36 a\n"
+a_declaration_stops : flat_map line (with_sheet [] (record { text = codes "p { width ) 1px; a:b} i {}"; place = 19 })) ≡ codes "refused CssSyntax 29\nUnknownName 36 a\n"
 unfolding strip starts one_of run_of skip until up_to after joined turns repeat many strip_either_case white spaces comment gap name_ahead name hash_ahead hash string_piece string numeric named sign_token token sign point number_ahead decimals number is_refused is_unsupported meaning expanded properties shorthands keywords widths refusals colours resets single face_number entries first_face family longhand pieces each shorthand value ends_important property_name stated declaration next selector_name type_name compound selector heads piece seek behind_declaration behind_rule declarations rules told_of_document digits
 a_declaration_stops = refl
 
-told_at_its_place : lines (with_attribute [] (record { text = codes "width: 3px; widht: 4px"; place = 15 })) ≡ codes "Kept 15 width\nUnknownName 15 widht\n"
+told_at_its_place : flat_map line (with_attribute [] (record { text = codes "width: 3px; widht: 4px"; place = 15 })) ≡ codes "Kept 15 width\nUnknownName 15 widht\n"
 unfolding strip starts one_of run_of skip until up_to after joined turns repeat many strip_either_case white spaces comment gap name_ahead name hash_ahead hash string_piece string numeric named sign_token token sign point number_ahead decimals number is_refused is_unsupported meaning expanded properties shorthands keywords widths refusals colours resets single face_number entries first_face family longhand pieces each shorthand value ends_important property_name stated declaration next selector_name type_name compound selector heads piece seek behind_declaration behind_rule declarations rules told_of_document digits
 told_at_its_place = refl
 
-a_refusal_in_an_attribute : lines (with_attribute [] (record { text = codes "height } 2px;height: 2px"; place = 15 })) ≡ codes "refused CssSyntax 15\nKept 15 height\n"
+a_refusal_in_an_attribute : flat_map line (with_attribute [] (record { text = codes "height } 2px;height: 2px"; place = 15 })) ≡ codes "refused CssSyntax 15\nKept 15 height\n"
 unfolding strip starts one_of run_of skip until up_to after joined turns repeat many strip_either_case white spaces comment gap name_ahead name hash_ahead hash string_piece string numeric named sign_token token sign point number_ahead decimals number is_refused is_unsupported meaning expanded properties shorthands keywords widths refusals colours resets single face_number entries first_face family longhand pieces each shorthand value ends_important property_name stated declaration next selector_name type_name compound selector heads piece seek behind_declaration behind_rule declarations rules told_of_document digits
 a_refusal_in_an_attribute = refl
 
-the_sheets_come_first : lines (told_of_document (record { nodes = record { parent = None; kind = kinds.element tags.P (record { id = None; classes = []; dir = None; style = Some (record { text = codes "a:b"; place = 9 }) }) } ∷ []; sheets = record { text = codes "p{c:d}"; place = 3 } ∷ []; length = 99 })) ≡ codes "UnknownName 5 c\nUnknownName 9 a\n"
+the_sheets_come_first : flat_map line (told_of_document (record { nodes = record { parent = None; kind = kinds.element tags.P (record { id = None; classes = []; dir = None; style = Some (record { text = codes "a:b"; place = 9 }) }) } ∷ []; sheets = record { text = codes "p{c:d}"; place = 3 } ∷ []; length = 99 })) ≡ codes "UnknownName 5 c\nUnknownName 9 a\n"
 unfolding strip starts one_of run_of skip until up_to after joined turns repeat many strip_either_case white spaces comment gap name_ahead name hash_ahead hash string_piece string numeric named sign_token token sign point number_ahead decimals number is_refused is_unsupported meaning expanded properties shorthands keywords widths refusals colours resets single face_number entries first_face family longhand pieces each shorthand value ends_important property_name stated declaration next selector_name type_name compound selector heads piece seek behind_declaration behind_rule declarations rules styling sheets attributes sheet css.declarations told_of_document digits
 the_sheets_come_first = refl
 

@@ -2,6 +2,5 @@ mod OpenStrings
 mod Seeking
 mod Turning
 mod Walking
-mod Joining
 mod Whole
 mod Examples

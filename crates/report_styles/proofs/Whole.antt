@@ -1,5 +1,9 @@
 -- What is written for a document that is read, and for one that is refused.
-use Rattle.std.proofs.Common.{◌≡◌, ℕ, List, length, Ok, Err, refl, subst}
+use Rattle.std.proofs.Common.{◌≡◌, ℕ, List, length, ◌≤◌, Ok, Err, refl, ap, subst, sym, ◌∙◌}
+use Rattle.std.specs.Prelude.{Option, flat_map, take}
+use Rattle.std.specs.Io.KnownBytes.{Appends}
+use Rattle.std.proofs.lemmas.List.Folds.{flat_map-map}
+use Rattle.std.proofs.lemmas.List.{take_all}
 use Rattle.html_tokens.specs.declared.error.Refusal.{Refusal}
 use Rattle.html_tokens.specs.Error.{kind_word}
 use Rattle.html_read.specs.Error.{IsRefused, place_in}
@@ -7,10 +11,18 @@ use Rattle.html_read.specs.declared.error.HtmlError.{HtmlError}
 use Rattle.html_read.specs.declared.error.HtmlError.TheVariants as errors
 use Rattle.html_read.specs.Reading.{input}
 use Rattle.html_read.specs.Values.{Whole}
-use Rattle.report_styles.specs.Lines.{lines, refused_line, report_of}
+use Rattle.report_lines.specs.Lines.{refused_line}
+use Rattle.report_styles.specs.Lines.{line, report_of}
 use Rattle.report_styles.specs.Told.{Told, told_of_document}
+use Rattle.report_styles.specs.Views.{all_of, told_of}
+use Rattle.report_styles.specs.declared.telling.Told as code
 
-pub whole_report : (bytes rest : List ℕ) (whole : Whole) (told : List Told) → input bytes ≡ Ok (whole, rest) → told ≡ told_of_document whole → lines told ≡ report_of bytes
+-- the line of each, once all are taken
+pub all_written : (old new : Option (List ℕ)) (told : List code.Told) (i : ℕ) → length told ≤ i → Appends old new (flat_map (λ one. line (told_of one)) (take i told)) → Appends old new (flat_map line (all_of told))
+all_written old new told i le is =
+    subst (Appends old new) (ap (λ (l : List code.Told). flat_map (λ one. line (told_of one)) l) (take_all i told le) ∙ sym (flat_map-map line told_of told)) is
+
+pub whole_report : (bytes rest : List ℕ) (whole : Whole) (told : List Told) → input bytes ≡ Ok (whole, rest) → told ≡ told_of_document whole → flat_map line told ≡ report_of bytes
 unfolding report_of
 whole_report bytes rest whole told read e = rw (read, e) refl
 

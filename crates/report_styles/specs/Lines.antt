@@ -1,5 +1,5 @@
 -- The lines that are written.
-use Rattle.std.specs.Prelude.{ℕ, List, [], ◌∷◌, ◌++◌, codes, length, Ok, Err}
+use Rattle.std.specs.Prelude.{ℕ, List, ◌++◌, codes, flat_map, length, Ok, Err}
 use Rattle.std.specs.Fmt.{decimal}
 use Rattle.css_values.specs.declared.error.Refusal.{Refusal}
 use Rattle.css_values.specs.declared.error.Refusal.TheVariants as kinds
@@ -10,6 +10,7 @@ use Rattle.html_tokens.specs.Error as html
 use Rattle.html_read.specs.Error.{place_in}
 use Rattle.html_read.specs.Reading.{input}
 use Rattle.html_read.specs.Values.{Whole}
+use Rattle.report_lines.specs.Lines.{refused_line}
 use Rattle.report_styles.specs.Told as told_
 use Rattle.report_styles.specs.Told.{Told, told_of_document}
 
@@ -24,20 +25,13 @@ kind_word kinds.CssSyntax = codes "CssSyntax"
 kind_word kinds.Unsupported = codes "Unsupported"
 kind_word kinds.TooManyRules = codes "TooManyRules"
 
-abbrev pub refused_line : (word : List ℕ) → (place : ℕ) → List ℕ
-refused_line word place = codes "refused " ++ word ++ codes " " ++ decimal place ++ codes "\n"
-
 abbrev pub line : Told → List ℕ
 line (told_.judged what) = fate_word what.fate ++ codes " " ++ decimal what.place ++ codes " " ++ what.name ++ codes "\n"
 line (told_.refused kind place) = refused_line (kind_word kind) place
 
-abbrev pub lines : List Told → List ℕ
-lines [] = []
-lines (told ∷ more) = line told ++ lines more
-
 -- what is written for an input of this size that was read so
 abbrev pub lines_by : (size : ℕ) → ReadOr html.Fault Whole → List ℕ
-lines_by size (Ok document) = lines (told_of_document document.0)
+lines_by size (Ok document) = flat_map line (told_of_document document.0)
 lines_by size (Err fault) = refused_line (html.kind_word fault.0) (place_in size fault.1)
 
 unfoldable pub report_of : List ℕ → List ℕ

@@ -27,28 +27,29 @@ ghost use Rattle.std.specs.Io.KnownBytes.{Appends};
 ghost use Rattle.report_styles.specs.Lines.{report_of};
 
 use html_read::{HtmlError, read_document};
-use io_edge::{StdSource, read_all};
+use report_lines::{Report, run, write_refused};
 use reporting::told_of;
 use std::alloc::Global;
 use std::io;
-use std::io::{BufWriter, Write};
-use writing::{write_all_told, write_refused};
-
-/// How many bytes a document may have.
-const GREATEST_LENGTH: usize = 1_048_576;
+use std::io::Write;
+use writing::write_all_told;
 
 fn main(rt: HostRuntime) -> io::Result<()> {
-    let mut output = BufWriter::new(rt.alloc(), io::writer(&rt))?;
-    let mut source = StdSource::new(rt.reader());
-    match read_all(rt.alloc(), &mut source, GREATEST_LENGTH) {
-        Ok(bytes) => report(rt.alloc(), bytes.as_slice(), &mut output)?,
-        Err(error) => writeln!(output, "unread: {error}")?,
-    }
-    output.flush()
+    run(&rt, &Styles)
 }
 
-/// Writes what is told of the document that the bytes begin with, or the line of its refusal. An error comes of writing,
-/// or of want of memory.
+/// What becomes of the declarations of a document.
+struct Styles;
+
+impl Report for Styles {
+    ghost due = { λ _. report_of };
+
+    fn write<W: Write>(&self, alloc: Global, bytes: &[u8], output: &mut W) -> io::Result<()> {
+        report(alloc, bytes, output)
+    }
+}
+
+/// Writes what is told of the document that the bytes begin with, or the line of its refusal.
 fn report<W: Write>(alloc: Global, bytes: &[u8], output: &mut W) -> io::Result<()>
     ensures { OnOk result (Appends (W.contents output.old) (W.contents output.new) (report_of bytes.now)) }
 {

@@ -1,19 +1,20 @@
 //! The lines that are written.
 
-ghost use Rattle.std.specs.Prelude.{◌≡◌, OnOk};
+ghost use Rattle.std.specs.Prelude.{◌≡◌, OnOk, flat_map};
 ghost use Rattle.std.specs.Io.KnownBytes.{Appends};
 ghost use Rattle.report_styles.specs.Lines as spec;
 ghost use Rattle.report_styles.specs.Views.{all_of, told_of};
 
 use crate::telling::Told;
 use css_values::{Fate, Refusal, Report};
+use report_lines::write_refused;
 use std::io;
 use std::io::Write;
 
 /// Writes a line for each.
-#[tactic(auto, using(crate::proofs::Joining::writing_starts, crate::proofs::Joining::writing_goes_on, crate::proofs::Joining::writing_ends))]
+#[tactic(auto, using(crate::proofs::Whole::all_written))]
 pub(crate) fn write_all_told<W: Write>(told: &[Told<'_>], output: &mut W) -> io::Result<()>
-    ensures { OnOk result (Appends (W.contents output.old) (W.contents output.new) (spec.lines (all_of told.now))) }
+    ensures { OnOk result (Appends (W.contents output.old) (W.contents output.new) (flat_map spec.line (all_of told.now))) }
 {
     for one in told {
         write_told(one, output)?;
@@ -30,13 +31,6 @@ fn write_told<W: Write>(told: &Told<'_>, output: &mut W) -> io::Result<()>
         }
         Told::Refused { kind, place } => write_refused(kind_word(*kind), *place, output),
     }
-}
-
-/// Writes the line of a refusal.
-pub(crate) fn write_refused<W: Write>(word: &str, place: usize, output: &mut W) -> io::Result<()>
-    ensures { OnOk result (Appends (W.contents output.old) (W.contents output.new) (spec.refused_line word.now place)) }
-{
-    writeln!(output, "refused {word} {place}")
 }
 
 fn fate_word(fate: Fate) -> &'static str
