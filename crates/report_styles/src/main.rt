@@ -19,6 +19,7 @@
 
 mod going_on;
 mod reporting;
+mod rules;
 mod telling;
 mod writing;
 

@@ -5,7 +5,7 @@ use Rattle.reading.specs.Readers.{repeat}
 use Rattle.reading.proofs.Turns.{IsTurning}
 use Rattle.report_styles.specs.Told.{declaration, has_declaration}
 use Rattle.report_styles.specs.Views.{all_of}
-use Rattle.report_styles.proofs.reporting.declarations_behind_gap.Given as goal
+use Rattle.report_styles.proofs.rules.declarations_behind_gap.Given as goal
 
 abbrev pub invariant-loop-alloc : goal.invariant-loop-alloc
 invariant-loop-alloc l =

@@ -4,7 +4,7 @@ use Rattle.reading.proofs.Turns.{turning_starts, turning_goes_on, turning_ends}
 use Rattle.report_styles.specs.Told.{has_rule, rule_turn}
 use Rattle.report_styles.specs.Views.{all_of}
 use Rattle.report_styles.proofs.Turning.{telling_stops}
-use Rattle.report_styles.proofs.reporting.rules_behind_gap.Goals as goal
+use Rattle.report_styles.proofs.rules.rules_behind_gap.Goals as goal
 
 pub loop-alloc-init : goal.loop-alloc-init
 loop-alloc-init c = (search rules, turning_starts has_rule (rule_turn c.args.places) (all_of c.args.told.now.items) c.args.text.now)
