@@ -5,4 +5,4 @@ mod refusal;
 mod report;
 
 pub use refusal::write_refused;
-pub use report::{Report, run};
+pub use report::{Report, run, write_report};

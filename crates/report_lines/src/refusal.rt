@@ -2,7 +2,7 @@
 
 ghost use Rattle.std.specs.Prelude.{OnOk};
 ghost use Rattle.std.specs.Io.KnownBytes.{Appends};
-ghost use Rattle.report_lines.specs.Lines.{refused_line};
+ghost use Rattle.report_lines.specs.Refusal.{refused_line};
 
 use std::io;
 use std::io::Write;

@@ -5,7 +5,7 @@ use Rattle.reading.specs.Readers.{ReadOr}
 use Rattle.html_tokens.specs.Error.{Fault, kind_word}
 use Rattle.html_read.specs.Error.{place_in}
 use Rattle.html_read.specs.Places.{placed_input}
-use Rattle.report_lines.specs.Lines.{refused_line}
+use Rattle.report_lines.specs.Refusal.{refused_line}
 
 abbrev pub line : (place : ℕ) → List ℕ
 line place = decimal place ++ codes "\n"

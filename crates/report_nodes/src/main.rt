@@ -15,13 +15,14 @@ ghost use Rattle.std.specs.Io.KnownBytes.{Appends};
 ghost use Rattle.report_nodes.specs.Lines.{report_of};
 
 use html_read::{HtmlError, node_places};
+use io_edge::WriteError;
 use lines::write_places;
 use report_lines::{Report, run, write_refused};
-use std::alloc::Global;
+use std::alloc::{AllocError, Global};
 use std::io;
 use std::io::Write;
 
-fn main(rt: HostRuntime) -> io::Result<()> {
+fn main(rt: HostRuntime) -> Result<(), WriteError> {
     run(&rt, &Nodes)
 }
 
@@ -31,8 +32,12 @@ struct Nodes;
 impl Report for Nodes {
     ghost due = { λ _. report_of };
 
-    fn write<W: Write>(&self, alloc: Global, bytes: &[u8], output: &mut W) -> io::Result<()> {
-        report(alloc, bytes, output)
+    fn lines(&self, alloc: Global, bytes: &[u8]) -> Result<Vec<u8>, AllocError> {
+        let mut lines = Vec::new(alloc);
+        match report(alloc, bytes, &mut lines) {
+            Ok(()) => Ok(lines),
+            Err(_) => Err(AllocError),
+        }
     }
 }
 

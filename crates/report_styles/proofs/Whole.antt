@@ -11,7 +11,7 @@ use Rattle.html_read.specs.declared.error.HtmlError.{HtmlError}
 use Rattle.html_read.specs.declared.error.HtmlError.TheVariants as errors
 use Rattle.html_read.specs.Reading.{input}
 use Rattle.html_read.specs.Values.{Whole}
-use Rattle.report_lines.specs.Lines.{refused_line}
+use Rattle.report_lines.specs.Refusal.{refused_line}
 use Rattle.report_styles.specs.Lines.{line, report_of}
 use Rattle.report_styles.specs.Told.{Told, told_of_document}
 use Rattle.report_styles.specs.Views.{all_of, told_of}

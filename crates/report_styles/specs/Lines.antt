@@ -10,7 +10,7 @@ use Rattle.html_tokens.specs.Error as html
 use Rattle.html_read.specs.Error.{place_in}
 use Rattle.html_read.specs.Reading.{input}
 use Rattle.html_read.specs.Values.{Whole}
-use Rattle.report_lines.specs.Lines.{refused_line}
+use Rattle.report_lines.specs.Refusal.{refused_line}
 use Rattle.report_styles.specs.Told as told_
 use Rattle.report_styles.specs.Told.{Told, told_of_document}
 

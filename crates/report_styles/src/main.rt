@@ -28,14 +28,15 @@ ghost use Rattle.std.specs.Io.KnownBytes.{Appends};
 ghost use Rattle.report_styles.specs.Lines.{report_of};
 
 use html_read::{HtmlError, read_document};
+use io_edge::WriteError;
 use report_lines::{Report, run, write_refused};
 use reporting::told_of;
-use std::alloc::Global;
+use std::alloc::{AllocError, Global};
 use std::io;
 use std::io::Write;
 use writing::write_all_told;
 
-fn main(rt: HostRuntime) -> io::Result<()> {
+fn main(rt: HostRuntime) -> Result<(), WriteError> {
     run(&rt, &Styles)
 }
 
@@ -45,8 +46,12 @@ struct Styles;
 impl Report for Styles {
     ghost due = { λ _. report_of };
 
-    fn write<W: Write>(&self, alloc: Global, bytes: &[u8], output: &mut W) -> io::Result<()> {
-        report(alloc, bytes, output)
+    fn lines(&self, alloc: Global, bytes: &[u8]) -> Result<Vec<u8>, AllocError> {
+        let mut lines = Vec::new(alloc);
+        match report(alloc, bytes, &mut lines) {
+            Ok(()) => Ok(lines),
+            Err(_) => Err(AllocError),
+        }
     }
 }
 

@@ -2,7 +2,7 @@ use Rattle.std.proofs.Common.{ap, subst, ◌∙◌}
 use Rattle.std.specs.Prelude.{OnOk}
 use Rattle.std.specs.Io.KnownBytes.{Appends}
 use Rattle.html_tokens.specs.Error.{kind_word}
-use Rattle.report_lines.specs.Lines.{refused_line}
+use Rattle.report_lines.specs.Refusal.{refused_line}
 use Rattle.report_styles.specs.Views.{all_of}
 use Rattle.report_styles.proofs.Whole.{whole_report, refused_report}
 use Rattle.report_styles.proofs.report.Goals as goal
