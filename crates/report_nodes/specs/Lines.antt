@@ -11,10 +11,10 @@ abbrev pub line : (place : ℕ) → List ℕ
 line place = decimal place ++ codes "\n"
 
 -- what is written for an input of this size that was read so
-abbrev pub lines_by : (size : ℕ) → ReadOr Fault (List ℕ) → List ℕ
+abbrev pub lines_by : (size : ℕ) → (read : ReadOr Fault (List ℕ)) → List ℕ
 lines_by size (Ok read) = flat_map line read.0
 lines_by size (Err fault) = refused_line (kind_word fault.0) (place_in size fault.1)
 
 -- what is written for an input
-unfoldable pub report_of : List ℕ → List ℕ
+unfoldable pub report_of : (bytes : List ℕ) → List ℕ
 report_of bytes = lines_by (length bytes) (placed_input bytes)

@@ -30,9 +30,9 @@ line (told_.judged what) = fate_word what.fate ++ codes " " ++ decimal what.plac
 line (told_.refused kind place) = refused_line (kind_word kind) place
 
 -- what is written for an input of this size that was read so
-abbrev pub lines_by : (size : ℕ) → ReadOr html.Fault Whole → List ℕ
+abbrev pub lines_by : (size : ℕ) → (read : ReadOr html.Fault Whole) → List ℕ
 lines_by size (Ok document) = flat_map line (told_of_document document.0)
 lines_by size (Err fault) = refused_line (html.kind_word fault.0) (place_in size fault.1)
 
-unfoldable pub report_of : List ℕ → List ℕ
+unfoldable pub report_of : (bytes : List ℕ) → List ℕ
 report_of bytes = lines_by (length bytes) (input bytes)

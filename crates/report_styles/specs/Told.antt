@@ -43,15 +43,15 @@ Teller = List Told → ReaderOr (List Told) (List Told)
 abbrev pub place_in : Places → (left : List ℕ) → ℕ
 place_in places left = unwrap_or places.at (place_before places.end left)
 
-abbrev pub with_report : Places → List Told → Option Reported → List Told
+abbrev pub with_report : (places : Places) → (told : List Told) → (report : Option Reported) → List Told
 with_report places told None = told
 with_report places told (Some r) = told ++ judged (record { name = r.name; place = unwrap_or places.at r.place; fate = r.fate }) ∷ []
 
-abbrev pub with_refusal : Places → List Told → Fault → List Told
+abbrev pub with_refusal : (places : Places) → (told : List Told) → (fault : Fault) → List Told
 with_refusal places told fault = told ++ refused fault.0 (place_in places fault.1) ∷ []
 
 -- past what was read; where it couldn't be, nothing more is read
-abbrev pub passed : {A : Type 0} → Places → List Told → Read A → Telling
+abbrev pub passed : {A : Type 0} → (places : Places) → (told : List Told) → (read : Read A) → Telling
 passed places told (Ok x) = Ok (told, x.1)
 passed places told (Err left) = Err (with_refusal places told (syntax left))
 
@@ -62,12 +62,12 @@ abbrev pub past_block_end : Places → Teller
 past_block_end places told text = passed places told (strip (codes "}") text)
 
 -- it goes on there, if anywhere
-abbrev pub goes_on_at : List Told → Option (List ℕ) → Telling
+abbrev pub goes_on_at : (told : List Told) → (rest : Option (List ℕ)) → Telling
 goes_on_at told (Some rest) = Ok (told, rest)
 goes_on_at told None = Err told
 
 -- behind the gap there
-abbrev pub goes_on_past_gap : Places → List Told → Option (List ℕ) → Telling
+abbrev pub goes_on_past_gap : (places : Places) → (told : List Told) → (rest : Option (List ℕ)) → Telling
 goes_on_past_gap places told (Some rest) = past_gap places told rest
 goes_on_past_gap places told None = Err told
 
@@ -77,14 +77,14 @@ abbrev pub is_in_rule : Within → Bool
 is_in_rule within_.Attribute = false
 is_in_rule (within_.Rule selectors before) = true
 
-abbrev pub declaration_by : Within → Places → List Told → (text : List ℕ) → ReadOr Fault (Option Reported) → Telling
+abbrev pub declaration_by : (within : Within) → (places : Places) → (told : List Told) → (text : List ℕ) → (read : ReadOr Fault (Option Reported)) → Telling
 declaration_by within places told text (Ok r) = Ok (with_report places told r.0, r.1)
 declaration_by within places told text (Err fault) = goes_on_past_gap places (with_refusal places told fault) (behind_declaration (is_in_rule within) text)
 
 abbrev pub declaration : Within → Places → Teller
 declaration within places told text = declaration_by within places told text (reports.next within places.end text)
 
-abbrev pub has_declaration : Within → List Told → List ℕ → Bool
+abbrev pub has_declaration : (within : Within) → (told : List Told) → (text : List ℕ) → Bool
 has_declaration within told text = not (no_items text || list_ends within text)
 
 unfoldable pub declarations : Within → Places → Teller
@@ -99,7 +99,7 @@ in_block = within_.Rule 0 0
 abbrev pub block : Places → Teller
 block places told = follow (declarations in_block places told) (past_block_end places)
 
-abbrev pub rule_by : Places → List Told → (text : List ℕ) → ReadOr Fault (List (List Compound)) → Telling
+abbrev pub rule_by : (places : Places) → (told : List Told) → (text : List ℕ) → (read : ReadOr Fault (List (List Compound))) → Telling
 rule_by places told text (Ok h) = block places told h.1
 rule_by places told text (Err fault) = goes_on_at (with_refusal places told fault) (behind_rule text)
 
@@ -111,7 +111,7 @@ rule places told text = rule_by places told text (heads 0 text)
 abbrev pub rule_turn : Places → Teller
 rule_turn places told = follow (rule places told) (past_gap places)
 
-abbrev pub has_rule : List Told → List ℕ → Bool
+abbrev pub has_rule : (told : List Told) → (text : List ℕ) → Bool
 has_rule told text = not (no_items text)
 
 unfoldable pub rules : Places → Teller
@@ -126,28 +126,28 @@ all_told (Err told) = told
 abbrev pub in_sheet : TextAt → Places
 in_sheet sheet = record { end = end_of sheet.place sheet.text; at = None }
 
-abbrev pub with_sheet : List Told → TextAt → List Told
+abbrev pub with_sheet : (told : List Told) → (sheet : TextAt) → List Told
 with_sheet told sheet = all_told (rules (in_sheet sheet) told sheet.text)
 
-abbrev pub with_sheets : List Told → List TextAt → List Told
+abbrev pub with_sheets : (told : List Told) → (sheets : List TextAt) → List Told
 with_sheets told [] = told
 with_sheets told (sheet ∷ sheets) = with_sheets (with_sheet told sheet) sheets
 
 abbrev pub in_attribute : TextAt → Places
 in_attribute style = record { end = length style.text; at = Some style.place }
 
-abbrev pub with_attribute : List Told → TextAt → List Told
+abbrev pub with_attribute : (told : List Told) → (style : TextAt) → List Told
 with_attribute told style = all_told (declarations within_.Attribute (in_attribute style) told style.text)
 
-abbrev pub with_style : List Told → Option TextAt → List Told
+abbrev pub with_style : (told : List Told) → (style : Option TextAt) → List Told
 with_style told None = told
 with_style told (Some style) = with_attribute told style
 
-abbrev pub with_kind : List Told → Kind → List Told
+abbrev pub with_kind : (told : List Told) → (kind : Kind) → List Told
 with_kind told (values.element tag acting) = with_style told acting.style
 with_kind told (values.text letters) = told
 
-abbrev pub with_nodes : List Told → List Node → List Told
+abbrev pub with_nodes : (told : List Told) → (nodes : List Node) → List Told
 with_nodes told [] = told
 with_nodes told (node ∷ nodes) = with_nodes (with_kind told node.kind) nodes
 
@@ -158,16 +158,16 @@ is_limit (judged what) = false
 is_limit (refused kinds.TooManyRules place) = true
 is_limit (refused kind place) = false
 
-abbrev pub with_limit : List Told → Refusal → (place : ℕ) → List Told
+abbrev pub with_limit : (told : List Told) → (kind : Refusal) → (place : ℕ) → List Told
 with_limit told kinds.TooManyRules place = told ++ refused kinds.TooManyRules place ∷ []
 with_limit told kind place = told
 
-abbrev pub with_read : List Told → Placed Styling → List Told
+abbrev pub with_read : (told : List Told) → (read : Placed Styling) → List Told
 with_read told (Ok styles) = told
 with_read told (Err fault) = with_limit told fault.0 fault.1
 
 -- where a rule with too many selectors was told, it isn't told again
-abbrev pub with_limits : Placed Styling → List Told → List Told
+abbrev pub with_limits : (read : Placed Styling) → (told : List Told) → List Told
 with_limits read told = if list_any is_limit told then told else with_read told read
 
 -- ---- a document

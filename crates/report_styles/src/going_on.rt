@@ -1,5 +1,5 @@
 //! Where to go on behind what is refused (CSS Syntax 3, 2.2 and 5.4). Here, other than there, any closing bracket closes
-//! any bracket, and at the top level a `}` that closes nothing ends the rule.
+//! any bracket, and outside of rules a `}` that closes nothing ends a rule.
 
 ghost use Rattle.std.specs.Prelude.{◌≡◌, ◌<◌, ◌≤◌, length, option_map, true, Err, IfOk, IfSome};
 ghost use Rattle.reading.specs.Cuts.{EndsWith};
