@@ -1,7 +1,7 @@
 -- Small arenas, by computation: box 0 holds 1 and 2, box 1 holds 3, and 4 isn't attached.
 use Rattle.std.specs.Prelude.{◌≡◌, ℕ, zero, suc, refl, Bool, true, false, [], ◌∷◌, Option, Some, None, pos}
-use Rattle.style_types.specs.declared.fragment.Fragment.{Fragment}
-use Rattle.style_types.specs.Fragment.{piece_of}
+use Rattle.fragment_types.specs.declared.fragment.Fragment.{Fragment}
+use Rattle.fragment_types.specs.Fragment.{piece_of}
 use Rattle.style_types.specs.Initial.{initial}
 use Rattle.box_gen.specs.declared.tree.BoxNode.{BoxNode}
 use Rattle.box_gen.specs.declared.tree.Content.TheVariants.{Blocks}

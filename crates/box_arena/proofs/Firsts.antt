@@ -3,8 +3,8 @@ use Rattle.std.proofs.Common.{◌≡◌, ◌≢◌, ◌∙◌, true, false, cond
 use Rattle.std.specs.Prelude.{ℤ}
 use Rattle.std.specs.Ordering.{is_eq}
 use Rattle.std.proofs.lemmas.Map.Entries.{lookup_tail}
-use Rattle.style_types.specs.declared.constraint.Constraint.{Constraint}
-use Rattle.style_types.specs.declared.fragment.Fragment.{Fragment}
+use Rattle.fragment_types.specs.declared.constraint.Constraint.{Constraint}
+use Rattle.fragment_types.specs.declared.fragment.Fragment.{Fragment}
 use Rattle.box_arena.specs.Results.{Results, result_for, sizes_cmp, stands_first, with_first}
 use Rattle.box_arena.proofs.Sizes.{same_constraint, sizes_apart}
 

@@ -5,10 +5,10 @@ use Rattle.std.proofs.lemmas.Bool.{cases_eq}
 use Rattle.std.proofs.lemmas.List.{drop_all, drop_more}
 use Rattle.std.proofs.lemmas.Option.{none-some, same_Some}
 use Rattle.slab.specs.Slab.{Slab, get, ContainsKey, HasRoomFor}
-use Rattle.style_types.specs.declared.constraint.Constraint.{Constraint}
-use Rattle.style_types.specs.declared.item.BoxName.{BoxName}
+use Rattle.fragment_types.specs.declared.constraint.Constraint.{Constraint}
+use Rattle.fragment_types.specs.declared.item.BoxName.{BoxName}
 use Rattle.style_types.specs.declared.style.Style.{Style}
-use Rattle.style_types.specs.Fragment.{Pieces}
+use Rattle.fragment_types.specs.Fragment.{Pieces}
 use Rattle.box_gen.specs.declared.tree.BoxTree.{BoxTree, out-BoxTree}
 use Rattle.box_gen.specs.declared.tree.BoxTree.TheFolds.{fold_out-BoxTree}
 use Rattle.box_gen.specs.Boxes.{join}

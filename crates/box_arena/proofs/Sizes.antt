@@ -6,7 +6,7 @@ use Rattle.std.specs.declared.cmp.Ordering.{Ordering}
 use Rattle.std.specs.declared.cmp.Ordering.TheVariants.{Less, Equal, Greater}
 use Rattle.std.specs.Ordering.{int_cmp, ordering_then, is_eq, MatchOrdering}
 use Rattle.std.proofs.lemmas.Cmp.{int_ranked}
-use Rattle.style_types.specs.declared.constraint.Constraint.{Constraint}
+use Rattle.fragment_types.specs.declared.constraint.Constraint.{Constraint}
 use Rattle.box_arena.specs.Results.{sizes_cmp}
 
 numbers_tied : (x y : ℤ) → is_eq (int_cmp x y) ≡ true → x ≡ y

@@ -1,8 +1,8 @@
 -- What the calls of an arena do.
 use Rattle.std.specs.Prelude.{◌≡◌, ◌≢◌, ℕ, ◌+◌, false, List, Option, Some, None}
 use Rattle.slab.specs.Slab.{Slab, get, ContainsKey, HasRoomFor}
-use Rattle.style_types.specs.declared.constraint.Constraint.{Constraint}
-use Rattle.style_types.specs.Fragment.{Pieces}
+use Rattle.fragment_types.specs.declared.constraint.Constraint.{Constraint}
+use Rattle.fragment_types.specs.Fragment.{Pieces}
 use Rattle.box_arena.specs.declared.entry.Entry.{Entry}
 use Rattle.box_arena.specs.At.{Slots, Node, links_at, mark_at, held_at, parent_at, first_at, next_at, node_at, text_at, kept_at, marked_at, IsAbove, HasChildren}
 use Rattle.box_arena.specs.Links.{put_before, without}

@@ -1,9 +1,9 @@
 -- What stands at a key of an arena.
 use Rattle.std.specs.Prelude.{ℕ, Bool, List, Option, None, option_map, option_and_then, slice_index_or, if◌then◌else◌}
-use Rattle.style_types.specs.declared.constraint.Constraint.{Constraint}
-use Rattle.style_types.specs.declared.item.BoxName.{BoxName}
+use Rattle.fragment_types.specs.declared.constraint.Constraint.{Constraint}
+use Rattle.fragment_types.specs.declared.item.BoxName.{BoxName}
 use Rattle.style_types.specs.declared.style.Style.{Style}
-use Rattle.style_types.specs.Fragment.{Pieces, piece_of}
+use Rattle.fragment_types.specs.Fragment.{Pieces, piece_of}
 use Rattle.box_gen.specs.declared.tree.BoxNode as code_node
 use Rattle.box_gen.specs.Tree.{Content, content_of}
 use Rattle.box_arena.specs.declared.entry.Entry.{Entry}

@@ -1,7 +1,7 @@
 -- What holds of arenas.
 use Rattle.std.specs.Prelude.{◌≡◌, ℕ, Option}
 use Rattle.slab.specs.Slab.{Slab}
-use Rattle.style_types.specs.declared.constraint.Constraint.{Constraint}
+use Rattle.fragment_types.specs.declared.constraint.Constraint.{Constraint}
 use Rattle.box_gen.specs.Tree.{Boxes}
 use Rattle.box_arena.specs.declared.entry.Entry.{Entry}
 use Rattle.box_arena.specs.At.{Slots, Node, IsAbove, kept_at, links_at}

@@ -1,7 +1,7 @@
 -- A whole tree of boxes that is put into an arena.
 use Rattle.std.specs.Prelude.{◌≡◌, ℕ, suc, ◌+◌, None}
 use Rattle.slab.specs.Slab.{Slab, get, ContainsKey, HasRoomFor}
-use Rattle.style_types.specs.declared.constraint.Constraint.{Constraint}
+use Rattle.fragment_types.specs.declared.constraint.Constraint.{Constraint}
 use Rattle.box_gen.specs.Tree.{Boxes, none, box}
 use Rattle.box_arena.specs.declared.entry.Entry.{Entry}
 use Rattle.box_arena.specs.At.{Slots, first_at, kept_at, next_at, node_at, parent_at, text_at}

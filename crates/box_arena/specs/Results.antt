@@ -4,8 +4,8 @@ use Rattle.std.specs.Option.{option_cmp}
 use Rattle.std.specs.declared.cmp.Ordering.{Ordering}
 use Rattle.std.specs.Ordering.{int_cmp, ordering_then, is_eq}
 use Rattle.std.specs.Map.{lookup}
-use Rattle.style_types.specs.declared.constraint.Constraint.{Constraint}
-use Rattle.style_types.specs.declared.fragment.Fragment.{Fragment}
+use Rattle.fragment_types.specs.declared.constraint.Constraint.{Constraint}
+use Rattle.fragment_types.specs.declared.fragment.Fragment.{Fragment}
 
 -- results with the sizes that each was laid out for, inline and block
 abbrev pub Results : Type 0

@@ -1,8 +1,8 @@
 -- What a single write does to an arena's slots.
 use Rattle.std.specs.Prelude.{◌≡◌, ◌≢◌, ℕ, ◌+◌, ◌<◌, ◌≤◌, true, false, [], Option, Some, None, option_map, slice_index_or, if◌then◌else◌}
 use Rattle.slab.specs.Slab.{Slab, with_value}
-use Rattle.style_types.specs.declared.constraint.Constraint.{Constraint}
-use Rattle.style_types.specs.declared.fragment.Fragment.{Fragment}
+use Rattle.fragment_types.specs.declared.constraint.Constraint.{Constraint}
+use Rattle.fragment_types.specs.declared.fragment.Fragment.{Fragment}
 use Rattle.box_arena.specs.declared.entry.Entry.{Entry}
 use Rattle.box_arena.specs.declared.entry.Held.{Held}
 use Rattle.box_arena.specs.declared.entry.Links.{Links}

@@ -7,10 +7,10 @@ use crate::key::{BoxKey, index_of, key_of};
 use crate::links::{detach_at, link};
 use crate::write::{drop_text, forget_below, keep_at, put_node, put_text};
 use box_gen::BoxNode;
+use fragment_types::{Constraint, Fragment};
 use slab::Slab;
 use std::alloc::{AllocError, Global};
 use std::marker::Model;
-use style_types::{Constraint, Fragment};
 
 /// Boxes under their keys, each with its place among the others, whether it is marked, and what is kept for it.
 #[derive(Drop)]
@@ -26,7 +26,7 @@ impl<T> Model for BoxArena<T> {
     ghost Value = { Slab (Entry T) };
 
     ghost use Rattle.std.specs.Coded.{codes};
-    ghost use Rattle.style_types.specs.contracts.Fragment as fragment;
+    ghost use Rattle.fragment_types.specs.contracts.Fragment as fragment;
 
     ghost coded = { Prim.hlevel (codes, fragment.the_row.coded, T.code) };
 
@@ -40,7 +40,7 @@ impl<T> Model for BoxArena<T> {
 impl<T> BoxArena<T> {
     ghost use Rattle.std.specs.Prelude.{◌≡◌, ◌≤◌, ℕ, [], None, Some, IsSome, IsOk, OnOk, OnErr, option_copied, option_map};
     ghost use Rattle.slab.specs.Slab.{ContainsKey, HasRoomFor};
-    ghost use Rattle.style_types.specs.Fragment.{piece_of};
+    ghost use Rattle.fragment_types.specs.Fragment.{piece_of};
     ghost use Rattle.box_arena.specs.At.{IsAbove, links_at, parent_at, first_at, next_at, node_at, node_of, text_at, kept_at};
     ghost use Rattle.box_arena.specs.Arena.{Attaches, Detaches, Inserts, Keeps, Marks};
     ghost use Rattle.box_arena.specs.Links.{IsIn, IsLinked};

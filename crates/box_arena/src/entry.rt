@@ -7,9 +7,9 @@ ghost use Rattle.box_arena.specs.Write.{EntryKeeps};
 
 use crate::results::Results;
 use box_gen::BoxNode;
+use fragment_types::{Constraint, Fragment};
 use std::alloc::{AllocError, Global};
 use std::mem;
-use style_types::{Constraint, Fragment};
 
 /// The boxes next to a box, by their keys: its parent, its first and last child, the siblings before and behind it.
 #[derive(Clone, Copy, Debug, PartialEq, Eq)]

@@ -16,6 +16,6 @@ mod tests;
 mod write;
 
 pub use arena::BoxArena;
+pub use fragment_types::Constraint;
 pub use key::BoxKey;
 pub use planting::count;
-pub use style_types::Constraint;

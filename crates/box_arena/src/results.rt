@@ -5,10 +5,10 @@ ghost use Rattle.std.specs.Ordering.{is_eq};
 ghost use Rattle.box_arena.specs.Results as rule;
 ghost use Rattle.box_arena.specs.Results.{result_for, sizes_cmp};
 
+use fragment_types::{Constraint, Fragment};
 use std::alloc::{AllocError, Global};
 use std::collections::BTreeMap;
 use std::marker::Model;
-use style_types::{Constraint, Fragment};
 
 // A constraint, of which tuples have an order.
 type Sizes = (Option<i64>, Option<i64>);
@@ -51,8 +51,8 @@ pub(crate) struct Results {
 impl Model for Results {
     ghost use Rattle.std.specs.Prelude.{ℤ, List, Option};
     ghost use Rattle.std.specs.Coded.{codes};
-    ghost use Rattle.style_types.specs.contracts.Fragment as fragment;
-    ghost use Rattle.style_types.specs.declared.fragment.Fragment.{Fragment};
+    ghost use Rattle.fragment_types.specs.contracts.Fragment as fragment;
+    ghost use Rattle.fragment_types.specs.declared.fragment.Fragment.{Fragment};
     ghost use Rattle.box_arena.specs.Results.{with_first};
 
     ghost Value = { List ((Option ℤ × Option ℤ) × Fragment) };

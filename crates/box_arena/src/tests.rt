@@ -4,10 +4,11 @@ ghost use Rattle.slab.specs.Slab.{ContainsKey};
 
 use crate::{BoxArena, BoxKey, Constraint, count};
 use box_gen::{BoxNode, BoxTree, Content};
+use fragment_types::{BoxName, Fragment, FragmentKind};
 use std::alloc::{AllocError, Global};
 use std::rc::Rc;
 use std::test::*;
-use style_types::{BoxName, Fragment, FragmentKind, Style};
+use style_types::Style;
 use wm_modes::FlowRect;
 
 const ANY: Constraint = Constraint {

@@ -8,9 +8,9 @@ ghost use Rattle.box_arena.specs.Write.{ForgetsBelow, WritesHeld, WritesKept, Wr
 
 use crate::entry::{Entry, Links, Mark};
 use box_gen::BoxNode;
+use fragment_types::{Constraint, Fragment};
 use slab::Slab;
 use std::alloc::{AllocError, Global};
-use style_types::{Constraint, Fragment};
 
 /// A box's links.
 pub(crate) fn links_of<T>(boxes: &Slab<Entry<T>>, key: usize) -> Links

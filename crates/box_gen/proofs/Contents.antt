@@ -4,7 +4,7 @@ use Rattle.std.specs.Bool.{⊤}
 use Rattle.style_types.specs.declared.style.Style.{Style}
 use Rattle.style_types.specs.declared.tree.StyledNode.{StyledNode}
 use Rattle.style_types.specs.declared.tree.StyledNode.TheViews.{out-StyledNode}
-use Rattle.style_types.specs.Item as item
+use Rattle.fragment_types.specs.Item as item
 use Rattle.style_types.specs.Tree as styled
 use Rattle.style_types.specs.Tree.{Nodes, kind_of, before, nodes_of, all_nodes_of}
 use Rattle.box_gen.specs.declared.role.Role as code_role

@@ -7,8 +7,8 @@ use Rattle.style_types.specs.declared.style.Display.TheVariants as displays
 use Rattle.style_types.specs.declared.style.Size.TheVariants as sizes
 use Rattle.style_types.specs.declared.style.UnicodeBidi.TheVariants as bidis
 use Rattle.style_types.specs.Initial.{initial, on_sides}
-use Rattle.style_types.specs.Item as item
-use Rattle.style_types.specs.Item.{begins, ends, atom}
+use Rattle.fragment_types.specs.Item as item
+use Rattle.fragment_types.specs.Item.{begins, ends, atom}
 use Rattle.style_types.specs.Tree as styled
 use Rattle.style_types.specs.Tree.{Nodes, node, element, line_break}
 use Rattle.box_gen.specs.Boxes.{root_boxes, root_caught, held, caught, stacked, join, is_blank}

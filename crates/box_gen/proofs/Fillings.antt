@@ -1,6 +1,6 @@
 -- A container in part: what it is with a block more, and what it is at the end.
 use Rattle.std.proofs.Common.{◌≡◌, ◌∙◌, refl, ap, sym, ℕ, suc, ◌<◌, Bool, true, false, not, List, [], ◌∷◌, ◌++◌, length, arith}
-use Rattle.style_types.specs.declared.item.BoxName.{BoxName}
+use Rattle.fragment_types.specs.declared.item.BoxName.{BoxName}
 use Rattle.style_types.specs.declared.style.Style.{Style}
 use Rattle.box_gen.specs.declared.tree.BoxTree.{BoxTree}
 use Rattle.box_gen.specs.declared.tree.BoxTree.TheFolds.{fold_out-BoxTree}

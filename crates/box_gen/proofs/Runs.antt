@@ -1,7 +1,7 @@
 -- What is put at the end of a run.
 use Rattle.std.proofs.Common.{◌≡◌, ◌∙◌, refl, ap, sym, Bool, true, false, ◌&&◌, List, [], ◌∷◌, ◌++◌, append_assoc, append-nil}
-use Rattle.style_types.specs.declared.item.Item.{Item}
-use Rattle.style_types.specs.Item.{Entry, entry_of, entries_of}
+use Rattle.fragment_types.specs.declared.item.Item.{Item}
+use Rattle.fragment_types.specs.Item.{Entry, entry_of, entries_of}
 use Rattle.box_gen.specs.declared.tree.BoxTree.{BoxTree}
 use Rattle.box_gen.specs.Tree.{Boxes, none, boxes_of, all_boxes_of}
 use Rattle.box_gen.specs.Boxes.{Run, join, no_run}

@@ -1,13 +1,13 @@
 -- The boxes that a styled tree makes. CSS 2, 9.2.1 and 9.2.2, narrowed.
 use Rattle.std.specs.Prelude.{◌≡◌, ℕ, suc, Bool, true, false, ◌||◌, ◌&&◌, eqb, ◌≤◌, List, [], ◌∷◌, ◌++◌, Result, Ok, Err, ⊤}
 use Rattle.std.specs.List.{Contains}
-use Rattle.style_types.specs.declared.item.BoxName.{BoxName}
+use Rattle.fragment_types.specs.declared.item.BoxName.{BoxName}
 use Rattle.style_types.specs.declared.style.Display.{Display}
 use Rattle.style_types.specs.declared.style.Display.TheVariants.{Block, Inline, InlineBlock, FlowRoot, Hidden}
 use Rattle.style_types.specs.declared.style.Style.{Style}
 use Rattle.style_types.specs.Initial.{initial}
-use Rattle.style_types.specs.Item as item
-use Rattle.style_types.specs.Item.{Entry}
+use Rattle.fragment_types.specs.Item as item
+use Rattle.fragment_types.specs.Item.{Entry}
 use Rattle.style_types.specs.Tree as styled
 use Rattle.style_types.specs.Tree.{Nodes, NodeKind}
 use Rattle.box_gen.specs.declared.error.BoxError.{BoxError}

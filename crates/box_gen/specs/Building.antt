@@ -1,7 +1,7 @@
 -- What a part of the work comes to, by the words of Boxes.
 use Rattle.std.specs.Prelude.{ℕ, suc, Bool, true, false, min, List, [], ◌∷◌, Option, Some, None}
 use Rattle.style_types.specs.declared.style.Style.{Style}
-use Rattle.style_types.specs.Item.{Entry, entries_of}
+use Rattle.fragment_types.specs.Item.{Entry, entries_of}
 use Rattle.style_types.specs.Tree as styled
 use Rattle.style_types.specs.Tree.{Nodes}
 use Rattle.box_gen.specs.declared.filling.Filling as code_filling

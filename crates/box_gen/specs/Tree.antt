@@ -1,8 +1,8 @@
 -- Box trees, without where they lie in memory.
 use Rattle.std.specs.Prelude.{List, [], ◌∷◌, map}
-use Rattle.style_types.specs.declared.item.BoxName.{BoxName}
+use Rattle.fragment_types.specs.declared.item.BoxName.{BoxName}
 use Rattle.style_types.specs.declared.style.Style.{Style}
-use Rattle.style_types.specs.Item.{Entry, entries_of}
+use Rattle.fragment_types.specs.Item.{Entry, entries_of}
 use Rattle.box_gen.specs.declared.tree.Content as code_content
 use Rattle.box_gen.specs.declared.tree.Content.TheVariants as code_contents
 use Rattle.box_gen.specs.declared.tree.BoxTree.{BoxTree, fold-BoxTree}

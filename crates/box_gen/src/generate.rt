@@ -13,8 +13,9 @@ use crate::filling::{Filling, own_name};
 use crate::role::{Role, role_of};
 use crate::run::Run;
 use crate::tree::BoxTree;
+use fragment_types::Item;
 use std::alloc::{AllocError, Global};
-use style_types::{Item, StyledKind, StyledNode};
+use style_types::{StyledKind, StyledNode};
 
 /// The boxes that a styled tree makes: that of the root, whatever its display, with all inside it. A block-level box
 /// in an inline box is refused, by the least number of such a node. Takes memory for the boxes, and time in proportion
@@ -72,7 +73,7 @@ fn put_inline_box(alloc: Global, node: &StyledNode, run: &mut Run) -> Result<(),
 {
     run.put_item(Item::Open {
         node: node.node,
-        style: node.style,
+        style: node.style.clone()?,
         opens: true,
     })?;
     for child in &node.children {

@@ -2,15 +2,17 @@
 
 ghost use Rattle.std.specs.Prelude.{◌≡◌, IfOk, false, [], ◌∷◌};
 ghost use Rattle.std.specs.String.{string_bytes};
-ghost use Rattle.style_types.specs.Item as item;
-ghost use Rattle.style_types.specs.Item.{entry_of};
+ghost use Rattle.fragment_types.specs.Item as item;
+ghost use Rattle.fragment_types.specs.Item.{entry_of};
 ghost use Rattle.box_gen.specs.Tree.{boxes_of, none};
 ghost use Rattle.box_gen.specs.Boxes.{is_blank, is_space, no_run};
 ghost use Rattle.box_gen.specs.Building.{run_of, and_then, run_with};
 
 use crate::tree::{BoxTree, BoxTrees};
+use fragment_types::{BoxName, Item, Items};
+use letters::SharedText;
 use std::alloc::{AllocError, Global};
-use style_types::{BoxName, Item, Items, Letters, Style};
+use style_types::SharedStyle;
 
 /// Inline content that stands together: its items, the boxes of its atoms, and whether it is white space alone.
 #[derive(Drop)]
@@ -33,13 +35,18 @@ impl Run {
     }
 
     /// Puts a text at its end.
-    pub fn put_text(&mut self, node: u32, text: &Letters, style: &Style) -> Result<(), AllocError>
+    pub fn put_text(
+        &mut self,
+        node: u32,
+        text: &SharedText,
+        style: &SharedStyle,
+    ) -> Result<(), AllocError>
         ensures { IfOk result (λ _. run_of self.new ≡ and_then (run_of self.old) (run_with (item.text node (string_bytes text.now) style.now ∷ []) none (is_blank (string_bytes text.now)))) }
     {
         self.items.push(Item::Text {
             node,
             text: text.clone()?,
-            style: *style,
+            style: style.clone()?,
         })?;
         self.blank &= is_blank(text);
         Ok(())

@@ -6,8 +6,8 @@ use Rattle.std.proofs.lemmas.Bool.{eq-eqb, eqb-false, lt-ltb, ltb-false}
 use Rattle.std.proofs.lemmas.List.{drop_all, drop_more, length-append, length-take-le, take-append-drop, append_assoc}
 use Rattle.std.proofs.lemmas.Option.{none-some}
 use Rattle.std.proofs.Math.Seq.{drop-append_seam, take-append_seam}
-use Rattle.style_types.specs.declared.value.Declaration.{Declaration}
-use Rattle.style_types.specs.Rule.{Ruling}
+use Rattle.css_types.specs.declared.value.Declaration.{Declaration}
+use Rattle.css_types.specs.Rule.{Ruling}
 use Rattle.html_read.specs.declared.node.ReadNode.{ReadNode}
 use Rattle.html_read.specs.Values.{Node, nodes_of}
 use Rattle.dom_store.specs.declared.error.EditError.{EditError}

@@ -1,9 +1,9 @@
 -- Small documents whose boxes are past a limit or within it, by the lines of their nodes and by box_gen's definitions.
 use Rattle.std.specs.Prelude.{◌≡◌, refl, true, false, List, [], ◌∷◌, Some, None, slice_get}
-use Rattle.style_types.specs.declared.value.Declaration.{Declaration}
-use Rattle.style_types.specs.declared.property.Property.TheVariants as properties
-use Rattle.style_types.specs.declared.keyword.Keyword.TheVariants as keywords
-use Rattle.style_types.specs.declared.value.Value.TheVariants as values
+use Rattle.css_types.specs.declared.value.Declaration.{Declaration}
+use Rattle.css_types.specs.declared.property.Property.TheVariants as properties
+use Rattle.css_types.specs.declared.keyword.Keyword.TheVariants as keywords
+use Rattle.css_types.specs.declared.value.Value.TheVariants as values
 use Rattle.style_types.specs.Initial.{initial}
 use Rattle.html_tokens.specs.declared.tag.Tag.TheVariants as tags
 use Rattle.html_tokens.specs.Tag as tag_names

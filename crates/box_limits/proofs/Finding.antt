@@ -2,7 +2,7 @@
 use Rattle.std.proofs.Common.{◌≡◌, ◌∙◌, ℕ, zero, suc, ◌+◌, ◌<◌, ◌≤◌, Bool, true, false, List, [], ◌++◌, length, drop, get_or, refl, sym, ap, subst, arith, Option, Some, None}
 use Rattle.std.proofs.lemmas.List.{drop_all, drop_more}
 use Rattle.style_types.specs.declared.style.Style.{Style}
-use Rattle.style_types.specs.Rule.{Ruling}
+use Rattle.css_types.specs.Rule.{Ruling}
 use Rattle.style_types.specs.Tree as styled
 use Rattle.style_types.specs.Tree.{Nodes, NodeKind}
 use Rattle.dom_store.specs.State as dom

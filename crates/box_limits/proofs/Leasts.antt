@@ -2,7 +2,7 @@
 use Rattle.std.proofs.Common.{◌≡◌, ◌∙◌, ℕ, suc, ◌+◌, ◌<◌, Bool, true, false, List, [], ◌∷◌, refl, ap, sym, subst, arith, Option, Some, None, inl}
 use Rattle.std.specs.Prelude.{filter, is_some}
 use Rattle.std.specs.List.{Contains}
-use Rattle.style_types.specs.Rule.{Ruling}
+use Rattle.css_types.specs.Rule.{Ruling}
 use Rattle.style_types.specs.declared.style.Style.{Style}
 use Rattle.style_types.specs.Tree.{Nodes}
 use Rattle.dom_store.specs.State.{What, Entry, State, line, line_to, line_with, tree_to}

@@ -3,7 +3,7 @@ use Rattle.std.proofs.Common.{◌≡◌, ◌∙◌, ◌⊎◌, ℕ, zero, suc, �
 use Rattle.std.specs.Prelude.{◌&&◌, is_some, option_map, unwrap_or, ⊤}
 use Rattle.std.specs.List.{Contains}
 use Rattle.style_types.specs.declared.style.Style.{Style}
-use Rattle.style_types.specs.Rule.{Ruling}
+use Rattle.css_types.specs.Rule.{Ruling}
 use Rattle.dom_store.specs.State.{What, text, Entry, State, IsElement, IsRooted, line, line_to, line_with}
 use Rattle.dom_store.specs.Standing.{below_levels, children_at, lives}
 use Rattle.dom_store.specs.Edits.{EditOf, after}

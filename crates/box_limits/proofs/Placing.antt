@@ -4,7 +4,7 @@ use Rattle.std.specs.Prelude.{◌&&◌, unwrap_or, option_and_then, IsSome}
 use Rattle.std.proofs.lemmas.Option.{none-some}
 use Rattle.std.specs.Borrow.{Bor}
 use Rattle.style_types.specs.declared.style.Style.{Style}
-use Rattle.style_types.specs.Rule.{Ruling}
+use Rattle.css_types.specs.Rule.{Ruling}
 use Rattle.dom_store.specs.declared.node.Node.{Node}
 use Rattle.dom_store.specs.State.{What, Entry, State, entry_of, line, line_to, line_with, what_of}
 use Rattle.dom_store.specs.Standing.{children_at, parent_at}

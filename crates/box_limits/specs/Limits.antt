@@ -1,7 +1,7 @@
 -- Which nodes of a document break a limit of boxes, and which of them is told.
 use Rattle.std.specs.Prelude.{◌≡◌, ◌↔◌, ℕ, ◌≤◌, Bool, true, false, List, [], ◌∷◌, flat_map, Option, Some, None, Result, Ok, Err, ⊤}
 use Rattle.std.specs.List.{Contains}
-use Rattle.style_types.specs.Rule.{Ruling}
+use Rattle.css_types.specs.Rule.{Ruling}
 use Rattle.dom_store.specs.State.{What, State, IsRooted, greatest_depth, line}
 use Rattle.dom_store.specs.Standing.{below_levels, lives}
 use Rattle.dom_store.specs.Edited.{IsFitting}

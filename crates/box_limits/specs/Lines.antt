@@ -5,7 +5,7 @@ use Rattle.std.specs.Prelude.{ℕ, nat_lt, ◌&&◌, Bool, true, false, List, []
 use Rattle.wm_modes.specs.declared.mode.WritingMode.{WritingMode}
 use Rattle.style_types.specs.declared.style.Style.{Style}
 use Rattle.style_types.specs.Initial.{initial}
-use Rattle.style_types.specs.Rule.{Ruling}
+use Rattle.css_types.specs.Rule.{Ruling}
 use Rattle.dom_store.specs.State.{What, element, text}
 use Rattle.cascade.specs.Winners.{winners}
 use Rattle.computed.specs.Step.{style_of}

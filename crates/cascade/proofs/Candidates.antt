@@ -10,8 +10,8 @@ use Rattle.html_tokens.specs.Tag.{name_of}
 use Rattle.css_sheet.specs.Default.{default_rules}
 use Rattle.css_sheet.specs.Specificity.{specificity_of}
 use Rattle.style_types.specs.declared.style.Style.{Style}
-use Rattle.style_types.specs.declared.rule.Rule.{Rule}
-use Rattle.style_types.specs.Rule.{Compound, Ruling, ruling_of, rulings_of, selector_of}
+use Rattle.css_types.specs.declared.rule.Rule.{Rule}
+use Rattle.css_types.specs.Rule.{Compound, Ruling, ruling_of, rulings_of, selector_of}
 use Rattle.dom_store.specs.State.{What, element, text}
 use Rattle.cascade.specs.declared.claim.Claim.{Claim}
 use Rattle.cascade.specs.declared.claim.Origin.{Origin}

@@ -5,10 +5,10 @@ use Rattle.std.proofs.Math.Seq.{take-suc}
 use Rattle.std.proofs.lemmas.List.{take_all, length-take, length-drop, map-append, reverse-append}
 use Rattle.std.proofs.lemmas.Bool.{or_cases, false≢true}
 use Rattle.std.proofs.Math.Bool.{or-true, or-false}
-use Rattle.style_types.specs.declared.rule.Joint.{Joint}
-use Rattle.style_types.specs.declared.rule.Joint.TheVariants.{Child, Descendant}
-use Rattle.style_types.specs.declared.rule.Part.{Part}
-use Rattle.style_types.specs.Rule.{Compound, compound_of, compounds_of}
+use Rattle.css_types.specs.declared.rule.Joint.{Joint}
+use Rattle.css_types.specs.declared.rule.Joint.TheVariants.{Child, Descendant}
+use Rattle.css_types.specs.declared.rule.Part.{Part}
+use Rattle.css_types.specs.Rule.{Compound, compound_of, compounds_of}
 use Rattle.dom_store.specs.declared.node.Node.{Node}
 use Rattle.dom_store.specs.State.{What, what_of}
 use Rattle.cascade.specs.Chains.{Left, if_fitting, behind, behind_chain, or_else, behind_nearest}

@@ -2,9 +2,9 @@
 use Rattle.std.proofs.Common.{◌≡◌, ℕ, ◌≤◌, Bool, List, ◌++◌, length, drop, append-nil}
 use Rattle.std.proofs.lemmas.List.{drop_all}
 use Rattle.css_sheet.specs.declared.counts.Specificity.{Specificity}
-use Rattle.style_types.specs.declared.value.Declaration.{Declaration}
-use Rattle.style_types.specs.declared.rule.Rule.{Rule}
-use Rattle.style_types.specs.Rule.{rulings_of}
+use Rattle.css_types.specs.declared.value.Declaration.{Declaration}
+use Rattle.css_types.specs.declared.rule.Rule.{Rule}
+use Rattle.css_types.specs.Rule.{rulings_of}
 use Rattle.dom_store.specs.State.{What}
 use Rattle.cascade.specs.declared.claim.Claim.{Claim}
 use Rattle.cascade.specs.declared.claim.Origin.{Origin}

@@ -1,8 +1,8 @@
 -- Selectors on lines of elements, and winners, as an independent implementation has them.
 use Rattle.std.specs.Prelude.{◌≡◌, refl, true, false, [], ◌∷◌, Some, None, pos, negsuc}
-use Rattle.style_types.specs.declared.property.Property.TheVariants as properties
-use Rattle.style_types.specs.declared.keyword.Keyword.TheVariants as keywords
-use Rattle.style_types.specs.declared.value.Value.TheVariants as values
+use Rattle.css_types.specs.declared.property.Property.TheVariants as properties
+use Rattle.css_types.specs.declared.keyword.Keyword.TheVariants as keywords
+use Rattle.css_types.specs.declared.value.Value.TheVariants as values
 use Rattle.style_types.specs.declared.style.Display.TheVariants as displays
 use Rattle.style_types.specs.declared.style.TextOrientation.TheVariants as orientations
 use Rattle.style_types.specs.declared.style.Combine.TheVariants as combines
@@ -15,7 +15,7 @@ use Rattle.wm_modes.specs.declared.mode.Direction.TheVariants as directions
 use Rattle.style_types.specs.Initial.{initial}
 use Rattle.html_tokens.specs.declared.tag.Tag.TheVariants as tags
 use Rattle.html_tokens.specs.Tag as tag_names
-use Rattle.style_types.specs.declared.rule.Joint.TheVariants as joints
+use Rattle.css_types.specs.declared.rule.Joint.TheVariants as joints
 use Rattle.css_sheet.specs.Specificity.{sum}
 use Rattle.css_sheet.specs.Default.{default_rules}
 use Rattle.dom_store.specs.State.{element}

@@ -4,7 +4,7 @@ use Rattle.std.specs.Prelude.{slice_get}
 use Rattle.std.specs.Borrow.{Bor}
 use Rattle.std.specs.String.{string_bytes}
 use Rattle.std.proofs.lemmas.List.{drop_all, drop_more}
-use Rattle.style_types.specs.declared.rule.Rule.{Rule}
+use Rattle.css_types.specs.declared.rule.Rule.{Rule}
 use Rattle.dom_store.specs.declared.node.Node.{Node}
 use Rattle.dom_store.specs.State.{What, what_of}
 use Rattle.cascade.specs.declared.claim.Claim.{Claim}

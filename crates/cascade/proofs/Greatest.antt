@@ -9,9 +9,10 @@ use Rattle.std.proofs.lemmas.Bool.Decides.{eqb_tells}
 use Rattle.cascade.specs.declared.claim.Claim.{Claim}
 use Rattle.wm_modes.specs.declared.mode.WritingMode.{WritingMode}
 use Rattle.wm_modes.specs.declared.mode.Direction.{Direction}
-use Rattle.style_types.specs.declared.property.Property.{Property}
-use Rattle.style_types.specs.Page.{page_of}
-use Rattle.style_types.specs.Property.{place_of}
+use Rattle.css_types.specs.declared.table.TheConstants.{PROPERTY_COUNT}
+use Rattle.css_types.specs.declared.property.Property.{Property}
+use Rattle.css_types.specs.Page.{page_of}
+use Rattle.css_types.specs.Property.{place_of}
 use Rattle.cascade.specs.Winners.{claim_of, claims_of, greater, greatest, greatest_from, greater_if, naming, same_property, AreBest}
 
 by_bool : (b : Bool) (best : Option Claim) (claim : Claim) (others : List Claim)
@@ -62,7 +63,7 @@ first_ends property claims i best le now = ends (λ claim. same_property claim.p
 -- ---- of each property of the page
 
 abbrev pub IsBestSoFar : WritingMode → Direction → (claims : List Claim) (i : ℕ) (best : List (Option Claim)) → Type 0
-IsBestSoFar mode dir claims i best = (length best ≡ 55) × ((property : Property) →
+IsBestSoFar mode dir claims i best = (length best ≡ PROPERTY_COUNT) × ((property : Property) →
     greatest_from (get_or best (place_of property) None) (naming mode dir property (drop i claims)) ≡ greatest (naming mode dir property claims))
 
 -- what is at the property's own place is the greater one, all other places keep what they have
@@ -83,7 +84,7 @@ put : (best : List (Option Claim)) (claim : Claim) (page property : Property) �
 put best claim page property lt = put_by (place_of page) (place_of property) best claim lt (eqb_tells (place_of page) (place_of property))
 
 pub best_goes_on : (mode : WritingMode) (dir : Direction) (claims : List Claim) (i : ℕ) (d : Claim) (page : Property) (place : ℕ) (best : List (Option Claim)) (next : Option Claim)
-    → i < length claims → page ≡ page_of mode dir (get_or claims i d).property → place ≡ place_of page → place < 55 → next ≡ greater (get_or best place None) (get_or claims i d)
+    → i < length claims → page ≡ page_of mode dir (get_or claims i d).property → place ≡ place_of page → place < PROPERTY_COUNT → next ≡ greater (get_or best place None) (get_or claims i d)
     → IsBestSoFar mode dir claims i best → IsBestSoFar mode dir claims (i + 1) (set best place next)
 best_goes_on mode dir claims i d page place best next lt is at below e now =
     let lt_ : place_of (page_of mode dir (get_or claims i d).property) < length best = omega (arith, now.0, below, at, ap place_of is) in
@@ -100,7 +101,7 @@ best_goes_on mode dir claims i d page place best next lt is at below e now =
 
 -- the same for claims that are referred to
 pub best_goes_on_at : (mode : WritingMode) (dir : Direction) (claims : List Claim) (i : ℕ) (d : Claim) (page : Property) (place : ℕ) (best : List (Option (Bor Claim))) (next : Option (Bor Claim))
-    → i < length claims → page ≡ page_of mode dir (get_or claims i d).property → place ≡ place_of page → place < 55 → claim_of next ≡ greater (claim_of (get_or best place None)) (get_or claims i d)
+    → i < length claims → page ≡ page_of mode dir (get_or claims i d).property → place ≡ place_of page → place < PROPERTY_COUNT → claim_of next ≡ greater (claim_of (get_or best place None)) (get_or claims i d)
     → IsBestSoFar mode dir claims i (claims_of best) → IsBestSoFar mode dir claims (i + 1) (claims_of (set best place next))
 best_goes_on_at mode dir claims i d page place best next lt is at below e now =
     let put_ : claims_of (set best place next) ≡ set (claims_of best) place (claim_of next) = map-set claim_of best place next in

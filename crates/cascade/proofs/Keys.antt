@@ -7,9 +7,9 @@ use Rattle.std.proofs.lemmas.List.Elements.{All-nil, All-cons, All-head, All-tai
 use Rattle.std.proofs.lemmas.Option.{slice_get_within, get_or_from_slice_get, slice_get-get_or}
 use Rattle.wm_modes.specs.declared.mode.Direction.{Direction}
 use Rattle.html_tokens.specs.declared.tag.Tag.{Tag}
-use Rattle.style_types.specs.declared.property.Property.TheVariants as properties
-use Rattle.style_types.specs.declared.value.Declaration.{Declaration}
-use Rattle.style_types.specs.Rule.{Ruling}
+use Rattle.css_types.specs.declared.property.Property.TheVariants as properties
+use Rattle.css_types.specs.declared.value.Declaration.{Declaration}
+use Rattle.css_types.specs.Rule.{Ruling}
 use Rattle.css_sheet.specs.declared.counts.Specificity.{Specificity}
 use Rattle.css_sheet.specs.Default.{default_rules}
 use Rattle.css_sheet.specs.Specificity.{specificity_of}

@@ -4,12 +4,12 @@ use Rattle.std.specs.Prelude.{Option, filter_map, option_map}
 use Rattle.std.specs.List.{cons_option}
 use Rattle.wm_modes.specs.declared.mode.WritingMode.{WritingMode}
 use Rattle.wm_modes.specs.declared.mode.Direction.{Direction}
-use Rattle.style_types.specs.declared.property.Property.{Property}
-use Rattle.style_types.specs.declared.table.PropertyRow.{PropertyRow}
-use Rattle.style_types.specs.declared.value.Value.{Value}
+use Rattle.css_types.specs.declared.property.Property.{Property}
+use Rattle.css_types.specs.declared.table.PropertyRow.{PropertyRow}
+use Rattle.css_types.specs.declared.value.Value.{Value}
 use Rattle.cascade.specs.declared.claim.Claim.{Claim}
 use Rattle.cascade.specs.Winners.{listed_of, paired, winner, winners_by, AreBest}
-use Rattle.style_types.specs.Table.{rows}
+use Rattle.css_types.specs.Table.{rows}
 
 -- with the rows that are left, the winners are those of all
 abbrev pub IsListing : {N : Type 0} → (best : List (Option Claim)) → (table : List (N × PropertyRow)) → (i : ℕ) → (made : List (Property × Value)) → Type 0

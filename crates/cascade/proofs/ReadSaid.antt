@@ -2,8 +2,8 @@
 use Rattle.std.specs.Prelude.{List, [], ◌∷◌, map}
 use Rattle.std.specs.List.{All}
 use Rattle.std.proofs.lemmas.List.Elements.{All-cons, All-head, All-nil, All-tail, All-weaker}
-use Rattle.style_types.specs.declared.value.Declaration.{Declaration}
-use Rattle.style_types.specs.Value.{HasSayable}
+use Rattle.css_types.specs.declared.value.Declaration.{Declaration}
+use Rattle.css_types.specs.Value.{HasSayable}
 use Rattle.css_values.specs.Answered.{IsKept}
 use Rattle.css_sheet.specs.Answered.{IsRuled}
 use Rattle.dom_store.specs.State.{AreSaid}

@@ -7,17 +7,17 @@ use Rattle.std.proofs.lemmas.List.Elements.{All-nil, All-cons, All-head, All-tai
 use Rattle.wm_modes.specs.declared.mode.WritingMode.{WritingMode}
 use Rattle.wm_modes.specs.declared.mode.Direction.{Direction}
 use Rattle.html_tokens.specs.declared.tag.Tag.{Tag}
-use Rattle.style_types.specs.declared.property.Property.{Property}
-use Rattle.style_types.specs.declared.property.Property.TheVariants as properties
+use Rattle.css_types.specs.declared.property.Property.{Property}
+use Rattle.css_types.specs.declared.property.Property.TheVariants as properties
 use Rattle.style_types.specs.declared.style.Style.{Style}
-use Rattle.style_types.specs.declared.table.PropertyRow.{PropertyRow}
-use Rattle.style_types.specs.declared.value.Declaration.{Declaration}
-use Rattle.style_types.specs.declared.value.Value.{Value}
-use Rattle.style_types.specs.declared.value.Value.TheVariants.{Initial, Inherit, Keyword, Px, Em, Percent, Number, Face, Digits}
-use Rattle.style_types.specs.Page.{page_of}
-use Rattle.style_types.specs.Rule.{Ruling}
-use Rattle.style_types.specs.Table.{rows}
-use Rattle.style_types.specs.Value.{HasSayable}
+use Rattle.css_types.specs.declared.table.PropertyRow.{PropertyRow}
+use Rattle.css_types.specs.declared.value.Declaration.{Declaration}
+use Rattle.css_types.specs.declared.value.Value.{Value}
+use Rattle.css_types.specs.declared.value.Value.TheVariants.{Initial, Inherit, Keyword, Px, Em, Percent, Number, Face, Digits}
+use Rattle.css_types.specs.Page.{page_of}
+use Rattle.css_types.specs.Rule.{Ruling}
+use Rattle.css_types.specs.Table.{rows}
+use Rattle.css_types.specs.Value.{HasSayable}
 use Rattle.css_sheet.specs.declared.counts.Specificity.{Specificity}
 use Rattle.css_sheet.specs.Default.{default_rules}
 use Rattle.css_sheet.specs.Specificity.{specificity_of}

@@ -1,9 +1,9 @@
 -- What is said of the winners of a node.
 use Rattle.std.proofs.Common.{◌≡◌, ℕ, List, sym, subst}
-use Rattle.style_types.specs.declared.property.Property.{Property}
+use Rattle.css_types.specs.declared.property.Property.{Property}
 use Rattle.style_types.specs.declared.style.Style.{Style}
-use Rattle.style_types.specs.declared.value.Value.{Value}
-use Rattle.style_types.specs.Rule.{Ruling}
+use Rattle.css_types.specs.declared.value.Value.{Value}
+use Rattle.css_types.specs.Rule.{Ruling}
 use Rattle.dom_store.specs.State.{State, IsSaidState, line}
 use Rattle.cascade.specs.Winners.{winners, AreSaidRules, AreSaidWinners}
 use Rattle.cascade.proofs.SameClaims.{winners_are_said, said_line}

@@ -4,15 +4,15 @@ use Rattle.std.specs.Prelude.{filter, filter_map, option_map}
 use Rattle.std.specs.List.{Contains, cons_option}
 use Rattle.wm_modes.specs.declared.mode.WritingMode.{WritingMode}
 use Rattle.wm_modes.specs.declared.mode.Direction.{Direction}
-use Rattle.style_types.specs.declared.property.Property.{Property}
-use Rattle.style_types.specs.declared.property.Property.TheVariants as properties
+use Rattle.css_types.specs.declared.property.Property.{Property}
+use Rattle.css_types.specs.declared.property.Property.TheVariants as properties
 use Rattle.style_types.specs.declared.style.Style.{Style}
-use Rattle.style_types.specs.declared.table.PropertyRow.{PropertyRow}
-use Rattle.style_types.specs.declared.value.Value.{Value}
-use Rattle.style_types.specs.Defaulting.{computed_mode, computed_direction, computed_orientation}
-use Rattle.style_types.specs.Page.{page_of}
-use Rattle.style_types.specs.Rule.{Ruling}
-use Rattle.style_types.specs.Table.{rows}
+use Rattle.css_types.specs.declared.table.PropertyRow.{PropertyRow}
+use Rattle.css_types.specs.declared.value.Value.{Value}
+use Rattle.defaulting.specs.Defaulting.{computed_mode, computed_direction, computed_orientation}
+use Rattle.css_types.specs.Page.{page_of}
+use Rattle.css_types.specs.Rule.{Ruling}
+use Rattle.css_types.specs.Table.{rows}
 use Rattle.dom_store.specs.State.{State, What, IsSaidState, line}
 use Rattle.cascade.specs.declared.claim.Claim.{Claim}
 use Rattle.cascade.specs.Claims.{numbers_of, claims}

@@ -10,7 +10,7 @@ use Rattle.std.proofs.lemmas.Slice.Eq.{bytes_eq-Decides}
 use Rattle.dom_store.specs.declared.node.Node.{Node}
 use Rattle.dom_store.specs.State.{What, element, what_of}
 use Rattle.html_tokens.specs.declared.tag.Tag.{Tag}
-use Rattle.style_types.specs.declared.value.Declaration.{Declaration}
+use Rattle.css_types.specs.declared.value.Declaration.{Declaration}
 use Rattle.wm_modes.specs.declared.mode.Direction.{Direction}
 use Rattle.cascade.specs.declared.class_sets.ClassSet.{ClassSet}
 use Rattle.cascade.specs.declared.class_sets.ClassSets.{ClassSets}

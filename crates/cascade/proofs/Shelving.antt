@@ -9,9 +9,9 @@ use Rattle.std.proofs.lemmas.Map.Views.{list_any-from_Contains, Contains-from_an
 use Rattle.std.proofs.lemmas.Cmp.{nat_eq_equiv}
 use Rattle.std.proofs.lemmas.List.{get_or_default}
 use Rattle.std.proofs.lemmas.Slice.Eq.{bytes_eq-Decides}
-use Rattle.style_types.specs.declared.rule.Part.{Part}
-use Rattle.style_types.specs.declared.rule.Rule.{Rule}
-use Rattle.style_types.specs.Rule.{Compound, compound_of, compounds_of, selector_of}
+use Rattle.css_types.specs.declared.rule.Part.{Part}
+use Rattle.css_types.specs.declared.rule.Rule.{Rule}
+use Rattle.css_types.specs.Rule.{Compound, compound_of, compounds_of, selector_of}
 use Rattle.cascade.specs.declared.places.Places.{Places}
 use Rattle.cascade.specs.declared.shelves.Shelves.{Shelves}
 use Rattle.cascade.specs.Filing.{Heading, of_id, of_class, of_type, of_any, of_upper_id, of_upper_class, by_first, heading, heading_above, heading_from_right, shelf, AreShelved, IsPut}

@@ -1,9 +1,9 @@
 -- The search for a match that takes the nearest place for each chain of compounds joined by `>`. It finds one exactly
 -- where there is one: what is left above the nearest place contains what is left above any other.
 use Rattle.std.specs.Prelude.{Bool, true, false, List, [], ◌∷◌, Option, Some, None}
-use Rattle.style_types.specs.declared.rule.Joint.{Joint}
-use Rattle.style_types.specs.declared.rule.Joint.TheVariants.{Child, Descendant}
-use Rattle.style_types.specs.Rule.{Compound}
+use Rattle.css_types.specs.declared.rule.Joint.{Joint}
+use Rattle.css_types.specs.declared.rule.Joint.TheVariants.{Child, Descendant}
+use Rattle.css_types.specs.Rule.{Compound}
 use Rattle.dom_store.specs.State.{What}
 use Rattle.cascade.specs.Matching.{fits}
 

@@ -4,13 +4,13 @@ use Rattle.wm_modes.specs.declared.mode.Direction.{Direction}
 use Rattle.wm_modes.specs.declared.mode.Direction.TheVariants.{Ltr, Rtl}
 use Rattle.html_tokens.specs.declared.tag.Tag.{Tag}
 use Rattle.html_tokens.specs.declared.tag.Tag.TheVariants.{Bdo}
-use Rattle.style_types.specs.declared.keyword.Keyword as keyword
-use Rattle.style_types.specs.declared.keyword.Keyword.TheVariants as keywords
-use Rattle.style_types.specs.declared.property.Property as property
-use Rattle.style_types.specs.declared.property.Property.TheVariants as properties
-use Rattle.style_types.specs.declared.value.Value.TheVariants.{Keyword}
-use Rattle.style_types.specs.declared.value.Declaration.{Declaration}
-use Rattle.style_types.specs.Rule.{Ruling}
+use Rattle.css_types.specs.declared.keyword.Keyword as keyword
+use Rattle.css_types.specs.declared.keyword.Keyword.TheVariants as keywords
+use Rattle.css_types.specs.declared.property.Property as property
+use Rattle.css_types.specs.declared.property.Property.TheVariants as properties
+use Rattle.css_types.specs.declared.value.Value.TheVariants.{Keyword}
+use Rattle.css_types.specs.declared.value.Declaration.{Declaration}
+use Rattle.css_types.specs.Rule.{Ruling}
 use Rattle.css_sheet.specs.declared.counts.Specificity.{Specificity}
 use Rattle.css_sheet.specs.Default.{default_rules}
 use Rattle.css_sheet.specs.Specificity.{specificity_of}

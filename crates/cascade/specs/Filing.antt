@@ -2,8 +2,8 @@
 use Rattle.std.specs.Prelude.{◌≡◌, ℕ, ◌<◌, nat_eq, Bool, true, List, [], ◌∷◌, ◌++◌, map, reverse, get_or, Option, Some, None, slice_get}
 use Rattle.std.specs.List.{Contains, list_any}
 use Rattle.html_tokens.specs.Tag.{name_of}
-use Rattle.style_types.specs.declared.rule.Rule.{Rule}
-use Rattle.style_types.specs.Rule.{Compound, ruling_of, selector_of}
+use Rattle.css_types.specs.declared.rule.Rule.{Rule}
+use Rattle.css_types.specs.Rule.{Compound, ruling_of, selector_of}
 use Rattle.dom_store.specs.State.{What, element, text}
 use Rattle.cascade.specs.declared.claim.Claim.{Claim}
 use Rattle.cascade.specs.declared.claim.Origin.{Origin}

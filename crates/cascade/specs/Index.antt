@@ -1,6 +1,6 @@
 -- The rules of an index, and what it finds.
 use Rattle.std.specs.Prelude.{List, ◌++◌}
-use Rattle.style_types.specs.Rule.{Ruling, rulings_of}
+use Rattle.css_types.specs.Rule.{Ruling, rulings_of}
 use Rattle.dom_store.specs.State.{What}
 use Rattle.cascade.specs.declared.claim.Claim.{Claim}
 use Rattle.cascade.specs.declared.index.RuleIndex.{RuleIndex}

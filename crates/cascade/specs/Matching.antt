@@ -2,9 +2,9 @@
 use Rattle.std.specs.Prelude.{ℕ, Bool, true, false, ◌||◌, ◌&&◌, bytes_eq, List, [], ◌∷◌, reverse, Option, Some, None}
 use Rattle.html_tokens.specs.declared.tag.Tag.{Tag}
 use Rattle.html_tokens.specs.Tag.{name_of}
-use Rattle.style_types.specs.declared.rule.Joint.{Joint}
-use Rattle.style_types.specs.declared.rule.Joint.TheVariants.{Child, Descendant}
-use Rattle.style_types.specs.Rule.{Compound}
+use Rattle.css_types.specs.declared.rule.Joint.{Joint}
+use Rattle.css_types.specs.declared.rule.Joint.TheVariants.{Child, Descendant}
+use Rattle.css_types.specs.Rule.{Compound}
 use Rattle.dom_store.specs.State.{What, element, text}
 
 -- ---- a compound selector and one element

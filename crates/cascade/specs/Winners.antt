@@ -5,18 +5,19 @@ use Rattle.std.specs.List.{All, Contains}
 use Rattle.wm_modes.specs.declared.mode.WritingMode.{WritingMode}
 use Rattle.wm_modes.specs.declared.mode.Direction.{Direction}
 use Rattle.wm_modes.specs.Sides.{used_direction}
-use Rattle.style_types.specs.declared.property.Property.{Property}
-use Rattle.style_types.specs.declared.property.Property.TheVariants as properties
+use Rattle.css_types.specs.declared.table.TheConstants.{PROPERTY_COUNT}
+use Rattle.css_types.specs.declared.property.Property.{Property}
+use Rattle.css_types.specs.declared.property.Property.TheVariants as properties
 use Rattle.style_types.specs.declared.style.Style.{Style}
-use Rattle.style_types.specs.declared.table.PropertyRow.{PropertyRow}
-use Rattle.style_types.specs.declared.value.Value.{Value}
-use Rattle.style_types.specs.Defaulting.{computed_mode, computed_direction, computed_orientation}
-use Rattle.style_types.specs.Page.{page_of}
-use Rattle.style_types.specs.Property.{place_of}
-use Rattle.style_types.specs.Rule.{Ruling}
+use Rattle.css_types.specs.declared.table.PropertyRow.{PropertyRow}
+use Rattle.css_types.specs.declared.value.Value.{Value}
+use Rattle.defaulting.specs.Defaulting.{computed_mode, computed_direction, computed_orientation}
+use Rattle.css_types.specs.Page.{page_of}
+use Rattle.css_types.specs.Property.{place_of}
+use Rattle.css_types.specs.Rule.{Ruling}
 use Rattle.style_types.specs.Style.{is_upright}
-use Rattle.style_types.specs.Table.{rows}
-use Rattle.style_types.specs.Value.{HasSayable}
+use Rattle.css_types.specs.Table.{rows}
+use Rattle.css_types.specs.Value.{HasSayable}
 use Rattle.dom_store.specs.State.{What, AreSaid, IsSaid}
 use Rattle.cascade.specs.declared.claim.Claim.{Claim}
 use Rattle.cascade.specs.Claims.{numbers_of, is_below, claims}
@@ -101,9 +102,9 @@ claim_of best = option_map (λ claim. claim.now) best
 abbrev pub claims_of : List (Option (Bor Claim)) → List (Option Claim)
 claims_of best = map claim_of best
 
--- none yet, for any of the 55 properties
+-- none yet, for any property
 abbrev pub AreNone : (best : List (Option Claim)) → Type 0
-AreNone best = (length best ≡ 55) × ((property : Property) → get_or best (place_of property) None ≡ None)
+AreNone best = (length best ≡ PROPERTY_COUNT) × ((property : Property) → get_or best (place_of property) None ≡ None)
 
 abbrev pub AreBest : WritingMode → Direction → List Claim → (best : List (Option Claim)) → Type 0
 AreBest mode dir list best = (property : Property) → get_or best (place_of property) None ≡ greatest (naming mode dir property list)

@@ -4,7 +4,7 @@ ghost use Rattle.std.specs.Prelude.{◌≡◌};
 ghost use Rattle.cascade.specs.Claims.{is_below};
 
 use css_sheet::Specificity;
-use style_types::{Property, Value};
+use css_types::{Property, Value};
 
 /// Where a declaration comes from, from the weakest on (CSS Cascading 4, 6.2 and 6.3).
 #[derive(Clone, Copy, Debug, PartialEq, Eq)]

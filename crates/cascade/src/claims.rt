@@ -3,7 +3,7 @@
 ghost use Rattle.std.specs.Prelude.{◌≡◌, false, List, ◌∷◌, ◌++◌, length, IfOk, OnOk};
 ghost use Rattle.css_sheet.specs.Default.{default_rules};
 ghost use Rattle.css_sheet.specs.Specificity.{specificity_of};
-ghost use Rattle.style_types.specs.Rule.{ruling_of, rulings_of, selector_of};
+ghost use Rattle.css_types.specs.Rule.{ruling_of, rulings_of, selector_of};
 ghost use Rattle.dom_store.specs.State.{What, what_of};
 ghost use Rattle.cascade.specs.Claims as definitions;
 ghost use Rattle.cascade.specs.Line.{whats_of};
@@ -13,10 +13,10 @@ use crate::claim::{Claim, Key, Origin};
 use crate::matching::matches_line;
 use crate::seen::Seen;
 use css_sheet::{Specificity, specificity};
+use css_types::{Declaration, Keyword, Property, Rule, Value};
 use dom_store::NodeKind;
 use html_tokens::Tag;
 use std::alloc::{AllocError, Global};
-use style_types::{Declaration, Keyword, Property, Rule, Value};
 use wm_modes::Direction;
 
 /// What is neither a rule nor specific.

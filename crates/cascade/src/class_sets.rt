@@ -8,9 +8,9 @@ ghost use Rattle.cascade.specs.ClassSets.{AreClasses, is_in, set_at};
 ghost use Rattle.cascade.specs.Matching.{each, has_class};
 
 use dom_store::NodeKind;
+use letters::Letters;
 use std::alloc::{AllocError, Global};
 use std::collections::{BTreeSet, HashMap};
-use style_types::Letters;
 
 /// How many classes of an element are looked through in turn.
 const FEW: usize = 64;

@@ -2,7 +2,7 @@
 
 ghost use Rattle.std.specs.Prelude.{◌≡◌};
 ghost use Rattle.css_sheet.specs.Default.{default_rules};
-ghost use Rattle.style_types.specs.Rule.{rulings_of};
+ghost use Rattle.css_types.specs.Rule.{rulings_of};
 
 use crate::filed::Filed;
 use css_sheet::default_sheet;

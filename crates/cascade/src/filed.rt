@@ -2,7 +2,7 @@
 
 ghost use Rattle.std.specs.Prelude.{◌≡◌, ◌++◌, length, map, option_map, slice_get, IfOk, OnOk};
 ghost use Rattle.std.specs.String.{string_bytes};
-ghost use Rattle.style_types.specs.Rule.{rulings_of};
+ghost use Rattle.css_types.specs.Rule.{rulings_of};
 ghost use Rattle.dom_store.specs.State.{what_of};
 ghost use Rattle.cascade.specs.Filing.{AreShelved, claims_at, claims_if, claims_under, headings, headings_of, headings_of_id, of_class, of_id, of_upper_class, of_upper_id, upper_headings, upper_headings_of};
 ghost use Rattle.cascade.specs.Line.{whats_of};
@@ -12,9 +12,10 @@ use crate::claim::Claim;
 use crate::claims::{Sheet, put_rule_if_matching};
 use crate::seen::Seen;
 use crate::shelves::Shelves;
+use css_types::{Rule, Rules};
 use dom_store::{Node, NodeKind};
+use letters::Letters;
 use std::alloc::{AllocError, Global};
-use style_types::{Letters, Rule, Rules};
 
 /// What it may cost to look up the names of a line where no look is taken at how many rules they find.
 const FEW: usize = 8;

@@ -3,7 +3,7 @@
 ghost use Rattle.std.specs.Prelude.{◌≡◌, IfOk, Some};
 ghost use Rattle.css_sheet.specs.Default.{default_rules};
 ghost use Rattle.dom_store.specs.State.{IsSaidState, entry_of, line, state_of};
-ghost use Rattle.style_types.specs.Rule.{rulings_of};
+ghost use Rattle.css_types.specs.Rule.{rulings_of};
 ghost use Rattle.cascade.specs.Index.{found_claims, index_rules};
 ghost use Rattle.cascade.specs.Line.{whats_of};
 ghost use Rattle.cascade.specs.Kept.{IsKept, kept_state};
@@ -20,9 +20,10 @@ use crate::line::line_of;
 use crate::seen::Seen;
 use crate::winning::winners_among;
 use css_sheet::default_sheet;
+use css_types::{Rule, Winners, copy_of_rules};
 use dom_store::{Document, Node};
 use std::alloc::{AllocError, Global};
-use style_types::{Rule, Style, Winners, copy_of_rules};
+use style_types::Style;
 
 // For how many declarations there is room at first: few elements have more. So many lie in about a thousand bytes, which
 // are allocated at once and freed as soon as the winners are known.

@@ -2,7 +2,7 @@
 
 ghost use Rattle.std.specs.Prelude.{◌≡◌, ℕ, List, [], Some, None};
 ghost use Rattle.style_types.specs.declared.style.Style.{Style};
-ghost use Rattle.style_types.specs.Rule.{Ruling};
+ghost use Rattle.css_types.specs.Rule.{Ruling};
 ghost use Rattle.dom_store.specs.State.{IsSaidState, State, What, line};
 ghost use Rattle.cascade.specs.declared.claim.Claim.{Claim};
 ghost use Rattle.cascade.specs.Claims.{claims};

@@ -2,7 +2,7 @@
 
 ghost use Rattle.std.specs.Prelude.{◌≡◌, ◌-◌, ◌≤◌, ℕ, List, IfSome, length, map, option_map, reverse};
 ghost use Rattle.std.specs.String.{string_bytes};
-ghost use Rattle.style_types.specs.Rule.{compound_of, compounds_of, selector_of};
+ghost use Rattle.css_types.specs.Rule.{compound_of, compounds_of, selector_of};
 ghost use Rattle.dom_store.specs.State.{line, state_of, what_of};
 ghost use Rattle.cascade.specs.Chains as chains;
 ghost use Rattle.cascade.specs.ClassSets.{AreClasses, AreOf, is_in, set_at};
@@ -12,9 +12,10 @@ ghost use Rattle.cascade.specs.Matching as definitions;
 use crate::class_sets::{ClassSet, ClassSets};
 use crate::line::line_of;
 use crate::seen::Seen;
+use css_types::{Joint, Part, Selector};
 use dom_store::{Document, Node, NodeKind};
 use html_tokens::Tag;
-use style_types::{Joint, Letters, Part, Selector};
+use letters::Letters;
 
 /// What is left to match, and the nodes above.
 type Left<'p, 'l, 'n> = (&'p [Part], &'l [&'n Node]);

@@ -3,9 +3,9 @@
 ghost use Rattle.std.specs.Prelude.{◌≡◌, List, ℕ, [], ◌∷◌, ◌++◌, cond, bytes_eq, OnOk};
 ghost use Rattle.cascade.specs.Places.{places_under};
 
+use letters::Letters;
 use std::alloc::{AllocError, Global};
 use std::collections::HashMap;
-use style_types::Letters;
 
 /// Places of rules, each under a name.
 #[derive(Drop)]

@@ -2,13 +2,14 @@
 
 ghost use Rattle.std.specs.Prelude.{◌≡◌, ◌∷◌, IfOk, OnOk, length, option_map, reverse};
 ghost use Rattle.std.specs.String.{string_bytes};
-ghost use Rattle.style_types.specs.Rule.{compound_of, compounds_of, selector_of};
+ghost use Rattle.css_types.specs.Rule.{compound_of, compounds_of, selector_of};
 ghost use Rattle.cascade.specs.Filing.{AreShelved, Heading, IsPut, by_first, by_type, heading, heading_above, heading_from_right, of_upper_class, of_upper_id};
 ghost use Rattle.cascade.specs.Shelves.{upper_heading};
 
 use crate::places::Places;
+use css_types::{Part, Rule, Selector};
+use letters::Letters;
 use std::alloc::{AllocError, Global};
-use style_types::{Letters, Part, Rule, Selector};
 
 // A name that an element above the one that is looked for must have.
 #[derive(Clone, Copy)]

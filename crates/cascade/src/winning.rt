@@ -5,18 +5,17 @@ ghost use Rattle.cascade.specs.Winners as definitions;
 ghost use Rattle.cascade.specs.Winners.{AreBest, AreNone, claim_of, claims_of};
 
 use crate::claim::Claim;
+use css_types::{PROPERTIES, PROPERTY_COUNT, Property, PropertyRow, Value, Winners, page_property};
+use defaulting::{computed_direction, computed_mode, computed_orientation};
 use std::alloc::{AllocError, Global};
-use style_types::{
-    PROPERTIES, Property, PropertyRow, Style, TextOrientation, Value, Winners, computed_direction,
-    computed_mode, computed_orientation, page_property,
-};
+use style_types::{Style, TextOrientation};
 use wm_modes::{Direction, WritingMode, used_direction};
 
 // For how many winners there is room at first: few elements have more.
 const ROOM: usize = 16;
 
 // A claim, or none, for each property of the table, by its place.
-type Best<'a> = [Option<&'a Claim>; 55];
+type Best<'a> = [Option<&'a Claim>; PROPERTY_COUNT];
 
 /// The winner of each property, in the order of the table of properties, among these claims.
 pub(crate) fn winners_among(
@@ -27,7 +26,7 @@ pub(crate) fn winners_among(
     ensures { IfOk result (λ w. w.items ≡ definitions.winners_in claims.now parent.now) }
 {
     let (mode, dir) = flow_of(claims, parent);
-    let mut best = [None; 55];
+    let mut best = [None; PROPERTY_COUNT];
     put_best(&mut best, claims, mode, dir);
     listed(alloc, &PROPERTIES, &best)
 }

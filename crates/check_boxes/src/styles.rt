@@ -5,10 +5,8 @@ use WritingMode::{HorizontalTb, SidewaysLr, SidewaysRl, VerticalLr, VerticalRl};
 use std::process::Abort;
 use std::rc::Rc;
 use std::test::*;
-use style_types::{
-    Declaration, Joint, Part, Property, Rule, Selector, Style, TextOrientation, Value,
-    copy_of_rules, page_property,
-};
+use css_types::{Declaration, Joint, Part, Property, Rule, Selector, Value, copy_of_rules, page_property};
+use style_types::{Style, TextOrientation};
 use wm_modes::{Direction, WritingMode};
 
 // A property, the mode, the used direction, and the property of the page.

@@ -2,7 +2,7 @@
 
 use css_values::read_declarations;
 use std::test::Fail;
-use style_types::{Declaration, Keyword, Property, Value};
+use css_types::{Declaration, Keyword, Property, Value};
 
 #[test]
 fn importance_and_places(rt: HostRuntime) -> Result<(), Fail> {

@@ -3,7 +3,7 @@
 use css_values::CssError;
 use std::io;
 use std::io::Write;
-use style_types::Declaration;
+use css_types::Declaration;
 
 /// Prints a refusal.
 pub(crate) fn print_refusal<W: Write>(output: &mut W, error: CssError) -> io::Result<()> {

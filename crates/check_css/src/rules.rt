@@ -1,12 +1,12 @@
 //! How rules are printed.
 
 ghost use Rattle.std.specs.Prelude.{◌≡◌, codes};
-ghost use Rattle.style_types.specs.declared.rule.Joint.TheVariants.{Child, Descendant};
+ghost use Rattle.css_types.specs.declared.rule.Joint.TheVariants.{Child, Descendant};
 
 use crate::printed::print_declarations;
 use std::io;
 use std::io::Write;
-use style_types::{Joint, Part, Rule};
+use css_types::{Joint, Part, Rule};
 
 /// Prints rules in order.
 pub(crate) fn print_rules<W: Write>(output: &mut W, rules: &[Rule]) -> io::Result<()> {

@@ -6,7 +6,8 @@ use css_values::{CssError, Refusal};
 use html_read::read_document;
 use std::alloc::Global;
 use std::test::*;
-use style_types::{Joint, Letters, Property, Rule, Rules, Value};
+use css_types::{Joint, Property, Rule, Rules, Value};
+use letters::Letters;
 
 #[test]
 fn parts_of_a_selector(rt: HostRuntime) -> Result<(), Fail> {

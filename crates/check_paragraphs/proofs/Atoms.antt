@@ -3,8 +3,8 @@ use Rattle.std.proofs.Common.{◌≡◌, refl, sym, ap, ◌∙◌, subst, arith,
 use Rattle.std.proofs.lemmas.List.{drop_more}
 use Rattle.std.proofs.lemmas.List.Elements.{All-map}
 use Rattle.std.proofs.lemmas.List.Sums.{sum_by-cons}
-use Rattle.style_types.specs.declared.item.Item.{Item}
-use Rattle.style_types.specs.Item.{entries_of, entry_of}
+use Rattle.fragment_types.specs.declared.item.Item.{Item}
+use Rattle.fragment_types.specs.Item.{entries_of, entry_of}
 use Rattle.line_place.specs.Reach.{total}
 use Rattle.check_paragraphs.specs.Bounds.{IsBoundedItem}
 use Rattle.para_lines.specs.Boxes.{HasBounds}

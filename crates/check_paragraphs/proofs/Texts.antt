@@ -2,8 +2,8 @@
 use Rattle.std.proofs.Common.{◌≡◌, refl, ap, ◌∙◌, subst, ◌+◌, ◌≤◌, List, [], ◌∷◌, All, sum_by}
 use Rattle.std.proofs.lemmas.List.Elements.{All-map}
 use Rattle.std.proofs.lemmas.List.Sums.{sum_by-cons}
-use Rattle.style_types.specs.declared.item.Item.{Item}
-use Rattle.style_types.specs.Item.{entries_of, entry_of}
+use Rattle.fragment_types.specs.declared.item.Item.{Item}
+use Rattle.fragment_types.specs.Item.{entries_of, entry_of}
 use Rattle.para_prepare.specs.Limits.{HasFontSize, bytes_in, text_bytes}
 
 bytes_sum : (items : List Item) → sum_by (λ item. bytes_in (entry_of item)) items ≡ text_bytes (entries_of items)

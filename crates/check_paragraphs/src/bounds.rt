@@ -2,7 +2,7 @@
 
 ghost use Rattle.std.specs.Prelude.{◌≡◌, ◌<◌, ◌≤ℤ◌, pos, true};
 ghost use Rattle.style_types.specs.Style.{AreBorders, IsBounded, IsCombine, IsExtent, IsLength, IsLineHeight, IsMargin, IsPadding, IsShare, IsSize, OnSides};
-ghost use Rattle.style_types.specs.Value.{IsSayable};
+ghost use Rattle.wm_units.specs.Numbers.{IsSayable};
 
 use style_types::{Combine, LineHeight, SideSizes, SideWidths, Size, Style};
 

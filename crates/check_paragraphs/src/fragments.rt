@@ -9,7 +9,7 @@ use std::alloc::Global;
 use std::io;
 use std::io::Write;
 use std::rc::Rc;
-use style_types::{Fragment, FragmentKind, Fragments, RunUnit, RunUnits};
+use fragment_types::{Fragment, FragmentKind, Fragments, RunUnit, RunUnits};
 use wm_modes::FlowRect;
 
 #[derive(Clone, Copy)]

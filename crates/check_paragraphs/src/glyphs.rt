@@ -4,7 +4,7 @@ use crate::words::{CaseError, Words};
 use std::alloc::Global;
 use std::io;
 use std::io::Write;
-use style_types::{Characters, Glyphs};
+use fragment_types::{Characters, Glyphs};
 
 /// The next word as what is seen of units; `-` is none.
 pub(crate) fn glyphs(alloc: Global, words: &mut Words<'_>) -> Result<Glyphs, CaseError> {

@@ -1,6 +1,7 @@
 //! The names of what stands in a case.
 
-use style_types::{Align, Baseline, Breaking, Combine, TextOrientation, UnicodeBidi, UnitKind};
+use fragment_types::{Breaking, UnitKind};
+use style_types::{Align, Baseline, Combine, TextOrientation, UnicodeBidi};
 use wm_chars::BidiClass;
 use wm_modes::{Direction, WritingMode};
 

@@ -11,7 +11,8 @@ use line_place::{
 use std::alloc::{AllocError, Global};
 use std::io;
 use std::io::Write;
-use style_types::{Align, Fragment, Glyphs, UnitKind};
+use fragment_types::{Fragment, Glyphs, UnitKind};
+use style_types::Align;
 use wm_chars::BidiClass;
 use wm_modes::WritingMode;
 

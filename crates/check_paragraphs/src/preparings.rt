@@ -1,7 +1,7 @@
 //! Paragraphs: what stands in the one that is asked, and what is prepared of it for its lines.
 
 ghost use Rattle.std.specs.Prelude.{◌≡◌, ◌+◌, ◌≤◌, true, All, IfSome, sum_by};
-ghost use Rattle.style_types.specs.Item.{entries_of, entry_of};
+ghost use Rattle.fragment_types.specs.Item.{entries_of, entry_of};
 ghost use Rattle.para_prepare.specs.Limits.{HasFontSize, bytes_in, text_bytes};
 
 use crate::glyphs::print_glyphs;
@@ -17,7 +17,9 @@ use std::fmt::Debug;
 use std::io;
 use std::io::Write;
 use std::sync::ledger::Ledger;
-use style_types::{Item, Items, Letters, Style};
+use fragment_types::{Item, Items};
+use letters::Letters;
+use style_types::Style;
 use wm_units::Steps;
 
 /// The paragraph of these words, which is to be prepared.

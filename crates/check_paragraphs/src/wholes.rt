@@ -1,7 +1,7 @@
 //! Lines of whole paragraphs: the paragraph that is asked with its inline-blocks, its two sizes, and its lines in so much room.
 
 ghost use Rattle.std.specs.Prelude.{◌≡◌, ◌+◌, ◌≤◌, ◌≤ℤ◌, ◌^◌, true, pos, unsigned_abs, All, IfSome, length, map, sum_by};
-ghost use Rattle.style_types.specs.Item.{entries_of, entry_of};
+ghost use Rattle.fragment_types.specs.Item.{entries_of, entry_of};
 ghost use Rattle.style_types.specs.Style.{IsBounded};
 ghost use Rattle.line_place.specs.Reach.{total};
 ghost use Rattle.check_paragraphs.specs.Bounds.{IsBoundedItem};
@@ -26,7 +26,7 @@ use std::io;
 use std::io::Write;
 use std::rc::Rc;
 use std::sync::ledger::Ledger;
-use style_types::{Fragment, FragmentKind, Item};
+use fragment_types::{Fragment, FragmentKind, Item};
 use wm_modes::FlowRect;
 use wm_units::Steps;
 

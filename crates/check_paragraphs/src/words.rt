@@ -2,7 +2,7 @@
 
 use std::alloc::{AllocError, AllocFailed};
 use std::str::SplitWhitespace;
-use style_types::BoxName;
+use fragment_types::BoxName;
 
 /// Why a line is no case.
 #[derive(Clone, Copy, Debug)]

@@ -7,7 +7,8 @@ use place_map::{Placed, PlacedPart};
 use std::alloc::Global;
 use std::rc::Rc;
 use std::test::*;
-use style_types::{Baseline, BoxName, FragmentKind, Glyphs, RunUnit, UnitKind};
+use fragment_types::{BoxName, FragmentKind, Glyphs, RunUnit, UnitKind};
+use style_types::Baseline;
 use wm_modes::{Direction, FlowRect, Rect, WritingMode};
 use wm_units::View;
 

@@ -5,7 +5,7 @@ ghost use Rattle.std.specs.Prelude.{◌≡◌, true, false, codes};
 use box_gen::{BoxTree, Content};
 use std::io;
 use std::io::Write;
-use style_types::{BoxName, Item};
+use fragment_types::{BoxName, Item};
 
 /// Prints the boxes of a tree, each before those inside it.
 pub(crate) fn print_boxes<W: Write>(output: &mut W, root: &BoxTree) -> io::Result<()> {

@@ -8,7 +8,8 @@ use html_read::read_document;
 use html_tokens::Tag;
 use std::alloc::Global;
 use std::test::*;
-use style_types::{Keyword, Property, Style, Styled, Value};
+use css_types::{Keyword, Property, Styled, Value};
+use style_types::Style;
 use wm_modes::Direction;
 
 fn opened(alloc: Global, text: &str) -> Result<(Document, Styled), Fail> {

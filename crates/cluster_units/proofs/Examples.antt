@@ -22,8 +22,8 @@ use Rattle.wm_chars.specs.Repertoire.{row_of, break_class, orientation}
 use Rattle.cluster_units.specs.Cluster.{unit_clusters}
 use Rattle.cluster_units.specs.Unit.{units_of}
 use Rattle.cluster_units.specs.declared.unit.Unit.{Unit}
-use Rattle.style_types.specs.declared.unit_kind.UnitKind.{UnitKind}
-use Rattle.style_types.specs.declared.unit_kind.UnitKind.TheVariants.{Along, Turned, Upright, Combined}
+use Rattle.fragment_types.specs.declared.unit_kind.UnitKind.{UnitKind}
+use Rattle.fragment_types.specs.declared.unit_kind.UnitKind.TheVariants.{Along, Turned, Upright, Combined}
 use Rattle.unicode_segmentation.proofs.Computing.{unicode_segmentation}
 
 abbrev style_of : WritingMode → TextOrientation → Combine → ℤ → Style

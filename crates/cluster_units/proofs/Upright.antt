@@ -5,7 +5,7 @@ use Rattle.wm_chars.specs.Laws.{AreUprightFromU3000}
 use Rattle.wm_chars.specs.Repertoire.{break_class, orientation, row_of}
 use Rattle.wm_chars.specs.declared.classes.BreakClass.{BreakClass}
 use Rattle.wm_chars.specs.declared.classes.Orient.TheVariants.{R, V}
-use Rattle.style_types.specs.declared.unit_kind.UnitKind.TheVariants.{Turned, Upright}
+use Rattle.fragment_types.specs.declared.unit_kind.UnitKind.TheVariants.{Turned, Upright}
 use Rattle.cluster_units.specs.Unit.{kind_by}
 
 by_row : {X : Type 0} (late : Bool) (breaks : X → BreakClass) (found : Option X)

@@ -10,7 +10,7 @@ use Rattle.style_types.specs.declared.style.TextOrientation.TheVariants.{Mixed, 
 use Rattle.wm_chars.specs.Repertoire.{orientation}
 use Rattle.wm_chars.specs.declared.classes.Orient.{Orient}
 use Rattle.wm_chars.specs.declared.classes.Orient.TheVariants.{R, V}
-use Rattle.style_types.specs.declared.unit_kind.UnitKind.TheVariants.{Along}
+use Rattle.fragment_types.specs.declared.unit_kind.UnitKind.TheVariants.{Along}
 use Rattle.std.specs.List.{last_or}
 use Rattle.std.specs.Prelude.{unwrap_or}
 use Rattle.std.proofs.lemmas.Option.{none-some}

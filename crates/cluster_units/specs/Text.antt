@@ -1,8 +1,8 @@
 -- Units that are made one after the other: neighbours that both combine become one.
 use Rattle.std.specs.Prelude.{ℕ, ◌≤◌, Bool, true, false, ◌&&◌, if◌then◌else◌, List, [], ◌∷◌, Option, Some, None, All, ◌+ℤ◌, unsigned_abs}
 use Rattle.cluster_units.specs.declared.unit.Unit.{Unit}
-use Rattle.style_types.specs.declared.unit_kind.UnitKind.{UnitKind}
-use Rattle.style_types.specs.declared.unit_kind.UnitKind.TheVariants.{Combined}
+use Rattle.fragment_types.specs.declared.unit_kind.UnitKind.{UnitKind}
+use Rattle.fragment_types.specs.declared.unit_kind.UnitKind.TheVariants.{Combined}
 
 abbrev pub is_combined : UnitKind → Bool
 is_combined Combined = true

@@ -19,8 +19,8 @@ use Rattle.cluster_units.specs.Cluster.{is_control, is_several, is_space, unit_c
 use Rattle.cluster_units.specs.declared.cluster.Cluster.{Cluster}
 use Rattle.cluster_units.specs.Runs.{Run, items, last, runs_of}
 use Rattle.cluster_units.specs.declared.unit.Unit.{Unit}
-use Rattle.style_types.specs.declared.unit_kind.UnitKind.{UnitKind}
-use Rattle.style_types.specs.declared.unit_kind.UnitKind.TheVariants.{Along, Turned, Upright, Combined}
+use Rattle.fragment_types.specs.declared.unit_kind.UnitKind.{UnitKind}
+use Rattle.fragment_types.specs.declared.unit_kind.UnitKind.TheVariants.{Along, Turned, Upright, Combined}
 
 -- the modes whose lines are vertical and whose text can be upright
 abbrev pub is_vertical : WritingMode → Bool

@@ -13,8 +13,9 @@ use crate::plain::plain_units;
 use crate::single::unit_of;
 use crate::{Unit, Units};
 use face_api::{Face, Faces};
+use fragment_types::UnitKind;
 use std::alloc::{AllocError, Global};
-use style_types::{Style, UnitKind};
+use style_types::Style;
 use unicode_segmentation::UnicodeSegmentation;
 
 /// The units of a text (CSS Writing Modes 4, 5.1 and 9.1; UAX 29): its extended grapheme clusters but for the

@@ -1,6 +1,6 @@
 //! Units: pieces of text that no line divides (CSS Writing Modes 4, 5.1 and 9.1).
 
-use style_types::UnitKind;
+use fragment_types::UnitKind;
 use wm_chars::BreakClass;
 
 /// A piece of text that no line divides: a grapheme cluster (UAX 29), or a combined run. Lengths are in units

@@ -1,8 +1,8 @@
 -- Styles by computation, from random parents and winners, as an independent implementation has them.
 use Rattle.std.specs.Prelude.{◌≡◌, refl, [], ◌∷◌, pos, negsuc}
-use Rattle.style_types.specs.declared.property.Property.TheVariants as properties
-use Rattle.style_types.specs.declared.keyword.Keyword.TheVariants as keywords
-use Rattle.style_types.specs.declared.value.Value.TheVariants as values
+use Rattle.css_types.specs.declared.property.Property.TheVariants as properties
+use Rattle.css_types.specs.declared.keyword.Keyword.TheVariants as keywords
+use Rattle.css_types.specs.declared.value.Value.TheVariants as values
 use Rattle.style_types.specs.declared.style.Display.TheVariants as displays
 use Rattle.style_types.specs.declared.style.TextOrientation.TheVariants as orientations
 use Rattle.style_types.specs.declared.style.Combine.TheVariants as combines

@@ -7,14 +7,15 @@ use Rattle.std.proofs.lemmas.List.{get_or-set_other, length-set}
 use Rattle.std.proofs.lemmas.List.Folds.{list_any_more}
 use Rattle.std.proofs.lemmas.Grind.{get_or-set_at}
 use Rattle.std.proofs.lemmas.Bool.Decides.{eqb_tells}
-use Rattle.style_types.specs.declared.property.Property.{Property}
-use Rattle.style_types.specs.declared.value.Value.{Value}
-use Rattle.style_types.specs.Property.{place_of}
+use Rattle.css_types.specs.declared.table.TheConstants.{PROPERTY_COUNT}
+use Rattle.css_types.specs.declared.property.Property.{Property}
+use Rattle.css_types.specs.declared.value.Value.{Value}
+use Rattle.css_types.specs.Property.{place_of}
 use Rattle.computed.specs.Winners.{AreMarked, Winning, has, won}
 
--- the marks of the first winners, one for each of 55 places
+-- the marks of the first winners, one for each place of the table
 abbrev pub IsMarking : (winners : Winning) (i : ℕ) (marks : List Bool) → Type 0
-IsMarking winners i marks = (length marks ≡ 55) × AreMarked marks (take i winners)
+IsMarking winners i marks = (length marks ≡ PROPERTY_COUNT) × AreMarked marks (take i winners)
 
 put_by : (p q : ℕ) (marks : List Bool) → p < length marks → ((eqb p q ≡ true) × (p ≡ q)) ⊎ ((eqb p q ≡ false) × (p ≢ q))
     → get_or (set marks p true) q false ≡ (get_or marks q false || eqb p q)
@@ -40,8 +41,8 @@ no_mark (suc n) zero = refl
 no_mark (suc n) (suc place) = no_mark n place
 
 -- at first nothing is marked
-pub marking_starts : (winners : Winning) → IsMarking winners 0 (replicate 55 false)
-marking_starts winners = (refl, no_mark 55)
+pub marking_starts : (winners : Winning) → IsMarking winners 0 (replicate PROPERTY_COUNT false)
+marking_starts winners = (refl, no_mark PROPERTY_COUNT)
 
 -- ---- what has no mark has no winner
 

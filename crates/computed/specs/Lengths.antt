@@ -2,8 +2,8 @@
 use Rattle.std.specs.Prelude.{Bool, true, false, Option, Some, None, ℤ, pos, ◌≤ℤ◌, int_le}
 use Rattle.std.specs.Int.{int_min, int_max}
 use Rattle.wm_units.specs.Numbers.{fixed, scaled, percent, cap}
-use Rattle.style_types.specs.declared.value.Value.{Value}
-use Rattle.style_types.specs.declared.value.Value.TheVariants.{Px, Em, Percent}
+use Rattle.css_types.specs.declared.value.Value.{Value}
+use Rattle.css_types.specs.declared.value.Value.TheVariants.{Px, Em, Percent}
 
 -- a font size is from 0 to 1,024 pixels
 abbrev pub IsFontSize : ℤ → Type 0

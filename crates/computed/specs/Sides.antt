@@ -1,12 +1,12 @@
 -- Sizes, margins, paddings and borders. CSS 2, 8.3 to 8.5, 10.2 and 10.4.
 use Rattle.std.specs.Prelude.{Bool, true, false, ℤ, pos}
 use Rattle.wm_units.specs.Numbers.{fixed}
-use Rattle.style_types.specs.declared.property.Property.{Property}
-use Rattle.style_types.specs.declared.property.Property.TheVariants as properties
+use Rattle.css_types.specs.declared.property.Property.{Property}
+use Rattle.css_types.specs.declared.property.Property.TheVariants as properties
 use Rattle.style_types.specs.declared.style.SideSizes.{SideSizes}
 use Rattle.style_types.specs.declared.style.SideWidths.{SideWidths}
 use Rattle.style_types.specs.declared.style.Size.{Size}
-use Rattle.style_types.specs.Defaulting.{computed}
+use Rattle.defaulting.specs.Defaulting.{computed}
 use Rattle.style_types.specs.Initial.{initial}
 use Rattle.computed.specs.Lengths.{extent_of}
 use Rattle.computed.specs.Values.{size_of, margin_of, is_drawn}

@@ -3,7 +3,7 @@ use Rattle.std.specs.Prelude.{ℕ, Bool, true, false, not, ℤ}
 use Rattle.wm_modes.specs.declared.mode.WritingMode.{WritingMode}
 use Rattle.wm_modes.specs.declared.mode.WritingMode.TheVariants.{HorizontalTb, VerticalRl, VerticalLr, SidewaysRl, SidewaysLr}
 use Rattle.wm_modes.specs.declared.mode.Direction.{Direction}
-use Rattle.style_types.specs.declared.property.Property.TheVariants as properties
+use Rattle.css_types.specs.declared.property.Property.TheVariants as properties
 use Rattle.style_types.specs.declared.style.Align.{Align}
 use Rattle.style_types.specs.declared.style.Combine.{Combine}
 use Rattle.style_types.specs.declared.style.Display.{Display}
@@ -12,8 +12,9 @@ use Rattle.style_types.specs.declared.style.LineHeight.{LineHeight}
 use Rattle.style_types.specs.declared.style.Style.{Style}
 use Rattle.style_types.specs.declared.style.TextOrientation.{TextOrientation}
 use Rattle.style_types.specs.declared.style.UnicodeBidi.{UnicodeBidi}
-use Rattle.style_types.specs.Defaulting.{computed, computed_mode, computed_direction, computed_orientation}
-use Rattle.style_types.specs.Initial.{initial, display_of, bidi_of, align_of}
+use Rattle.defaulting.specs.Defaulting.{computed, computed_mode, computed_direction, computed_orientation}
+use Rattle.style_types.specs.Initial.{initial}
+use Rattle.defaulting.specs.SimpleValues.{display_of, bidi_of, align_of}
 use Rattle.computed.specs.Lengths.{font_size_of}
 use Rattle.computed.specs.Sides.{size_at, margins, paddings, borders}
 use Rattle.computed.specs.Values.{combine_of, face_of, line_height_of, shift_of}

@@ -1,9 +1,9 @@
 -- What values compute to, where they are values of the property. CSS 2, 6.1.2.
 use Rattle.std.specs.Prelude.{ℕ, Bool, true, false, ◌&&◌, nat_le, Option, Some, None, option_map, ℤ, pos}
 use Rattle.wm_units.specs.Numbers.{percent, cap}
-use Rattle.style_types.specs.declared.keyword.Keyword.TheVariants as keywords
-use Rattle.style_types.specs.declared.value.Value.{Value}
-use Rattle.style_types.specs.declared.value.Value.TheVariants.{Keyword, Percent, Number, Face, Digits}
+use Rattle.css_types.specs.declared.keyword.Keyword.TheVariants as keywords
+use Rattle.css_types.specs.declared.value.Value.{Value}
+use Rattle.css_types.specs.declared.value.Value.TheVariants.{Keyword, Percent, Number, Face, Digits}
 use Rattle.style_types.specs.declared.style.Combine.{Combine}
 use Rattle.style_types.specs.declared.style.Combine.TheVariants as combines
 use Rattle.style_types.specs.declared.style.LineHeight.{LineHeight}

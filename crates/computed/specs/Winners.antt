@@ -1,10 +1,10 @@
 -- The values that won for an element, and what they say of a property. CSS 2, 6.1.1.
 use Rattle.std.specs.Prelude.{◌≡◌, ℕ, nat_eq, Bool, false, List, find, get_or, Option, option_map}
 use Rattle.std.specs.List.{list_any}
-use Rattle.style_types.specs.declared.property.Property.{Property}
-use Rattle.style_types.specs.declared.value.Value.{Value}
-use Rattle.style_types.specs.Defaulting.{specified}
-use Rattle.style_types.specs.Property.{place_of}
+use Rattle.css_types.specs.declared.property.Property.{Property}
+use Rattle.css_types.specs.declared.value.Value.{Value}
+use Rattle.defaulting.specs.Defaulting.{specified}
+use Rattle.css_types.specs.Property.{place_of}
 
 abbrev pub Winning : Type 0
 Winning = List (Property × Value)

@@ -2,11 +2,11 @@
 
 ghost use Rattle.std.specs.Prelude.{◌≡◌, ℤ, pos, ◌≤ℤ◌, IfSome};
 ghost use Rattle.style_types.specs.Style.{IsExtent, IsLength};
-ghost use Rattle.style_types.specs.Value.{HasSayable};
+ghost use Rattle.css_types.specs.Value.{HasSayable};
 ghost use Rattle.computed.specs.Lengths as lengths;
 ghost use Rattle.computed.specs.Lengths.{IsFontSize};
 
-use style_types::Value;
+use css_types::Value;
 use wm_units::{cap, fixed, percent, scaled};
 
 const GREATEST_FONT_SIZE: i64 = 65_536;

@@ -3,14 +3,15 @@
 ghost use Rattle.std.specs.Prelude.{◌≡◌};
 ghost use Rattle.std.specs.List.{All};
 ghost use Rattle.style_types.specs.Style.{AreBorders, IsExtent, IsMargin, IsPadding, IsSize, OnSides};
-ghost use Rattle.style_types.specs.Value.{HasSayable};
+ghost use Rattle.css_types.specs.Value.{HasSayable};
 ghost use Rattle.computed.specs.Lengths.{IsFontSize};
 ghost use Rattle.computed.specs.Sides as sides;
 
 use crate::lengths::extent_of;
 use crate::values::{is_drawn, margin_of, size_of};
 use crate::winners::{Marked, said};
-use style_types::{Property, SideSizes, SideWidths, Size};
+use css_types::Property;
+use style_types::{SideSizes, SideWidths, Size};
 
 // The width of a border that says none: `medium`, which is three pixels.
 const MEDIUM: i64 = 192;

@@ -3,7 +3,7 @@
 ghost use Rattle.std.specs.Prelude.{◌≡◌, ◌<◌};
 ghost use Rattle.std.specs.List.{All};
 ghost use Rattle.style_types.specs.Style.{IsBounded, IsCombine, IsLength, IsLineHeight};
-ghost use Rattle.style_types.specs.Value.{HasSayable};
+ghost use Rattle.css_types.specs.Value.{HasSayable};
 ghost use Rattle.computed.specs.Lengths.{IsFontSize};
 ghost use Rattle.computed.specs.Step as step;
 
@@ -11,10 +11,9 @@ use crate::lengths::font_size_of;
 use crate::sides::{borders, margins, paddings, size_at};
 use crate::values::{align_of, bidi_of, combine_of, display_of, face_of, line_height_of, shift_of};
 use crate::winners::{Marked, said, won};
-use style_types::{
-    Align, Combine, Display, LineHeight, Property, Style, TextOrientation, UnicodeBidi, Winners,
-    computed_direction, computed_mode, computed_orientation,
-};
+use css_types::{Property, Winners};
+use defaulting::{computed_direction, computed_mode, computed_orientation};
+use style_types::{Align, Combine, Display, LineHeight, Style, TextOrientation, UnicodeBidi};
 use wm_modes::{Direction, WritingMode};
 
 /// The style of an element, from its parent's and from the values that won for it. Each property is inherited, has its

@@ -1,19 +1,20 @@
 //! What values compute to, where they are values of the property (CSS 2, 6.1.2).
 
 ghost use Rattle.std.specs.Prelude.{◌≡◌, ◌<◌, IfSome};
-ghost use Rattle.style_types.specs.Initial as initial;
+ghost use Rattle.defaulting.specs.SimpleValues as simple;
 ghost use Rattle.style_types.specs.Style.{IsCombine, IsLength, IsLineHeight, IsMargin, IsPadding};
-ghost use Rattle.style_types.specs.Value.{HasSayable};
+ghost use Rattle.css_types.specs.Value.{HasSayable};
 ghost use Rattle.computed.specs.Lengths.{IsFontSize};
 ghost use Rattle.computed.specs.Values as values;
 
 use crate::lengths::{extent_of, length_of};
-use style_types::{Align, Combine, Display, Keyword, LineHeight, Size, UnicodeBidi, Value};
+use css_types::{Keyword, Value};
+use style_types::{Align, Combine, Display, LineHeight, Size, UnicodeBidi};
 use wm_units::{cap, percent};
 
 /// CSS 2, 9.2.4.
 pub fn display_of(value: Value) -> Option<Display>
-    ensures { result ≡ initial.display_of value }
+    ensures { result ≡ simple.display_of value }
 {
     match value {
         Value::Keyword(Keyword::Block) => Some(Display::Block),
@@ -40,7 +41,7 @@ pub fn combine_of(value: Value) -> Option<Combine>
 
 /// CSS Writing Modes 4, 2.2.
 pub fn bidi_of(value: Value) -> Option<UnicodeBidi>
-    ensures { result ≡ initial.bidi_of value }
+    ensures { result ≡ simple.bidi_of value }
 {
     match value {
         Value::Keyword(Keyword::Normal) => Some(UnicodeBidi::Normal),
@@ -83,7 +84,7 @@ pub fn line_height_of(font_size: i64, value: Value) -> Option<LineHeight>
 
 /// CSS 2, 16.2.
 pub fn align_of(value: Value) -> Option<Align>
-    ensures { result ≡ initial.align_of value }
+    ensures { result ≡ simple.align_of value }
 {
     match value {
         Value::Keyword(Keyword::Start) => Some(Align::Start),

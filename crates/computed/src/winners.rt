@@ -2,15 +2,16 @@
 
 ghost use Rattle.std.specs.Prelude.{◌≡◌, IfSome, nat_eq};
 ghost use Rattle.std.specs.List.{All};
-ghost use Rattle.style_types.specs.Property.{place_of};
-ghost use Rattle.style_types.specs.Value.{HasSayable};
+ghost use Rattle.css_types.specs.Property.{place_of};
+ghost use Rattle.css_types.specs.Value.{HasSayable};
 ghost use Rattle.computed.specs.Winners as winning;
 ghost use Rattle.computed.specs.Winners.{AreMarked};
 
-use style_types::{Property, Value, Winners, specified};
+use css_types::{PROPERTY_COUNT, Property, Value, Winners};
+use defaulting::specified;
 
 // A mark for each property of the table, by its place.
-type Marks = [bool; 55];
+type Marks = [bool; PROPERTY_COUNT];
 
 /// The values that won, and which properties have one: most have none, and these are seen without a search.
 #[derive(Drop)]
@@ -34,7 +35,7 @@ impl<'a> Marked<'a> {
 fn marks_of(winners: &[(Property, Value)]) -> Marks
     ensures { AreMarked result winners.now }
 {
-    let mut marks = [false; 55];
+    let mut marks = [false; PROPERTY_COUNT];
     for winner in winners {
         marks[winner.0.place()] = true;
     }

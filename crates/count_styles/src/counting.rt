@@ -2,7 +2,7 @@
 
 ghost use Rattle.std.specs.Prelude.{◌≡◌, length, map, IfOk};
 ghost use Rattle.std.specs.List.{All};
-ghost use Rattle.style_types.specs.Rule.{rulings_of};
+ghost use Rattle.css_types.specs.Rule.{rulings_of};
 ghost use Rattle.html_read.specs.Answered.{IsTheDocument};
 ghost use Rattle.html_read.specs.Shape.{IsShaped};
 ghost use Rattle.html_read.specs.Values.{Whole, nodes_of};
@@ -19,7 +19,7 @@ use dom_store::Document;
 use html_read::{ReadDocument, ReadNode, read_document};
 use std::alloc::Global;
 use style_tree::styled;
-use style_types::Styled;
+use css_types::Styled;
 
 /// How many nodes the document of these bytes has, which is taken so far.
 pub(crate) fn count(alloc: Global, bytes: &[u8], stage: Stage) -> Result<usize, CountError>

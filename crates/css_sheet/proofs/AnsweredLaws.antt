@@ -8,7 +8,7 @@ use Rattle.css_values.specs.declared.error.CssError.TheVariants as errors
 use Rattle.reading.specs.Stop.{end_of}
 use Rattle.css_values.specs.Error.{Fault, Told}
 use Rattle.css_sheet.specs.Answered.{IsTheSheet, IsWholeSheet, RefusesSheet}
-use Rattle.style_types.specs.Rule.{Ruling}
+use Rattle.css_types.specs.Rule.{Ruling}
 use Rattle.css_sheet.specs.Sheet.{Sheet, empty, sheet}
 use Rattle.css_sheet.proofs.HeadLaws.{good}
 use Rattle.css_sheet.proofs.SheetLaws.{whole_is, whole_is_read}

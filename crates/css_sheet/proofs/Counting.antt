@@ -1,8 +1,8 @@
 -- What a selector is made of, counted compound by compound.
 use Rattle.std.proofs.Common.{◌≡◌, ℕ, ◌<◌, ◌≤◌, ◌+◌, List, [], ◌∷◌, length, drop, get_or, map, refl, sym, ap, ◌∙◌, arith}
 use Rattle.std.proofs.lemmas.List.{drop_all, length-map, drop_more}
-use Rattle.style_types.specs.declared.rule.Part.{Part}
-use Rattle.style_types.specs.Rule.{Compound, compound_of, compounds_of}
+use Rattle.css_types.specs.declared.rule.Part.{Part}
+use Rattle.css_types.specs.Rule.{Compound, compound_of, compounds_of}
 use Rattle.css_sheet.specs.Specificity.{count_of, held, sum, ids_in, classes_in, types_in}
 
 held_step : (a b c : ℕ) → held (held (a + b) + c) ≡ held (a + (b + c))

@@ -12,7 +12,7 @@ use Rattle.reading.proofs.PlacedLaws.{anywhere_spells, placed_as, placed_follow,
 use Rattle.css_tokens.specs.Grammar.{IsGap}
 use Rattle.css_values.specs.Error.{Fault, syntax}
 use Rattle.css_values.specs.declared.error.Refusal.TheVariants.{TooManyRules}
-use Rattle.style_types.specs.Rule.{Compound}
+use Rattle.css_types.specs.Rule.{Compound}
 use Rattle.css_sheet.specs.Selector.{selector}
 use Rattle.css_sheet.specs.Sheet.{Heads, behind_selector, cannot, counted, head_turn, heads, heads_go_on, next_selector, no_heads, opening}
 use Rattle.css_sheet.specs.Grammar.{AreSelectors, IsSelector}

@@ -5,8 +5,8 @@ use Rattle.std.specs.List.{All}
 use Rattle.std.proofs.lemmas.List.Elements.{All-append, All-cons, All-map, All-nil, All-weaker}
 use Rattle.reading.specs.Readers.{mapped}
 use Rattle.reading.specs.Stop.{end_of}
-use Rattle.style_types.specs.Rule.{Compound, Ruling}
-use Rattle.style_types.specs.declared.value.Declaration.{Declaration}
+use Rattle.css_types.specs.Rule.{Compound, Ruling}
+use Rattle.css_types.specs.declared.value.Declaration.{Declaration}
 use Rattle.css_values.specs.Answered.{IsKept}
 use Rattle.css_values.specs.Error.{Told}
 use Rattle.css_values.specs.Grammar.{AreDeclarations}

@@ -10,14 +10,14 @@ use Rattle.reading.specs.Spelling.{Anything}
 use Rattle.reading.proofs.SpellLaws.{bind_ok, strip_takes, starts_so, strip_spells}
 use Rattle.reading.proofs.PlacedLaws.{anywhere_spells, placed_as, placed_follow, placed_mapped, placed_choice}
 use Rattle.reading.proofs.RunLaws.{IsRun, run_is}
-use Rattle.style_types.specs.declared.rule.Joint.{Joint}
-use Rattle.style_types.specs.declared.rule.Joint.TheVariants.{Descendant, Child}
+use Rattle.css_types.specs.declared.rule.Joint.{Joint}
+use Rattle.css_types.specs.declared.rule.Joint.TheVariants.{Descendant, Child}
 use Rattle.css_tokens.specs.Characters.{is_name_start, is_name_byte}
 use Rattle.css_tokens.specs.Lexing.{comment, gap, hash, hash_ahead, name, name_ahead}
 use Rattle.css_tokens.specs.Numbers.{number_ahead}
 use Rattle.css_values.specs.Value.{no_items}
 use Rattle.css_tokens.specs.Grammar.{IsComment, IsGap, IsHash, IsName}
-use Rattle.style_types.specs.Rule.{Compound}
+use Rattle.css_types.specs.Rule.{Compound}
 use Rattle.css_sheet.specs.Selector.{Begun, bare, class, comments, comments_go_on, compound, goes_on, id, is_dot_or_hash, selector, selector_ends, selector_goes_on, selector_name, simple, turn, type_name, typed, with_class, with_compound, with_id}
 use Rattle.css_sheet.specs.Grammar.{AreComments, AreCompounds, AreSimples, IsCompound, IsJoint, IsSelector, IsSimple, IsType, Simple, with_simple, with_simples}
 use Rattle.css_sheet.specs.Grammar as grammar

@@ -12,7 +12,7 @@ use Rattle.css_values.specs.Error.{syntax}
 use Rattle.css_values.specs.Grammar.{AreDeclarations}
 use Rattle.css_values.specs.Value.{no_items}
 use Rattle.css_values.specs.declared.within.Within.TheVariants.{Rule}
-use Rattle.style_types.specs.Rule.{Compound}
+use Rattle.css_types.specs.Rule.{Compound}
 use Rattle.css_sheet.specs.Sheet.{Sheet, block, goes_on, rule, sheet, turn, with_rules}
 use Rattle.css_sheet.specs.Grammar.{AreRules, AreSelectors, Block, IsRule, IsSheet, with_block, with_blocks}
 use Rattle.css_tokens.proofs.Spelling.{gap_spells}

@@ -11,10 +11,10 @@ use Rattle.css_values.specs.Error.{Fault}
 use Rattle.css_values.specs.Value.{no_items}
 use Rattle.css_sheet.specs.Default.{IsDefault, default_rules}
 use Rattle.css_sheet.specs.declared.default.TheConstants.{DEFAULT_SHEET}
-use Rattle.style_types.specs.Rule.{Ruling, selector_of}
+use Rattle.css_types.specs.Rule.{Ruling, selector_of}
 use Rattle.css_sheet.specs.Sheet.{Sheet, empty, goes_on, sheet, turn, with_rules}
-use Rattle.style_types.specs.declared.rule.Selector.{Selector}
-use Rattle.style_types.specs.declared.value.Declaration.{Declaration}
+use Rattle.css_types.specs.declared.rule.Selector.{Selector}
+use Rattle.css_types.specs.declared.value.Declaration.{Declaration}
 use Rattle.std.proofs.lemmas.List.{append-nil, length-map, nil_from_length}
 
 abbrev pub total_of : (end_ : ℕ) → Sheet → List ℕ → ReadOr Fault Sheet

@@ -6,9 +6,9 @@ use Rattle.std.proofs.lemmas.List.{append-nil, length-map}
 use Rattle.std.proofs.lemmas.List.Elements.{All-cons, All-map, All-nil}
 use Rattle.reading.specs.Readers.{ReadOr}
 use Rattle.reading.specs.Stop.{end_of}
-use Rattle.style_types.specs.Rule.{Styling, styled_of}
-use Rattle.style_types.specs.declared.rule.Styled.{Styled}
-use Rattle.style_types.specs.declared.value.Declaration.{Declaration}
+use Rattle.css_types.specs.Rule.{Styling, styled_of}
+use Rattle.css_types.specs.declared.rule.Styled.{Styled}
+use Rattle.css_types.specs.declared.value.Declaration.{Declaration}
 use Rattle.html_read.specs.declared.node.ReadDocument.{ReadDocument}
 use Rattle.html_read.specs.Values.{Kind, Node, TextAt, Whole, node_of, nodes_of, whole_of}
 use Rattle.html_read.specs.Values as html

@@ -6,7 +6,7 @@ use Rattle.reading.proofs.Turns.{IsTurning, turning_starts, turning_goes_on, tur
 use Rattle.reading.specs.declared.stop.Stop.TheVariants as halts
 use Rattle.css_tokens.specs.Lexing.{comment}
 use Rattle.css_sheet.specs.Halt.{Halt, Halts}
-use Rattle.style_types.specs.Rule.{Compound}
+use Rattle.css_types.specs.Rule.{Compound}
 use Rattle.css_sheet.specs.Selector.{Begun, comments, comments_go_on, goes_on, is_dot_or_hash, selector_ends, selector_goes_on, simple, turn}
 
 -- the turns of a loop from `begun` on

@@ -4,8 +4,8 @@ use Rattle.std.specs.List.{All}
 use Rattle.css_values.specs.declared.error.CssError.{CssError}
 use Rattle.css_values.specs.declared.error.CssError.TheVariants as errors
 use Rattle.reading.specs.Stop.{end_of}
-use Rattle.style_types.specs.declared.value.Declaration.{Declaration}
-use Rattle.style_types.specs.Rule.{Ruling, Styling}
+use Rattle.css_types.specs.declared.value.Declaration.{Declaration}
+use Rattle.css_types.specs.Rule.{Ruling, Styling}
 use Rattle.html_read.specs.Values.{TextAt, Kind, Node, Whole}
 use Rattle.html_read.specs.Values as html
 use Rattle.css_values.specs.Answered.{IsKept}

@@ -1,13 +1,13 @@
 -- The default sheet: the rules that come before an author's. HTML, 15.3, narrowed (docs/PROFILE/sheets.md).
 use Rattle.std.specs.Prelude.{◌≡◌, ℕ, false, pos, List, [], ◌∷◌, ◌++◌, codes, length, Some, Ok}
-use Rattle.style_types.specs.declared.keyword.Keyword.TheVariants.{Block}
-use Rattle.style_types.specs.declared.property.Property.{Property}
-use Rattle.style_types.specs.declared.property.Property.TheVariants.{Display, FontSize, MarginBlockStart, MarginBlockEnd, MarginInlineStart, MarginInlineEnd, PaddingInlineStart}
-use Rattle.style_types.specs.declared.rule.Joint.TheVariants.{Descendant}
-use Rattle.style_types.specs.declared.value.Value.{Value}
-use Rattle.style_types.specs.declared.value.Value.TheVariants.{Keyword, Px, Em}
-use Rattle.style_types.specs.declared.value.Declaration.{Declaration}
-use Rattle.style_types.specs.Rule.{Ruling}
+use Rattle.css_types.specs.declared.keyword.Keyword.TheVariants.{Block}
+use Rattle.css_types.specs.declared.property.Property.{Property}
+use Rattle.css_types.specs.declared.property.Property.TheVariants.{Display, FontSize, MarginBlockStart, MarginBlockEnd, MarginInlineStart, MarginInlineEnd, PaddingInlineStart}
+use Rattle.css_types.specs.declared.rule.Joint.TheVariants.{Descendant}
+use Rattle.css_types.specs.declared.value.Value.{Value}
+use Rattle.css_types.specs.declared.value.Value.TheVariants.{Keyword, Px, Em}
+use Rattle.css_types.specs.declared.value.Declaration.{Declaration}
+use Rattle.css_types.specs.Rule.{Ruling}
 use Rattle.css_sheet.specs.declared.default.TheConstants.{DEFAULT_SHEET}
 use Rattle.css_sheet.specs.Sheet.{empty, sheet}
 

@@ -15,14 +15,14 @@ use Rattle.reading.specs.Readers.{next_is, starts}
 use Rattle.reading.specs.Names.{lowered}
 use Rattle.reading.specs.Grammars.{Each}
 use Rattle.reading.specs.Placed.{PlacedGrammar}
-use Rattle.style_types.specs.declared.rule.Joint.{Joint}
-use Rattle.style_types.specs.declared.rule.Joint.TheVariants.{Descendant, Child}
-use Rattle.style_types.specs.declared.value.Declaration.{Declaration}
+use Rattle.css_types.specs.declared.rule.Joint.{Joint}
+use Rattle.css_types.specs.declared.rule.Joint.TheVariants.{Descendant, Child}
+use Rattle.css_types.specs.declared.value.Declaration.{Declaration}
 use Rattle.css_tokens.specs.Grammar.{IsComment, IsGap, IsHash, IsName}
 use Rattle.css_values.specs.Grammar.{AreDeclarations}
 use Rattle.css_values.specs.Value.{no_items}
 use Rattle.css_values.specs.declared.within.Within.TheVariants.{Rule}
-use Rattle.style_types.specs.Rule.{Compound}
+use Rattle.css_types.specs.Rule.{Compound}
 use Rattle.css_sheet.specs.Selector.{bare, is_dot_or_hash, selector_ends, with_class, with_id}
 use Rattle.css_sheet.specs.Sheet.{Sheet, with_rules}
 

@@ -3,9 +3,9 @@ use Rattle.std.specs.Prelude.{◌≡◌, ℕ, List, Bool, codes, Option, Some, N
 use denote.Bor.{Bor}
 use Rattle.std.specs.String.{string_bytes}
 use Rattle.std.specs.declared.string.String.{String}
-use Rattle.style_types.specs.declared.rule.Joint.{Joint}
-use Rattle.style_types.specs.declared.rule.Part as code_part
-use Rattle.style_types.specs.Rule.{compound_of, compounds_of}
+use Rattle.css_types.specs.declared.rule.Joint.{Joint}
+use Rattle.css_types.specs.declared.rule.Part as code_part
+use Rattle.css_types.specs.Rule.{compound_of, compounds_of}
 use Rattle.css_sheet.specs.Selector.{Begun, bare}
 use Rattle.reading.specs.Readers.{choice, follow, refuse, starts, strip}
 use Rattle.reading.specs.Names.{lowered}

@@ -2,10 +2,10 @@
 use Rattle.std.specs.Prelude.{ℕ, Bool, ◌||◌, not, ◌==◌, List, [], ◌∷◌, ◌++◌, codes, Option, Some, None, ⊤}
 use Rattle.reading.specs.Readers.{Reader, refuse, follow, mapped, choice, strip, starts, next_is, repeat}
 use Rattle.reading.specs.Names.{lowered}
-use Rattle.style_types.specs.declared.rule.Joint.{Joint}
-use Rattle.style_types.specs.declared.rule.Joint.TheVariants.{Descendant, Child}
+use Rattle.css_types.specs.declared.rule.Joint.{Joint}
+use Rattle.css_types.specs.declared.rule.Joint.TheVariants.{Descendant, Child}
 use Rattle.css_tokens.specs.Lexing.{comment, gap, hash, hash_ahead, name, name_ahead}
-use Rattle.style_types.specs.Rule.{Compound}
+use Rattle.css_types.specs.Rule.{Compound}
 
 -- ---- names
 

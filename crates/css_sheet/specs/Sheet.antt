@@ -1,14 +1,14 @@
 -- Reading sheets: rules one after the other, with the limits on rules and declarations. CSS 2, 4.1.7 and 5.2.1.
 use Rattle.std.specs.Prelude.{ℕ, ◌+◌, ◌-◌, ◌*◌, ◌^◌, min, nat_lt, Bool, true, false, ◌||◌, not, ◌==◌, if◌then◌else◌, List, [], ◌∷◌, ◌++◌, map, codes, length, Ok, Err}
 use Rattle.reading.specs.Readers.{ReadOr, Reader, follow, mapped, choice, strip, starts, next_is, telling, repeat}
-use Rattle.style_types.specs.declared.value.Declaration.{Declaration}
+use Rattle.css_types.specs.declared.value.Declaration.{Declaration}
 use Rattle.css_tokens.specs.Lexing.{gap}
 use Rattle.css_values.specs.declared.error.Refusal.TheVariants.{CssSyntax, Unsupported, TooManyRules}
 use Rattle.css_values.specs.declared.within.Within.TheVariants as within_
 use Rattle.css_values.specs.Declarations.{declarations}
 use Rattle.css_values.specs.Error.{Fault, Judged, spelled}
 use Rattle.css_values.specs.Value.{no_items}
-use Rattle.style_types.specs.Rule.{Compound, Ruling}
+use Rattle.css_types.specs.Rule.{Compound, Ruling}
 use Rattle.css_sheet.specs.Selector.{selector}
 
 -- what is read of the sheets so far: their rules, and the count of their declarations, each counted for each selector

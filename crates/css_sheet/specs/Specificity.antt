@@ -1,7 +1,7 @@
 -- How specific a selector is. Selectors 3, 9.
 use Rattle.std.specs.Prelude.{◌≡◌, ◌⊎◌, ℕ, ◌<◌, ◌+◌, ◌-◌, ◌^◌, min, List, [], ◌∷◌, length, Option, Some, None}
 use Rattle.css_sheet.specs.declared.counts.Specificity as code
-use Rattle.style_types.specs.Rule.{Compound}
+use Rattle.css_types.specs.Rule.{Compound}
 
 -- a type counts once
 abbrev pub count_of : Option (List ℕ) → ℕ

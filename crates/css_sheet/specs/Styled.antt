@@ -1,6 +1,6 @@
 -- All the styles of a document: its sheets, then the style attributes of its nodes. CSS Style Attributes, 3.
 use Rattle.std.specs.Prelude.{◌≡◌, ℕ, List, [], ◌∷◌, map, Option, Some, None, Result, Ok, Err, ⊤}
-use Rattle.style_types.specs.declared.value.Declaration.{Declaration}
+use Rattle.css_types.specs.declared.value.Declaration.{Declaration}
 use Rattle.html_read.specs.Values.{TextAt, Kind, Node, Whole, element, text}
 use Rattle.css_values.specs.declared.error.Refusal.{Refusal}
 use Rattle.css_values.specs.declared.error.CssError.{CssError}
@@ -10,7 +10,7 @@ use Rattle.css_values.specs.Declarations.{declarations}
 use Rattle.reading.specs.Stop.{end_of, place_before}
 use Rattle.css_values.specs.Error.{Fault}
 use Rattle.reading.specs.Readers.{ReadOr}
-use Rattle.style_types.specs.Rule.{Styling}
+use Rattle.css_types.specs.Rule.{Styling}
 use Rattle.css_sheet.specs.Sheet.{Sheet, empty, sheet}
 
 -- a value, or a refusal with its place in the document

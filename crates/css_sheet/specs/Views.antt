@@ -1,12 +1,12 @@
 -- The steps of the code, without where they lie in memory.
 use Rattle.std.specs.Prelude.{◌≡◌, ℕ, Bool, List, [], ◌∷◌, ◌++◌, map, Result, Ok, Err, ⊤}
-use Rattle.style_types.specs.declared.rule.Selector as code_selector
-use Rattle.style_types.specs.declared.rule.Rule as code_rule
+use Rattle.css_types.specs.declared.rule.Selector as code_selector
+use Rattle.css_types.specs.declared.rule.Rule as code_rule
 use Rattle.css_values.specs.Error.{Stop}
 use Rattle.reading.specs.declared.stop.Stop.TheVariants as stops
 use Rattle.css_sheet.specs.declared.sheet.Sheet as code_sheet
 use Rattle.css_sheet.specs.Halt.{Halt}
-use Rattle.style_types.specs.Rule.{Ruling, selector_of, rulings_of}
+use Rattle.css_types.specs.Rule.{Ruling, selector_of, rulings_of}
 use Rattle.css_sheet.specs.Sheet.{Heads, Sheet, cannot}
 
 abbrev pub heads_of : List code_selector.Selector → (opened : Bool) → Heads

@@ -3,7 +3,7 @@
 ghost use Rattle.std.specs.Prelude.{◌≡◌, ◌≤◌, ◌<◌, IfOk, length};
 ghost use Rattle.reading.specs.Readers.{Answers, repeat};
 ghost use Rattle.css_sheet.specs.Halt.{Reads, TellsBare, TellsLowered};
-ghost use Rattle.style_types.specs.Rule.{compound_of};
+ghost use Rattle.css_types.specs.Rule.{compound_of};
 ghost use Rattle.css_sheet.specs.Selector as readers;
 
 use crate::halt::Halt;
@@ -11,7 +11,8 @@ use crate::names::{class, class_or_id_ahead, id, type_name};
 use css_tokens::comment;
 use reading::starts;
 use std::alloc::Global;
-use style_types::{Joint, LetterList, Letters, Part};
+use css_types::{Joint, Part};
+use letters::{LetterList, Letters};
 
 /// A compound: it begins with a class or an id, or with a type or `*`. Comments may stand between its parts.
 #[tactic(auto, unfolding(crate::specs::Selector::compound))]

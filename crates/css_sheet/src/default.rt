@@ -2,11 +2,11 @@
 
 ghost use Rattle.std.specs.Prelude.{◌≡◌, IfOk};
 ghost use Rattle.css_sheet.specs.Default.{IsDefault, default_rules};
-ghost use Rattle.style_types.specs.Rule.{rulings_of};
+ghost use Rattle.css_types.specs.Rule.{rulings_of};
 
 use crate::sheet::{empty, read_into};
 use std::alloc::{AllocError, Global};
-use style_types::Rules;
+use css_types::Rules;
 
 /// What elements look like before an author's sheet says otherwise.
 pub static DEFAULT_SHEET: &str = "\

@@ -3,7 +3,7 @@
 ghost use Rattle.std.specs.Prelude.{◌≡◌, Bool, ◌≤◌, ◌<◌, IfOk, length, map};
 ghost use Rattle.reading.specs.Readers.{Answers, next_is, telling};
 ghost use Rattle.reading.specs.Stop.{Gives};
-ghost use Rattle.style_types.specs.Rule.{selector_of};
+ghost use Rattle.css_types.specs.Rule.{selector_of};
 ghost use Rattle.css_sheet.specs.Selector as selectors_read;
 ghost use Rattle.css_sheet.specs.Sheet as readers;
 ghost use Rattle.css_sheet.specs.Views.{heads_of, TellsCannot};
@@ -14,7 +14,7 @@ use css_tokens::gap;
 use css_values::{Refusal, Stop};
 use reading::{starts, strip};
 use std::alloc::Global;
-use style_types::Selector;
+use css_types::Selector;
 
 /// The greatest count of rules in the sheets of a document.
 const MOST_RULES: usize = 4_096;

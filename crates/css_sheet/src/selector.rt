@@ -3,7 +3,7 @@
 ghost use Rattle.std.specs.Prelude.{◌≡◌, ◌≤◌, ◌<◌, ◌||◌, ◌==◌, IfOk, length};
 ghost use Rattle.reading.specs.Readers.{mapped, repeat};
 ghost use Rattle.css_sheet.specs.Halt.{Reads, begun_of};
-ghost use Rattle.style_types.specs.Rule.{compounds_of, selector_of};
+ghost use Rattle.css_types.specs.Rule.{compounds_of, selector_of};
 ghost use Rattle.css_sheet.specs.Selector as readers;
 
 use crate::compound::next_compound;
@@ -11,7 +11,7 @@ use crate::halt::{Halt, Stuck};
 use css_tokens::gap;
 use reading::{first, starts, strip};
 use std::alloc::Global;
-use style_types::{Joint, Parts, Selector};
+use css_types::{Joint, Parts, Selector};
 
 /// A selector, and the text from its `,` or `{` on.
 #[tactic(auto, unfolding(crate::specs::Selector::selector))]

@@ -7,7 +7,7 @@ ghost use Rattle.reading.specs.Stop.{Gives, end_of};
 ghost use Rattle.css_values.specs.Error.{Told};
 ghost use Rattle.css_values.specs.Value.{no_items};
 ghost use Rattle.css_sheet.specs.Answered.{IsRuled, IsTheSheet, RefusesSheet};
-ghost use Rattle.style_types.specs.Rule.{rulings_of, selector_of};
+ghost use Rattle.css_types.specs.Rule.{rulings_of, selector_of};
 ghost use Rattle.css_sheet.specs.Sheet as readers;
 ghost use Rattle.css_sheet.specs.Views.{sheet_of, PutsRule, PutsRules};
 
@@ -17,7 +17,7 @@ use css_values::{CssError, Stop, Within, declarations_within, told};
 use reading::strip;
 use std::alloc::Global;
 use std::rc::Rc;
-use style_types::{Declarations, Rule, Rules, Selector};
+use css_types::{Declarations, Rule, Rules, Selector};
 
 /// What is read of the sheets so far: their rules, and the count of their declarations, each counted for each
 /// selector of its rule.

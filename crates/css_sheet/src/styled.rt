@@ -3,7 +3,7 @@
 ghost use Rattle.std.specs.Prelude.{◌≡◌, length, map, IfErr, IfOk, Ok};
 ghost use Rattle.std.specs.List.{All};
 ghost use Rattle.html_read.specs.Values.{kind_of, nodes_of, sheets_of, text_at, whole_of};
-ghost use Rattle.style_types.specs.Rule.{styled_of};
+ghost use Rattle.css_types.specs.Rule.{styled_of};
 ghost use Rattle.css_values.specs.Answered.{IsKept};
 ghost use Rattle.css_sheet.specs.Answered.{AreTheStyles, IsRuled, RefusesStyles};
 ghost use Rattle.css_sheet.specs.Sheet as readers;
@@ -15,7 +15,7 @@ use crate::sheet::{Sheet, empty, read_into};
 use css_values::{CssError, Stop, Within, declarations_within, told};
 use html_read::{PlacedText, ReadDocument, ReadKind, ReadNode};
 use std::alloc::Global;
-use style_types::{Declaration, Declarations, Styled, Styles};
+use css_types::{Declaration, Declarations, Styled, Styles};
 
 /// Reads all sheets of a document in order, then the style attributes of its nodes. The limits on rules and
 /// declarations count over all sheets together. In a style attribute the place of a refusal, and of each declaration,

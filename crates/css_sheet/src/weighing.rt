@@ -1,11 +1,11 @@
 //! How specific selectors are.
 
 ghost use Rattle.std.specs.Prelude.{◌≡◌, ◌+◌, length};
-ghost use Rattle.style_types.specs.Rule.{compound_of, compounds_of, selector_of};
+ghost use Rattle.css_types.specs.Rule.{compound_of, compounds_of, selector_of};
 ghost use Rattle.css_sheet.specs.Specificity as definitions;
 
 use crate::counts::Specificity;
-use style_types::{Part, Selector};
+use css_types::{Part, Selector};
 
 /// How specific the selector is. Takes no memory.
 pub fn specificity(s: &Selector) -> Specificity

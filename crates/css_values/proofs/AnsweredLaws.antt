@@ -4,7 +4,7 @@ use Rattle.std.specs.Prelude.{⊤}
 use Rattle.reading.specs.Readers.{Read, Reader, ReadOr, give, mapped, read_or, strip, starts, turns, repeat}
 use Rattle.reading.proofs.SpellLaws.{stop, Stopped, at_first, at_second, bind_err}
 use Rattle.reading.proofs.Turns.{turns_stop_back}
-use Rattle.style_types.specs.declared.value.Declaration.{Declaration}
+use Rattle.css_types.specs.declared.value.Declaration.{Declaration}
 use Rattle.css_tokens.specs.Lexing.{gap}
 use Rattle.css_values.specs.Answered.{RefusesAttribute, IsWithinLimit}
 use Rattle.css_values.specs.Declarations.{Stated, before_rest, declaration, declarations, declared, goes_on, item, judged, stated, turn}

@@ -6,7 +6,7 @@ use Rattle.std.proofs.lemmas.List.{drop_all, drop_more}
 use denote.Bor.{Bor}
 use Rattle.reading.specs.Readers.{can_read, strip_either_case}
 use Rattle.css_tokens.specs.Tokens.{Lexeme}
-use Rattle.style_types.specs.declared.refusal.Refused.{Refused}
+use Rattle.css_types.specs.declared.refusal.Refused.{Refused}
 use Rattle.css_values.specs.Judging.{are_refused, begins_so, refuses}
 use Rattle.css_values.specs.Longhand.{is_one_of, is_word}
 use Rattle.css_values.specs.Views.{texts_of, refusings_of}

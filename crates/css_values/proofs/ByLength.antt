@@ -9,7 +9,7 @@ use Rattle.std.proofs.lemmas.List.FromFn.{get_or-map-range_with_len}
 use Rattle.std.proofs.lemmas.Option.{slice_get-map}
 use Rattle.std.proofs.lemmas.Slice.Eq.{bytes_eq-Decides}
 use Rattle.std.proofs.lemmas.Bool.{cases_Bool, cases_lt}
-use Rattle.style_types.specs.declared.table.PropertyRow.{PropertyRow}
+use Rattle.css_types.specs.declared.table.PropertyRow.{PropertyRow}
 use Rattle.reading.specs.Names.{lowered, named, words_of}
 use Rattle.css_values.specs.ByLength.{places_by_length, rows_at}
 use Rattle.css_values.specs.Tables.{properties}

@@ -9,7 +9,7 @@ use Rattle.reading.specs.Spelling.{Anything}
 use Rattle.reading.proofs.SpellLaws.{ok, stop, bind_ok, same_answer, strip_spells, mapped_spells, telling_spells}
 use Rattle.reading.proofs.PlacedLaws.{anywhere_spells, placed_follow, placed_mapped, placed_telling}
 use Rattle.reading.proofs.Turns.{Leads, leads_nowhere, leads_on, one_turn, leads_to_end, turns_back}
-use Rattle.style_types.specs.declared.value.Declaration.{Declaration}
+use Rattle.css_types.specs.declared.value.Declaration.{Declaration}
 use Rattle.css_tokens.specs.Grammar.{IsGap, IsName}
 use Rattle.css_tokens.specs.Lexing.{gap, name, name_ahead}
 use Rattle.css_values.specs.Declarations.{Stated, property_name, stated, with_stated, before_rest, judged, at_rule_ahead, unsupported, declaration, item, turn, list_ends, goes_on, declarations}

@@ -4,19 +4,19 @@ use Rattle.std.specs.Prelude.{⊤, map, zip, slice_get, is_some, Option}
 use Rattle.std.specs.List.{All, AllByRecursion}
 use Rattle.std.proofs.lemmas.List.Elements.{All-append, All-cons, All-from_recursion, All-head, All-map, All-nil, All-tail, recursion_from_All}
 use Rattle.reading.specs.Names.{lowered, named}
-use Rattle.style_types.specs.Table.{IsRowOf, rows}
-use Rattle.style_types.specs.Value.{HasSayable, IsAmong, IsValueOf}
-use Rattle.style_types.specs.declared.property.Property.{Property}
-use Rattle.style_types.specs.declared.property.Property.TheVariants as longhands
-use Rattle.style_types.specs.declared.shorthand.Longhands.{Longhands}
-use Rattle.style_types.specs.declared.shorthand.Longhands.TheVariants.{One, Ends, Sides}
-use Rattle.style_types.specs.declared.shorthand.Shorthand.{Shorthand}
-use Rattle.style_types.specs.declared.shorthand.Shorthand.TheVariants.{Round, Border}
-use Rattle.style_types.specs.declared.table.PropertyRow.{PropertyRow}
-use Rattle.style_types.specs.declared.table.TheConstants.{LINES, MARGINS, PADDINGS, WIDTHS}
-use Rattle.style_types.specs.declared.table.Values.{Values}
-use Rattle.style_types.specs.declared.value.Value.{Value}
-use Rattle.style_types.specs.declared.value.Value.TheVariants as values
+use Rattle.css_types.specs.Table.{IsRowOf, rows}
+use Rattle.css_types.specs.Value.{HasSayable, IsAmong, IsValueOf}
+use Rattle.css_types.specs.declared.property.Property.{Property}
+use Rattle.css_types.specs.declared.property.Property.TheVariants as longhands
+use Rattle.css_types.specs.declared.shorthand.Longhands.{Longhands}
+use Rattle.css_types.specs.declared.shorthand.Longhands.TheVariants.{One, Ends, Sides}
+use Rattle.css_types.specs.declared.shorthand.Shorthand.{Shorthand}
+use Rattle.css_types.specs.declared.shorthand.Shorthand.TheVariants.{Round, Border}
+use Rattle.css_types.specs.declared.table.PropertyRow.{PropertyRow}
+use Rattle.css_types.specs.declared.table.TheConstants.{LINES, MARGINS, PADDINGS, WIDTHS}
+use Rattle.css_types.specs.declared.table.Values.{Values}
+use Rattle.css_types.specs.declared.value.Value.{Value}
+use Rattle.css_types.specs.declared.value.Value.TheVariants as values
 use Rattle.css_tokens.specs.Tokens as tokens
 use Rattle.css_tokens.specs.Tokens.{Lexeme}
 use Rattle.css_values.specs.declared.border.Found.{Found}

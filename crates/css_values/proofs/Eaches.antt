@@ -7,8 +7,8 @@ use Rattle.css_tokens.specs.Tokens.{Lexeme, lexeme_of}
 use Rattle.css_values.specs.Longhand.{single}
 use Rattle.css_values.specs.Shorthand.{before_others, each}
 use Rattle.css_values.specs.Views.{lexemes_of}
-use Rattle.style_types.specs.declared.table.Values.{Values}
-use Rattle.style_types.specs.declared.value.Value.{Value}
+use Rattle.css_types.specs.declared.table.Values.{Values}
+use Rattle.css_types.specs.declared.value.Value.{Value}
 
 -- these, and those that are given behind them
 abbrev pub behind : List Value → Option (List Value) → Option (List Value)

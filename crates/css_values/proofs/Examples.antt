@@ -13,9 +13,9 @@ use Rattle.css_values.specs.Value.{value, ends_important}
 use Rattle.css_values.specs.Declarations.{property_name, stated, declaration, declarations}
 use Rattle.css_values.specs.declared.within.Within.TheVariants as within_
 use Rattle.css_values.specs.declared.error.Refusal.TheVariants as kinds
-use Rattle.style_types.specs.declared.property.Property.TheVariants as longhands
-use Rattle.style_types.specs.declared.keyword.Keyword.TheVariants as words
-use Rattle.style_types.specs.declared.value.Value.TheVariants as values
+use Rattle.css_types.specs.declared.property.Property.TheVariants as longhands
+use Rattle.css_types.specs.declared.keyword.Keyword.TheVariants as words
+use Rattle.css_types.specs.declared.value.Value.TheVariants as values
 
 a_dropped_one_is_passed_over : declarations within_.Attribute 20 (codes "width:-1px;width:1px") ≡ Ok (record { property = longhands.Width; value = values.Px (pos 100); important = false; place = 11 } ∷ [], [])
 unfolding strip starts one_of run_of skip until up_to after joined turns repeat many comment gap name_ahead name hash_ahead hash string_piece string numeric named sign_token token sign point number_ahead decimals number is_refused is_unsupported meaning expanded properties shorthands keywords widths refusals colours resets single face_number entries first_face family longhand pieces each shorthand value ends_important property_name stated declaration declarations white spaces strip_either_case

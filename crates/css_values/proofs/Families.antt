@@ -8,7 +8,7 @@ use Rattle.css_tokens.specs.Tokens.{Lexeme, lexeme_of}
 use Rattle.css_values.specs.Longhand.{before_others, entry, entries, face_number, family, first_face, number_or}
 use Rattle.css_values.specs.Family.{first_of, found_behind, is_comma, meant_behind, meant_before_comma, meant_from}
 use Rattle.css_values.specs.Views.{lexemes_of}
-use Rattle.style_types.specs.declared.value.Value.TheVariants as values
+use Rattle.css_types.specs.declared.value.Value.TheVariants as values
 
 first_or : (face other : Option ℕ) (last : ℕ) → number_or face (number_or other last) ≡ number_or (first_of face other) last
 first_or (Some number) other last = refl

@@ -6,7 +6,7 @@ use Rattle.std.proofs.lemmas.List.Elements.{All-append, All-nil}
 use Rattle.reading.specs.Readers.{give, follow, mapped, strip, starts, repeat}
 use Rattle.reading.proofs.SpellLaws.{ok, bind_ok, same_answer, told_ok}
 use Rattle.reading.proofs.Turns.{repeat_keeps}
-use Rattle.style_types.specs.declared.value.Declaration.{Declaration}
+use Rattle.css_types.specs.declared.value.Declaration.{Declaration}
 use Rattle.css_tokens.specs.Lexing.{gap}
 use Rattle.css_values.specs.declared.error.Refusal.TheVariants.{TooManyRules, Unsupported}
 use Rattle.css_values.specs.declared.within.Within.{Within}

@@ -3,7 +3,7 @@ use Rattle.std.proofs.Common.{◌≡◌, ℕ, ◌<◌, true, false, List, [], le
 use Rattle.std.specs.Prelude.{Bool, not}
 use Rattle.reading.specs.Readers.{ReadOr, repeat}
 use Rattle.reading.proofs.Turns.{IsTurning, turning_starts, turning_goes_on, turning_stops, turning_ends}
-use Rattle.style_types.specs.declared.value.Declaration.{Declaration}
+use Rattle.css_types.specs.declared.value.Declaration.{Declaration}
 use Rattle.css_values.specs.declared.within.Within.{Within}
 use Rattle.css_values.specs.Error.{Stop}
 use Rattle.reading.specs.declared.stop.Stop.TheVariants as stops

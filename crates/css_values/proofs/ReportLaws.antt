@@ -3,7 +3,7 @@ use Rattle.std.proofs.Common.{◌≡◌, ◌∙◌, ℕ, Bool, true, false, cond
 use Rattle.std.specs.Prelude.{⊤}
 use Rattle.reading.specs.Readers.{ReadOr, ◌>>=◌, give, follow, mapped, strip, starts}
 use Rattle.reading.proofs.SpellLaws.{ok, bind_ok, same_answer}
-use Rattle.style_types.specs.declared.value.Declaration.{Declaration}
+use Rattle.css_types.specs.declared.value.Declaration.{Declaration}
 use Rattle.css_tokens.specs.Lexing.{gap}
 use Rattle.css_values.specs.declared.within.Within.{Within}
 use Rattle.css_values.specs.Declarations.{Stated, at_rule_ahead, before_rest, declaration, judged, stated, unsupported, with_stated}

@@ -6,7 +6,7 @@ use Rattle.std.proofs.lemmas.List.Elements.{All-nil, All-push, All-take}
 use Rattle.reading.specs.Readers.{give, follow, mapped, one_of, strip, repeat}
 use Rattle.reading.proofs.SpellLaws.{ok, stop, bind_ok, same_answer}
 use Rattle.reading.proofs.Turns.{repeat_keeps}
-use Rattle.style_types.specs.Value.{IsSayable}
+use Rattle.wm_units.specs.Numbers.{IsSayable}
 use Rattle.css_tokens.specs.Grammar.{IsToken}
 use Rattle.css_tokens.specs.Lexing.{gap, token}
 use Rattle.css_tokens.specs.Tokens as tokens

@@ -8,19 +8,20 @@ use Rattle.std.proofs.lemmas.List.Elements.{All-from_recursion, All-head, All-ta
 use Rattle.std.proofs.lemmas.Slice.Eq.{bytes_eq-Decides}
 use Rattle.reading.specs.Readers.{Read, strip_either_case}
 use Rattle.reading.specs.Names.{lowered, named}
-use Rattle.style_types.specs.Keywords.{words_of}
-use Rattle.style_types.specs.Value.{HasSayable, IsAmong, IsFace, IsIn, IsNamedWidth, IsNumber, IsOfGroup, IsSayable, IsValueBy, spelled}
-use Rattle.style_types.specs.declared.keyword.Keyword as keyword
-use Rattle.style_types.specs.declared.keyword.Keywords.{Keywords}
-use Rattle.style_types.specs.declared.keyword.Keywords.TheVariants as groups
-use Rattle.style_types.specs.declared.table.More.{More}
-use Rattle.style_types.specs.declared.table.More.TheVariants as more
-use Rattle.style_types.specs.declared.table.PropertyRow.{PropertyRow}
-use Rattle.style_types.specs.declared.table.Range.{Range}
-use Rattle.style_types.specs.declared.table.Range.TheVariants as ranges
-use Rattle.style_types.specs.declared.table.Values.{Values}
-use Rattle.style_types.specs.declared.value.Value.{Value}
-use Rattle.style_types.specs.declared.value.Value.TheVariants as values
+use Rattle.css_types.specs.Keywords.{words_of}
+use Rattle.css_types.specs.Value.{HasSayable, IsAmong, IsFace, IsIn, IsNamedWidth, IsNumber, IsOfGroup, IsValueBy, spelled}
+use Rattle.wm_units.specs.Numbers.{IsSayable}
+use Rattle.css_types.specs.declared.keyword.Keyword as keyword
+use Rattle.css_types.specs.declared.keyword.Keywords.{Keywords}
+use Rattle.css_types.specs.declared.keyword.Keywords.TheVariants as groups
+use Rattle.css_types.specs.declared.table.More.{More}
+use Rattle.css_types.specs.declared.table.More.TheVariants as more
+use Rattle.css_types.specs.declared.table.PropertyRow.{PropertyRow}
+use Rattle.css_types.specs.declared.table.Range.{Range}
+use Rattle.css_types.specs.declared.table.Range.TheVariants as ranges
+use Rattle.css_types.specs.declared.table.Values.{Values}
+use Rattle.css_types.specs.declared.value.Value.{Value}
+use Rattle.css_types.specs.declared.value.Value.TheVariants as values
 use Rattle.css_tokens.specs.Tokens as tokens
 use Rattle.css_tokens.specs.Tokens.{Lexeme}
 use Rattle.css_values.specs.Longhand.{digit_behind, entries, face_digit, face_number, family, first_face, in_range, is_name, is_one_of, is_word, is_zero, keyword_of, length_in, longhand, number_or, number_value, one_token, or_else, single, value_by, width_named}

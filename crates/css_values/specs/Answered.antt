@@ -1,7 +1,7 @@
 -- What the answers of the public calls mean, in terms of the grammar.
 use Rattle.std.specs.Prelude.{ℕ, ◌≢◌, List, [], ⊤}
-use Rattle.style_types.specs.declared.value.Declaration.{Declaration}
-use Rattle.style_types.specs.Value.{HasSayable, IsValueOf}
+use Rattle.css_types.specs.declared.value.Declaration.{Declaration}
+use Rattle.css_types.specs.Value.{HasSayable, IsValueOf}
 use Rattle.css_values.specs.declared.error.Refusal.TheVariants.{TooManyRules}
 use Rattle.css_values.specs.declared.error.CssError.{CssError}
 use Rattle.css_values.specs.declared.error.CssError.TheVariants as errors

@@ -2,9 +2,9 @@
 use Rattle.std.specs.Prelude.{true, false, if◌then◌else◌, List, [], ◌∷◌, Option, Some, None, is_some}
 use Rattle.css_tokens.specs.Tokens as tokens
 use Rattle.css_tokens.specs.Tokens.{Lexeme}
-use Rattle.style_types.specs.declared.table.TheConstants.{WIDTHS, LINES}
-use Rattle.style_types.specs.declared.value.Value.{Value}
-use Rattle.style_types.specs.declared.value.Value.TheVariants as values
+use Rattle.css_types.specs.declared.table.TheConstants.{WIDTHS, LINES}
+use Rattle.css_types.specs.declared.value.Value.{Value}
+use Rattle.css_types.specs.declared.value.Value.TheVariants as values
 use Rattle.css_values.specs.declared.border.Found.{Found}
 use Rattle.css_values.specs.Longhand.{is_one_of, single}
 use Rattle.css_values.specs.Tables.{colours}

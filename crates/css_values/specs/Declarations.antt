@@ -1,7 +1,7 @@
 -- Declarations, one after the other: each is judged once it is wholly read. CSS Syntax 3, 5.4.5.
 use Rattle.std.specs.Prelude.{ℕ, ◌+◌, ◌*◌, nat_lt, Bool, true, false, ◌&&◌, not, if◌then◌else◌, List, [], ◌++◌, codes, length, Option, Some, None, Result, Ok, Err}
 use Rattle.reading.specs.Readers.{Reader, ReadOr, refuse, follow, mapped, choice, strip, starts, repeat}
-use Rattle.style_types.specs.declared.value.Declaration.{Declaration}
+use Rattle.css_types.specs.declared.value.Declaration.{Declaration}
 use Rattle.css_tokens.specs.Lexing.{gap, name, name_ahead}
 use Rattle.css_values.specs.declared.error.Refusal.TheVariants.{Unsupported, TooManyRules}
 use Rattle.css_values.specs.declared.within.Within.{Within}

@@ -8,7 +8,7 @@
 -- the text.
 use Rattle.std.specs.Prelude.{◌≡◌, ℕ, Bool, true, false, not, ◌==◌, List, [], ◌∷◌, ◌++◌, codes, Option, Some, None, Result, Ok, Err}
 use Rattle.reading.specs.Placed.{PlacedGrammar}
-use Rattle.style_types.specs.declared.value.Declaration.{Declaration}
+use Rattle.css_types.specs.declared.value.Declaration.{Declaration}
 use Rattle.css_tokens.specs.Grammar.{IsGap, IsName, IsToken}
 use Rattle.css_tokens.specs.Tokens as tokens
 use Rattle.css_tokens.specs.Tokens.{Lexeme}

@@ -5,13 +5,13 @@ use Rattle.reading.specs.Readers.{can_read, starts, strip_either_case}
 use Rattle.reading.specs.Names.{lowered, named}
 use Rattle.css_tokens.specs.Tokens as tokens
 use Rattle.css_tokens.specs.Tokens.{Lexeme}
-use Rattle.style_types.specs.declared.property.Property.{Property}
-use Rattle.style_types.specs.declared.refusal.Refused.{Refused}
-use Rattle.style_types.specs.declared.refusal.Refused.TheVariants as kinds
-use Rattle.style_types.specs.declared.table.PropertyRow.{PropertyRow}
-use Rattle.style_types.specs.declared.value.Value.{Value}
-use Rattle.style_types.specs.declared.value.Declaration.{Declaration}
-use Rattle.style_types.specs.declared.shorthand.Shorthand.{Shorthand}
+use Rattle.css_types.specs.declared.property.Property.{Property}
+use Rattle.css_types.specs.declared.refusal.Refused.{Refused}
+use Rattle.css_types.specs.declared.refusal.Refused.TheVariants as kinds
+use Rattle.css_types.specs.declared.table.PropertyRow.{PropertyRow}
+use Rattle.css_types.specs.declared.value.Value.{Value}
+use Rattle.css_types.specs.declared.value.Declaration.{Declaration}
+use Rattle.css_types.specs.declared.shorthand.Shorthand.{Shorthand}
 use Rattle.css_values.specs.declared.judging.Manner.{Manner}
 use Rattle.css_values.specs.declared.judging.Meaning.{Meaning}
 use Rattle.css_values.specs.declared.judging.Meaning.TheVariants as meanings

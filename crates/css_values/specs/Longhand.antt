@@ -5,16 +5,16 @@ use Rattle.reading.specs.Readers.{Read, strip_either_case}
 use Rattle.reading.specs.Names.{lowered, named}
 use Rattle.css_tokens.specs.Tokens as tokens
 use Rattle.css_tokens.specs.Tokens.{Lexeme}
-use Rattle.style_types.specs.Keywords.{words_of}
-use Rattle.style_types.specs.declared.keyword.Keywords.{Keywords}
-use Rattle.style_types.specs.declared.table.PropertyRow.{PropertyRow}
-use Rattle.style_types.specs.declared.table.Values.{Values}
-use Rattle.style_types.specs.declared.table.Range.{Range}
-use Rattle.style_types.specs.declared.table.Range.TheVariants as ranges
-use Rattle.style_types.specs.declared.table.More.{More}
-use Rattle.style_types.specs.declared.table.More.TheVariants as more
-use Rattle.style_types.specs.declared.value.Value.{Value}
-use Rattle.style_types.specs.declared.value.Value.TheVariants as values
+use Rattle.css_types.specs.Keywords.{words_of}
+use Rattle.css_types.specs.declared.keyword.Keywords.{Keywords}
+use Rattle.css_types.specs.declared.table.PropertyRow.{PropertyRow}
+use Rattle.css_types.specs.declared.table.Values.{Values}
+use Rattle.css_types.specs.declared.table.Range.{Range}
+use Rattle.css_types.specs.declared.table.Range.TheVariants as ranges
+use Rattle.css_types.specs.declared.table.More.{More}
+use Rattle.css_types.specs.declared.table.More.TheVariants as more
+use Rattle.css_types.specs.declared.value.Value.{Value}
+use Rattle.css_types.specs.declared.value.Value.TheVariants as values
 use Rattle.css_values.specs.Tables.{keywords, widths}
 
 -- is the name the word, in either case?

@@ -2,7 +2,7 @@
 use Rattle.std.specs.Prelude.{◌≡◌, ℕ, Bool, ◌||◌, if◌then◌else◌, List, codes, Option, Some, None, is_some, option_map, Result, Ok}
 use Rattle.reading.specs.Readers.{follow, mapped, choice, strip, starts}
 use Rattle.reading.specs.Stop.{place_before}
-use Rattle.style_types.specs.declared.value.Declaration.{Declaration}
+use Rattle.css_types.specs.declared.value.Declaration.{Declaration}
 use Rattle.css_tokens.specs.Lexing.{gap}
 use Rattle.css_values.specs.declared.judging.Meaning.{Meaning}
 use Rattle.css_values.specs.declared.judging.Meaning.TheVariants as meanings

@@ -1,14 +1,14 @@
 -- Shorthands and their longhands. CSS 2, 8.3 and 8.5.4; CSS Logical Properties 1, 4.2.
 use Rattle.std.specs.Prelude.{if◌then◌else◌, List, [], ◌∷◌, ◌++◌, map, zip, codes, Option, Some, None}
 use Rattle.css_tokens.specs.Tokens.{Lexeme}
-use Rattle.style_types.specs.declared.property.Property.{Property}
-use Rattle.style_types.specs.declared.shorthand.Longhands.{Longhands}
-use Rattle.style_types.specs.declared.shorthand.Longhands.TheVariants.{One, Ends, Sides}
-use Rattle.style_types.specs.declared.shorthand.Shorthand.{Shorthand}
-use Rattle.style_types.specs.declared.shorthand.Shorthand.TheVariants.{Round, Border}
-use Rattle.style_types.specs.declared.table.Values.{Values}
-use Rattle.style_types.specs.declared.value.Value.{Value}
-use Rattle.style_types.specs.declared.value.Value.TheVariants as values
+use Rattle.css_types.specs.declared.property.Property.{Property}
+use Rattle.css_types.specs.declared.shorthand.Longhands.{Longhands}
+use Rattle.css_types.specs.declared.shorthand.Longhands.TheVariants.{One, Ends, Sides}
+use Rattle.css_types.specs.declared.shorthand.Shorthand.{Shorthand}
+use Rattle.css_types.specs.declared.shorthand.Shorthand.TheVariants.{Round, Border}
+use Rattle.css_types.specs.declared.table.Values.{Values}
+use Rattle.css_types.specs.declared.value.Value.{Value}
+use Rattle.css_types.specs.declared.value.Value.TheVariants as values
 use Rattle.css_values.specs.declared.border.Found.{Found}
 use Rattle.css_values.specs.Border.{or_initial, nothing, pieces}
 use Rattle.css_values.specs.Longhand.{is_name, is_word, single}

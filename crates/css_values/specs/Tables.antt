@@ -1,13 +1,13 @@
 -- The tables of properties by their names.
 use Rattle.std.specs.Prelude.{ℕ, ℤ, List, map}
-use Rattle.style_types.specs.declared.keyword.Keyword.{Keyword}
-use Rattle.style_types.specs.declared.keyword.TheConstants.{WORDS, WIDTH_NAMES}
-use Rattle.style_types.specs.declared.refusal.Refused.{Refused}
-use Rattle.style_types.specs.declared.refusal.TheConstants.{REFUSALS}
-use Rattle.style_types.specs.declared.shorthand.Shorthand.{Shorthand}
-use Rattle.style_types.specs.declared.shorthand.TheConstants.{SHORTHANDS}
-use Rattle.style_types.specs.declared.table.PropertyRow.{PropertyRow}
-use Rattle.style_types.specs.declared.table.TheConstants.{PROPERTIES}
+use Rattle.css_types.specs.declared.keyword.Keyword.{Keyword}
+use Rattle.css_types.specs.declared.keyword.TheConstants.{WORDS, WIDTH_NAMES}
+use Rattle.css_types.specs.declared.refusal.Refused.{Refused}
+use Rattle.css_types.specs.declared.refusal.TheConstants.{REFUSALS}
+use Rattle.css_types.specs.declared.shorthand.Shorthand.{Shorthand}
+use Rattle.css_types.specs.declared.shorthand.TheConstants.{SHORTHANDS}
+use Rattle.css_types.specs.declared.table.PropertyRow.{PropertyRow}
+use Rattle.css_types.specs.declared.table.TheConstants.{PROPERTIES}
 use Rattle.css_values.specs.declared.names.TheConstants.{COLOURS, RESETS}
 
 unfoldable pub properties : List (List ℕ × PropertyRow)

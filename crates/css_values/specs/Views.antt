@@ -2,13 +2,13 @@
 use Rattle.std.specs.Prelude.{◌≡◌, ℕ, List, ◌++◌, map, Option, option_map, Result, Ok, Err, ⊤}
 use denote.Bor.{Bor}
 use Rattle.std.specs.declared.vec.Vec.{Vec}
-use Rattle.style_types.specs.declared.value.Value.{Value}
+use Rattle.css_types.specs.declared.value.Value.{Value}
 use Rattle.css_tokens.specs.declared.token.Token.{Token}
 use Rattle.css_tokens.specs.Tokens.{Lexeme, lexeme_of}
 use Rattle.css_values.specs.Error.{Stop}
 use Rattle.reading.specs.declared.stop.Stop.TheVariants.{Memory}
-use Rattle.style_types.specs.declared.value.Declaration.{Declaration}
-use Rattle.style_types.specs.declared.refusal.Refused.{Refused}
+use Rattle.css_types.specs.declared.value.Declaration.{Declaration}
+use Rattle.css_types.specs.declared.refusal.Refused.{Refused}
 use Rattle.css_values.specs.Tables.{Refusing}
 use Rattle.css_values.specs.declared.declarations.Stated as code_stated
 use Rattle.css_values.specs.Declarations.{Stated}

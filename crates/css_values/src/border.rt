@@ -9,7 +9,7 @@ use crate::longhand::single;
 use crate::names::COLOURS;
 use crate::words::is_one_of;
 use css_tokens::Token;
-use style_types::{LINES, Value, WIDTHS};
+use css_types::{LINES, Value, WIDTHS};
 
 /// What is given.
 #[derive(Clone, Copy, Debug)]

@@ -10,7 +10,7 @@ ghost use Rattle.css_values.specs.Error.{Tells, Told, spelled};
 ghost use Rattle.css_values.specs.Grammar as grammar;
 ghost use Rattle.css_values.specs.Reading.{text_of};
 ghost use Rattle.css_values.specs.Views.{stated_of};
-ghost use Rattle.style_types.specs.declared.value.Declaration as declaration_type;
+ghost use Rattle.css_types.specs.declared.value.Declaration as declaration_type;
 ghost use Rattle.css_values.specs.declared.within.Within.TheVariants.{Attribute};
 
 use crate::error::{CssError, Refusal, Stop};
@@ -21,7 +21,7 @@ use crate::within::Within;
 use css_tokens::{gap, name, name_ahead};
 use reading::{starts, strip};
 use std::alloc::Global;
-use style_types::Declarations;
+use css_types::Declarations;
 
 /// The greatest count of declarations in the rules of a document's sheets, each counted for each selector.
 const MOST_DECLARATIONS: usize = 65_536;

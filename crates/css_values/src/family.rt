@@ -8,7 +8,7 @@ ghost use Rattle.css_values.specs.Views.{lexemes_of};
 
 use css_tokens::Token;
 use reading::strip_either_case;
-use style_types::Value;
+use css_types::Value;
 
 /// The first face among names and strings with commas between them, and face 0 where there is none.
 #[tactic(auto, using(crate::proofs::Families::starts, crate::proofs::Families::goes_on, crate::proofs::Families::stops, crate::proofs::Families::ends_behind, crate::proofs::Families::ends_before))]

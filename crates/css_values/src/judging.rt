@@ -15,9 +15,7 @@ use crate::shorthand::declare_shorthand;
 use css_tokens::Token;
 use reading::{named, same_name};
 use std::alloc::Global;
-use style_types::{
-    Declaration, Declarations, PROPERTIES, Property, PropertyRow, SHORTHANDS, Shorthand, Value,
-};
+use css_types::{Declaration, Declarations, PROPERTIES, Property, PropertyRow, SHORTHANDS, Shorthand, Value};
 
 /// What a name stands for.
 #[derive(Clone, Copy, Debug)]

@@ -17,7 +17,7 @@ use crate::within::Within;
 use css_tokens::gap;
 use reading::{starts, strip};
 use std::alloc::Global;
-use style_types::Declarations;
+use css_types::Declarations;
 
 /// What becomes of a declaration once it is wholly read (CSS 2, 4.2).
 #[derive(Clone, Copy, Debug, Drop, PartialEq, Eq)]

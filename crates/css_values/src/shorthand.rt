@@ -3,7 +3,7 @@
 ghost use Rattle.std.specs.Prelude.{◌≡◌, option_map, [], ◌∷◌, Some};
 ghost use Rattle.css_values.specs.Judging.{placed};
 ghost use Rattle.css_values.specs.Shorthand as definitions;
-ghost use Rattle.style_types.specs.declared.shorthand.Shorthand.TheVariants.{Round};
+ghost use Rattle.css_types.specs.declared.shorthand.Shorthand.TheVariants.{Round};
 ghost use Rattle.css_values.specs.Views.{lexemes_of, Appends, TellsEach};
 
 use crate::border::{Found, given, or_initial};
@@ -13,7 +13,7 @@ use crate::longhand::single;
 use crate::words::is_word_alone;
 use css_tokens::Token;
 use std::alloc::Global;
-use style_types::{Declarations, Longhands, Shorthand, Value, Values};
+use css_types::{Declarations, Longhands, Shorthand, Value, Values};
 
 /// Puts the longhands that a shorthand declares behind the others; none where the value isn't one of it.
 #[tactic(auto, unfolding(crate::specs::Shorthand::shorthand))]

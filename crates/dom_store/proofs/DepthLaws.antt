@@ -5,7 +5,7 @@ use Rattle.std.specs.List.{All, position_or_len, slice_get}
 use Rattle.std.proofs.lemmas.Bool.{cases_lt, le-ltb, lt-ltb}
 use Rattle.std.proofs.lemmas.Option.{get_or_from_slice_get, none-some, slice_get_within}
 use Rattle.html_read.specs.Values.{Node}
-use Rattle.style_types.specs.declared.value.Declaration.{Declaration}
+use Rattle.css_types.specs.declared.value.Declaration.{Declaration}
 use Rattle.dom_store.specs.declared.error.EditError.{EditError}
 use Rattle.dom_store.specs.declared.error.EditError.TheVariants.{NoNode, IsRoot, NotText, NotElement, Inside, BadIndex, TooManyNodes, TooDeep, Memory}
 use Rattle.std.specs.Result.{IsErrAnd}

@@ -1,8 +1,8 @@
 -- Edits of small documents, as an independent implementation has them.
 use Rattle.std.specs.Prelude.{◌≡◌, refl, ℕ, zero, suc, ◌++◌, false, List, [], ◌∷◌, map, get_or, Option, Some, None}
-use Rattle.style_types.specs.declared.property.Property.TheVariants as properties
-use Rattle.style_types.specs.declared.keyword.Keyword.TheVariants as keywords
-use Rattle.style_types.specs.declared.value.Value.TheVariants as values
+use Rattle.css_types.specs.declared.property.Property.TheVariants as properties
+use Rattle.css_types.specs.declared.keyword.Keyword.TheVariants as keywords
+use Rattle.css_types.specs.declared.value.Value.TheVariants as values
 use Rattle.html_tokens.specs.declared.tag.Tag.TheVariants as tags
 use Rattle.html_read.specs.Values as html
 use Rattle.dom_store.specs.declared.error.EditError.{EditError}

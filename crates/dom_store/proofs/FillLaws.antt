@@ -4,7 +4,7 @@ use Rattle.std.specs.Global.{Vec}
 use Rattle.std.proofs.lemmas.Bool.{cases_eq, cases_lt}
 use Rattle.std.proofs.lemmas.List.{get_or-map}
 use Rattle.std.proofs.lemmas.Option.{slice_get_past}
-use Rattle.style_types.specs.declared.value.Declaration.{Declaration}
+use Rattle.css_types.specs.declared.value.Declaration.{Declaration}
 use Rattle.html_read.specs.declared.node.ReadNode.{ReadNode}
 use Rattle.html_read.specs.Values.{Node, kind_of, nodes_of}
 use Rattle.dom_store.specs.Building.{Adds, IsFilledFrom, numbers_at}

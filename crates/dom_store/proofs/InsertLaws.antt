@@ -10,7 +10,7 @@ use Rattle.std.proofs.lemmas.Option.{slice_get-map, slice_get_past}
 use Rattle.html_read.specs.Shape.{IsFragmentShaped}
 use Rattle.html_read.specs.Values.{Node, node_of, nodes_of, kind_of}
 use Rattle.html_read.specs.declared.node.ReadNode.{ReadNode}
-use Rattle.style_types.specs.declared.value.Declaration.{Declaration}
+use Rattle.css_types.specs.declared.value.Declaration.{Declaration}
 use Rattle.dom_store.specs.Building.{FollowParents, Grows, IsFilledFrom, added_under, numbers_at, tops_from, with_next}
 use Rattle.dom_store.specs.Edits.{changed, insert, inserted, inserted_at, parent_under, under, with_children, with_parent, with_put, without_nodes}
 use Rattle.dom_store.specs.Opening.{children_from, put_if, stands_in, what_of}

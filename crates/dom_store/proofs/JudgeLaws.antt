@@ -12,7 +12,7 @@ use Rattle.dom_store.specs.Standing.{children_at, lives}
 use Rattle.dom_store.specs.State.{State}
 use Rattle.dom_store.specs.Edits.{insert}
 use Rattle.html_read.specs.Values.{Node}
-use Rattle.style_types.specs.declared.value.Declaration.{Declaration}
+use Rattle.css_types.specs.declared.value.Declaration.{Declaration}
 use Rattle.dom_store.specs.Edited.{Judges}
 
 -- an earlier reason

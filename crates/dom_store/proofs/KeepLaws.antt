@@ -7,7 +7,7 @@ use Rattle.std.proofs.lemmas.Bool.Decides.{eqb_tells}
 use Rattle.std.proofs.lemmas.List.Folds.{list_any-append}
 use Rattle.std.proofs.lemmas.Option.{none-some}
 use Rattle.html_read.specs.Values.{Node}
-use Rattle.style_types.specs.declared.value.Declaration.{Declaration}
+use Rattle.css_types.specs.declared.value.Declaration.{Declaration}
 use Rattle.dom_store.specs.declared.error.EditError.TheVariants.{IsRoot, NotText}
 use Rattle.dom_store.specs.Edits.{set_text, set_style, set_class, insert, remove, move_to, after, changed, changed_if, inserted_at, under, with_children, with_classes, with_moved, with_own, with_parent, with_put, with_what, without, without_nodes}
 use Rattle.dom_store.specs.Laws.{HaveParents, KeepRoots, KeepSaid}

@@ -6,12 +6,12 @@ use Rattle.std.specs.Global.{Vec}
 use Rattle.std.proofs.lemmas.Bool.{cases_lt, ne_eqb}
 use Rattle.std.proofs.lemmas.List.{get_or_past}
 use Rattle.std.proofs.lemmas.List.Elements.{All-map, All-nil}
-use Rattle.style_types.specs.Value.{HasSayable}
+use Rattle.css_types.specs.Value.{HasSayable}
 use Rattle.std.proofs.lemmas.Option.{none-some, slice_get_within}
 use Rattle.html_read.specs.Shape.{IsShaped}
 use Rattle.html_read.specs.Values as html
 use Rattle.html_read.specs.Values.{Node}
-use Rattle.style_types.specs.declared.value.Declaration.{Declaration}
+use Rattle.css_types.specs.declared.value.Declaration.{Declaration}
 use Rattle.dom_store.specs.declared.document.Document.{Document}
 use Rattle.dom_store.specs.declared.error.EditError.{EditError}
 use Rattle.dom_store.specs.State.{Entry, State, AreSaid, IsRooted, IsSaid, IsSaidState, state_of}

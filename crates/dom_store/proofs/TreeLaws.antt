@@ -5,7 +5,7 @@ use Rattle.std.proofs.lemmas.Bool.{ne_eqb, eq-eqb}
 use Rattle.html_read.specs.Values as html
 use Rattle.html_read.specs.Values.{Node, Kind}
 use Rattle.html_read.specs.Shape.{with_opened}
-use Rattle.style_types.specs.declared.value.Declaration.{Declaration}
+use Rattle.css_types.specs.declared.value.Declaration.{Declaration}
 use Rattle.dom_store.specs.State.{What, Entry, State, tree_to, tree_with}
 use Rattle.dom_store.specs.Opening.{children_from, put_if, stands_in, what_of}
 use Rattle.dom_store.specs.Whole.{listed, numbered_from}

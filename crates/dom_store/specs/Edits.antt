@@ -1,7 +1,7 @@
 -- Edits of the tree: the state after one, and the elements that it concerns. DOM, 4.2.3, narrowed.
 use Rattle.std.specs.Prelude.{ℕ, ◌+◌, ◌-◌, if◌then◌else◌, List, [], ◌∷◌, ◌++◌, length, map, filter, take, drop, get_or, not, nat_eq, nat_lt, Option, Some, None, option_map, option_to_list, slice_get}
 use Rattle.std.specs.List.{list_any}
-use Rattle.style_types.specs.declared.value.Declaration.{Declaration}
+use Rattle.css_types.specs.declared.value.Declaration.{Declaration}
 use Rattle.html_read.specs.Values.{Node}
 use Rattle.dom_store.specs.State.{What, element, text, Entry, State}
 use Rattle.dom_store.specs.Opening.{children_from, what_of}

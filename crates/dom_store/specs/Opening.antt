@@ -1,7 +1,7 @@
 -- The state that a document begins with: its nodes as they were read, each with its own declarations.
 use Rattle.std.specs.Prelude.{◌≡◌, ℕ, ◌+◌, ◌<◌, ◌≤◌, ◌^◌, nat_eq, Bool, true, false, List, [], ◌∷◌, ◌++◌, length, get_or, slice_get, Option, Some, None, Result, Ok, Err, ⊤}
 use Rattle.std.specs.List.{All}
-use Rattle.style_types.specs.declared.value.Declaration.{Declaration}
+use Rattle.css_types.specs.declared.value.Declaration.{Declaration}
 use Rattle.html_read.specs.Values as html
 use Rattle.html_read.specs.Values.{Acting, Kind, Node}
 use Rattle.dom_store.specs.declared.document.Document.{Document}

@@ -7,8 +7,8 @@ use Rattle.std.specs.BTreeMap as keyed
 use Rattle.slab.specs.Slab as slots
 use Rattle.wm_modes.specs.declared.mode.Direction.{Direction}
 use Rattle.html_tokens.specs.declared.tag.Tag.{Tag}
-use Rattle.style_types.specs.declared.value.Declaration.{Declaration}
-use Rattle.style_types.specs.Value.{HasSayable}
+use Rattle.css_types.specs.declared.value.Declaration.{Declaration}
+use Rattle.css_types.specs.Value.{HasSayable}
 use Rattle.dom_store.specs.declared.document.Document.{Document}
 use Rattle.dom_store.specs.declared.node.Node as code_node
 use Rattle.dom_store.specs.declared.node.NodeKind as code_kind

@@ -1,6 +1,6 @@
 -- Edits that are taken back.
 use Rattle.std.specs.Prelude.{◌≡◌, ℕ, ◌+◌, List, ◌++◌, map, take, drop, nat_eq, nat_lt, if◌then◌else◌, Option, Some, None, string_bytes, ⊤}
-use Rattle.style_types.specs.declared.value.Declaration.{Declaration}
+use Rattle.css_types.specs.declared.value.Declaration.{Declaration}
 use Rattle.dom_store.specs.declared.edit.Before as code
 use Rattle.dom_store.specs.declared.edit.Before.TheVariants as stood
 use Rattle.dom_store.specs.State.{What, Entry, State, what_of}

@@ -1,6 +1,6 @@
 -- A document's tree is whole: its nodes in document order are those that were read.
 use Rattle.std.specs.Prelude.{ℕ, ◌+◌, List, [], ◌∷◌, ◌++◌, get_or, Option, Some}
-use Rattle.style_types.specs.declared.value.Declaration.{Declaration}
+use Rattle.css_types.specs.declared.value.Declaration.{Declaration}
 use Rattle.html_read.specs.Values.{Node}
 use Rattle.dom_store.specs.State.{What, Tree, none, node}
 use Rattle.dom_store.specs.Opening.{what_of}

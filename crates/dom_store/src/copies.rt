@@ -7,9 +7,10 @@ ghost use Rattle.dom_store.specs.Opening as opening;
 ghost use Rattle.dom_store.specs.State.{entry_of, what_of};
 
 use crate::node::{Node, NodeKind, NodeNumbers};
+use css_types::{Declaration, Declarations};
 use html_read::{ReadKind, ReadNode};
+use letters::{LetterList, Letters};
 use std::alloc::{AllocError, Global};
-use style_types::{Declaration, Declarations, LetterList, Letters};
 
 /// The node that was read, with these children and these own declarations.
 pub(crate) fn node_of(
@@ -59,7 +60,7 @@ fn copy_of_what(alloc: Global, kind: &NodeKind) -> Result<NodeKind, AllocError>
             declarations: copy_of_declarations(alloc, declarations)?,
         }),
         NodeKind::Text { text } => Ok(NodeKind::Text {
-            text: copy_of_text(text)?,
+            text: text.clone()?,
         }),
     }
 }
@@ -88,13 +89,6 @@ fn copy_of_id(id: &Option<Letters>) -> Result<Option<Letters>, AllocError>
         Some(letters) => Ok(Some(letters.clone()?)),
         None => Ok(None),
     }
-}
-
-/// A copy of a text.
-pub(crate) fn copy_of_text(text: &Letters) -> Result<Letters, AllocError>
-    ensures { IfOk result (λ copy. string_bytes copy ≡ string_bytes text.now) }
-{
-    text.clone()
 }
 
 /// Copies of texts.

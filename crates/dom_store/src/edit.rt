@@ -1,8 +1,9 @@
 //! Edits of the tree (DOM, 4.2 and 4.5, narrowed).
 
 use crate::node::{NodeKind, NodeNumbers};
+use css_types::{Declarations, Styles};
 use html_read::ReadNodes;
-use style_types::{Declarations, LetterList, Letters, Styles};
+use letters::{LetterList, SharedText};
 
 /// An edit of the tree. Nodes are named by their numbers, indices of children begin at 0.
 #[derive(Debug, Drop)]
@@ -10,7 +11,7 @@ pub enum Edit {
     /// The whole text of a text node.
     Text {
         node: u32,
-        text: Letters,
+        text: SharedText,
     },
     /// An element's own declarations.
     Style {

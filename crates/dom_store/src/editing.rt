@@ -8,13 +8,14 @@ ghost use Rattle.dom_store.specs.Standing.{parent_at};
 ghost use Rattle.dom_store.specs.State.{state_of};
 ghost use Rattle.dom_store.specs.Taking.{LeadsBack, before_of, taken_back};
 
-use crate::copies::{copy_of_declarations, copy_of_text, copy_of_texts};
+use crate::copies::{copy_of_declarations, copy_of_texts};
 use crate::document::Document;
 use crate::edit::{Before, Change, Edit};
 use crate::error::EditError;
 use crate::node::{NodeKind, NodeNumbers};
+use css_types::Declaration;
+use letters::{Letters, SharedText};
 use std::alloc::{AllocError, Global};
-use style_types::{Declaration, Letters};
 
 impl Document {
     /// Does an edit whole (DOM, 4.2.3, narrowed), or refuses it and changes nothing. Nodes that are inserted are those of
@@ -63,14 +64,14 @@ impl Document {
         &mut self,
         alloc: Global,
         n: u32,
-        text: &Letters,
+        text: &SharedText,
     ) -> Result<Change, EditError>
         ensures applies { Applies (state_of self.old) (state_of self.new) (set_text n (string_bytes text.now)) result }
         ensures back { IfOk result (λ change. taken_back (before_of change.before) (state_of self.new) ≡ state_of self.old) }
     {
         self.check_text(n)?;
         let elements = self.concerned_above(alloc, n)?;
-        let text = copy_of_text(text)?;
+        let text = text.clone()?;
         let kind = self.put_kind(n, NodeKind::Text { text });
         let before = Before::Text { node: n, kind };
         Ok(Change { elements, before })

@@ -21,9 +21,9 @@ use crate::error::EditError;
 use crate::moving::may_hold;
 use crate::node::NodeNumbers;
 use crate::opening::GREATEST_COUNT;
+use css_types::Declarations;
 use html_read::ReadNode;
 use std::alloc::{AllocError, Global};
-use style_types::Declarations;
 
 impl Document {
     /// Makes nodes the children of this parent, the first of them at the index.

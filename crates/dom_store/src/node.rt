@@ -1,7 +1,8 @@
 //! Nodes (DOM, 4.4 and 4.9, narrowed).
 
+use css_types::Declarations;
 use html_tokens::Tag;
-use style_types::{Declarations, LetterList, Letters};
+use letters::{LetterList, Letters, SharedText};
 use wm_modes::Direction;
 
 /// The numbers of nodes, in order.
@@ -20,7 +21,7 @@ pub enum NodeKind {
         declarations: Declarations,
     },
     Text {
-        text: Letters,
+        text: SharedText,
     },
 }
 

@@ -15,9 +15,9 @@ use crate::depths::check_depths;
 use crate::document::Document;
 use crate::error::EditError;
 use crate::node::NodeNumbers;
+use css_types::{Declarations, Styled};
 use html_read::{ReadDocument, ReadNode};
 use std::alloc::{AllocError, Global};
-use style_types::{Declarations, Styled};
 
 /// How many nodes may live.
 pub(crate) const GREATEST_COUNT: u32 = 65_536;

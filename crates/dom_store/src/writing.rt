@@ -10,9 +10,10 @@ ghost use Rattle.dom_store.specs.Taking.{standing_in, without_run};
 use crate::document::Document;
 use crate::node::{NodeKind, NodeNumbers};
 use crate::siblings::{drop_from, drop_run, put_at};
+use css_types::Declarations;
+use letters::LetterList;
 use std::alloc::AllocError;
 use std::mem::replace;
-use style_types::{Declarations, LetterList};
 
 impl Document {
     /// A node is this from now on.

@@ -7,7 +7,7 @@ use Rattle.face_api.specs.Table.{Table}
 use Rattle.wm_units.specs.declared.view.View.{View}
 use Rattle.io_edge.specs.Edge.{AppendsFront}
 use Rattle.io_edge.proofs.Growth.{next_front, nothing_yet}
-use Rattle.style_types.specs.Rule.{Ruling}
+use Rattle.css_types.specs.Rule.{Ruling}
 use Rattle.dom_store.specs.Edits.{EditOf, after}
 use Rattle.dom_store.specs.State.{State}
 use Rattle.edit_script.specs.declared.step.ScriptLine.{ScriptLine}

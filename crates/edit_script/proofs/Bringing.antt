@@ -3,8 +3,8 @@ use Rattle.std.proofs.Common.{◌≡◌, ℕ, ◌+◌, ◌<◌, Bool, true, fals
 use Rattle.std.specs.Prelude.{Result, not}
 use Rattle.std.specs.List.{before_first, list_any, position_or_len}
 use Rattle.std.proofs.lemmas.List.{take_all}
-use Rattle.style_types.specs.declared.value.Declaration.{Declaration}
-use Rattle.style_types.specs.Rule.{Styling}
+use Rattle.css_types.specs.declared.value.Declaration.{Declaration}
+use Rattle.css_types.specs.Rule.{Styling}
 use Rattle.html_tokens.specs.declared.error.Refusal.TheVariants.{Syntax}
 use Rattle.html_tokens.specs.Error as html_error
 use Rattle.html_read.specs.Reading.{fragment}

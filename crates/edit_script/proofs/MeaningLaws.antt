@@ -6,7 +6,7 @@ use Rattle.std.proofs.lemmas.List.{append-nil, take_all}
 use Rattle.reading.specs.Readers.{◌>>=◌, ReadOr, follow, give, mapped}
 use Rattle.reading.specs.Stop.{end_of}
 use Rattle.reading.proofs.SpellLaws.{bind_ok, same_answer, told_ok}
-use Rattle.style_types.specs.declared.value.Declaration.{Declaration}
+use Rattle.css_types.specs.declared.value.Declaration.{Declaration}
 use Rattle.html_tokens.specs.Error as html_error
 use Rattle.html_tokens.specs.Grammar.{IsGap}
 use Rattle.html_tokens.specs.Text.{gap}

@@ -14,7 +14,7 @@ use Rattle.std.specs.Str.Lines.{strip_carriage_return}
 use Rattle.reading.specs.Decimals.{IsDecimal}
 use Rattle.reading.specs.Grammars.{After, Given, Grammar, Mapped, OneWord, Seq}
 use Rattle.reading.specs.Stop.{end_of}
-use Rattle.style_types.specs.declared.value.Declaration.{Declaration}
+use Rattle.css_types.specs.declared.value.Declaration.{Declaration}
 use Rattle.html_tokens.specs.Grammar.{IsGap}
 use Rattle.html_read.specs.Grammar.{IsFragment}
 use Rattle.html_read.specs.Judging as judging

@@ -3,7 +3,7 @@ use Rattle.std.specs.Prelude.{ℕ, ◌==◌, Bool, true, false, List, Result, Ok
 use Rattle.std.specs.List.{before_first, list_any}
 use Rattle.reading.specs.Readers.{ReadOr, follow, mapped}
 use Rattle.reading.specs.Stop.{end_of}
-use Rattle.style_types.specs.declared.value.Declaration.{Declaration}
+use Rattle.css_types.specs.declared.value.Declaration.{Declaration}
 use Rattle.html_tokens.specs.declared.error.Refusal.TheVariants.{Syntax}
 use Rattle.html_tokens.specs.Error as html_error
 use Rattle.html_tokens.specs.Text.{gap}

@@ -4,7 +4,7 @@ use Rattle.std.specs.List.{All}
 use Rattle.std.specs.String.{string_bytes}
 use Rattle.dom_store.specs.Edited.{edit_of}
 use Rattle.html_read.specs.Values.{Node, nodes_of}
-use Rattle.style_types.specs.declared.value.Declaration.{Declaration}
+use Rattle.css_types.specs.declared.value.Declaration.{Declaration}
 use Rattle.edit_script.specs.declared.step.ScriptStep as code_step
 use Rattle.edit_script.specs.declared.step.ScriptStep.TheVariants as steps
 use Rattle.edit_script.specs.declared.step.ScriptLine as code_line

@@ -16,12 +16,13 @@ use crate::command::Command;
 use crate::error::{Halt, Refusal};
 use crate::step::ScriptStep;
 use css_sheet::read_styled;
+use css_types::Declarations;
 use css_values::read_declarations;
 use dom_store::{Edit, NewNodes};
 use html_read::{ReadDocument, Sheets, read_fragment};
 use html_tokens::gap;
+use letters::{LetterList, Letters, SharedText};
 use std::alloc::Global;
-use style_types::{Declarations, LetterList, Letters};
 
 /// What a line says whose words say this.
 #[tactic(auto, unfolding(crate::specs::Meaning::meaning))]
@@ -31,7 +32,7 @@ pub(crate) fn meaning(alloc: Global, command: Command<'_>) -> Result<ScriptStep,
 {
     match command {
         Command::Text { node, rest } => {
-            let text = letters(alloc, rest)?;
+            let text = SharedText::new(alloc, letters(alloc, rest)?)?;
             Ok(ScriptStep::Edit(Edit::Text { node, text }))
         }
         Command::Style { node, rest } => {

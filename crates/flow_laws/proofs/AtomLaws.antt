@@ -6,11 +6,11 @@ use Rattle.std.proofs.lemmas.List.Elements.{All-tail}
 use Rattle.face_api.specs.Table.{Table}
 use Rattle.wm_chars.specs.declared.classes.BidiClass.{BidiClass}
 use Rattle.wm_modes.specs.declared.rects.FlowRect.{FlowRect}
-use Rattle.style_types.specs.declared.constraint.Constraint.{Constraint}
-use Rattle.style_types.specs.declared.item.BoxName.{BoxName}
+use Rattle.fragment_types.specs.declared.constraint.Constraint.{Constraint}
+use Rattle.fragment_types.specs.declared.item.BoxName.{BoxName}
 use Rattle.style_types.specs.declared.style.Style.{Style}
-use Rattle.style_types.specs.Fragment.{Kind, block as block_kind, line as line_kind, measure as measure_kind, run as run_kind, span as span_kind, Pieces, none, piece}
-use Rattle.style_types.specs.Item.{Entry}
+use Rattle.fragment_types.specs.Fragment.{Kind, block as block_kind, line as line_kind, measure as measure_kind, run as run_kind, span as span_kind, Pieces, none, piece}
+use Rattle.fragment_types.specs.Item.{Entry}
 use Rattle.box_arena.specs.At.{Node}
 use Rattle.box_gen.specs.Tree.{inline}
 use Rattle.line_place.specs.declared.line.LineBox.{LineBox}

@@ -2,9 +2,9 @@
 use Rattle.std.proofs.Common.{◌≡◌, ◌∙◌, refl, sym, ap, Bool, true, false, ◌&&◌, List, [], ◌∷◌, Option, Some}
 use Rattle.std.specs.Prelude.{is_none}
 use Rattle.std.proofs.lemmas.Option.{same_Some}
-use Rattle.style_types.specs.declared.constraint.Constraint.{Constraint}
+use Rattle.fragment_types.specs.declared.constraint.Constraint.{Constraint}
 use Rattle.style_types.specs.declared.style.Style.{Style}
-use Rattle.style_types.specs.Fragment.{Pieces, none, piece}
+use Rattle.fragment_types.specs.Fragment.{Pieces, none, piece}
 use Rattle.box_arena.specs.At.{Node}
 use Rattle.box_gen.specs.Tree.{Boxes, blocks, box, inline, none as no_boxes}
 use Rattle.relayout.specs.Flow.{layout, members}

@@ -12,8 +12,8 @@ use Rattle.style_types.specs.declared.style.Display.TheVariants as displays
 use Rattle.style_types.specs.declared.style.Size.TheVariants as sizes
 use Rattle.style_types.specs.declared.style.Style.{Style}
 use Rattle.style_types.specs.Initial.{initial}
-use Rattle.style_types.specs.Item as item
-use Rattle.style_types.specs.Item.{Entry}
+use Rattle.fragment_types.specs.Item as item
+use Rattle.fragment_types.specs.Item.{Entry}
 use Rattle.style_types.specs.Style.{IsBounded}
 use Rattle.cluster_units.specs.Cluster.{unit_clusters}
 use Rattle.cluster_units.specs.Unit.{units_of}
@@ -37,7 +37,7 @@ use Rattle.para_lines.specs.Filling.{fill_items}
 use Rattle.para_lines.specs.Lines.{paragraph_lines}
 use Rattle.unicode_segmentation.proofs.Computing.{unicode_segmentation}
 use Rattle.size_rules.specs.Equation.{or_zero, rest, start_margin}
-use Rattle.style_types.specs.Fragment.{Kind, block, none, piece, Pieces}
+use Rattle.fragment_types.specs.Fragment.{Kind, block, none, piece, Pieces}
 use Rattle.box_arena.specs.At.{Node}
 use Rattle.box_gen.specs.Tree.{Boxes, none as no_boxes, box, blocks, inline}
 use Rattle.relayout.specs.Boxed.{block_box, border_box, boxed, content_area, handed_on, measured}
@@ -47,7 +47,7 @@ use Rattle.relayout.specs.Inline.{equation_of, inline_place, inline_size, known_
 use Rattle.relayout.specs.Intrinsic.{contribution, inner}
 use Rattle.relayout.specs.Flowed.{Flowed}
 use Rattle.relayout.specs.Sizes.{containing_of}
-use Rattle.style_types.specs.declared.constraint.Constraint.{Constraint}
+use Rattle.fragment_types.specs.declared.constraint.Constraint.{Constraint}
 use Rattle.wm_modes.specs.declared.rects.FlowRect.{FlowRect}
 use Rattle.flow_laws.proofs.AtomLaws.{inline_blocks_are_moved_alone}
 use Rattle.flow_laws.specs.Placing.{AreBoxesOf, come_to, given}

@@ -9,7 +9,7 @@ use Rattle.wm_modes.specs.declared.sides.Side.{Side}
 use Rattle.wm_modes.specs.declared.sides.Side.TheVariants.{Top, Left}
 use Rattle.wm_modes.specs.Mode.{are_parallel, is_horizontal}
 use Rattle.wm_modes.specs.Sides.{line_left}
-use Rattle.style_types.specs.declared.constraint.Constraint.{Constraint}
+use Rattle.fragment_types.specs.declared.constraint.Constraint.{Constraint}
 use Rattle.style_types.specs.declared.style.Style.{Style}
 use Rattle.size_rules.specs.Equation as equation
 use Rattle.size_rules.specs.Limits.{used_size}

@@ -7,7 +7,7 @@ use Rattle.wm_modes.specs.declared.rects.FlowRect.{FlowRect}
 use Rattle.margin_collapse.specs.declared.margins.Margins.{Margins}
 use Rattle.margin_collapse.specs.Margins.{collapsed, greatest, least}
 use Rattle.style_types.specs.declared.style.Style.{Style}
-use Rattle.style_types.specs.Fragment.{Kind, block, line, measure, run, span}
+use Rattle.fragment_types.specs.Fragment.{Kind, block, line, measure, run, span}
 use Rattle.block_flow.specs.Children.{Child}
 use Rattle.block_flow.specs.Stacking.{Progress, after, begin, extent, margins_of, place_in, places_from, stacked}
 use Rattle.relayout.specs.Content.{child_of, set_down}

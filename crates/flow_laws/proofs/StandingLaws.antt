@@ -11,15 +11,15 @@ use Rattle.wm_modes.specs.declared.rects.FlowRect.{FlowRect}
 use Rattle.wm_modes.specs.declared.mode.Direction.{Direction}
 use Rattle.wm_modes.specs.declared.mode.WritingMode.{WritingMode}
 use Rattle.wm_units.specs.Numbers.{cap, scaled}
-use Rattle.style_types.specs.declared.constraint.Constraint.{Constraint}
-use Rattle.style_types.specs.declared.item.BoxName.{BoxName}
+use Rattle.fragment_types.specs.declared.constraint.Constraint.{Constraint}
+use Rattle.fragment_types.specs.declared.item.BoxName.{BoxName}
 use Rattle.style_types.specs.declared.style.Baseline.{Baseline}
 use Rattle.style_types.specs.declared.style.Baseline.TheVariants.{Alphabetic, Central}
 use Rattle.style_types.specs.declared.style.LineHeight.{LineHeight}
 use Rattle.style_types.specs.declared.style.LineHeight.TheVariants as heights
 use Rattle.style_types.specs.declared.style.Style.{Style}
-use Rattle.style_types.specs.Fragment.{Kind, block, line as line_kind, measure, run, span, Pieces, none, piece}
-use Rattle.style_types.specs.Item.{Entry}
+use Rattle.fragment_types.specs.Fragment.{Kind, block, line as line_kind, measure, run, span, Pieces, none, piece}
+use Rattle.fragment_types.specs.Item.{Entry}
 use Rattle.style_types.specs.Style.{IsBounded, IsLineHeight, baseline_of}
 use Rattle.block_flow.specs.declared.boxes.ParentEdges.{ParentEdges}
 use Rattle.margin_collapse.specs.declared.margins.Margins.{Margins}

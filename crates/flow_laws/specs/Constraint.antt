@@ -5,9 +5,9 @@ use Rattle.face_api.specs.Table.{Table}
 use Rattle.wm_modes.specs.declared.mode.Direction.{Direction}
 use Rattle.wm_modes.specs.declared.mode.WritingMode.{WritingMode}
 use Rattle.wm_modes.specs.Mode.{is_horizontal}
-use Rattle.style_types.specs.declared.constraint.Constraint.{Constraint}
+use Rattle.fragment_types.specs.declared.constraint.Constraint.{Constraint}
 use Rattle.style_types.specs.declared.style.Style.{Style}
-use Rattle.style_types.specs.Fragment.{Pieces, none, piece}
+use Rattle.fragment_types.specs.Fragment.{Pieces, none, piece}
 use Rattle.box_arena.specs.At.{Node}
 use Rattle.box_gen.specs.Tree.{Boxes, none as no_boxes, box, blocks, inline}
 use Rattle.para_prepare.specs.Parts.{used_direction}

@@ -1,11 +1,11 @@
 -- What a box does with what the boxes in it come to: it puts each somewhere, and changes nothing else. CSS 2, 9.4.1; CSS Writing Modes 4, 7.
 use Rattle.std.specs.Prelude.{◌≡◌, ⊤, ◌⊎◌, false, List, [], ◌∷◌, map, Some, pos}
 use Rattle.wm_modes.specs.declared.rects.FlowRect.{FlowRect}
-use Rattle.style_types.specs.declared.constraint.Constraint.{Constraint}
-use Rattle.style_types.specs.declared.item.BoxName.{BoxName}
+use Rattle.fragment_types.specs.declared.constraint.Constraint.{Constraint}
+use Rattle.fragment_types.specs.declared.item.BoxName.{BoxName}
 use Rattle.style_types.specs.declared.style.Style.{Style}
-use Rattle.style_types.specs.Fragment.{block, line, measure, run, span, Pieces, none, piece}
-use Rattle.style_types.specs.Item.{Entry}
+use Rattle.fragment_types.specs.Fragment.{block, line, measure, run, span, Pieces, none, piece}
+use Rattle.fragment_types.specs.Item.{Entry}
 use Rattle.box_arena.specs.At.{Node}
 use Rattle.box_gen.specs.Tree.{Boxes, blocks, inline}
 use Rattle.relayout.specs.Boxed.{handed_on}

@@ -3,11 +3,11 @@ use Rattle.std.specs.Prelude.{◌≡◌, ⊤, Bool, true, false, cond, List, map
 use Rattle.wm_modes.specs.declared.rects.FlowRect.{FlowRect}
 use Rattle.face_api.specs.Table.{Table}
 use Rattle.face_api.specs.Living.{used_table}
-use Rattle.style_types.specs.declared.constraint.Constraint.{Constraint}
-use Rattle.style_types.specs.declared.item.BoxName.{BoxName}
+use Rattle.fragment_types.specs.declared.constraint.Constraint.{Constraint}
+use Rattle.fragment_types.specs.declared.item.BoxName.{BoxName}
 use Rattle.style_types.specs.declared.style.Style.{Style}
-use Rattle.style_types.specs.Fragment.{Kind, block, line, measure, run, span, Pieces, none, piece}
-use Rattle.style_types.specs.Item.{Entry}
+use Rattle.fragment_types.specs.Fragment.{Kind, block, line, measure, run, span, Pieces, none, piece}
+use Rattle.fragment_types.specs.Item.{Entry}
 use Rattle.style_types.specs.Style.{IsBounded, baseline_of}
 use Rattle.block_flow.specs.Adjoining.{edges}
 use Rattle.box_arena.specs.At.{Node}

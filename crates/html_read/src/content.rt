@@ -12,9 +12,9 @@ ghost use Rattle.reading.specs.declared.stop.Stop.TheVariants as Stops;
 use crate::node::{ReadKind, ReadNode};
 use crate::tags::{Start, end_tag, start_tag};
 use html_tokens::{Refusal, gap, is_void};
+use letters::{Letters, SharedText};
 use reading::{Stop, starts, strip};
 use std::alloc::Global;
-use style_types::Letters;
 
 /// Where the outermost items stand: in `body`, up to its end tag, or in nothing, up to the end of the text.
 #[derive(Clone, Copy, Debug, PartialEq, Eq)]
@@ -184,11 +184,12 @@ pub(crate) fn with_gap<'a>(
     ensures shorter { IfOk result (λ rest. length rest.now ≤ length text.now) }
 {
     let (letters, rest) = gap(alloc, text)?;
-    with_text(parent_in(base, opened), letters, nodes)?;
+    with_text(alloc, parent_in(base, opened), letters, nodes)?;
     Ok(rest)
 }
 
 fn with_text(
+    alloc: Global,
     parent: Option<usize>,
     text: Letters,
     nodes: &mut Vec<ReadNode>,
@@ -197,6 +198,7 @@ fn with_text(
     ensures memory { IfErr result (λ stop. stop ≡ Stops.Memory) }
 {
     if !text.is_empty() {
+        let text = SharedText::new(alloc, text)?;
         nodes.push(ReadNode {
             parent,
             kind: ReadKind::Text { text },

@@ -8,9 +8,9 @@ ghost use Rattle.html_read.specs.Values.{text_at, sheets_of};
 use crate::node::PlacedText;
 use crate::tags::start_of;
 use html_tokens::{RawEnd, Refusal, comment, end_of, misc, raw};
+use letters::Letters;
 use reading::{Stop, starts, strip, strip_either_case, white, white_ahead};
 use std::alloc::Global;
-use style_types::Letters;
 
 /// The style sheets of the head and what stands behind it, if there is one.
 #[tactic(auto, unfolding(crate::specs::Reading::maybe_head))]

@@ -14,10 +14,10 @@ ghost use Rattle.reading.specs.declared.stop.Stop.TheVariants as Stops;
 
 use crate::node::{Attributes, PlacedText};
 use html_tokens::{Refusal, Role, WrittenAttribute, role_of};
+use letters::{LetterList, Letters};
 use reading::{Stop, front_of, same_name, spaces};
 use std::alloc::Global;
 use std::collections::BTreeSet;
-use style_types::{LetterList, Letters};
 use wm_modes::Direction;
 
 /// What the attributes say, from left to right. Places are counted in an input of `size` bytes.

@@ -1,7 +1,7 @@
 //! What is read: nodes in document order, and style sheets.
 
 use html_tokens::Tag;
-use style_types::{LetterList, Letters};
+use letters::{LetterList, Letters, SharedText};
 use wm_modes::Direction;
 
 /// A text, and the place in bytes at which it was found.
@@ -25,7 +25,7 @@ pub struct Attributes {
 #[derive(Debug, Drop)]
 pub enum ReadKind {
     Element { tag: Tag, attributes: Attributes },
-    Text { text: Letters },
+    Text { text: SharedText },
 }
 
 /// A node. Its parent is a place in the same list; `None` where it stands in nothing that was read.

@@ -17,7 +17,7 @@ use crate::plain::plain_count;
 use crate::references::reference;
 use reading::{Stop, front_of, starts};
 use std::alloc::Global;
-use style_types::Letters;
+use letters::Letters;
 
 /// The letters up to the next tag.
 #[tactic(auto, unfolding(crate::specs::Text::gap))]

@@ -17,7 +17,7 @@ use crate::lexing::name;
 use crate::references::reference;
 use reading::{Stop, first, front_of, spaces, starts, strip, white};
 use std::alloc::Global;
-use style_types::Letters;
+use letters::Letters;
 
 /// An attribute: its name as it is written, its value with references replaced, and the bytes from its name on.
 #[derive(Debug, Drop)]

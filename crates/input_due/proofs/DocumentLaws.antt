@@ -9,7 +9,7 @@ use Rattle.face_api.specs.declared.face.Face.{Ghosts}
 use Rattle.wm_units.specs.declared.view.View.{View}
 use Rattle.css_values.specs.declared.error.Refusal as css
 use Rattle.css_sheet.specs.Styled.{Placed, styling}
-use Rattle.style_types.specs.Rule.{Ruling, Styling}
+use Rattle.css_types.specs.Rule.{Ruling, Styling}
 use Rattle.reading.specs.Readers.{Read, ReadOr}
 use Rattle.html_tokens.specs.declared.error.Refusal.{Refusal}
 use Rattle.html_tokens.specs.declared.error.Refusal.TheVariants.{Syntax}

@@ -7,7 +7,7 @@ use Rattle.html_read.specs.Error.{place_in}
 use Rattle.html_read.specs.Reading as reading
 use Rattle.html_read.specs.Values.{Node, Whole}
 use Rattle.css_sheet.specs.Styled.{Placed, styling}
-use Rattle.style_types.specs.Rule.{Styling}
+use Rattle.css_types.specs.Rule.{Styling}
 use Rattle.dom_store.specs.Opening.{opened}
 use Rattle.dom_store.specs.State.{State}
 use Rattle.edit_script.specs.declared.error.Refusal as script_faults

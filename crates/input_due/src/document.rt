@@ -5,7 +5,7 @@ ghost use Rattle.std.specs.List.{All};
 ghost use Rattle.std.specs.Str.{IsUtf8};
 ghost use Rattle.wm_units.specs.View.{IsView};
 ghost use Rattle.face_api.specs.Faces.{faces_of};
-ghost use Rattle.style_types.specs.Rule.{rulings_of, styled_of};
+ghost use Rattle.css_types.specs.Rule.{rulings_of, styled_of};
 ghost use Rattle.html_read.specs.Reading as reading;
 ghost use Rattle.html_read.specs.Values.{nodes_of, whole_of};
 ghost use Rattle.dom_store.specs.State.{AreSaid};
@@ -28,7 +28,7 @@ use session::Session;
 use session::laws::one_answer;
 use std::alloc::{AllocError, Global};
 use std::str;
-use style_types::Styled;
+use css_types::Styled;
 use wm_units::View;
 
 /// The text of a script, and the place of its first byte in the input.

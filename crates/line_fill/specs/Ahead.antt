@@ -2,8 +2,8 @@
 use Rattle.std.specs.Prelude.{◌≡◌, Bool, true, false, ◌||◌, ℕ, suc, ◌-◌, ◌≤◌, ◌^◌, ⊤, List, take, drop, length, max, [], ◌∷◌, Option, None, Some, slice_get, ℤ, ◌+ℤ◌, ◌-ℤ◌, int_le, unsigned_abs}
 use Rattle.std.specs.Int.{int_min}
 use Rattle.std.specs.List.{list_any}
-use Rattle.style_types.specs.declared.breaking.Breaking.{Breaking}
-use Rattle.style_types.specs.declared.breaking.Breaking.TheVariants.{No, May, Must}
+use Rattle.fragment_types.specs.declared.breaking.Breaking.{Breaking}
+use Rattle.fragment_types.specs.declared.breaking.Breaking.TheVariants.{No, May, Must}
 use Rattle.line_fill.specs.declared.item.FillItem.{FillItem}
 use Rattle.line_fill.specs.declared.sums.Place.{Place}
 use Rattle.line_fill.specs.declared.ahead.Ahead.{Ahead}

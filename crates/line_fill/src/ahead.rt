@@ -7,8 +7,8 @@ ghost use Rattle.line_fill.specs.Sums.{StandFor};
 
 use crate::FillItem;
 use crate::sums::{Place, Sums};
+use fragment_types::Breaking;
 use std::alloc::{AllocError, Global};
-use style_types::Breaking;
 
 // What lies ahead of a place up to the next forced break. An end of lines is one of the places where the break is
 // allowed or forced.

@@ -13,10 +13,10 @@ use crate::ahead::{Ahead, all_ahead, is_within};
 use crate::forward::{Stop, are_forward, forward_end};
 use crate::source::{FillSource, Listed};
 use crate::sums::{Place, Sums};
+use fragment_types::Breaking;
 use std::alloc::{AllocError, Global};
 use std::marker::Model;
 use std::sync::ledger::Ledger;
-use style_types::Breaking;
 use wm_units::Steps;
 
 /// Where the lines of a paragraph end.

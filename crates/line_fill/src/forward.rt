@@ -13,7 +13,7 @@ ghost use Rattle.line_fill.specs.Sums.{place_before, width_between};
 use crate::FillItem;
 use crate::source::FillSource;
 use crate::sums::Place;
-use style_types::Breaking;
+use fragment_types::Breaking;
 
 /// Whether no length is below 0.
 #[inline(never)]

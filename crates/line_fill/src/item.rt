@@ -1,6 +1,6 @@
 //! What a paragraph brings to its lines.
 
-use style_types::Breaking;
+use fragment_types::Breaking;
 
 /// An item of a paragraph as lines take it: a unit of text, an atomic inline or a forced line break. Lengths are in
 /// units of 1/64 px on the inline axis.

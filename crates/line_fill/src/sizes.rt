@@ -6,7 +6,7 @@ ghost use Rattle.line_fill.specs.Sizes as sizes;
 
 use crate::widest::Widest;
 use crate::{FillItem, Intrinsic};
-use style_types::Breaking;
+use fragment_types::Breaking;
 use wm_units::cap_size;
 
 /// The min-content and the max-content size of a paragraph (CSS 2, 10.3.5): the width of its widest piece between any

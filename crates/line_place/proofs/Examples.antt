@@ -9,10 +9,10 @@ use Rattle.wm_chars.specs.declared.classes.BidiClass.{BidiClass}
 use Rattle.wm_chars.specs.declared.classes.BidiClass.TheVariants.{L, R, EN, ES, AN, NSM, B, WS, ON}
 use Rattle.style_types.specs.declared.style.Align.{Align}
 use Rattle.style_types.specs.declared.style.Align.TheVariants.{Start, End, Left, Right, Center}
-use Rattle.style_types.specs.declared.unit_kind.UnitKind.TheVariants.{Along, Turned, Upright, Combined}
-use Rattle.style_types.specs.declared.item.BoxName.{BoxName}
-use Rattle.style_types.specs.declared.fragment.RunUnit.{RunUnit}
-use Rattle.style_types.specs.Fragment.{none, piece, block, span, run}
+use Rattle.fragment_types.specs.declared.unit_kind.UnitKind.TheVariants.{Along, Turned, Upright, Combined}
+use Rattle.fragment_types.specs.declared.item.BoxName.{BoxName}
+use Rattle.fragment_types.specs.RunUnit.{RunUnit}
+use Rattle.fragment_types.specs.Fragment.{none, piece, block, span, run}
 use Rattle.bidi_order.specs.Blanks.{reset}
 use Rattle.bidi_order.specs.Reversals.{order}
 use Rattle.bidi_order.specs.Visual.{visual_order}

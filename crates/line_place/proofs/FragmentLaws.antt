@@ -6,8 +6,8 @@ use Rattle.std.proofs.lemmas.List.Elements.{All-cons, All-nil, All-weaker}
 use Rattle.wm_modes.specs.declared.rects.FlowRect.{FlowRect}
 use Rattle.style_types.specs.declared.style.Align.{Align}
 use Rattle.style_types.specs.declared.style.Align.TheVariants.{Start, End, Left, Right, Center}
-use Rattle.style_types.specs.Fragment.{Pieces, none, piece, block, span, measure}
-use Rattle.style_types.specs.Fragment as fragments
+use Rattle.fragment_types.specs.Fragment.{Pieces, none, piece, block, span, measure}
+use Rattle.fragment_types.specs.Fragment as fragments
 use Rattle.line_place.specs.declared.line.Extents.{Extents}
 use Rattle.line_place.specs.declared.line.LineBox.{LineBox}
 use Rattle.line_place.specs.Line.{Content, unit, combined, atom, nothing, Item, Line, no_box}

@@ -1,13 +1,13 @@
 -- Fragments as trees.
 use Rattle.std.proofs.Common.{◌≡◌, ◌∙◌, ap, sym, refl, arith, ℕ, ◌<◌, length, get_or, List, [], ◌∷◌, ◌++◌, map, Option, ℤ}
 use Rattle.wm_modes.specs.declared.rects.FlowRect.{FlowRect}
-use Rattle.style_types.specs.declared.item.BoxName.{BoxName}
-use Rattle.style_types.specs.declared.unit_kind.UnitKind.{UnitKind}
-use Rattle.style_types.specs.declared.fragment.RunUnit.{RunUnit}
-use Rattle.style_types.specs.declared.fragment.Fragment.{Fragment, out-Fragment}
-use Rattle.style_types.specs.declared.fragment.Fragment.TheFolds.{fold_out-Fragment}
-use Rattle.style_types.specs.Fragment.{Kind, Pieces, before, in_line, kind_of, moved_to, none, piece, piece_of, piece_step, pieces_of}
-use Rattle.style_types.specs.Fragment as fragments
+use Rattle.fragment_types.specs.declared.item.BoxName.{BoxName}
+use Rattle.fragment_types.specs.declared.unit_kind.UnitKind.{UnitKind}
+use Rattle.fragment_types.specs.RunUnit.{RunUnit}
+use Rattle.fragment_types.specs.declared.fragment.Fragment.{Fragment, out-Fragment}
+use Rattle.fragment_types.specs.declared.fragment.Fragment.TheFolds.{fold_out-Fragment}
+use Rattle.fragment_types.specs.Fragment.{Kind, Pieces, before, in_line, kind_of, moved_to, none, piece, piece_of, piece_step, pieces_of}
+use Rattle.fragment_types.specs.Fragment as fragments
 use Rattle.line_place.specs.declared.line.Extents.{Extents}
 use Rattle.line_place.specs.declared.line.LineBox.{LineBox}
 use Rattle.line_place.specs.Line.{Content, Line, nothing}

@@ -23,11 +23,3 @@ classes_are (item ∷ items) = ap (λ (classes : List BidiClass). item.class ∷
 pub aparts_are : (items : List LineItem) → map (λ (item : Item). item.apart) (map item_of items) ≡ map (λ (item : LineItem). item.apart) items
 aparts_are [] = refl
 aparts_are (item ∷ items) = ap (λ (aparts : List (Option ℕ)). item.apart ∷ aparts) (aparts_are items)
-
--- one unit of one character
-pub one_character : (units : List (List ℕ)) (c : ℕ) → length units ≡ 1 → length (get_or units 0 []) ≡ 1 → c ≡ get_or (get_or units 0 []) 0 c → (c ∷ []) ∷ [] ≡ units
-one_character [] c one own is = absurd (omega arith)
-one_character ([] ∷ units) c one own is = absurd (omega arith)
-one_character ((first ∷ rest) ∷ more ∷ units) c one own is = absurd (omega arith)
-one_character ((first ∷ next ∷ rest) ∷ []) c one own is = absurd (omega arith)
-one_character ((first ∷ []) ∷ []) c one own is = ap (λ (x : ℕ). (x ∷ []) ∷ []) is

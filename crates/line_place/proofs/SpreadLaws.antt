@@ -5,8 +5,8 @@ use Rattle.std.specs.List.{All}
 use Rattle.std.proofs.Math.Nat.{le-max_left, max-le}
 use Rattle.std.proofs.lemmas.List.Elements.{All-weaker}
 use Rattle.wm_modes.specs.declared.rects.FlowRect.{FlowRect}
-use Rattle.style_types.specs.Fragment.{Pieces, none, piece, block, span, measure}
-use Rattle.style_types.specs.Fragment as fragments
+use Rattle.fragment_types.specs.Fragment.{Pieces, none, piece, block, span, measure}
+use Rattle.fragment_types.specs.Fragment as fragments
 use Rattle.line_place.specs.declared.line.LineBox.{LineBox}
 use Rattle.line_place.specs.Laws.{SpreadOfLine, content_inside}
 use Rattle.line_place.specs.Leaves.{Leaf, leaf, leaves}

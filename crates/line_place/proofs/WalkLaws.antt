@@ -2,8 +2,8 @@
 use Rattle.std.proofs.Common.{◌≡◌, ◌∙◌, ap, sym, refl, arith, subst, ℕ, zero, suc, ◌+◌, ◌-◌, ◌<◌, ◌≤◌, ◌^◌, Bool, true, false, cond, List, [], ◌∷◌, ◌++◌, length, map, drop, get_or, reverse, ℤ, pos, ◌+ℤ◌, unsigned_abs}
 use Rattle.std.proofs.lemmas.Int.{ints}
 use Rattle.std.proofs.lemmas.List.{drop_more, get_or-map, length-map, length-append, reverse-append}
-use Rattle.style_types.specs.declared.fragment.Fragment.{Fragment}
-use Rattle.style_types.specs.Fragment.{Pieces, before, none, piece, pieces_of, span}
+use Rattle.fragment_types.specs.declared.fragment.Fragment.{Fragment}
+use Rattle.fragment_types.specs.Fragment.{Pieces, before, none, piece, pieces_of, span}
 use Rattle.line_place.specs.declared.line.LineBox.{LineBox}
 use Rattle.line_place.specs.declared.walk.Open.{Open}
 use Rattle.line_place.specs.declared.walk.Walk.{Walk}

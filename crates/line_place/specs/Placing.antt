@@ -8,12 +8,12 @@ use Rattle.wm_modes.specs.declared.mode.Direction.TheVariants.{Ltr, Rtl}
 use Rattle.wm_modes.specs.declared.rects.FlowRect.{FlowRect}
 use Rattle.style_types.specs.declared.style.Align.{Align}
 use Rattle.style_types.specs.declared.style.Align.TheVariants.{Start, End, Left, Right, Center}
-use Rattle.style_types.specs.declared.unit_kind.UnitKind.{UnitKind}
-use Rattle.style_types.specs.declared.unit_kind.UnitKind.TheVariants.{Combined}
-use Rattle.style_types.specs.declared.item.BoxName.{BoxName}
-use Rattle.style_types.specs.declared.fragment.RunUnit.{RunUnit}
-use Rattle.style_types.specs.Fragment.{Pieces, none, piece, span}
-use Rattle.style_types.specs.Fragment as fragments
+use Rattle.fragment_types.specs.declared.unit_kind.UnitKind.{UnitKind}
+use Rattle.fragment_types.specs.declared.unit_kind.UnitKind.TheVariants.{Combined}
+use Rattle.fragment_types.specs.declared.item.BoxName.{BoxName}
+use Rattle.fragment_types.specs.RunUnit.{RunUnit}
+use Rattle.fragment_types.specs.Fragment.{Pieces, none, piece, span}
+use Rattle.fragment_types.specs.Fragment as fragments
 use Rattle.line_place.specs.declared.line.Extents.{Extents}
 use Rattle.line_place.specs.declared.line.LineBox.{LineBox}
 use Rattle.line_place.specs.Line.{Content, unit, combined, atom, nothing, Line}

@@ -4,7 +4,7 @@ use Rattle.std.specs.List.{All, list_any}
 use Rattle.line_place.specs.declared.line.Extents.{Extents}
 use Rattle.line_place.specs.declared.line.LineBox.{LineBox}
 use Rattle.wm_modes.specs.declared.rects.FlowRect.{FlowRect}
-use Rattle.style_types.specs.Fragment.{Pieces, none, piece, span}
+use Rattle.fragment_types.specs.Fragment.{Pieces, none, piece, span}
 use Rattle.line_place.specs.Line.{Content, unit, combined, atom, nothing, Item, Line}
 use Rattle.line_place.specs.Leaves.{Leaf}
 use Rattle.line_place.specs.Marks.{Mark, begins, ends, shows, box_at, inside_of}

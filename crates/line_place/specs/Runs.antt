@@ -1,7 +1,7 @@
 -- Runs of text: units that stand side by side on a line and follow each other in the text.
 use Rattle.std.specs.Prelude.{ℕ, ◌+◌, ◌%◌, ⊤, Bool, true, false, ◌&&◌, ◌==◌, cond, List, [], ◌∷◌, Option, Some, None}
-use Rattle.style_types.specs.declared.unit_kind.UnitKind.{UnitKind}
-use Rattle.style_types.specs.declared.unit_kind.UnitKind.TheVariants.{Along, Turned, Upright, Combined}
+use Rattle.fragment_types.specs.declared.unit_kind.UnitKind.{UnitKind}
+use Rattle.fragment_types.specs.declared.unit_kind.UnitKind.TheVariants.{Along, Turned, Upright, Combined}
 use Rattle.line_place.specs.Line.{Content, unit, combined, atom, nothing}
 use Rattle.line_place.specs.Leaves.{Leaf}
 

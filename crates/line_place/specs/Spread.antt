@@ -1,7 +1,7 @@
 -- How far fragments reach on the page, with all inside them.
 use Rattle.std.specs.Prelude.{ℕ, ◌+◌, ◌*◌, max, unsigned_abs}
 use Rattle.wm_modes.specs.declared.rects.FlowRect.{FlowRect}
-use Rattle.style_types.specs.Fragment.{Kind, block, line, span, run, measure, Pieces, none, piece}
+use Rattle.fragment_types.specs.Fragment.{Kind, block, line, span, run, measure, Pieces, none, piece}
 
 -- how far a rectangle takes what stands in it: its distance on the further axis, and its greater size twice, since it may be measured from
 -- either edge, and what stands in it from either edge again

@@ -1,10 +1,10 @@
 -- A line that is one run of text outside all inline boxes, from left to right. CSS 2, 9.4.2 and 10.8.
 use Rattle.std.specs.Prelude.{◌≡◌, ℕ, ◌-◌, ◌<◌, ◌≤◌, true, false, List, [], ◌∷◌, drop, length, map, slice_index_or, take, None, ℤ, pos, ◌+ℤ◌, ◌-ℤ◌, All}
-use Rattle.style_types.specs.declared.fragment.RunUnit.{RunUnit}
+use Rattle.fragment_types.specs.RunUnit.{RunUnit}
 use Rattle.style_types.specs.declared.style.Align.{Align}
-use Rattle.style_types.specs.declared.unit_kind.UnitKind.{UnitKind}
-use Rattle.style_types.specs.Fragment as fragments
-use Rattle.style_types.specs.Fragment.{Pieces, none, piece}
+use Rattle.fragment_types.specs.declared.unit_kind.UnitKind.{UnitKind}
+use Rattle.fragment_types.specs.Fragment as fragments
+use Rattle.fragment_types.specs.Fragment.{Pieces, none, piece}
 use Rattle.line_place.specs.declared.line.Extents.{Extents}
 use Rattle.line_place.specs.declared.text_line.TextLine as code
 use Rattle.line_place.specs.Line.{Content, unit, combined, atom, nothing, Item, Line}

@@ -1,8 +1,8 @@
 -- A line of units of one text outside all inline boxes, whatever their levels are. CSS 2, 9.4.2 and 10.8; UAX 9, 3.4.
 use Rattle.std.specs.Prelude.{◌≡◌, ℕ, ◌-◌, ◌<◌, ◌≤◌, true, false, cond, leb, List, [], All, drop, length, map, slice_index_or, unsigned_abs, Option, None, ℤ, pos}
-use Rattle.style_types.specs.declared.fragment.RunUnit.{RunUnit}
+use Rattle.fragment_types.specs.RunUnit.{RunUnit}
 use Rattle.style_types.specs.declared.style.Align.{Align}
-use Rattle.style_types.specs.declared.unit_kind.UnitKind.{UnitKind}
+use Rattle.fragment_types.specs.declared.unit_kind.UnitKind.{UnitKind}
 use Rattle.line_place.specs.declared.line.Extents.{Extents}
 use Rattle.line_place.specs.declared.unit_line.TextUnit.{TextUnit}
 use Rattle.line_place.specs.declared.unit_line.UnitLine as code

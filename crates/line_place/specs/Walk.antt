@@ -1,7 +1,7 @@
 -- The walk along a row of marks: what is made so far, and what the line comes to by it.
 use Rattle.std.specs.Prelude.{ℕ, ◌<◌, ◌≤◌, ◌^◌, ⊤, unsigned_abs, ℤ, List, [], ◌∷◌, reverse, Option, Some, None}
-use Rattle.style_types.specs.declared.fragment.Fragment.{Fragment}
-use Rattle.style_types.specs.Fragment.{Pieces, none, before}
+use Rattle.fragment_types.specs.declared.fragment.Fragment.{Fragment}
+use Rattle.fragment_types.specs.Fragment.{Pieces, none, before}
 use Rattle.line_place.specs.declared.walk.Open.{Open}
 use Rattle.line_place.specs.declared.walk.Walk.{Walk}
 use Rattle.line_place.specs.Line.{Line}

@@ -19,4 +19,4 @@ pub use line::{Extents, LineBox, LineBoxes, LineContent, LineInput, LineItem, Li
 pub use place::place_line;
 pub use text_line::{TextLine, place_text};
 pub use unit_line::{TextUnit, TextUnits, UnitLine, place_units};
-pub use walk::{copy_of, run_unit};
+pub use walk::run_unit;

@@ -1,6 +1,7 @@
 //! What a line is made of (CSS 2, 9.4.2).
 
-use style_types::{Align, Fragment, Glyphs, UnitKind};
+use fragment_types::{Fragment, Glyphs, UnitKind};
+use style_types::Align;
 use wm_chars::BidiClass;
 use wm_modes::{Direction, WritingMode};
 

@@ -3,7 +3,7 @@
 ghost use Rattle.std.specs.Prelude.{◌≡◌, ℕ, ◌+◌, ◌*◌, ◌≤◌, ◌^◌, ◌-ℤ◌, IfOk, length, map, unsigned_abs};
 ghost use Rattle.std.specs.Int.{int_max};
 ghost use Rattle.std.specs.List.{All, flat_map, fold};
-ghost use Rattle.style_types.specs.Fragment.{pieces_of};
+ghost use Rattle.fragment_types.specs.Fragment.{pieces_of};
 ghost use Rattle.line_place.specs.Line.{line_of};
 ghost use Rattle.line_place.specs.Marks.{ShowAtomsFirst, mark_of};
 ghost use Rattle.line_place.specs.Placing as rule;
@@ -14,8 +14,8 @@ use crate::line::LineInput;
 use crate::marks::{Mark, marks};
 use crate::measure::{line_over, line_under, offset, starts_at_left, width};
 use crate::walk::walked;
+use fragment_types::LineFragment;
 use std::alloc::{AllocError, Global};
-use style_types::LineFragment;
 
 /// Places a line: its inline boxes, runs and atoms as fragments from line-left, and how far it reaches over and under its
 /// baseline, in units of 1/64 px (CSS 2, 9.4.2 and 10.8; UAX 9, 3.4). Boxes stand behind those round them, and the lengths

@@ -7,7 +7,7 @@ ghost use Rattle.line_place.specs.Runs.{are_alike, follows, goes_on, is_form, is
 
 use crate::leaves::Leaf;
 use crate::line::LineContent;
-use style_types::UnitKind;
+use fragment_types::UnitKind;
 
 /// The run of leaves that begins at this place.
 pub(crate) fn run_at<'a>(leaves: &'a [Leaf<'a>], start: usize) -> &'a [Leaf<'a>]

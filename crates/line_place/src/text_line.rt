@@ -1,7 +1,7 @@
 //! A line that is one run of text outside all inline boxes, from left to right (CSS 2, 9.4.2 and 10.8).
 
 ghost use Rattle.std.specs.Prelude.{◌≡◌, ◌+◌, ◌≤◌, ◌^◌, [], IfOk, unsigned_abs};
-ghost use Rattle.style_types.specs.Fragment.{Pieces, before, pieces_of};
+ghost use Rattle.fragment_types.specs.Fragment.{Pieces, before, pieces_of};
 ghost use Rattle.line_place.specs.Line.{Line};
 ghost use Rattle.line_place.specs.Placing as rule;
 ghost use Rattle.line_place.specs.Reach.{extents_reach};
@@ -11,9 +11,10 @@ use crate::line::Extents;
 use crate::measure::offset;
 use crate::walk::{text_rect, unnumbered, without_inner};
 use bidi_order::laws::level_zero_stays;
+use fragment_types::{Fragment, FragmentKind, Fragments, LineFragment, RunUnits, UnitKind};
 use std::alloc::{AllocError, Global};
 use std::rc::Rc;
-use style_types::{Align, Fragment, FragmentKind, Fragments, LineFragment, RunUnits, UnitKind};
+use style_types::Align;
 
 /// Units of one text node and one form on a line of their own, without the Spaces at its end, in a paragraph of level 0 and
 /// outside all inline boxes. Lengths are in units of 1/64 px.

@@ -3,7 +3,7 @@
 ghost use Rattle.std.specs.Prelude.{◌≡◌, ◌+◌, ◌<◌, ◌≤◌, ◌^◌, ◌-ℤ◌, [], ◌∷◌, All, IfOk, None, OnOk, drop, length, map, take, unsigned_abs};
 ghost use Rattle.std.specs.List.{range_with_len};
 ghost use Rattle.std.specs.List.Sorted.{IsPermutation};
-ghost use Rattle.style_types.specs.Fragment.{Pieces, before, pieces_of};
+ghost use Rattle.fragment_types.specs.Fragment.{Pieces, before, pieces_of};
 ghost use Rattle.bidi_order.specs.Visual.{visual_order};
 ghost use Rattle.line_place.specs.Line.{Line};
 ghost use Rattle.line_place.specs.Placing as rule;
@@ -16,14 +16,15 @@ ghost use Rattle.line_place.specs.Walk.{followed};
 use crate::line::Extents;
 use crate::measure::{offset, starts_at_left};
 use crate::runs::follows;
-use crate::walk::{copy_of, text_rect, unnumbered, without_inner};
+use crate::walk::{text_rect, unnumbered, without_inner};
 use bidi_explicit::LevelList;
 use bidi_order::visual_order;
+use fragment_types::{
+    Fragment, FragmentKind, Fragments, Glyphs, LineFragment, RunUnit, RunUnits, UnitKind,
+};
 use std::alloc::{AllocError, Global};
 use std::rc::Rc;
-use style_types::{
-    Align, Fragment, FragmentKind, Fragments, Glyphs, LineFragment, RunUnit, RunUnits, UnitKind,
-};
+use style_types::Align;
 
 /// A unit of text: the places of its first character in the node's text and after its last, its extent along the line, in units
 /// of 1/64 px, and what is seen of it.
@@ -284,18 +285,9 @@ fn unit_at(alloc: Global, line: &UnitLine, place: usize) -> Result<RunUnit, Allo
 {
     if place < line.solid {
         let unit = &line.units[place];
-        Ok(RunUnit {
-            first: unit.first,
-            end: unit.end,
-            extent: unit.extent,
-            glyphs: copy_of(alloc, unit.glyphs)?,
-        })
+        let own = RunUnit::new(alloc, unit.first, unit.end, unit.extent, unit.glyphs)?;
+        Ok(own)
     } else {
-        Ok(RunUnit {
-            first: 0,
-            end: 0,
-            extent: 0,
-            glyphs: Glyphs::none(),
-        })
+        RunUnit::new(alloc, 0, 0, 0, &Glyphs::none())
     }
 }

@@ -1,8 +1,8 @@
 //! The walk along a row of marks, which makes the fragments of a line (CSS 2, 9.4.2).
 
 ghost use Rattle.std.specs.Prelude.{◌≡◌, ◌+◌, ◌<◌, ◌≤◌, ◌^◌, ◌++◌, ◌+ℤ◌, ◌-ℤ◌, [], ◌∷◌, List, IfOk, IfSome, OnOk, length, map, reverse, unsigned_abs};
-ghost use Rattle.style_types.specs.Fragment.{Pieces, before, kind_of, none, piece, piece_of, pieces_of, run as run_kind, span as span_kind};
-ghost use Rattle.style_types.specs.declared.fragment.Fragment.{out-Fragment};
+ghost use Rattle.fragment_types.specs.Fragment.{Pieces, before, kind_of, none, piece, piece_of, pieces_of, run as run_kind, span as span_kind};
+ghost use Rattle.fragment_types.specs.declared.fragment.Fragment.{out-Fragment};
 ghost use Rattle.line_place.specs.Leaves.{leaf_of, seen};
 ghost use Rattle.line_place.specs.Line.{line_of};
 ghost use Rattle.line_place.specs.Marks.{Mark as SeenMark, box_at, inside_of, mark_of};
@@ -15,12 +15,12 @@ use crate::leaves::Leaf;
 use crate::line::{Extents, LineBox, LineContent, LineInput};
 use crate::marks::Mark;
 use crate::measure::{extent_of, left, left_margin, right, right_margin};
+use fragment_types::{
+    BoxName, Fragment, FragmentKind, Fragments, Glyphs, RunUnit, RunUnits, UnitKind,
+};
 use std::alloc::{AllocError, Global};
 use std::mem;
 use std::rc::Rc;
-use style_types::{
-    BoxName, Fragment, FragmentKind, Fragments, Glyphs, RunUnit, RunUnits, UnitKind,
-};
 use wm_modes::FlowRect;
 
 /// An inline box whose fragment has begun, by its place among the line's boxes: where the fragment begins, and what stands
@@ -129,46 +129,10 @@ pub fn run_unit(
                 glyphs,
                 ..
             },
-        ) => Ok(RunUnit {
-            first: *first,
-            end: *end,
-            extent,
-            glyphs: copy_of(alloc, glyphs)?,
-        }),
-        Some(LineContent::Atom { .. } | LineContent::Break) | None => Ok(RunUnit {
-            first: 0,
-            end: 0,
-            extent,
-            glyphs: Glyphs::none(),
-        }),
-    }
-}
-
-/// The same glyphs once more. One character, as most units have, is no call.
-#[inline(always)]
-pub fn copy_of(alloc: Global, glyphs: &Glyphs) -> Result<Glyphs, AllocError>
-    ensures { IfOk result (λ own. own ≡ glyphs.now) }
-{
-    match only_character(glyphs) {
-        Some(c) => Ok(Glyphs::one(c)),
-        None => {
-            let own = glyphs.copy(alloc)?;
-            Ok(own)
+        ) => RunUnit::new(alloc, *first, *end, extent, glyphs),
+        Some(LineContent::Atom { .. } | LineContent::Break) | None => {
+            RunUnit::new(alloc, 0, 0, extent, &Glyphs::none())
         }
-    }
-}
-
-// The character of one unit that has no other.
-#[inline(always)]
-#[tactic(auto, using(crate::proofs::Lists::one_character))]
-fn only_character(glyphs: &Glyphs) -> Option<char>
-    ensures { IfSome result (λ c. (c ∷ []) ∷ [] ≡ glyphs.now) }
-{
-    if glyphs.len() == 1 {
-        let unit = glyphs.unit(0);
-        if unit.len() == 1 { Some(unit[0]) } else { None }
-    } else {
-        None
     }
 }
 

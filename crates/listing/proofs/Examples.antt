@@ -7,11 +7,11 @@ use Rattle.wm_modes.specs.declared.mode.Direction.TheVariants as directions
 use Rattle.wm_modes.specs.declared.mode.WritingMode.TheVariants as modes
 use Rattle.wm_modes.specs.declared.rects.FlowRect.{FlowRect}
 use Rattle.wm_modes.specs.declared.rects.Rect.{Rect}
-use Rattle.style_types.specs.declared.fragment.RunUnit.{RunUnit}
-use Rattle.style_types.specs.declared.item.BoxName.{BoxName}
+use Rattle.fragment_types.specs.RunUnit.{RunUnit}
+use Rattle.fragment_types.specs.declared.item.BoxName.{BoxName}
 use Rattle.style_types.specs.declared.style.Baseline.TheVariants as bases
-use Rattle.style_types.specs.declared.unit_kind.UnitKind.TheVariants as kinds
-use Rattle.style_types.specs.Fragment.{block, line, span, run}
+use Rattle.fragment_types.specs.declared.unit_kind.UnitKind.TheVariants as kinds
+use Rattle.fragment_types.specs.Fragment.{block, line, span, run}
 use Rattle.place_map.specs.Placed.{Page, Parts, part, none}
 use Rattle.listing.specs.Lines.{box_line, line_line, line_of, page_line, run_line, run_place, span_line}
 use Rattle.listing.specs.Listing.{listing}

@@ -92,13 +92,6 @@ done = Ok tt
 
 -- ---- one unit of one character
 
-pub one_character : (units : List (List ℕ)) (c : ℕ) → length units ≡ 1 → length (get_or units 0 []) ≡ 1 → c ≡ get_or (get_or units 0 []) 0 c → (c ∷ []) ∷ [] ≡ units
-one_character [] c one own is = absurd (omega arith)
-one_character ([] ∷ units) c one own is = absurd (omega arith)
-one_character ((first ∷ rest) ∷ more ∷ units) c one own is = absurd (omega arith)
-one_character ((first ∷ next ∷ rest) ∷ []) c one own is = absurd (omega arith)
-one_character ((first ∷ []) ∷ []) c one own is = ap (λ (x : ℕ). (x ∷ []) ∷ []) is
-
 -- it is told as that character is
 told_alone : (sign c : ℕ) (units : List (List ℕ)) → (c ∷ []) ∷ [] ≡ units → character sign c ≡ glyphs sign units
 told_alone sign c units is = sym (append-nil (character sign c)) ∙ sym (append-nil (character sign c ++ [])) ∙ ap (glyphs sign) is

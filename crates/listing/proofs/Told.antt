@@ -7,12 +7,12 @@ use Rattle.wm_modes.specs.declared.mode.Direction.{Direction}
 use Rattle.wm_modes.specs.declared.mode.WritingMode.{WritingMode}
 use Rattle.wm_modes.specs.declared.rects.FlowRect.{FlowRect}
 use Rattle.wm_modes.specs.declared.rects.Rect.{Rect}
-use Rattle.style_types.specs.declared.fragment.FragmentKind.{FragmentKind}
-use Rattle.style_types.specs.declared.fragment.RunUnit.{RunUnit}
-use Rattle.style_types.specs.declared.item.BoxName.{BoxName}
+use Rattle.fragment_types.specs.declared.fragment.FragmentKind.{FragmentKind}
+use Rattle.fragment_types.specs.RunUnit.{RunUnit}
+use Rattle.fragment_types.specs.declared.item.BoxName.{BoxName}
 use Rattle.style_types.specs.declared.style.Baseline.{Baseline}
-use Rattle.style_types.specs.declared.unit_kind.UnitKind.{UnitKind}
-use Rattle.style_types.specs.Fragment.{block, line, span, run, measure, kind_of}
+use Rattle.fragment_types.specs.declared.unit_kind.UnitKind.{UnitKind}
+use Rattle.fragment_types.specs.Fragment.{block, line, span, run, measure, kind_of}
 use Rattle.listing.specs.Lines.{box_line, line_line, line_of, run_line, run_place, span_line}
 use Rattle.listing.specs.Runs.{combined_width, form_word, space, units}
 use Rattle.listing.specs.Words.{count}

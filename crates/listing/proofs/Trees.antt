@@ -4,7 +4,7 @@ use Rattle.std.proofs.lemmas.List.{drop_more}
 use Rattle.std.specs.declared.option.Option.{Option}
 use Rattle.io_edge.specs.Edge.{AppendsUpTo, AppendsFront}
 use Rattle.wm_modes.specs.declared.mode.WritingMode.{WritingMode}
-use Rattle.style_types.specs.Fragment.{kind_of}
+use Rattle.fragment_types.specs.Fragment.{kind_of}
 use Rattle.place_map.specs.Placed.{Parts, none, part, before, part_step, parts_of}
 use Rattle.place_map.specs.declared.placed.PlacedPart.{PlacedPart, out-PlacedPart}
 use Rattle.place_map.specs.declared.placed.PlacedPart.TheFolds.{fold_out-PlacedPart}

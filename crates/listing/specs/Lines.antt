@@ -4,9 +4,9 @@ use Rattle.wm_modes.specs.Words.{mode_word, direction_word}
 use Rattle.wm_modes.specs.declared.mode.Direction.{Direction}
 use Rattle.wm_modes.specs.declared.mode.WritingMode.{WritingMode}
 use Rattle.wm_modes.specs.declared.rects.Rect.{Rect}
-use Rattle.style_types.specs.Fragment.{Kind, block, line, span, run, measure, kind_of}
-use Rattle.style_types.specs.declared.fragment.RunUnit.{RunUnit}
-use Rattle.style_types.specs.declared.item.BoxName.{BoxName}
+use Rattle.fragment_types.specs.Fragment.{Kind, block, line, span, run, measure, kind_of}
+use Rattle.fragment_types.specs.RunUnit.{RunUnit}
+use Rattle.fragment_types.specs.declared.item.BoxName.{BoxName}
 use Rattle.place_map.specs.declared.placed.PlacedPart.{PlacedPart, out-PlacedPart}
 use Rattle.listing.specs.Runs.{combined_width, end_of, first_of, form_word, space, units}
 use Rattle.listing.specs.Words.{count, name_words, pair, rect_words, word}

@@ -1,7 +1,7 @@
 -- The listing of a page: its line, a line for each fragment in tree order, a last line.
 use Rattle.std.specs.Prelude.{ℕ, List, [], ◌++◌, codes}
 use Rattle.wm_modes.specs.declared.mode.WritingMode.{WritingMode}
-use Rattle.style_types.specs.Fragment.{Kind, block, line, span, run, measure}
+use Rattle.fragment_types.specs.Fragment.{Kind, block, line, span, run, measure}
 use Rattle.place_map.specs.Frame.{page_of}
 use Rattle.place_map.specs.Placed.{Page, Parts, none, part, mode_of, direction_of}
 use Rattle.listing.specs.Lines.{line_of, page_line}

@@ -3,7 +3,7 @@
 use Rattle.std.specs.Prelude.{ℕ, ◌-◌, ◌/◌, ◌%◌, nat_le, true, List, [], ◌∷◌, ◌++◌, length, replicate, ℤ, codes, decimal, if◌then◌else◌}
 use Rattle.std.specs.Fmt.{digit_glyph, digits, signed_decimal}
 use Rattle.wm_modes.specs.declared.rects.Rect.{Rect}
-use Rattle.style_types.specs.declared.item.BoxName.{BoxName}
+use Rattle.fragment_types.specs.declared.item.BoxName.{BoxName}
 
 -- a length
 unfoldable pub word : ℤ → List ℕ

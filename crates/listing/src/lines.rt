@@ -7,9 +7,9 @@ ghost use Rattle.listing.specs.Runs as run;
 
 use crate::runs::{combined_width, end_of, first_of, push_form, put_units};
 use crate::words::{Line, push_count, push_name, push_node, push_number, push_pair, push_rect};
+use fragment_types::{BoxName, FragmentKind, RunUnit};
 use io_edge::{Sink, Waiting, WriteError};
 use place_map::PlacedPart;
-use style_types::{BoxName, FragmentKind, RunUnit};
 use wm_modes::{Direction, Rect, WritingMode};
 
 /// The line of the page.
@@ -50,9 +50,7 @@ pub(crate) fn put_line<K: Sink>(
     ensures fault { IsErrOf result WriteError.WriteFault → Rose (K.faults sink.old) (K.faults sink.new) }
 {
     match &part.kind {
-        FragmentKind::Box { .. } => {
-            waiting.put(box_line(part.name, &part.rect).as_bytes(), sink)
-        }
+        FragmentKind::Box(_) => { waiting.put(box_line(part.name, &part.rect).as_bytes(), sink) }
         FragmentKind::Line { index, base, .. } => {
             waiting.put(
                 line_line(part.name, &part.rect, *index, *base).as_bytes(),

@@ -4,14 +4,14 @@ ghost use Rattle.std.specs.Prelude.{◌≡◌, ◌≤◌, ◌++◌, OnOk, IsErrO
 ghost use Rattle.std.specs.Io.KnownBytes.{Appends};
 ghost use Rattle.io_edge.specs.Edge.{Rose, AppendsFront, AppendsUpTo};
 ghost use Rattle.place_map.specs.Placed.{parts_of, placed_of};
-ghost use Rattle.style_types.specs.Fragment.{kind_of};
+ghost use Rattle.fragment_types.specs.Fragment.{kind_of};
 ghost use Rattle.listing.specs.Listing as spec;
 
 use crate::lines::{page_line, put_line};
+use fragment_types::FragmentKind;
 use io_edge::{Sink, Waiting, WriteError};
 use place_map::{Placed, PlacedPart};
 use std::slice;
-use style_types::FragmentKind;
 use wm_modes::WritingMode;
 
 /// Writes the listing of a page: whole at Ok, else a front of it. `WriteFault` comes only where the sink's count of faults rose
@@ -55,7 +55,8 @@ fn mode_inside(mode: WritingMode, kind: &FragmentKind) -> WritingMode
     ensures { result ≡ spec.mode_inside mode (kind_of kind.now) }
 {
     match kind {
-        FragmentKind::Box { mode: own, .. } | FragmentKind::Line { mode: own, .. } => *own,
+        FragmentKind::Box(part) => part.mode,
+        FragmentKind::Line { mode: own, .. } => *own,
         FragmentKind::Span | FragmentKind::Run { .. } | FragmentKind::Measure { .. } => mode,
     }
 }

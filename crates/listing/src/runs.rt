@@ -5,9 +5,9 @@ ghost use Rattle.io_edge.specs.Edge.{Rose, AppendsFront, AppendsUpTo};
 ghost use Rattle.listing.specs.Runs as spec;
 
 use crate::words::{Line, character, short_character};
+use fragment_types::{RunUnit, UnitKind};
 use io_edge::{Sink, Waiting, WriteError};
 use itoa::Buffer;
-use style_types::{Glyphs, RunUnit, UnitKind};
 use wm_modes::WritingMode;
 
 /// The least place at which a unit begins.
@@ -15,7 +15,7 @@ use wm_modes::WritingMode;
 pub(crate) fn first_of(units: &[RunUnit]) -> u32
     ensures { result ≡ spec.first_of units.now }
 {
-    units.iter().map(|unit| unit.first).min().unwrap_or(0)
+    units.iter().map(|unit| unit.first()).min().unwrap_or(0)
 }
 
 /// The greatest place at which one ends.
@@ -23,7 +23,7 @@ pub(crate) fn first_of(units: &[RunUnit]) -> u32
 pub(crate) fn end_of(units: &[RunUnit]) -> u32
     ensures { result ≡ spec.end_of units.now }
 {
-    units.iter().map(|unit| unit.end).max().unwrap_or(0)
+    units.iter().map(|unit| unit.end()).max().unwrap_or(0)
 }
 
 /// How wide a combined run is.
@@ -35,8 +35,8 @@ pub(crate) fn combined_width(natural: Option<i64>, units: &[RunUnit]) -> i64
         return 0;
     };
     match natural {
-        Some(natural) => natural.min(unit.extent),
-        None => unit.extent,
+        Some(natural) => natural.min(unit.extent()),
+        None => unit.extent(),
     }
 }
 
@@ -86,7 +86,7 @@ pub(crate) fn put_units<K: Sink>(
 {
     let mut sign = first;
     for unit in units {
-        put_unit(sign, &unit.glyphs, waiting, sink)?;
+        put_unit(sign, unit, waiting, sink)?;
         sign = b',';
     }
     Ok(())
@@ -97,32 +97,18 @@ pub(crate) fn put_units<K: Sink>(
 #[tactic(auto, using(crate::proofs::Puts::one_character_put, crate::proofs::Puts::one_character_front))]
 fn put_unit<K: Sink>(
     first: u8,
-    glyphs: &Glyphs,
+    unit: &RunUnit,
     waiting: &mut Waiting,
     sink: &mut K,
 ) -> Result<(), WriteError>
-    ensures front { AppendsFront (K.held sink.old) (K.held sink.new) (waiting.old ++ spec.glyphs first glyphs.now) }
-    ensures waits { OnOk result (AppendsUpTo (K.held sink.old) (K.held sink.new) (waiting.old ++ spec.glyphs first glyphs.now) waiting.new) }
+    ensures front { AppendsFront (K.held sink.old) (K.held sink.new) (waiting.old ++ spec.glyphs first unit.now.glyphs) }
+    ensures waits { OnOk result (AppendsUpTo (K.held sink.old) (K.held sink.new) (waiting.old ++ spec.glyphs first unit.now.glyphs) waiting.new) }
     ensures later { K.faults sink.old ≤ K.faults sink.new }
     ensures fault { IsErrOf result WriteError.WriteFault → Rose (K.faults sink.old) (K.faults sink.new) }
 {
-    match only_character(glyphs) {
+    match unit.only_character() {
         Some(c) => put_character(first, c, waiting, sink),
-        None => put_glyphs(first, glyphs, waiting, sink),
-    }
-}
-
-// The character of one unit that has no other.
-#[inline(always)]
-#[tactic(auto, using(crate::proofs::Puts::one_character))]
-fn only_character(glyphs: &Glyphs) -> Option<char>
-    ensures { IfSome result (λ c. (c ∷ []) ∷ [] ≡ glyphs.now) }
-{
-    if glyphs.len() == 1 {
-        let unit = glyphs.unit(0);
-        if unit.len() == 1 { Some(unit[0]) } else { None }
-    } else {
-        None
+        None => put_glyphs(first, unit, waiting, sink),
     }
 }
 
@@ -130,18 +116,18 @@ fn only_character(glyphs: &Glyphs) -> Option<char>
 #[inline(never)]
 fn put_glyphs<K: Sink>(
     first: u8,
-    glyphs: &Glyphs,
+    unit: &RunUnit,
     waiting: &mut Waiting,
     sink: &mut K,
 ) -> Result<(), WriteError>
-    ensures front { AppendsFront (K.held sink.old) (K.held sink.new) (waiting.old ++ spec.glyphs first glyphs.now) }
-    ensures waits { OnOk result (AppendsUpTo (K.held sink.old) (K.held sink.new) (waiting.old ++ spec.glyphs first glyphs.now) waiting.new) }
+    ensures front { AppendsFront (K.held sink.old) (K.held sink.new) (waiting.old ++ spec.glyphs first unit.now.glyphs) }
+    ensures waits { OnOk result (AppendsUpTo (K.held sink.old) (K.held sink.new) (waiting.old ++ spec.glyphs first unit.now.glyphs) waiting.new) }
     ensures later { K.faults sink.old ≤ K.faults sink.new }
     ensures fault { IsErrOf result WriteError.WriteFault → Rose (K.faults sink.old) (K.faults sink.new) }
 {
     let mut sign = first;
-    for place in 0..glyphs.len() {
-        put_characters(sign, glyphs.unit(place), waiting, sink)?;
+    for place in 0..unit.glyph_count() {
+        put_characters(sign, unit.glyph(place), waiting, sink)?;
         sign = b',';
     }
     Ok(())

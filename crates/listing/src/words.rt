@@ -5,8 +5,8 @@ ghost use Rattle.std.specs.Fmt.{digit_glyph};
 ghost use Rattle.listing.specs.Words as spec;
 
 use arrayvec::{ArrayString, ArrayVec};
+use fragment_types::BoxName;
 use itoa::Buffer;
-use style_types::BoxName;
 use wm_modes::Rect;
 
 /// Room for the longest line, but for the characters of a run: three words and eight numbers of at most twenty characters.

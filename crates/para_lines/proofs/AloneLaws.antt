@@ -3,8 +3,8 @@ use Rattle.std.proofs.Common.{◌≡◌, ◌∙◌, refl, sym, ap, arith, subst,
 use Rattle.std.proofs.lemmas.List.{get_or_append_left, length-map, map_push}
 use Rattle.std.proofs.Math.Seq.{get_or-append_seam}
 use Rattle.wm_chars.specs.declared.classes.BidiClass.{BidiClass}
-use Rattle.style_types.specs.declared.breaking.Breaking.{Breaking}
-use Rattle.style_types.specs.Item.{Entry}
+use Rattle.fragment_types.specs.declared.breaking.Breaking.{Breaking}
+use Rattle.fragment_types.specs.Item.{Entry}
 use Rattle.line_fill.specs.declared.item.FillItem.{FillItem}
 use Rattle.para_prepare.specs.declared.item.PreparedItem.{PreparedItem}
 use Rattle.para_prepare.specs.declared.item.PreparedContent.{PreparedContent}

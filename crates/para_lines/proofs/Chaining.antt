@@ -6,8 +6,8 @@ use Rattle.std.proofs.lemmas.List.{append-nil, append_assoc, get_or-map, get_or-
 use Rattle.std.proofs.lemmas.Bool.{cases_eq, cases_lt, cond_both, eq-eqb, le-leb, le-ltb, lt-leb, lt-ltb, ne_eqb}
 use Rattle.style_types.specs.declared.style.Style.{Style}
 use Rattle.style_types.specs.Initial.{initial}
-use Rattle.style_types.specs.declared.item.Item.{Item}
-use Rattle.style_types.specs.Item.{Entry, text, begins, ends, atom, line_break, entry_of, entries_of}
+use Rattle.fragment_types.specs.declared.item.Item.{Item}
+use Rattle.fragment_types.specs.Item.{Entry, text, begins, ends, atom, line_break, entry_of, entries_of}
 use Rattle.para_lines.specs.declared.boxes.BoxEnd.{BoxEnd}
 use Rattle.para_lines.specs.declared.boxes.Round.{Round}
 use Rattle.para_lines.specs.Around.{box_at, box_by, chains, chains_from, closing_edges, ends_it, has, no_entry, opened_past, without_innermost}

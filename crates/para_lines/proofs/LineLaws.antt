@@ -8,8 +8,8 @@ use Rattle.face_api.specs.Table.{Table}
 use Rattle.wm_chars.specs.declared.classes.BidiClass.{BidiClass}
 use Rattle.wm_modes.specs.declared.mode.Direction.{Direction}
 use Rattle.style_types.specs.declared.style.Align.{Align}
-use Rattle.style_types.specs.Fragment.{Pieces}
-use Rattle.style_types.specs.Item.{Entry}
+use Rattle.fragment_types.specs.Fragment.{Pieces}
+use Rattle.fragment_types.specs.Item.{Entry}
 use Rattle.line_place.specs.declared.line.Extents.{Extents}
 use Rattle.line_place.specs.declared.line.LineBox.{LineBox}
 use Rattle.line_place.specs.Line as place

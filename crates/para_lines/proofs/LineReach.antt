@@ -9,7 +9,7 @@ use Rattle.wm_modes.specs.Sides.{side_of}
 use Rattle.wm_modes.specs.declared.mode.Direction.TheVariants.{Ltr}
 use Rattle.wm_modes.specs.declared.sides.FlowSide.TheVariants.{LineOver, LineUnder, LineLeft, LineRight}
 use Rattle.face_api.specs.Table.{Table}
-use Rattle.style_types.specs.Item.{Entry}
+use Rattle.fragment_types.specs.Item.{Entry}
 use Rattle.style_types.specs.Style.{IsBounded}
 use Rattle.line_place.specs.declared.line.Extents.{Extents}
 use Rattle.line_place.specs.declared.line.LineBox.{LineBox}

@@ -7,9 +7,9 @@ use Rattle.std.proofs.lemmas.List.Sums.{sum_by-cons}
 use Rattle.std.proofs.lemmas.List.Elements.{All-cons}
 use Rattle.face_api.specs.Table.{Table}
 use Rattle.wm_chars.specs.declared.classes.BidiClass.{BidiClass}
-use Rattle.style_types.specs.declared.breaking.Breaking.{Breaking}
-use Rattle.style_types.specs.Fragment.{Pieces}
-use Rattle.style_types.specs.Item.{Entry}
+use Rattle.fragment_types.specs.declared.breaking.Breaking.{Breaking}
+use Rattle.fragment_types.specs.Fragment.{Pieces}
+use Rattle.fragment_types.specs.Item.{Entry}
 use Rattle.style_types.specs.Style.{IsBounded}
 use Rattle.line_fill.specs.declared.item.FillItem.{FillItem}
 use Rattle.line_fill.specs.Filling.{lines}

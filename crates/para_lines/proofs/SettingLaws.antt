@@ -7,7 +7,7 @@ use Rattle.std.proofs.lemmas.List.{drop_all, get_or-drop, get_or-take, length-dr
 use Rattle.std.proofs.lemmas.List.Elements.{All-cons}
 use Rattle.wm_units.specs.Numbers.{cap}
 use Rattle.face_api.specs.Table.{Table}
-use Rattle.style_types.specs.Item.{Entry}
+use Rattle.fragment_types.specs.Item.{Entry}
 use Rattle.line_place.specs.declared.line.LineInput.{LineInput}
 use Rattle.line_place.specs.Line.{Item, Line, line_of}
 use Rattle.line_place.specs.Reach.{AreNear, HasLimit, IsInLimit, total}

@@ -8,11 +8,11 @@ use Rattle.std.proofs.lemmas.List.{length-map}
 use Rattle.std.proofs.lemmas.List.Elements.{All-cons, All-map}
 use Rattle.face_api.specs.Table.{Table}
 use Rattle.wm_chars.specs.declared.classes.BidiClass.{BidiClass}
-use Rattle.style_types.specs.declared.breaking.Breaking.{Breaking}
-use Rattle.style_types.specs.declared.fragment.Fragment.{Fragment}
-use Rattle.style_types.specs.Fragment.{Pieces, before, block, measure, none, piece, pieces_of, span}
-use Rattle.style_types.specs.Fragment as fragments
-use Rattle.style_types.specs.Item.{Entry}
+use Rattle.fragment_types.specs.declared.breaking.Breaking.{Breaking}
+use Rattle.fragment_types.specs.declared.fragment.Fragment.{Fragment}
+use Rattle.fragment_types.specs.Fragment.{Pieces, before, block, measure, none, piece, pieces_of, span}
+use Rattle.fragment_types.specs.Fragment as fragments
+use Rattle.fragment_types.specs.Item.{Entry}
 use Rattle.line_fill.specs.declared.item.FillItem.{FillItem}
 use Rattle.line_place.specs.Laws.{content_inside}
 use Rattle.line_place.specs.Line as place

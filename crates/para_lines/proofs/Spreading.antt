@@ -10,11 +10,11 @@ use Rattle.wm_modes.specs.declared.sides.FlowSide.{FlowSide}
 use Rattle.wm_modes.specs.declared.sides.FlowSide.TheVariants.{InlineStart, InlineEnd}
 use Rattle.wm_modes.specs.declared.sides.Side.{Side}
 use Rattle.wm_modes.specs.declared.sides.Side.TheVariants.{Top, Right, Bottom, Left}
-use Rattle.style_types.specs.declared.breaking.Breaking.{Breaking}
+use Rattle.fragment_types.specs.declared.breaking.Breaking.{Breaking}
 use Rattle.style_types.specs.declared.style.Size.{Size}
 use Rattle.style_types.specs.declared.style.Size.TheVariants.{Auto, Length, Percent}
 use Rattle.style_types.specs.declared.style.Style.{Style}
-use Rattle.style_types.specs.Item.{Entry, text, begins, ends, atom, line_break}
+use Rattle.fragment_types.specs.Item.{Entry, text, begins, ends, atom, line_break}
 use Rattle.style_types.specs.Style.{IsBounded, IsExtent, IsMargin, IsPadding}
 use Rattle.line_fill.specs.Item.{spread, lengths_of as fill_lengths}
 use Rattle.para_prepare.specs.declared.item.PreparedItem.{PreparedItem}

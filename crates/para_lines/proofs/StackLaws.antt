@@ -6,9 +6,9 @@ use Rattle.std.proofs.lemmas.Int.{ints}
 use Rattle.std.proofs.lemmas.List.{drop_all, drop_more, drop-map, take-map}
 use Rattle.std.proofs.Math.Seq.{take-add}
 use Rattle.face_api.specs.Table.{Table}
-use Rattle.style_types.specs.declared.fragment.Fragment.{Fragment, out-Fragment}
-use Rattle.style_types.specs.Fragment.{Pieces, line as line_kind, piece, pieces_of}
-use Rattle.style_types.specs.Item.{Entry}
+use Rattle.fragment_types.specs.declared.fragment.Fragment.{Fragment, out-Fragment}
+use Rattle.fragment_types.specs.Fragment.{Pieces, line as line_kind, piece, pieces_of}
+use Rattle.fragment_types.specs.Item.{Entry}
 use Rattle.line_fill.specs.Filling.{Divide}
 use Rattle.line_place.specs.Line.{Line}
 use Rattle.line_place.specs.Placing.{line_over, line_under, parts}

@@ -4,8 +4,8 @@ use Rattle.std.specs.Prelude.{All}
 use Rattle.std.proofs.lemmas.List.Elements.{All-push}
 use Rattle.std.proofs.lemmas.List.{drop_all, drop_more, get_or_default, map_push}
 use Rattle.wm_chars.specs.declared.classes.BidiClass.{BidiClass}
-use Rattle.style_types.specs.declared.breaking.Breaking.TheVariants.{No}
-use Rattle.style_types.specs.Item.{Entry}
+use Rattle.fragment_types.specs.declared.breaking.Breaking.TheVariants.{No}
+use Rattle.fragment_types.specs.Item.{Entry}
 use Rattle.line_fill.specs.declared.item.FillItem.{FillItem}
 use Rattle.para_prepare.specs.declared.item.PreparedItem.{PreparedItem}
 use Rattle.para_prepare.specs.declared.item.PreparedContent.{PreparedContent}

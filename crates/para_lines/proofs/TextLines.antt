@@ -6,8 +6,8 @@ use Rattle.std.proofs.lemmas.Int.{ints}
 use Rattle.std.proofs.lemmas.List.{get_or-map, get_or-take, length-map, length-take-le, take-map}
 use Rattle.std.proofs.lemmas.List.Elements.{All-map, All-weaker}
 use Rattle.face_api.specs.Table.{Table}
-use Rattle.style_types.specs.declared.unit_kind.UnitKind.{UnitKind}
-use Rattle.style_types.specs.Item.{Entry}
+use Rattle.fragment_types.specs.declared.unit_kind.UnitKind.{UnitKind}
+use Rattle.fragment_types.specs.Item.{Entry}
 use Rattle.line_place.specs.Leaves.{are_spaces}
 use Rattle.line_place.specs.Line as place
 use Rattle.line_place.specs.declared.line.Extents.{Extents}

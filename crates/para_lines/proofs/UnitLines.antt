@@ -6,9 +6,9 @@ use Rattle.std.proofs.lemmas.List.{length-map}
 use Rattle.std.proofs.lemmas.List.Elements.{All-map, All-weaker}
 use Rattle.face_api.specs.Table.{Table}
 use Rattle.wm_chars.specs.declared.classes.BidiClass.{BidiClass}
-use Rattle.style_types.specs.declared.unit_kind.UnitKind.{UnitKind}
-use Rattle.style_types.specs.declared.fragment.RunUnit.{RunUnit}
-use Rattle.style_types.specs.Item.{Entry}
+use Rattle.fragment_types.specs.declared.unit_kind.UnitKind.{UnitKind}
+use Rattle.fragment_types.specs.RunUnit.{RunUnit}
+use Rattle.fragment_types.specs.Item.{Entry}
 use Rattle.bidi_order.specs.Blanks.{reset}
 use Rattle.line_place.specs.Leaves.{are_spaces}
 use Rattle.line_place.specs.Line as place

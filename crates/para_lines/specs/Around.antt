@@ -3,7 +3,7 @@
 use Rattle.std.specs.Prelude.{ℕ, ◌+◌, ◌==◌, Bool, false, ◌||◌, not, cond, List, [], ◌∷◌, filter, reverse, slice_index_or}
 use Rattle.style_types.specs.declared.style.Style.{Style}
 use Rattle.style_types.specs.Initial.{initial}
-use Rattle.style_types.specs.Item.{Entry, text, begins, ends, atom, line_break}
+use Rattle.fragment_types.specs.Item.{Entry, text, begins, ends, atom, line_break}
 
 -- a chain of boxes, each inside the next
 abbrev pub without_innermost : List ℕ → List ℕ

@@ -1,6 +1,6 @@
 -- The inline boxes of a paragraph as tables by place: what stands round each entry, and where the box ends that begins there.
 use Rattle.std.specs.Prelude.{◌≡◌, ℕ, ◌+◌, ◌<◌, ◌≤◌, ◌^◌, ⊤, Bool, false, cond, not, List, [], ◌∷◌, length, map, filter, All, Option, Some, None, slice_index_or, slice_set, ◌+ℤ◌}
-use Rattle.style_types.specs.Item.{Entry, text, begins, ends, atom, line_break, entries_of}
+use Rattle.fragment_types.specs.Item.{Entry, text, begins, ends, atom, line_break, entries_of}
 use Rattle.style_types.specs.Style.{IsBounded}
 use Rattle.para_lines.specs.declared.boxes.Boxes as code
 use Rattle.para_lines.specs.declared.boxes.BoxEnd.{BoxEnd}

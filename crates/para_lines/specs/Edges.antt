@@ -10,7 +10,7 @@ use Rattle.style_types.specs.declared.style.SideWidths.{SideWidths}
 use Rattle.style_types.specs.declared.style.Size.{Size}
 use Rattle.style_types.specs.declared.style.Size.TheVariants.{Auto, Length, Percent}
 use Rattle.style_types.specs.declared.style.Style.{Style}
-use Rattle.style_types.specs.Item.{Entry}
+use Rattle.fragment_types.specs.Item.{Entry}
 use Rattle.para_prepare.specs.Parts.{used_direction}
 use Rattle.para_lines.specs.Around.{box_at}
 

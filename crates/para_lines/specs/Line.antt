@@ -7,7 +7,7 @@ use Rattle.para_prepare.specs.declared.item.PreparedContent.TheVariants.{Unit, C
 use Rattle.para_lines.specs.declared.standing.Standing as code
 use Rattle.para_lines.specs.declared.paragraph.Atom as code_atom
 use Rattle.para_lines.specs.Paragraph.{atom_of}
-use Rattle.style_types.specs.Item.{Entry}
+use Rattle.fragment_types.specs.Item.{Entry}
 use Rattle.para_lines.specs.Around.{has, no_entry}
 use Rattle.para_lines.specs.Boxes.{Begins, chain_at, innermost}
 use Rattle.para_lines.specs.Lines as rule

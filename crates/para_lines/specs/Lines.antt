@@ -9,9 +9,9 @@ use Rattle.wm_modes.specs.declared.sides.FlowSide.{FlowSide}
 use Rattle.wm_modes.specs.declared.sides.FlowSide.TheVariants.{LineOver, LineUnder, LineLeft, LineRight}
 use Rattle.style_types.specs.declared.style.Baseline.{Baseline}
 use Rattle.style_types.specs.declared.style.Style.{Style}
-use Rattle.style_types.specs.Fragment as fragments
-use Rattle.style_types.specs.Fragment.{Pieces, none, piece}
-use Rattle.style_types.specs.Item.{Entry}
+use Rattle.fragment_types.specs.Fragment as fragments
+use Rattle.fragment_types.specs.Fragment.{Pieces, none, piece}
+use Rattle.fragment_types.specs.Item.{Entry}
 use Rattle.style_types.specs.Style.{baseline_of}
 use Rattle.line_fill.specs.Filling.{lines}
 use Rattle.line_place.specs.declared.line.Extents.{Extents}

@@ -1,5 +1,5 @@
 -- The inline-blocks of a paragraph, without where they lie in memory.
-use Rattle.style_types.specs.Fragment.{piece_of}
+use Rattle.fragment_types.specs.Fragment.{piece_of}
 use Rattle.para_lines.specs.declared.paragraph.Atom as code
 use Rattle.para_lines.specs.Lines.{Atom}
 

@@ -1,7 +1,7 @@
 -- A prepared paragraph as lines are told of it, item by item.
 use Rattle.std.specs.Prelude.{◌≡◌, ℕ, zero, suc, ◌+◌, ◌<◌, cond, List, [], ◌∷◌, All, length, drop, Option, Some, None, ℤ, pos, ◌+ℤ◌}
 use Rattle.wm_modes.specs.declared.sides.FlowSide.TheVariants.{InlineStart, InlineEnd}
-use Rattle.style_types.specs.Item.{Entry}
+use Rattle.fragment_types.specs.Item.{Entry}
 use Rattle.para_prepare.specs.Preparation.{Preparation}
 use Rattle.para_prepare.specs.declared.item.PreparedItem.{PreparedItem}
 use Rattle.para_lines.specs.declared.filling.BoxSide.{BoxSide}

@@ -1,8 +1,8 @@
 -- How far the lengths of a paragraph reach.
 use Rattle.std.specs.Prelude.{◌≤◌, ◌+◌, ◌^◌, ℕ, ⊤, List, [], ◌∷◌, All, length, Option, IfSome, ℤ, pos, ◌≤ℤ◌, unsigned_abs}
 use Rattle.std.specs.List.{sum_by}
-use Rattle.style_types.specs.declared.fragment.Fragment.{Fragment, out-Fragment}
-use Rattle.style_types.specs.Fragment.{Pieces, block, none, piece, piece_of}
+use Rattle.fragment_types.specs.declared.fragment.Fragment.{Fragment, out-Fragment}
+use Rattle.fragment_types.specs.Fragment.{Pieces, block, none, piece, piece_of}
 use Rattle.line_place.specs.Line as place
 use Rattle.line_place.specs.Reach.{IsAtomic, piece_reach}
 use Rattle.line_place.specs.Spread.{inside, spread}

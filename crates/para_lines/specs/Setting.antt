@@ -2,7 +2,7 @@
 use Rattle.std.specs.Prelude.{◌≡◌, ℕ, ◌+◌, ◌*◌, ◌≤◌, ◌^◌, List, [], drop, take, length, map, All, Option, pos, ◌≤ℤ◌}
 use Rattle.std.specs.List.{slice_range}
 use Rattle.face_api.specs.Table.{Table}
-use Rattle.style_types.specs.Item.{Entry, entries_of}
+use Rattle.fragment_types.specs.Item.{Entry, entries_of}
 use Rattle.style_types.specs.Style.{IsBounded}
 use Rattle.line_place.specs.Line.{Line}
 use Rattle.line_place.specs.Reach.{total}

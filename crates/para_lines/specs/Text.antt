@@ -3,7 +3,7 @@ use Rattle.std.specs.Prelude.{◌≡◌, ℕ, ◌-◌, ◌<◌, ◌≤◌, true,
 use Rattle.line_place.specs.Leaves.{are_spaces}
 use Rattle.line_place.specs.Line as place
 use Rattle.line_place.specs.TextLine.{IsTextItem}
-use Rattle.style_types.specs.Item.{Entry}
+use Rattle.fragment_types.specs.Item.{Entry}
 use Rattle.para_lines.specs.declared.standing.Standing as code
 use Rattle.para_lines.specs.declared.text.Text as code_text
 use Rattle.para_lines.specs.declared.text.TextName.{TextName}

@@ -1,7 +1,7 @@
 -- A line of a paragraph that is units of one text outside all inline boxes.
 use Rattle.std.specs.Prelude.{◌≡◌, ℕ, ⊤, List, [], All, map}
 use Rattle.line_place.specs.UnitLine.{IsUnitItem}
-use Rattle.style_types.specs.Item.{Entry}
+use Rattle.fragment_types.specs.Item.{Entry}
 use Rattle.para_prepare.specs.declared.item.PreparedContent.{PreparedContent}
 use Rattle.para_prepare.specs.declared.item.PreparedContent.TheVariants.{Unit, Combined, Atom, Break}
 use Rattle.para_lines.specs.declared.standing.Standing as code

@@ -2,8 +2,8 @@
 //! them is told by what is prepared.
 
 ghost use Rattle.std.specs.Prelude.{◌≡◌, ◌<◌, ◌≤◌, ℕ, All, IfOk, List, Option, ℤ, length, map, pos, slice_index_or};
-ghost use Rattle.style_types.specs.Item.{Entry};
-ghost use Rattle.style_types.specs.declared.breaking.Breaking.{Breaking};
+ghost use Rattle.fragment_types.specs.Item.{Entry};
+ghost use Rattle.fragment_types.specs.declared.breaking.Breaking.{Breaking};
 ghost use Rattle.line_fill.specs.declared.item.FillItem.{FillItem};
 ghost use Rattle.para_prepare.specs.Preparation.{atoms_in};
 ghost use Rattle.para_lines.specs.Alone.{fill_alone};

@@ -1,14 +1,15 @@
 //! The inline boxes of a paragraph: which stand round each of its items, and where each ends (CSS 2, 9.2.2).
 
 ghost use Rattle.std.specs.Prelude.{◌≡◌, ◌+◌, ◌*◌, ◌<◌, ◌≤◌, ◌^◌, [], ℕ, length, map, slice_index_or, All, IfOk, IfSome, unsigned_abs};
-ghost use Rattle.style_types.specs.Item.{Entry, entries_of, entry_of};
+ghost use Rattle.fragment_types.specs.Item.{Entry, entries_of, entry_of};
 ghost use Rattle.style_types.specs.Style.{IsBounded};
 ghost use Rattle.para_lines.specs.Around.{box_at, box_by, chains, has, no_entry};
 ghost use Rattle.para_lines.specs.Boxes as rule;
 ghost use Rattle.para_lines.specs.Boxes.{AreBoxes, AreEnds, Begins, HasBounds, apart, chain_at, chain_behind, round_of};
 
+use fragment_types::Item;
 use std::alloc::{AllocError, Global};
-use style_types::{Item, Style};
+use style_types::Style;
 
 /// What stands round an item of a paragraph.
 #[derive(Clone, Copy, Debug)]
@@ -140,7 +141,7 @@ fn beginning_of(item: &Item, closes: bool) -> Beginning
     match item {
         Item::Open { node, style, opens } => Beginning {
             node: *node,
-            style: *style,
+            style: **style,
             opens: *opens,
             closes,
         },

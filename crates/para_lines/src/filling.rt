@@ -1,8 +1,8 @@
 //! The items of a paragraph as lines are filled with them (CSS 2, 9.4.2).
 
 ghost use Rattle.std.specs.Prelude.{◌≡◌, ◌+◌, ◌-◌, ◌<◌, ◌≤◌, ◌^◌, [], ℤ, All, IfOk, IfSome, List, Option, length, drop, pos, slice_index_or, unsigned_abs};
-ghost use Rattle.style_types.specs.Item.{Entry, entries_of};
-ghost use Rattle.style_types.specs.declared.breaking.Breaking.{Breaking};
+ghost use Rattle.fragment_types.specs.Item.{Entry, entries_of};
+ghost use Rattle.fragment_types.specs.declared.breaking.Breaking.{Breaking};
 ghost use Rattle.para_prepare.specs.declared.item.PreparedItem.{PreparedItem};
 ghost use Rattle.para_lines.specs.Boxes.{AreBoxes, apart, chain_at, chain_behind};
 ghost use Rattle.para_lines.specs.Filling as rule;

@@ -2,7 +2,7 @@
 
 ghost use Rattle.std.specs.Prelude.{◌≡◌, ◌+◌, ◌*◌, ◌<◌, ◌≤◌, ◌^◌, ◌≤ℤ◌, [], All, IfOk, IfSome, List, length, map, pos};
 ghost use Rattle.face_api.specs.Faces.{faces_of};
-ghost use Rattle.style_types.specs.Item.{Entry, entries_of};
+ghost use Rattle.fragment_types.specs.Item.{Entry, entries_of};
 ghost use Rattle.style_types.specs.Style.{IsBounded};
 ghost use Rattle.line_place.specs.Line.{line_of};
 ghost use Rattle.line_place.specs.Reach.{AreNear, AreNested, IsBefore, line_reach, total};

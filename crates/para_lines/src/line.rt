@@ -2,7 +2,7 @@
 
 ghost use Rattle.std.specs.Prelude.{◌≡◌, ◌+◌, ◌<◌, ◌≤◌, ◌^◌, ◌≤ℤ◌, ◌+ℤ◌, ◌++◌, ◌&&◌, true, not, [], All, IfOk, IfSome, List, OnOk, Option, length, map, option_map, pos, reverse, slice_index_or, unsigned_abs};
 ghost use Rattle.face_api.specs.Faces.{faces_of};
-ghost use Rattle.style_types.specs.Item.{entries_of};
+ghost use Rattle.fragment_types.specs.Item.{entries_of};
 ghost use Rattle.style_types.specs.Style.{IsBounded};
 ghost use Rattle.line_place.specs.Reach.{AreNear};
 ghost use Rattle.wm_units.specs.Numbers.{cap};

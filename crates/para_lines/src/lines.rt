@@ -2,9 +2,9 @@
 
 ghost use Rattle.std.specs.Prelude.{◌≡◌, ℕ, ◌+◌, ◌*◌, ◌<◌, ◌≤◌, ◌^◌, ◌≤ℤ◌, ◌+ℤ◌, [], All, IfOk, OnOk, length, map, pos, unsigned_abs};
 ghost use Rattle.face_api.specs.Faces.{faces_of};
-ghost use Rattle.style_types.specs.Fragment.{Pieces, before, line as line_kind, piece, pieces_of};
-ghost use Rattle.style_types.specs.declared.fragment.Fragment.{out-Fragment};
-ghost use Rattle.style_types.specs.Item.{entries_of};
+ghost use Rattle.fragment_types.specs.Fragment.{Pieces, before, line as line_kind, piece, pieces_of};
+ghost use Rattle.fragment_types.specs.declared.fragment.Fragment.{out-Fragment};
+ghost use Rattle.fragment_types.specs.Item.{entries_of};
 ghost use Rattle.style_types.specs.Style.{IsBounded};
 ghost use Rattle.line_fill.specs.Filling.{Divide};
 ghost use Rattle.line_place.specs.Reach.{total};
@@ -28,12 +28,12 @@ use crate::prepared::{PreparedLists, lists_of};
 use crate::setting::Setting;
 use crate::standing::standings;
 use face_api::{Face, Faces};
+use fragment_types::{Fragment, FragmentKind, Fragments, Item, LineFragment};
 use line_fill::{fill, fill_from};
 use para_prepare::Prepared;
 use std::alloc::{AllocError, Global};
 use std::rc::Rc;
 use std::sync::ledger::Ledger;
-use style_types::{Fragment, FragmentKind, Fragments, Item, LineFragment};
 use wm_modes::FlowRect;
 use wm_units::Steps;
 

@@ -1,6 +1,7 @@
 //! What a paragraph's lines stand in, and the inline-blocks in them.
 
-use style_types::{BoxName, Fragment, Style};
+use fragment_types::{BoxName, Fragment};
+use style_types::Style;
 
 /// The block container of a paragraph: its name, its style, and its inline size in units of 1/64 px, which lines may take and
 /// to which percentages refer.

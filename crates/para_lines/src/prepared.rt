@@ -3,8 +3,8 @@
 ghost use Rattle.std.specs.Prelude.{◌≡◌, ℕ, ◌<◌, IfSome, length};
 ghost use Rattle.para_lines.specs.Prepared.{AreSources, IsWhole, preparation_of, source_before, source_behind};
 
+use fragment_types::Breaking;
 use para_prepare::{Prepared, PreparedItem};
-use style_types::Breaking;
 use wm_chars::BidiClass;
 
 /// The items of a prepared paragraph, and for each its level, its class for L1 of UAX 9, the base level of its bidi paragraph

@@ -2,8 +2,8 @@
 
 ghost use Rattle.std.specs.Prelude.{◌≡◌, ℕ, ◌+◌, ◌*◌, ◌<◌, ◌≤◌, ◌^◌, [], All, IfOk, IfSome, List, drop, length, map, take, unsigned_abs};
 ghost use Rattle.face_api.specs.Faces.{faces_of};
-ghost use Rattle.style_types.specs.Fragment.{pieces_of};
-ghost use Rattle.style_types.specs.Item.{Entry};
+ghost use Rattle.fragment_types.specs.Fragment.{pieces_of};
+ghost use Rattle.fragment_types.specs.Item.{Entry};
 ghost use Rattle.line_place.specs.Line.{line_of};
 ghost use Rattle.line_place.specs.Placing.{line_over, line_under, parts};
 ghost use Rattle.line_place.specs.Reach.{AreNested, HasLimit, IsBefore, line_reach};
@@ -22,10 +22,10 @@ use crate::standing::Standing;
 use crate::text::{text_in, text_line};
 use crate::units::{unit_line, units_in};
 use face_api::{Face, Faces};
+use fragment_types::{Fragments, LineFragment};
 use line_place::{LineInput, place_line};
 use std::alloc::{AllocError, Global};
 use std::rc::Rc;
-use style_types::{Fragments, LineFragment};
 
 /// What all lines of a paragraph are made from: its boxes, its container, and all its items.
 #[derive(Clone, Copy, Debug)]

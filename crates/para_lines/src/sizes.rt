@@ -1,7 +1,7 @@
 //! The intrinsic sizes of a paragraph (CSS 2, 10.3.5).
 
 ghost use Rattle.std.specs.Prelude.{◌≡◌, ◌≤◌, ◌^◌, All, IfOk, length};
-ghost use Rattle.style_types.specs.Item.{entries_of};
+ghost use Rattle.fragment_types.specs.Item.{entries_of};
 ghost use Rattle.para_prepare.specs.Preparation.{AreFrom, HasBounds as prepared_bounds};
 ghost use Rattle.para_lines.specs.Boxes.{AreBoxes, HasBounds};
 ghost use Rattle.para_lines.specs.Filling as rule;
@@ -11,10 +11,10 @@ ghost use Rattle.para_lines.specs.Reach.{AreNear, lengths_of};
 use crate::boxes::{Boxes, inline_boxes};
 use crate::filling::fill_items;
 use crate::prepared::{PreparedLists, lists_of};
+use fragment_types::Item;
 use line_fill::{Intrinsic, intrinsic};
 use para_prepare::Prepared;
 use std::alloc::{AllocError, Global};
-use style_types::Item;
 
 /// The min-content and the max-content size of a paragraph of these items, prepared so, whose atoms in order have these
 /// min-content and max-content contributions (CSS 2, 10.3.5). Lengths are in units of 1/64 px. No percentage counts. The work

@@ -1,7 +1,7 @@
 //! The items of a paragraph on their way to its lines (CSS 2, 9.4.2 and 10.8.1).
 
 ghost use Rattle.std.specs.Prelude.{◌≡◌, ◌+◌, ◌<◌, ◌≤◌, ◌^◌, true, [], ℕ, All, IfOk, IfSome, List, length, map, slice_index_or, unsigned_abs};
-ghost use Rattle.style_types.specs.Item.{Entry, entries_of};
+ghost use Rattle.fragment_types.specs.Item.{Entry, entries_of};
 ghost use Rattle.line_fill.specs.declared.item.FillItem.{FillItem};
 ghost use Rattle.para_prepare.specs.Preparation.{atoms_in};
 ghost use Rattle.para_lines.specs.Filling.{item_chains};
@@ -18,11 +18,11 @@ use crate::filling::{is_space, past};
 use crate::line::{Seated, raised};
 use crate::paragraph::Atom;
 use crate::prepared::PreparedLists;
+use fragment_types::Breaking;
 use line_fill::FillItem;
 use line_place::{LineContent, LineItem, LineItems};
 use para_prepare::{PreparedContent, PreparedItem};
 use std::alloc::{AllocError, Global};
-use style_types::Breaking;
 use wm_chars::BidiClass;
 
 /// An item of a paragraph on its way to a line: all that is prepared of it, its extent along the line, and the atoms from it on.

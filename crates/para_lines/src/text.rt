@@ -2,8 +2,8 @@
 
 ghost use Rattle.std.specs.Prelude.{◌≡◌, ℕ, ◌<◌, ◌≤◌, ◌^◌, ◌≤ℤ◌, true, [], List, All, IfOk, IfSome, length, map, pos, unsigned_abs};
 ghost use Rattle.face_api.specs.Faces.{faces_of};
-ghost use Rattle.style_types.specs.Fragment.{pieces_of};
-ghost use Rattle.style_types.specs.Item.{Entry, entries_of};
+ghost use Rattle.fragment_types.specs.Fragment.{pieces_of};
+ghost use Rattle.fragment_types.specs.Item.{Entry, entries_of};
 ghost use Rattle.style_types.specs.Style.{IsBounded};
 ghost use Rattle.line_place.specs.Placing.{line_over, line_under, parts};
 ghost use Rattle.line_place.specs.Reach.{AreNear, item_reach, total};
@@ -20,11 +20,11 @@ use crate::line::extents_in;
 use crate::paragraph::Container;
 use crate::standing::{Standing, content};
 use face_api::{Face, Faces};
-use line_place::{TextLine, copy_of, place_text, run_unit};
+use fragment_types::{Fragments, LineFragment, RunUnit, RunUnits, UnitKind};
+use line_place::{TextLine, place_text, run_unit};
 use para_prepare::PreparedContent;
 use std::alloc::{AllocError, Global};
 use std::rc::Rc;
-use style_types::{Fragments, LineFragment, RunUnit, RunUnits, UnitKind};
 
 /// The text node and the form of units.
 #[derive(Clone, Copy, Debug)]
@@ -212,12 +212,7 @@ fn unit_of(alloc: Global, standing: &Standing) -> Result<RunUnit, AllocError>
             end,
             glyphs,
             ..
-        } => Ok(RunUnit {
-            first: *first,
-            end: *end,
-            extent: standing.extent,
-            glyphs: copy_of(alloc, glyphs)?,
-        }),
+        } => RunUnit::new(alloc, *first, *end, standing.extent, glyphs),
         PreparedContent::Combined { .. }
         | PreparedContent::Atom { .. }
         | PreparedContent::Break { .. } => {

@@ -2,8 +2,8 @@
 
 ghost use Rattle.std.specs.Prelude.{◌≡◌, ℕ, ◌<◌, ◌≤◌, ◌^◌, ◌≤ℤ◌, true, [], List, All, IfOk, IfSome, length, map, pos, unsigned_abs};
 ghost use Rattle.face_api.specs.Faces.{faces_of};
-ghost use Rattle.style_types.specs.Fragment.{pieces_of};
-ghost use Rattle.style_types.specs.Item.{Entry, entries_of};
+ghost use Rattle.fragment_types.specs.Fragment.{pieces_of};
+ghost use Rattle.fragment_types.specs.Item.{Entry, entries_of};
 ghost use Rattle.style_types.specs.Style.{IsBounded};
 ghost use Rattle.bidi_order.specs.Blanks.{reset};
 ghost use Rattle.line_place.specs.Placing.{line_over, line_under, parts};
@@ -25,10 +25,10 @@ use crate::text::{TextName, is_unit, name_of, without_spaces};
 use bidi_explicit::{ClassList, LevelList};
 use bidi_order::reset;
 use face_api::{Face, Faces};
+use fragment_types::LineFragment;
 use line_place::{TextUnit, TextUnits, UnitLine, place_units};
 use para_prepare::PreparedContent;
 use std::alloc::{AllocError, Global};
-use style_types::LineFragment;
 
 /// The text node and the form of these items, where they are units of one text outside all inline boxes, which nothing parts.
 pub(crate) fn units_in(boxes: &Boxes, standings: &[Standing]) -> Option<TextName>

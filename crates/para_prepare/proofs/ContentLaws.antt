@@ -10,9 +10,9 @@ use Rattle.std.proofs.lemmas.List.{append-nil, map-append, length-append, length
 use Rattle.std.proofs.lemmas.List.Elements.{All-append, All-cons}
 use Rattle.std.proofs.lemmas.Str.{encodes-chars, IsUtf8-string_bytes, length-le-encodes}
 use Rattle.face_api.specs.Table.{Table}
-use Rattle.style_types.specs.Item.{Entry, text, begins, ends, atom, line_break, entry_of, entries_of}
-use Rattle.style_types.specs.declared.item.Item.{Item}
-use Rattle.style_types.specs.declared.item.Item.TheVariants as items
+use Rattle.fragment_types.specs.Item.{Entry, text, begins, ends, atom, line_break, entry_of, entries_of}
+use Rattle.fragment_types.specs.declared.item.Item.{Item}
+use Rattle.fragment_types.specs.declared.item.Item.TheVariants as items
 use Rattle.para_prepare.specs.declared.letter.Letter.{Letter}
 use Rattle.para_prepare.specs.declared.parts.Part as code
 use Rattle.para_prepare.specs.Content.{parts, parts_from, parts_in}

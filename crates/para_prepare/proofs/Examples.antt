@@ -8,14 +8,14 @@ use Rattle.wm_modes.specs.declared.mode.WritingMode.TheVariants as modes
 use Rattle.wm_chars.specs.declared.classes.BidiClass.TheVariants as classes
 use Rattle.wm_chars.specs.Repertoire.{row_of, bidi_class, break_class, orientation}
 use Rattle.wm_chars.specs.Pairs.{mirror, bracket}
-use Rattle.style_types.specs.declared.breaking.Breaking.TheVariants.{No, May, Must}
+use Rattle.fragment_types.specs.declared.breaking.Breaking.TheVariants.{No, May, Must}
 use Rattle.style_types.specs.declared.style.Combine.TheVariants as combines
 use Rattle.style_types.specs.declared.style.TextOrientation.TheVariants as orientations
 use Rattle.style_types.specs.declared.style.UnicodeBidi.TheVariants as bidis
-use Rattle.style_types.specs.declared.unit_kind.UnitKind.TheVariants as kinds
+use Rattle.fragment_types.specs.declared.unit_kind.UnitKind.TheVariants as kinds
 use Rattle.style_types.specs.Initial.{initial}
-use Rattle.style_types.specs.Item as item
-use Rattle.style_types.specs.Item.{begins, ends, atom}
+use Rattle.fragment_types.specs.Item as item
+use Rattle.fragment_types.specs.Item.{begins, ends, atom}
 use Rattle.cluster_units.specs.Cluster.{unit_clusters}
 use Rattle.cluster_units.specs.Unit.{units_of}
 use Rattle.bidi_explicit.specs.Explicit.{explicit_levels, explicit_classes}

@@ -6,8 +6,8 @@ use Rattle.std.specs.Str.{chars}
 use Rattle.std.proofs.lemmas.List.{drop_more, length-append, length-map, take_rest}
 use Rattle.face_api.specs.Living.{used_table}
 use Rattle.face_api.specs.Table.{Table}
-use Rattle.style_types.specs.Item.{Entry, text, begins, ends, atom, line_break, entry_of, entries_of}
-use Rattle.style_types.specs.declared.item.Item.{Item}
+use Rattle.fragment_types.specs.Item.{Entry, text, begins, ends, atom, line_break, entry_of, entries_of}
+use Rattle.fragment_types.specs.declared.item.Item.{Item}
 use Rattle.style_types.specs.declared.style.Style.{Style}
 use Rattle.cluster_units.specs.Laws.{AreInOrder, IsUnitIn}
 use Rattle.cluster_units.specs.Unit.{units_of}

@@ -2,8 +2,8 @@
 use Rattle.std.proofs.Common.{append_assoc, ◌≡◌, ℕ, ◌+◌, ◌<◌, Bool, true, false, List, [], ◌∷◌, ◌++◌, length, slice_index_or, drop, ap, ap₂, sym, ◌∙◌, refl}
 use Rattle.std.specs.Prelude.{map}
 use Rattle.std.proofs.lemmas.List.{append-nil, length-append, drop_more}
-use Rattle.style_types.specs.Item.{entry_of, entries_of}
-use Rattle.style_types.specs.declared.item.Item.{Item}
+use Rattle.fragment_types.specs.Item.{entry_of, entries_of}
+use Rattle.fragment_types.specs.declared.item.Item.{Item}
 use Rattle.para_prepare.specs.declared.letter.Letter.{Letter}
 use Rattle.para_prepare.specs.Kept.{ends_from, joined, kept_from, kept_in}
 use Rattle.para_prepare.specs.Marks.{follows_all, follows_at, is_kept_with, marks_with}

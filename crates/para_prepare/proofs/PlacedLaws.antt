@@ -6,9 +6,9 @@ use Rattle.std.specs.String.{string_bytes}
 use Rattle.std.proofs.lemmas.List.{length-map}
 use Rattle.std.proofs.lemmas.List.Elements.{All-append, All-cons}
 use Rattle.std.proofs.lemmas.Str.{encodes-chars, IsUtf8-string_bytes, length-le-encodes}
-use Rattle.style_types.specs.Item.{entries_of, entry_of}
-use Rattle.style_types.specs.declared.item.Item.{Item}
-use Rattle.style_types.specs.declared.item.Item.TheVariants as items
+use Rattle.fragment_types.specs.Item.{entries_of, entry_of}
+use Rattle.fragment_types.specs.declared.item.Item.{Item}
+use Rattle.fragment_types.specs.declared.item.Item.TheVariants as items
 use Rattle.para_prepare.specs.declared.letter.Letter.{Letter}
 use Rattle.para_prepare.specs.Kept.{joined, kept, kept_from, kept_in}
 use Rattle.para_prepare.specs.Limits.{bytes_in, text_bytes}

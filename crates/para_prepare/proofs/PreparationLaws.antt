@@ -4,7 +4,7 @@ use Rattle.std.specs.Prelude.{All, Option, None, cond, true, false}
 use Rattle.std.proofs.lemmas.List.{get_or-map, length-map}
 use Rattle.wm_chars.specs.declared.classes.BidiClass.{BidiClass}
 use Rattle.wm_chars.specs.declared.classes.BreakClass.{BreakClass}
-use Rattle.style_types.specs.declared.breaking.Breaking.{Breaking}
+use Rattle.fragment_types.specs.declared.breaking.Breaking.{Breaking}
 use Rattle.para_prepare.specs.declared.boxes.Kind.{Kind}
 use Rattle.para_prepare.specs.declared.boxes.Kind.TheVariants.{Opening, Closing, Content, Aside}
 use Rattle.para_prepare.specs.declared.item.PreparedItem.{PreparedItem}
@@ -15,8 +15,8 @@ use Rattle.para_prepare.specs.declared.standing.Standing.{Standing}
 use Rattle.para_prepare.specs.Boxes.{kind_of, marked, takes, takes_from, taking_part}
 use Rattle.para_prepare.specs.Breaks.{break_class_of, breaks_of}
 use Rattle.face_api.specs.Table.{Table}
-use Rattle.style_types.specs.Item.{Entry, entries_of}
-use Rattle.style_types.specs.declared.item.Item.{Item}
+use Rattle.fragment_types.specs.Item.{Entry, entries_of}
+use Rattle.fragment_types.specs.declared.item.Item.{Item}
 use Rattle.style_types.specs.declared.style.Style.{Style}
 use Rattle.para_prepare.specs.Content.{parts}
 use Rattle.para_prepare.specs.Glyph.{class_of}

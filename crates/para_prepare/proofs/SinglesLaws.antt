@@ -7,7 +7,7 @@ use Rattle.std.proofs.lemmas.List.{length-map, length-replicate}
 use Rattle.std.proofs.lemmas.List.Elements.{All-cons, All-head, All-replicate, All-tail, All-weaker}
 use Rattle.wm_chars.specs.Pairs.{mirror}
 use Rattle.wm_chars.specs.declared.classes.BidiClass.{BidiClass}
-use Rattle.style_types.specs.declared.breaking.Breaking.{Breaking}
+use Rattle.fragment_types.specs.declared.breaking.Breaking.{Breaking}
 use Rattle.bidi_explicit.specs.Base.{base_of}
 use Rattle.bidi_resolve.specs.Laws.{LeftToRightHasLevelZero}
 use Rattle.bidi_resolve.specs.Paragraph.{IsResolvedLevel, paragraph_levels}

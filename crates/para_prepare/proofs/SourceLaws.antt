@@ -9,7 +9,7 @@ use Rattle.std.proofs.lemmas.List.Elements.{All-cons, All-append}
 use Rattle.std.proofs.lemmas.Int.{ints}
 use Rattle.face_api.specs.Table.{Table}
 use Rattle.style_types.specs.declared.style.Style.{Style}
-use Rattle.style_types.specs.Item.{Entry, text, begins, ends, atom, line_break}
+use Rattle.fragment_types.specs.Item.{Entry, text, begins, ends, atom, line_break}
 use Rattle.cluster_units.specs.Text.{is_combined}
 use Rattle.cluster_units.specs.declared.unit.Unit.{Unit}
 use Rattle.para_prepare.proofs.PartsLaws.{stretch_length}

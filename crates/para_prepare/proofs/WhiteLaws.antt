@@ -4,8 +4,8 @@ use Rattle.std.specs.Prelude.{cond, unwrap_or}
 use Rattle.std.specs.List.{list_any}
 use Rattle.std.specs.Str.{chars}
 use Rattle.std.proofs.lemmas.Bool.{cases_Bool}
-use Rattle.style_types.specs.Item.{Entry, text, begins, ends, atom, line_break, entry_of, entries_of}
-use Rattle.style_types.specs.declared.item.Item.{Item}
+use Rattle.fragment_types.specs.Item.{Entry, text, begins, ends, atom, line_break, entry_of, entries_of}
+use Rattle.fragment_types.specs.declared.item.Item.{Item}
 use Rattle.cluster_units.specs.Cluster.{is_control}
 use Rattle.para_prepare.specs.Marks.{follows_at, is_bidi_control, is_content, is_kept_with, marks_with, space_if, tells}
 use Rattle.para_prepare.specs.White.{Sign, white, solid, passed, broken, chosen, follows, is_kept, is_white, leads, marks_from, sign_of, signs, signs_in}

@@ -2,8 +2,8 @@
 use Rattle.std.specs.Prelude.{Bool, true, false, ◌&&◌, ◌||◌, cond, List, [], ◌∷◌, Option, Some, None}
 use Rattle.wm_chars.specs.declared.classes.BreakClass.{BreakClass}
 use Rattle.wm_chars.specs.declared.classes.BreakClass.TheVariants.{Space, Open, Close, Glue, Ideographic}
-use Rattle.style_types.specs.declared.breaking.Breaking.{Breaking}
-use Rattle.style_types.specs.declared.breaking.Breaking.TheVariants.{No, May, Must}
+use Rattle.fragment_types.specs.declared.breaking.Breaking.{Breaking}
+use Rattle.fragment_types.specs.declared.breaking.Breaking.TheVariants.{No, May, Must}
 use Rattle.para_prepare.specs.Parts.{Raw, of_unit, of_combined, of_atom, of_break}
 
 -- an inline-block breaks as an ideographic character does, as a combined run does already; a line break has no class

@@ -3,7 +3,7 @@ use Rattle.std.specs.Prelude.{ℕ, ◌+◌, Bool, cond, List, [], ◌∷◌, ◌
 use Rattle.std.specs.Str.{chars}
 use Rattle.face_api.specs.Table.{Table}
 use Rattle.style_types.specs.declared.style.Style.{Style}
-use Rattle.style_types.specs.Item.{Entry, text, begins, ends, atom, line_break}
+use Rattle.fragment_types.specs.Item.{Entry, text, begins, ends, atom, line_break}
 use Rattle.cluster_units.specs.Text.{is_combined}
 use Rattle.cluster_units.specs.declared.unit.Unit.{Unit}
 use Rattle.para_prepare.specs.declared.letter.Letter.{Letter}

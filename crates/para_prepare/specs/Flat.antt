@@ -5,7 +5,7 @@ use Rattle.wm_chars.specs.declared.classes.BidiClass.{BidiClass}
 use Rattle.wm_chars.specs.declared.classes.BreakClass.{BreakClass}
 use Rattle.style_types.specs.declared.style.UnicodeBidi.{UnicodeBidi}
 use Rattle.style_types.specs.declared.style.UnicodeBidi.TheVariants.{Normal, BidiOverride, IsolateOverride}
-use Rattle.style_types.specs.Item.{Entry, text, begins, ends, atom, line_break}
+use Rattle.fragment_types.specs.Item.{Entry, text, begins, ends, atom, line_break}
 use Rattle.bidi_resolve.specs.Paragraph.{is_left_to_right}
 use Rattle.para_prepare.specs.declared.flat.FlatLists.{FlatLists}
 use Rattle.para_prepare.specs.declared.item.PreparedItem.{PreparedItem}

@@ -1,7 +1,7 @@
 -- What a paragraph may have: how long its texts are, and how great their characters.
 use Rattle.std.specs.Prelude.{ℕ, ◌+◌, ⊤, List, [], ◌∷◌, length, pos, ◌≤ℤ◌}
 use Rattle.style_types.specs.declared.style.Style.{Style}
-use Rattle.style_types.specs.Item.{Entry, text, begins, ends, atom, line_break}
+use Rattle.fragment_types.specs.Item.{Entry, text, begins, ends, atom, line_break}
 
 abbrev pub bytes_in : Entry → ℕ
 bytes_in (text node bytes style) = length bytes

@@ -7,17 +7,10 @@ use Rattle.wm_chars.specs.Pairs.{mirror}
 use Rattle.para_prepare.specs.declared.item.PreparedContent as content
 use Rattle.para_prepare.specs.declared.item.PreparedContent.TheVariants as contents
 use Rattle.para_prepare.specs.declared.item.PreparedItem.{PreparedItem}
+use Rattle.fragment_types.specs.Glyphs.{only_character}
 use Rattle.para_prepare.specs.Breaks.{breaks_of}
 use Rattle.para_prepare.specs.Flat.{Flat}
 use Rattle.para_prepare.specs.Preparation.{Preparation}
-
--- the character of one unit that has no other
-abbrev pub only_character : List (List ℕ) → Option ℕ
-only_character [] = None
-only_character ([] ∷ glyphs) = None
-only_character ((c ∷ []) ∷ []) = Some c
-only_character ((c ∷ []) ∷ (other ∷ glyphs)) = None
-only_character ((c ∷ (d ∷ characters)) ∷ glyphs) = None
 
 -- what the bidi algorithm reads: a unit of one character as it stands, anything else as U+FFFC
 abbrev pub character_in : content.PreparedContent → ℕ

@@ -1,7 +1,7 @@
 -- Which white space of a paragraph is kept (CSS Text 3, 4.1): stated by the neighbours in the whole content.
 use Rattle.std.specs.Prelude.{ℕ, ◌+◌, Bool, true, false, ◌&&◌, ◌||◌, ◌==◌, if◌then◌else◌, List, [], ◌∷◌, ◌++◌, map}
 use Rattle.std.specs.Str.{chars}
-use Rattle.style_types.specs.Item.{Entry, text, begins, ends, atom, line_break}
+use Rattle.fragment_types.specs.Item.{Entry, text, begins, ends, atom, line_break}
 use Rattle.cluster_units.specs.Cluster.{is_control}
 use Rattle.para_prepare.specs.declared.letter.Letter.{Letter}
 

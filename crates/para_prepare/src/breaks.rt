@@ -9,8 +9,8 @@ ghost use Rattle.para_prepare.specs.declared.letter.Letter.{Letter};
 
 use crate::parts::Part;
 use bumpalo::Bump;
+use fragment_types::Breaking;
 use std::alloc::{AllocError, Global};
-use style_types::Breaking;
 use wm_chars::BreakClass;
 
 /// For each item of a paragraph whether a line may end behind it.

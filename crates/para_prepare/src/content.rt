@@ -3,7 +3,7 @@
 
 ghost use Rattle.std.specs.Prelude.{◌≡◌, ◌≤◌, ◌+◌, ◌-◌, ◌++◌, [], ◌∷◌, length, All, encode_utf8_all, IfOk, OnOk};
 ghost use Rattle.face_api.specs.Faces.{faces_of};
-ghost use Rattle.style_types.specs.Item.{entry_of, entries_of};
+ghost use Rattle.fragment_types.specs.Item.{entry_of, entries_of};
 ghost use Rattle.para_prepare.specs.Content as spec;
 ghost use Rattle.para_prepare.specs.Kept.{kept as kept_of, joined, ends_from, chars_of};
 ghost use Rattle.para_prepare.specs.Limits.{HasFontSize, text_bytes};
@@ -16,8 +16,8 @@ use crate::parts::{Part, Parts, Span};
 use crate::text::{Text, add_text};
 use bumpalo::Bump;
 use face_api::{Face, Faces};
+use fragment_types::Item;
 use std::alloc::{AllocError, Global};
-use style_types::Item;
 
 /// The kept characters of a paragraph, and the parts of its content, which name them by their places.
 #[derive(Drop)]

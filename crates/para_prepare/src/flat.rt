@@ -5,7 +5,7 @@ ghost use Rattle.std.specs.Prelude.{◌≡◌, ◌<◌, ◌≤◌, ◌≤ℤ◌,
 ghost use Rattle.std.specs.List.{list_all};
 ghost use Rattle.bidi_resolve.specs.Paragraph as paragraph;
 ghost use Rattle.face_api.specs.Faces.{faces_of};
-ghost use Rattle.style_types.specs.Item.{entry_of, entries_of};
+ghost use Rattle.fragment_types.specs.Item.{entry_of, entries_of};
 ghost use Rattle.cluster_units.specs.Laws.{AreInOrder};
 ghost use Rattle.cluster_units.specs.Plain.{combines_none};
 ghost use Rattle.cluster_units.specs.Text.{is_combined};
@@ -40,9 +40,10 @@ use bumpalo::Bump;
 use cluster_units::laws::plain_units_are_of_characters;
 use cluster_units::{Unit, character_unit, is_plain_character, units};
 use face_api::{Face, Faces};
+use fragment_types::{Glyphs, Item, UnitKind};
 use std::alloc::{AllocError, Global};
 use std::slice;
-use style_types::{Glyphs, Item, UnicodeBidi, UnitKind};
+use style_types::UnicodeBidi;
 use wm_chars::BidiClass::{B, CS, EN, ES, ET, L, NSM, ON, S, WS};
 use wm_chars::{BidiClass, BreakClass};
 

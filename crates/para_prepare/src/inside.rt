@@ -28,8 +28,9 @@ use bidi_order::{reset, visual_order};
 use bumpalo::Bump;
 use cluster_units::{Unit, units};
 use face_api::{Face, Faces};
+use fragment_types::Glyphs;
 use std::alloc::{AllocError, Global};
-use style_types::{Combine, Glyphs, Style};
+use style_types::{Combine, Style};
 use wm_chars::BidiClass;
 use wm_modes::Direction;
 

@@ -1,6 +1,6 @@
 //! The items of a paragraph that is prepared.
 
-use style_types::{BoxName, Glyphs, UnitKind};
+use fragment_types::{BoxName, Glyphs, UnitKind};
 
 /// What an item is. Places are of characters in the node's whole text; lengths are in units of 1/64 px.
 #[derive(Debug, Drop)]

@@ -13,8 +13,8 @@ use crate::letter::Letter;
 use crate::parts::Part;
 use crate::standing::Standing;
 use cluster_units::Unit;
+use fragment_types::Glyphs;
 use std::alloc::{AllocError, Global};
-use style_types::Glyphs;
 use wm_chars::mirror;
 
 /// The items of these parts, of which there are as many as standings.

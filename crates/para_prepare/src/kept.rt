@@ -3,7 +3,7 @@
 ghost use Rattle.std.specs.Prelude.{◌≡◌, ◌≤◌, ◌<◌, ◌^◌, ◌&&◌, ◌||◌, false, not, ◌++◌, [], ◌∷◌, length, map, encode_utf8_all, IfOk, OnOk};
 ghost use Rattle.std.specs.Str.{chars};
 ghost use Rattle.std.specs.String.{string_bytes};
-ghost use Rattle.style_types.specs.Item.{entry_of, entries_of};
+ghost use Rattle.fragment_types.specs.Item.{entry_of, entries_of};
 ghost use Rattle.para_prepare.specs.Kept.{kept, kept_in, joined, ends_from, chars_of};
 ghost use Rattle.para_prepare.specs.Limits.{text_bytes};
 ghost use Rattle.para_prepare.specs.Marks.{follows_all, follows_at, is_bidi_control, is_kept_with, marks_with, space_if};
@@ -12,8 +12,8 @@ ghost use Rattle.para_prepare.specs.White.{chosen, leads, sign_of, signs, signs_
 use crate::letter::Letter;
 use crate::white::{is_bidi_control, is_white, leads};
 use bumpalo::Bump;
+use fragment_types::Item;
 use std::alloc::{AllocError, Global};
-use style_types::Item;
 
 /// Characters in scratch memory.
 pub(crate) type Letters<'a> = Vec<Letter, &'a Bump>;

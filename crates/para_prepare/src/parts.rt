@@ -6,7 +6,7 @@ ghost use Rattle.para_prepare.specs.Parts as parts;
 use crate::bidi_text::Around;
 use bumpalo::Bump;
 use cluster_units::Unit;
-use style_types::{BoxName, Glyphs};
+use fragment_types::{BoxName, Glyphs};
 use wm_chars::{BidiClass, bidi_class};
 
 /// Kept characters of a paragraph that stand side by side: places in the list of all of them.

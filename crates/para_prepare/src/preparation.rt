@@ -2,7 +2,7 @@
 
 ghost use Rattle.std.specs.Prelude.{◌≡◌, ◌+◌, ◌≤◌, true, List, length, replicate, All, IfOk, IfSome};
 ghost use Rattle.face_api.specs.Faces.{faces_of};
-ghost use Rattle.style_types.specs.Item.{entries_of};
+ghost use Rattle.fragment_types.specs.Item.{entries_of};
 ghost use Rattle.para_prepare.specs.Boxes.{taking_part};
 ghost use Rattle.para_prepare.specs.Flat.{AreAlike, HasBoundsIn, flat_of, grown, is_zero, nothing, puts_nothing};
 ghost use Rattle.para_prepare.specs.Kept.{kept as kept_of, joined, ends_from};
@@ -35,10 +35,11 @@ use bidi_resolve::laws::left_to_right_has_level_zero;
 use bidi_resolve::paragraph_levels;
 use bumpalo::Bump;
 use face_api::{Face, Faces};
+use fragment_types::{Breaking, Items};
 use std::alloc::{AllocError, Global};
 use std::marker::Model;
 use std::sync::ledger::Ledger;
-use style_types::{Breaking, Items, Style, UnicodeBidi};
+use style_types::{Style, UnicodeBidi};
 use wm_chars::BidiClass;
 use wm_units::Steps;
 

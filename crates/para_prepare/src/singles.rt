@@ -7,8 +7,8 @@ ghost use Rattle.para_prepare.specs.Singles.{at_level, at_levels, character_in};
 
 use crate::item::{PreparedContent, PreparedItem, PreparedItems};
 use crate::items::mirror_or;
+use fragment_types::Glyphs;
 use std::alloc::{AllocError, Global};
-use style_types::Glyphs;
 
 /// The characters that the bidi algorithm reads of these items.
 pub(crate) fn characters_in(alloc: Global, items: &[PreparedItem]) -> Result<Vec<char>, AllocError>
@@ -30,7 +30,7 @@ fn character_in(what: &PreparedContent) -> char
     ensures { result ≡ character_in what.now }
 {
     match what {
-        PreparedContent::Unit { glyphs, .. } => only_character(glyphs).unwrap_or('\u{FFFC}'),
+        PreparedContent::Unit { glyphs, .. } => glyphs.only_character().unwrap_or('\u{FFFC}'),
         PreparedContent::Combined { .. }
         | PreparedContent::Atom { .. }
         | PreparedContent::Break { .. } => '\u{FFFC}',
@@ -77,20 +77,7 @@ fn mirror_in(item: &mut PreparedItem)
 fn mirror_glyphs(glyphs: &mut Glyphs)
     ensures { glyphs.new ≡ singles.mirrored_glyphs glyphs.old }
 {
-    if let Some(c) = only_character(glyphs) {
+    if let Some(c) = glyphs.only_character() {
         *glyphs = Glyphs::one(mirror_or(c));
-    }
-}
-
-// The character of one unit that has no other.
-#[inline(always)]
-fn only_character(glyphs: &Glyphs) -> Option<char>
-    ensures { result ≡ singles.only_character glyphs.now }
-{
-    if glyphs.len() == 1 {
-        let unit = glyphs.unit(0);
-        if unit.len() == 1 { Some(unit[0]) } else { None }
-    } else {
-        None
     }
 }

@@ -23,8 +23,9 @@ use bumpalo::Bump;
 use cluster_units::laws::plain_units_are_of_characters;
 use cluster_units::{Unit, character_unit, combines_none, is_plain_character, units};
 use face_api::{Face, Faces};
+use fragment_types::UnitKind;
 use std::alloc::{AllocError, Global};
-use style_types::{Style, TextOrientation, UnitKind};
+use style_types::{Style, TextOrientation};
 use wm_modes::WritingMode;
 
 /// A text of a paragraph: the place of its item, its node, its style, and where its kept characters stand among those of

@@ -3,12 +3,12 @@
 ghost use Rattle.std.specs.Prelude.{◌≡◌, ◌++◌, map, unwrap_or};
 ghost use Rattle.std.specs.List.{list_any};
 ghost use Rattle.std.specs.Str.{chars};
-ghost use Rattle.style_types.specs.Item.{entry_of, entries_of};
+ghost use Rattle.fragment_types.specs.Item.{entry_of, entries_of};
 ghost use Rattle.para_prepare.specs.Marks as marks;
 ghost use Rattle.para_prepare.specs.Marks.{is_bidi_control};
 ghost use Rattle.para_prepare.specs.White.{is_white, leads, sign_of, signs};
 
-use style_types::Item;
+use fragment_types::Item;
 
 /// Whether content comes first in the rest of a text and the items behind it: white space, inline boxes' ends and bidi
 /// controls are passed over, a line break is an end.

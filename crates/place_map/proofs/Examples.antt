@@ -3,8 +3,8 @@ use Rattle.std.specs.Prelude.{◌≡◌, refl, true, false, [], ◌∷◌, Some,
 use Rattle.wm_modes.specs.declared.mode.Direction.TheVariants as directions
 use Rattle.wm_modes.specs.declared.mode.WritingMode.TheVariants as modes
 use Rattle.style_types.specs.declared.style.Baseline.TheVariants as bases
-use Rattle.style_types.specs.declared.unit_kind.UnitKind.TheVariants as kinds
-use Rattle.style_types.specs.Fragment.{none, piece, block, line, span, run, measure}
+use Rattle.fragment_types.specs.declared.unit_kind.UnitKind.TheVariants as kinds
+use Rattle.fragment_types.specs.Fragment.{none, piece, block, line, span, run, measure}
 use Rattle.place_map.specs.Placed.{part, none as nothing}
 use Rattle.place_map.specs.Placing.{place}
 

@@ -3,10 +3,10 @@ use Rattle.std.proofs.Common.{◌≡◌, refl, sym, ap, subst, ◌∙◌, Vec, G
 use Rattle.std.proofs.lemmas.List.{drop_all, drop_more}
 use Rattle.wm_modes.specs.declared.rects.FlowRect.{FlowRect}
 use Rattle.wm_modes.specs.declared.rects.Rect.{Rect}
-use Rattle.style_types.specs.declared.item.BoxName.{BoxName}
-use Rattle.style_types.specs.declared.fragment.Fragment.{Fragment, out-Fragment}
-use Rattle.style_types.specs.declared.fragment.Fragment.TheFolds.{fold_out-Fragment}
-use Rattle.style_types.specs.Fragment.{Kind, Pieces, none, piece, before, kind_of, moved_to, piece_of, piece_step, pieces_of}
+use Rattle.fragment_types.specs.declared.item.BoxName.{BoxName}
+use Rattle.fragment_types.specs.declared.fragment.Fragment.{Fragment, out-Fragment}
+use Rattle.fragment_types.specs.declared.fragment.Fragment.TheFolds.{fold_out-Fragment}
+use Rattle.fragment_types.specs.Fragment.{Kind, Pieces, none, piece, before, kind_of, moved_to, piece_of, piece_step, pieces_of}
 use Rattle.place_map.specs.declared.frame.Frame.{Frame}
 use Rattle.place_map.specs.declared.placed.PlacedPart.{PlacedPart}
 use Rattle.place_map.specs.Frame.{inside, on_page}

@@ -9,7 +9,7 @@ use Rattle.wm_modes.specs.declared.mode.WritingMode.TheVariants.{HorizontalTb, V
 use Rattle.wm_modes.specs.declared.rects.FlowRect.{FlowRect}
 use Rattle.wm_modes.specs.declared.rects.Rect.{Rect}
 use Rattle.wm_units.specs.declared.view.View.{View}
-use Rattle.style_types.specs.Fragment.{Kind, block, line, span, run, measure}
+use Rattle.fragment_types.specs.Fragment.{Kind, block, line, span, run, measure}
 use Rattle.place_map.specs.declared.frame.Frame.{Frame}
 
 -- the page, whose sizes are told on the axes of a mode

@@ -2,7 +2,7 @@
 use Rattle.std.specs.Prelude.{⊤}
 use Rattle.wm_modes.specs.Near.{IsNear, IsNearFlow}
 use Rattle.wm_modes.specs.declared.rects.FlowRect.{FlowRect}
-use Rattle.style_types.specs.Fragment.{Kind, block, line, span, run, measure, Pieces, none, piece}
+use Rattle.fragment_types.specs.Fragment.{Kind, block, line, span, run, measure, Pieces, none, piece}
 use Rattle.place_map.specs.declared.frame.Frame.{Frame}
 use Rattle.place_map.specs.Frame.{inside, on_page}
 

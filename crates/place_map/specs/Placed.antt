@@ -2,12 +2,12 @@
 use Rattle.std.specs.Prelude.{List, [], ◌∷◌, map}
 use Rattle.wm_modes.specs.declared.rects.Rect.{Rect}
 use Rattle.wm_units.specs.declared.view.View.{View}
-use Rattle.style_types.specs.declared.item.BoxName.{BoxName}
+use Rattle.fragment_types.specs.declared.item.BoxName.{BoxName}
 use Rattle.wm_modes.specs.declared.mode.Direction.{Direction}
 use Rattle.wm_modes.specs.declared.mode.Direction.TheVariants.{Ltr}
 use Rattle.wm_modes.specs.declared.mode.WritingMode.{WritingMode}
 use Rattle.wm_modes.specs.declared.mode.WritingMode.TheVariants.{HorizontalTb}
-use Rattle.style_types.specs.Fragment.{Kind, kind_of}
+use Rattle.fragment_types.specs.Fragment.{Kind, kind_of}
 use Rattle.place_map.specs.Frame.{root_direction, root_mode}
 use Rattle.place_map.specs.declared.placed.Placed as code
 use Rattle.place_map.specs.declared.placed.PlacedPart.{PlacedPart, fold-PlacedPart}

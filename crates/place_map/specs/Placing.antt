@@ -1,7 +1,7 @@
 -- The placing: fragments of the flow on the page. Each box is placed by the mode and the used direction of its containing block, from the
 -- view down. CSS Writing Modes 4, 6.4.
 use Rattle.wm_units.specs.declared.view.View.{View}
-use Rattle.style_types.specs.Fragment.{Pieces, none, piece}
+use Rattle.fragment_types.specs.Fragment.{Pieces, none, piece}
 use Rattle.place_map.specs.declared.frame.Frame.{Frame}
 use Rattle.place_map.specs.Frame.{inside, of_view, on_page}
 use Rattle.place_map.specs.Placed as page

@@ -1,12 +1,12 @@
 //! What carries fragments to the page: a containing block, a line or the view (CSS Writing Modes 4, 6.4).
 
 ghost use Rattle.std.specs.Prelude.{◌≡◌};
-ghost use Rattle.style_types.specs.Fragment.{kind_of};
+ghost use Rattle.fragment_types.specs.Fragment.{kind_of};
 ghost use Rattle.place_map.specs.Frame as rule;
 ghost use Rattle.place_map.specs.Near.{IsNearFrame, IsNearKind};
 ghost use Rattle.wm_modes.specs.Near.{IsNear, IsNearFlow};
 
-use style_types::FragmentKind;
+use fragment_types::FragmentKind;
 use wm_modes::{Direction, FlowRect, Rect, WritingMode, to_physical};
 use wm_units::View;
 
@@ -47,15 +47,10 @@ impl Frame {
         ensures { result ≡ rule.inside self (kind_of kind.now) rect }
     {
         match kind {
-            FragmentKind::Box {
-                mode,
-                dir,
-                content,
-                ..
-            } => Frame {
-                mode: *mode,
-                dir: *dir,
-                area: to_physical(self.mode, self.dir, rect, *content),
+            FragmentKind::Box(part) => Frame {
+                mode: part.mode,
+                dir: part.dir,
+                area: to_physical(self.mode, self.dir, rect, part.content),
             },
             FragmentKind::Line { mode, .. } => Frame {
                 mode: line_mode(*mode),
@@ -72,7 +67,7 @@ pub(crate) fn root_mode(root: &FragmentKind) -> WritingMode
     ensures { result ≡ rule.root_mode (kind_of root.now) }
 {
     match root {
-        FragmentKind::Box { mode, .. } => *mode,
+        FragmentKind::Box(part) => part.mode,
         FragmentKind::Line { .. }
         | FragmentKind::Span
         | FragmentKind::Run { .. }
@@ -85,7 +80,7 @@ pub(crate) fn root_direction(root: &FragmentKind) -> Direction
     ensures { result ≡ rule.root_direction (kind_of root.now) }
 {
     match root {
-        FragmentKind::Box { dir, .. } => *dir,
+        FragmentKind::Box(part) => part.dir,
         FragmentKind::Line { .. }
         | FragmentKind::Span
         | FragmentKind::Run { .. }

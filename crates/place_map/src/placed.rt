@@ -5,7 +5,7 @@ ghost use Rattle.place_map.specs.Frame as rule;
 ghost use Rattle.place_map.specs.Placed.{direction_of, mode_of, placed_of};
 
 use crate::frame::{page_of, root_direction, root_mode};
-use style_types::{BoxName, FragmentKind};
+use fragment_types::{BoxName, FragmentKind};
 use wm_modes::{Direction, Rect, WritingMode};
 use wm_units::View;
 

@@ -1,8 +1,8 @@
 //! A tree of fragments on the page (CSS Writing Modes 4, 6.4).
 
 ghost use Rattle.std.specs.Prelude.{◌≡◌, IfOk};
-ghost use Rattle.style_types.specs.Fragment.{Pieces, before, kind_of, piece_of, pieces_of};
-ghost use Rattle.style_types.specs.declared.fragment.Fragment.{out-Fragment};
+ghost use Rattle.fragment_types.specs.Fragment.{Pieces, before, kind_of, piece_of, pieces_of};
+ghost use Rattle.fragment_types.specs.declared.fragment.Fragment.{out-Fragment};
 ghost use Rattle.place_map.specs.Frame.{of_view};
 ghost use Rattle.place_map.specs.Near.{AreNear};
 ghost use Rattle.place_map.specs.Placed.{before as part_before, parts_of, placed_of};
@@ -10,8 +10,8 @@ ghost use Rattle.place_map.specs.Placing as rule;
 
 use crate::frame::Frame;
 use crate::placed::{Placed, PlacedPart, PlacedParts};
+use fragment_types::Fragment;
 use std::alloc::{AllocError, Global};
-use style_types::Fragment;
 use wm_units::View;
 
 /// Carries a tree of fragments to the page, from the view down: each box by the mode and the used direction of its containing

@@ -8,8 +8,8 @@ use Rattle.wm_modes.specs.declared.mode.Direction.{Direction}
 use Rattle.wm_modes.specs.declared.mode.WritingMode.{WritingMode}
 use Rattle.wm_modes.specs.declared.rects.FlowRect.{FlowRect}
 use Rattle.margin_collapse.specs.declared.margins.Margins.{Margins}
-use Rattle.style_types.specs.declared.fragment.Fragment.{Fragment}
-use Rattle.style_types.specs.Fragment.{Kind, Pieces, before, block, line, measure, none, piece, pieces_of, run, span}
+use Rattle.fragment_types.specs.declared.fragment.Fragment.{Fragment}
+use Rattle.fragment_types.specs.Fragment.{Kind, Pieces, before, block, line, measure, none, piece, pieces_of, run, span}
 use Rattle.line_place.specs.Reach.{piece_reach}
 use Rattle.line_place.specs.Spread.{spread, spread_in}
 use Rattle.line_place.proofs.Fragments.{as_piece}

@@ -5,10 +5,10 @@ use Rattle.wm_modes.specs.declared.rects.FlowRect.{FlowRect}
 use Rattle.wm_modes.specs.Sides.{block_start, opposite}
 use Rattle.margin_collapse.specs.declared.margins.Margins.{Margins}
 use Rattle.margin_collapse.specs.Pairs.{IsPairOf}
-use Rattle.style_types.specs.declared.constraint.Constraint.{Constraint}
-use Rattle.style_types.specs.declared.item.BoxName.{BoxName}
+use Rattle.fragment_types.specs.declared.constraint.Constraint.{Constraint}
+use Rattle.fragment_types.specs.declared.item.BoxName.{BoxName}
 use Rattle.style_types.specs.declared.style.Style.{Style}
-use Rattle.style_types.specs.Fragment.{Kind, Pieces, block, measure, none}
+use Rattle.fragment_types.specs.Fragment.{Kind, Pieces, block, measure, none}
 use Rattle.block_flow.specs.declared.adjoining.BlockBox.{BlockBox}
 use Rattle.block_flow.specs.declared.adjoining.Edge.{Edge}
 use Rattle.block_flow.specs.Adjoining.{is_through}

@@ -11,11 +11,11 @@ use Rattle.margin_collapse.specs.Pairs.{IsPairOf}
 use Rattle.std.proofs.lemmas.Option.{same_Some, slice_get-get_or}
 use Rattle.face_api.specs.Table.{Table}
 use Rattle.wm_modes.specs.declared.rects.FlowRect.{FlowRect}
-use Rattle.style_types.specs.declared.fragment.Fragment.{Fragment}
-use Rattle.style_types.specs.Fragment.{Kind, Pieces, block, line, measure, none, piece, pieces_of, run, span}
-use Rattle.style_types.specs.declared.item.BoxName.{BoxName}
+use Rattle.fragment_types.specs.declared.fragment.Fragment.{Fragment}
+use Rattle.fragment_types.specs.Fragment.{Kind, Pieces, block, line, measure, none, piece, pieces_of, run, span}
+use Rattle.fragment_types.specs.declared.item.BoxName.{BoxName}
 use Rattle.style_types.specs.declared.style.Style.{Style}
-use Rattle.style_types.specs.Item.{Entry}
+use Rattle.fragment_types.specs.Item.{Entry}
 use Rattle.block_flow.specs.declared.boxes.ParentEdges.{ParentEdges}
 use Rattle.box_gen.specs.Tree.{Content, blocks, inline}
 use Rattle.line_place.specs.Reach.{total}

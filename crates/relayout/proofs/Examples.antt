@@ -1,6 +1,6 @@
 -- Documents with the fragments that an independent implementation gives them, by computation.
 use Rattle.std.specs.Prelude.{◌≡◌, refl, true, false, [], ◌∷◌, List, Option, Some, None, pos, neg_ℤ}
-use Rattle.style_types.specs.Fragment.{none, piece, block, line, span, run}
+use Rattle.fragment_types.specs.Fragment.{none, piece, block, line, span, run}
 use Rattle.style_types.specs.declared.style.Display.TheVariants as displays
 use Rattle.style_types.specs.declared.style.Size.TheVariants as sizes
 use Rattle.box_gen.specs.Tree.{none as no_boxes, box, blocks, inline}
@@ -25,10 +25,10 @@ use Rattle.style_types.specs.declared.style.Combine.TheVariants as combines
 use Rattle.style_types.specs.declared.style.LineHeight.TheVariants as heights
 use Rattle.style_types.specs.declared.style.TextOrientation.TheVariants as orientations
 use Rattle.style_types.specs.declared.style.UnicodeBidi.TheVariants as bidis
-use Rattle.style_types.specs.declared.unit_kind.UnitKind.TheVariants as kinds
+use Rattle.fragment_types.specs.declared.unit_kind.UnitKind.TheVariants as kinds
 use Rattle.style_types.specs.Initial.{initial}
-use Rattle.style_types.specs.Item as item
-use Rattle.style_types.specs.Item.{begins, ends, atom}
+use Rattle.fragment_types.specs.Item as item
+use Rattle.fragment_types.specs.Item.{begins, ends, atom}
 use Rattle.cluster_units.specs.Cluster.{unit_clusters}
 use Rattle.cluster_units.specs.Unit.{units_of}
 use Rattle.bidi_explicit.specs.Explicit.{explicit_levels, explicit_classes}

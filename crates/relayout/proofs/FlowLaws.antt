@@ -10,8 +10,8 @@ use Rattle.wm_modes.specs.declared.sides.Side.{Side}
 use Rattle.wm_modes.specs.declared.sides.Side.TheVariants.{Top, Right, Bottom, Left}
 use Rattle.wm_modes.specs.Sides.{block_start, line_left, opposite, side_of}
 use Rattle.margin_collapse.specs.Margins.{greatest, least}
-use Rattle.style_types.specs.declared.constraint.Constraint.{Constraint}
-use Rattle.style_types.specs.declared.item.BoxName.{BoxName}
+use Rattle.fragment_types.specs.declared.constraint.Constraint.{Constraint}
+use Rattle.fragment_types.specs.declared.item.BoxName.{BoxName}
 use Rattle.style_types.specs.declared.style.SideSizes.{SideSizes}
 use Rattle.style_types.specs.declared.style.SideWidths.{SideWidths}
 use Rattle.style_types.specs.declared.style.Size.{Size}

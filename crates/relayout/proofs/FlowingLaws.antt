@@ -3,11 +3,11 @@ use Rattle.std.proofs.Common.{◌≡◌, ◌∙◌, refl, sym, ap, subst, arith,
 use Rattle.std.specs.Prelude.{All}
 use Rattle.std.proofs.lemmas.List.Elements.{All-nil}
 use Rattle.std.proofs.lemmas.Option.{none-some, same_Some}
-use Rattle.style_types.specs.declared.constraint.Constraint.{Constraint}
-use Rattle.style_types.specs.declared.fragment.Fragment.{Fragment}
-use Rattle.style_types.specs.declared.item.BoxName.{BoxName}
+use Rattle.fragment_types.specs.declared.constraint.Constraint.{Constraint}
+use Rattle.fragment_types.specs.declared.fragment.Fragment.{Fragment}
+use Rattle.fragment_types.specs.declared.item.BoxName.{BoxName}
 use Rattle.style_types.specs.declared.style.Style.{Style}
-use Rattle.style_types.specs.Fragment.{Pieces, none, piece, piece_of}
+use Rattle.fragment_types.specs.Fragment.{Pieces, none, piece, piece_of}
 use Rattle.line_place.specs.Spread.{spread}
 use Rattle.line_place.proofs.Fragments.{as_piece}
 use Rattle.box_arena.specs.At.{Node, Slots, first_at, kept_at, links_at, next_at, node_at, text_at}

@@ -6,7 +6,7 @@ use Rattle.size_rules.specs.declared.equation.Used.{Used}
 use Rattle.wm_units.specs.Numbers.{half}
 use Rattle.size_rules.specs.Equation.{equation, length_of, or_zero, rest, settled, start_margin}
 use Rattle.size_rules.specs.Limits.{fit}
-use Rattle.style_types.specs.declared.constraint.Constraint.{Constraint}
+use Rattle.fragment_types.specs.declared.constraint.Constraint.{Constraint}
 use Rattle.style_types.specs.declared.style.Style.{Style}
 use Rattle.style_types.specs.Style.{IsBounded, IsLength}
 use Rattle.line_fill.specs.declared.item.Intrinsic.{Intrinsic}

@@ -8,9 +8,9 @@ use Rattle.std.proofs.lemmas.List.Sums.{sum_by-le}
 use Rattle.wm_modes.specs.declared.rects.FlowRect.{FlowRect}
 use Rattle.margin_collapse.specs.declared.margins.Margins.{Margins}
 use Rattle.margin_collapse.specs.Pairs.{IsPairOf}
-use Rattle.style_types.specs.declared.fragment.Fragment.{Fragment}
+use Rattle.fragment_types.specs.declared.fragment.Fragment.{Fragment}
 use Rattle.style_types.specs.declared.style.Style.{Style}
-use Rattle.style_types.specs.Fragment.{Kind, block, line, measure, run, span, Pieces, before, moved_to, none, piece_of, pieces_of}
+use Rattle.fragment_types.specs.Fragment.{Kind, block, line, measure, run, span, Pieces, before, moved_to, none, piece_of, pieces_of}
 use Rattle.block_flow.specs.declared.boxes.ChildBox.{ChildBox}
 use Rattle.block_flow.specs.declared.boxes.ParentEdges.{ParentEdges}
 use Rattle.block_flow.specs.Stacking as stacking

@@ -6,11 +6,11 @@ use Rattle.std.proofs.lemmas.Bool.{cases_eq}
 use Rattle.std.proofs.lemmas.Option.{none-some, same_Some}
 use Rattle.slab.specs.Slab.{Slab, ContainsKey, get}
 use Rattle.face_api.specs.Table.{Table}
-use Rattle.style_types.specs.declared.constraint.Constraint.{Constraint}
-use Rattle.style_types.specs.declared.fragment.Fragment.{Fragment}
-use Rattle.style_types.specs.declared.item.BoxName.{BoxName}
+use Rattle.fragment_types.specs.declared.constraint.Constraint.{Constraint}
+use Rattle.fragment_types.specs.declared.fragment.Fragment.{Fragment}
+use Rattle.fragment_types.specs.declared.item.BoxName.{BoxName}
 use Rattle.style_types.specs.declared.style.Style.{Style}
-use Rattle.style_types.specs.Fragment.{Pieces, moved_to, none, piece_of}
+use Rattle.fragment_types.specs.Fragment.{Pieces, moved_to, none, piece_of}
 use Rattle.style_types.specs.Style.{IsBounded}
 use Rattle.line_place.proofs.Fragments.{as_piece}
 use Rattle.box_arena.specs.declared.entry.Entry.{Entry}

@@ -4,9 +4,9 @@ use Rattle.std.specs.Prelude.{is_none}
 use Rattle.std.proofs.lemmas.List.{map-append}
 use Rattle.face_api.specs.Table.{Table}
 use Rattle.wm_modes.specs.declared.mode.WritingMode.{WritingMode}
-use Rattle.style_types.specs.declared.constraint.Constraint.{Constraint}
+use Rattle.fragment_types.specs.declared.constraint.Constraint.{Constraint}
 use Rattle.style_types.specs.declared.style.Style.{Style}
-use Rattle.style_types.specs.Fragment.{Pieces}
+use Rattle.fragment_types.specs.Fragment.{Pieces}
 use Rattle.block_flow.specs.declared.boxes.ParentEdges.{ParentEdges}
 use Rattle.block_flow.specs.Adjoining.{edges}
 use Rattle.box_arena.specs.At.{Node}

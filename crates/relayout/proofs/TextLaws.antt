@@ -2,8 +2,8 @@
 use Rattle.std.proofs.Common.{◌≡◌, ◌∙◌, ap, subst, sym, arith, ℕ, ◌+◌, ◌≤◌, List, length}
 use Rattle.std.specs.Prelude.{All}
 use Rattle.std.proofs.lemmas.List.{length-map}
-use Rattle.style_types.specs.declared.item.Item.{Item}
-use Rattle.style_types.specs.Item.{Entry, entries_of, entry_of}
+use Rattle.fragment_types.specs.declared.item.Item.{Item}
+use Rattle.fragment_types.specs.Item.{Entry, entries_of, entry_of}
 use Rattle.para_prepare.specs.Limits.{text_bytes}
 use Rattle.para_prepare.specs.Preparation.{AreFrom, HasBounds as HasTextBounds, Preparation, atoms_in, atoms_of}
 use Rattle.relayout.specs.Paragraph.{IsParagraph, IsReady}

@@ -9,7 +9,7 @@ use Rattle.wm_modes.specs.declared.mode.WritingMode.TheVariants.{HorizontalTb, V
 use Rattle.wm_modes.specs.Mode.{are_parallel, is_horizontal}
 use Rattle.wm_units.specs.declared.view.View.{View}
 use Rattle.style_types.specs.declared.style.Style.{Style}
-use Rattle.style_types.specs.Fragment.{Pieces, none}
+use Rattle.fragment_types.specs.Fragment.{Pieces, none}
 use Rattle.style_types.specs.Style.{IsBounded}
 use Rattle.line_place.specs.Spread.{spread}
 use Rattle.wm_modes.specs.Sides.{block_start}

@@ -11,7 +11,7 @@ use Rattle.wm_modes.specs.declared.sides.Side.TheVariants.{Top, Right, Bottom, L
 use Rattle.style_types.specs.declared.style.Baseline.{Baseline}
 use Rattle.style_types.specs.declared.style.Baseline.TheVariants.{Alphabetic, Central}
 use Rattle.style_types.specs.declared.style.Style.{Style}
-use Rattle.style_types.specs.Fragment.{Kind, block, line, span, run, measure, Pieces, none, piece}
+use Rattle.fragment_types.specs.Fragment.{Kind, block, line, span, run, measure, Pieces, none, piece}
 use Rattle.style_types.specs.Style.{baseline_of}
 use Rattle.para_lines.specs.Lines.{Atom}
 use Rattle.relayout.specs.declared.atoms.LastLine.{LastLine}

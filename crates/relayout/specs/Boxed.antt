@@ -5,9 +5,9 @@ use Rattle.wm_modes.specs.declared.sides.FlowSide.{FlowSide}
 use Rattle.wm_modes.specs.declared.sides.FlowSide.TheVariants.{BlockStart, InlineStart, LineLeft, LineOver}
 use Rattle.wm_modes.specs.declared.sides.Side.{Side}
 use Rattle.wm_modes.specs.Sides.{block_start, opposite, side_of}
-use Rattle.style_types.specs.declared.constraint.Constraint.{Constraint}
+use Rattle.fragment_types.specs.declared.constraint.Constraint.{Constraint}
 use Rattle.style_types.specs.declared.style.Style.{Style}
-use Rattle.style_types.specs.Fragment.{none, block, measure}
+use Rattle.fragment_types.specs.Fragment.{none, block, measure}
 use Rattle.block_flow.specs.declared.adjoining.BlockBox.{BlockBox}
 use Rattle.block_flow.specs.declared.adjoining.Edge.{Edge}
 use Rattle.block_flow.specs.Adjoining.{is_through}

@@ -2,10 +2,10 @@
 use Rattle.std.specs.Prelude.{◌≡◌, ⊤, Bool, true, false, List, [], ◌∷◌, map, Option, ℤ, pos, ◌+ℤ◌}
 use Rattle.std.specs.List.{list_all}
 use Rattle.face_api.specs.Table.{Table}
-use Rattle.style_types.specs.declared.item.BoxName.{BoxName}
+use Rattle.fragment_types.specs.declared.item.BoxName.{BoxName}
 use Rattle.style_types.specs.declared.style.Style.{Style}
-use Rattle.style_types.specs.Fragment.{Kind, block, line, measure, run, span, Pieces, none, piece, pieces_of}
-use Rattle.style_types.specs.Item.{Entry}
+use Rattle.fragment_types.specs.Fragment.{Kind, block, line, measure, run, span, Pieces, none, piece, pieces_of}
+use Rattle.fragment_types.specs.Item.{Entry}
 use Rattle.margin_collapse.specs.Pairs.{IsPairOf}
 use Rattle.block_flow.specs.declared.boxes.ChildBox.{ChildBox}
 use Rattle.block_flow.specs.declared.boxes.ParentEdges.{ParentEdges}

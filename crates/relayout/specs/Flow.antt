@@ -3,9 +3,9 @@ use Rattle.std.specs.Prelude.{Bool, true, false, ◌&&◌, List, [], ◌∷◌, 
 use Rattle.face_api.specs.Table.{Table}
 use Rattle.wm_modes.specs.Mode.{is_horizontal}
 use Rattle.wm_modes.specs.Sides.{block_start}
-use Rattle.style_types.specs.declared.constraint.Constraint.{Constraint}
+use Rattle.fragment_types.specs.declared.constraint.Constraint.{Constraint}
 use Rattle.style_types.specs.declared.style.Style.{Style}
-use Rattle.style_types.specs.Fragment.{Pieces, none}
+use Rattle.fragment_types.specs.Fragment.{Pieces, none}
 use Rattle.block_flow.specs.Adjoining.{edges}
 use Rattle.box_arena.specs.At.{Node}
 use Rattle.box_gen.specs.Tree.{Boxes, none as no_boxes, box}

@@ -4,11 +4,11 @@ use Rattle.std.specs.List.{AllZip}
 use Rattle.margin_collapse.specs.Margins.{greatest, least}
 use Rattle.margin_collapse.specs.declared.margins.Margins.{Margins}
 use Rattle.wm_modes.specs.declared.rects.FlowRect.{FlowRect}
-use Rattle.style_types.specs.declared.constraint.Constraint.{Constraint}
-use Rattle.style_types.specs.declared.item.BoxName.{BoxName}
+use Rattle.fragment_types.specs.declared.constraint.Constraint.{Constraint}
+use Rattle.fragment_types.specs.declared.item.BoxName.{BoxName}
 use Rattle.style_types.specs.declared.style.Style.{Style}
-use Rattle.style_types.specs.declared.fragment.Fragment.{Fragment, out-Fragment}
-use Rattle.style_types.specs.Fragment.{Kind, Pieces, block, line, kind_of, measure, piece, pieces_of, run, span}
+use Rattle.fragment_types.specs.declared.fragment.Fragment.{Fragment, out-Fragment}
+use Rattle.fragment_types.specs.Fragment.{Kind, Pieces, block, line, kind_of, measure, piece, pieces_of, run, span}
 use Rattle.relayout.specs.declared.flowed.LaidBox.{LaidBox}
 
 -- a fragment: whose it is, its border box, its kind, and those inside it

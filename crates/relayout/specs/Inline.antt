@@ -5,7 +5,7 @@ use Rattle.wm_modes.specs.declared.sides.FlowSide.TheVariants.{InlineStart, Inli
 use Rattle.wm_modes.specs.Mode.{is_horizontal}
 use Rattle.wm_modes.specs.Sides.{side_of}
 use Rattle.face_api.specs.Table.{Table}
-use Rattle.style_types.specs.declared.constraint.Constraint.{Constraint}
+use Rattle.fragment_types.specs.declared.constraint.Constraint.{Constraint}
 use Rattle.style_types.specs.declared.style.Style.{Style}
 use Rattle.box_gen.specs.Tree.{Content}
 use Rattle.ortho_flow.specs.Orthogonal.{available}

@@ -11,8 +11,8 @@ use Rattle.face_api.specs.Table.{Table}
 use Rattle.style_types.specs.declared.style.Style.{Style}
 use Rattle.style_types.specs.declared.style.UnicodeBidi.{UnicodeBidi}
 use Rattle.style_types.specs.declared.style.UnicodeBidi.TheVariants as bidis
-use Rattle.style_types.specs.Fragment.{Kind, measure}
-use Rattle.style_types.specs.Item.{Entry}
+use Rattle.fragment_types.specs.Fragment.{Kind, measure}
+use Rattle.fragment_types.specs.Item.{Entry}
 use Rattle.box_gen.specs.Tree.{Content, blocks, inline}
 use Rattle.line_fill.specs.declared.item.Intrinsic.{Intrinsic}
 use Rattle.para_prepare.specs.Parts.{used_direction}

@@ -1,9 +1,9 @@
 -- What is kept in an arena of boxes, compared with flow layout: results are what boxes come to, texts are those of paragraphs.
 use Rattle.std.specs.Prelude.{◌≡◌, ℕ, ◌≤◌, Option, Some, None, option_and_then, pos}
-use Rattle.style_types.specs.declared.constraint.Constraint.{Constraint}
-use Rattle.style_types.specs.declared.item.BoxName.{BoxName}
+use Rattle.fragment_types.specs.declared.constraint.Constraint.{Constraint}
+use Rattle.fragment_types.specs.declared.item.BoxName.{BoxName}
 use Rattle.style_types.specs.declared.style.Style.{Style}
-use Rattle.style_types.specs.Fragment.{Pieces, none, piece}
+use Rattle.fragment_types.specs.Fragment.{Pieces, none, piece}
 use Rattle.box_gen.specs.Tree.{Boxes, Content, box, none as no_boxes}
 use Rattle.box_arena.specs.At.{Node, Slots, kept_at, node_at, parent_at, text_at}
 use Rattle.box_arena.specs.Boxes.{Stands}

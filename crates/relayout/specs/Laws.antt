@@ -2,8 +2,8 @@
 -- call marks a box where these change around it: the last laws speak of boxes to which their containing block is what it was.
 use Rattle.std.specs.Prelude.{◌≡◌, ℕ, Option, None, Some}
 use Rattle.slab.specs.Slab.{Slab}
-use Rattle.style_types.specs.declared.constraint.Constraint.{Constraint}
-use Rattle.style_types.specs.Fragment.{Pieces}
+use Rattle.fragment_types.specs.declared.constraint.Constraint.{Constraint}
+use Rattle.fragment_types.specs.Fragment.{Pieces}
 use Rattle.box_arena.specs.declared.entry.Entry.{Entry}
 use Rattle.box_arena.specs.Arena.{Attaches, Detaches, DropsText, Forgets, Keeps, KeepsText, Marks, Restyles}
 use Rattle.box_arena.specs.At.{IsAbove, Node, Slots, kept_at, links_at, node_at, text_at}

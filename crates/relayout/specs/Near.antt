@@ -2,9 +2,9 @@
 use Rattle.std.specs.Prelude.{ℕ, ◌+◌, ◌≤◌, ◌^◌, max, ⊤, All, unsigned_abs}
 use Rattle.margin_collapse.specs.declared.margins.Margins.{Margins}
 use Rattle.wm_modes.specs.declared.rects.FlowRect.{FlowRect}
-use Rattle.style_types.specs.declared.fragment.Fragment.{Fragment}
-use Rattle.style_types.specs.Fragment.{Kind, block, line, span, run, measure, Pieces, none, piece}
-use Rattle.style_types.specs.declared.constraint.Constraint.{Constraint}
+use Rattle.fragment_types.specs.declared.fragment.Fragment.{Fragment}
+use Rattle.fragment_types.specs.Fragment.{Kind, block, line, span, run, measure, Pieces, none, piece}
+use Rattle.fragment_types.specs.declared.constraint.Constraint.{Constraint}
 use Rattle.style_types.specs.Style.{IsBounded, IsLength}
 use Rattle.box_gen.specs.Tree.{Boxes, none as no_boxes, box}
 use Rattle.line_place.specs.Spread.{spread}

@@ -1,6 +1,6 @@
 -- What a paragraph and its prepared text may have.
 use Rattle.std.specs.Prelude.{ℕ, ◌+◌, ◌≤◌, ◌^◌, ⊤, List, All, length, Option, IfSome, IsSome}
-use Rattle.style_types.specs.Item.{Entry}
+use Rattle.fragment_types.specs.Item.{Entry}
 use Rattle.box_gen.specs.Tree.{Content, blocks, inline}
 use Rattle.para_lines.specs.Boxes.{HasBounds}
 use Rattle.para_prepare.specs.Limits.{HasFontSize, text_bytes}

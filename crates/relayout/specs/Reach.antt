@@ -1,6 +1,6 @@
 -- How far the lengths of flow layout reach.
 use Rattle.std.specs.Prelude.{◌≤◌, ◌^◌, Option, IfSome, ℤ, pos, ◌≤ℤ◌, unsigned_abs}
-use Rattle.style_types.specs.declared.constraint.Constraint.{Constraint}
+use Rattle.fragment_types.specs.declared.constraint.Constraint.{Constraint}
 use Rattle.line_fill.specs.declared.item.Intrinsic.{Intrinsic}
 use Rattle.relayout.specs.declared.inline.PageView.{PageView}
 

@@ -6,7 +6,7 @@ use Rattle.wm_modes.specs.Mode.{is_horizontal}
 use Rattle.wm_units.specs.declared.view.View.{View}
 use Rattle.wm_modes.specs.Sides.{block_start}
 use Rattle.style_types.specs.declared.style.Style.{Style}
-use Rattle.style_types.specs.Fragment.{Pieces, none}
+use Rattle.fragment_types.specs.Fragment.{Pieces, none}
 use Rattle.box_arena.specs.declared.entry.Entry.{Entry}
 use Rattle.box_arena.specs.At.{Node, Slots, node_at}
 use Rattle.box_arena.specs.Boxes.{Stands}

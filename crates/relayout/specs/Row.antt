@@ -2,8 +2,8 @@
 use Rattle.std.specs.Prelude.{◌≡◌, ℕ, ◌≤◌, ◌-◌, ◌^◌, List, [], ◌∷◌, Option, Some, IfSome, IsSome}
 use Rattle.slab.specs.Slab.{Slab}
 use Rattle.face_api.specs.Table.{Table}
-use Rattle.style_types.specs.declared.constraint.Constraint.{Constraint}
-use Rattle.style_types.specs.declared.item.BoxName.{BoxName}
+use Rattle.fragment_types.specs.declared.constraint.Constraint.{Constraint}
+use Rattle.fragment_types.specs.declared.item.BoxName.{BoxName}
 use Rattle.style_types.specs.declared.style.Style.{Style}
 use Rattle.style_types.specs.Style.{IsBounded}
 use Rattle.box_arena.specs.declared.entry.Entry.{Entry}

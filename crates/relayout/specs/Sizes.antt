@@ -7,7 +7,7 @@ use Rattle.line_fill.specs.declared.item.Intrinsic.{Intrinsic}
 use Rattle.para_prepare.specs.Parts.{used_direction}
 use Rattle.size_rules.specs.Limits.{used_size}
 use Rattle.size_rules.specs.Resolving.{resolved, resolved_or_zero}
-use Rattle.style_types.specs.declared.constraint.Constraint.{Constraint}
+use Rattle.fragment_types.specs.declared.constraint.Constraint.{Constraint}
 use Rattle.style_types.specs.declared.style.Display.{Display}
 use Rattle.style_types.specs.declared.style.Display.TheVariants as displays
 use Rattle.style_types.specs.declared.style.Size.{Size}

@@ -1,8 +1,8 @@
 //! Inline-blocks in a paragraph: their margin boxes on a line, and their baselines (CSS 2, 10.8.1).
 
 ghost use Rattle.std.specs.Prelude.{◌≡◌, ◌+◌, ◌*◌, ◌≤◌, ◌^◌, ◌+ℤ◌, ◌-ℤ◌, IfOk, IfSome, Some, pos, unsigned_abs};
-ghost use Rattle.style_types.specs.declared.fragment.Fragment.{out-Fragment};
-ghost use Rattle.style_types.specs.Fragment.{kind_of, none, piece_of, pieces_of};
+ghost use Rattle.fragment_types.specs.declared.fragment.Fragment.{out-Fragment};
+ghost use Rattle.fragment_types.specs.Fragment.{kind_of, none, piece_of, pieces_of};
 ghost use Rattle.style_types.specs.Style.{baseline_of};
 ghost use Rattle.para_lines.specs.Paragraph.{atom_of};
 ghost use Rattle.para_lines.specs.Reach.{atom_reach};
@@ -13,9 +13,10 @@ ghost use Rattle.relayout.specs.Reach.{IsBase};
 
 use crate::edges::{margin_or_zero, margins_along, margins_over, side_in};
 use crate::flowed::LaidBox;
+use fragment_types::{Fragment, FragmentKind};
 use para_lines::Atom;
 use std::alloc::{AllocError, Global};
-use style_types::{Baseline, Fragment, FragmentKind, Style};
+use style_types::{Baseline, Style};
 use wm_modes::{FlowRect, FlowSide, Side, WritingMode};
 use wm_units::half;
 
@@ -89,16 +90,12 @@ fn line_of(mode: WritingMode, fragment: &Fragment) -> Option<LastLine>
             over: *base,
             baseline: *baseline,
         }),
-        FragmentKind::Box {
-            mode: own,
-            content,
-            ..
-        } => {
-            if !same_mode(*own, mode) {
+        FragmentKind::Box(part) => {
+            if !same_mode(part.mode, mode) {
                 return None;
             }
             let found = last_line(mode, &fragment.children)?;
-            Some(found.further(sum(fragment.rect.b, content.b)))
+            Some(found.further(sum(fragment.rect.b, part.content.b)))
         }
         FragmentKind::Span | FragmentKind::Run { .. } | FragmentKind::Measure { .. } => None,
     }
@@ -180,14 +177,15 @@ fn own_baseline(paragraph: &Style, fragment: &Fragment) -> Option<LastLine>
     ensures value { result ≡ rule.own_baseline paragraph.now.mode (baseline_of paragraph.now.mode paragraph.now.orientation) (kind_of (out-Fragment fragment.now).kind) (pieces_of (out-Fragment fragment.now).children.value.items) }
 {
     match &fragment.kind {
-        FragmentKind::Box {
-            mode: own,
-            content,
-            ..
-        } => {
-            let found = last_line(*own, &fragment.children)?;
-            if fits(*own, paragraph.mode, found.baseline, paragraph.baseline()) {
-                Some(from_border(*own, *content, found))
+        FragmentKind::Box(part) => {
+            let found = last_line(part.mode, &fragment.children)?;
+            if fits(
+                part.mode,
+                paragraph.mode,
+                found.baseline,
+                paragraph.baseline(),
+            ) {
+                Some(from_border(part.mode, part.content, found))
             } else {
                 None
             }

@@ -2,8 +2,8 @@
 
 ghost use Rattle.std.specs.Prelude.{◌≡◌, ◌≤◌, ◌^◌, List, ℤ, ◌+ℤ◌, IfOk, Some, unsigned_abs};
 ghost use Rattle.margin_collapse.specs.Pairs.{IsPairOf};
-ghost use Rattle.style_types.specs.Fragment as kinds;
-ghost use Rattle.style_types.specs.Fragment.{kind_of, pieces_of};
+ghost use Rattle.fragment_types.specs.Fragment as kinds;
+ghost use Rattle.fragment_types.specs.Fragment.{kind_of, pieces_of};
 ghost use Rattle.style_types.specs.Style.{IsBounded};
 ghost use Rattle.box_arena.specs.At.{node_of};
 ghost use Rattle.relayout.specs.Boxed as rule;
@@ -21,11 +21,12 @@ use crate::edges::{
 use crate::sizes::{Containing, block_sizes, definite, is_atom, is_flow_root};
 use block_flow::{BlockBox, Edge};
 use box_gen::BoxNode;
+use fragment_types::{BoxName, BoxPart, Constraint, Fragment, FragmentKind, Fragments};
 use line_fill::Intrinsic;
 use margin_collapse::Margins;
 use std::alloc::{AllocError, Global};
 use std::rc::Rc;
-use style_types::{BoxName, Constraint, Fragment, FragmentKind, Fragments, Style};
+use style_types::Style;
 use wm_modes::{FlowRect, FlowSide, Side, side_of};
 
 /// The block size that percentages of a box's children refer to. An anonymous block is passed over.
@@ -320,7 +321,7 @@ pub(crate) fn boxed(
     let style = &node.style;
     let extent = block_size(containing, style, c, content.extent);
     let through = block_box(containing, style, c, content.lines).is_through(content.through);
-    let kind = FragmentKind::Box {
+    let part = BoxPart {
         mode: style.mode,
         dir: style.used_direction(),
         content: content_area(containing, style, c, size, extent),
@@ -330,6 +331,7 @@ pub(crate) fn boxed(
         through,
     };
     let rect = border_box(containing, style, c, size, extent);
+    let kind = FragmentKind::Box(Rc::new(alloc, part)?);
     let made = fragment_of(alloc, node.name, rect, kind, content.parts)?;
     Ok(made)
 }

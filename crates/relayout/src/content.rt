@@ -2,8 +2,8 @@
 
 ghost use Rattle.std.specs.Prelude.{◌≡◌, ◌+◌, ◌*◌, ◌≤◌, ◌^◌, ℕ, List, All, IfOk, OnOk, Some, length, map, option_copied, pos};
 ghost use Rattle.face_api.specs.Faces.{faces_of};
-ghost use Rattle.style_types.specs.Fragment.{Pieces, before, pieces_of};
-ghost use Rattle.style_types.specs.Item.{entries_of};
+ghost use Rattle.fragment_types.specs.Fragment.{Pieces, before, pieces_of};
+ghost use Rattle.fragment_types.specs.Item.{entries_of};
 ghost use Rattle.style_types.specs.Style.{IsBounded};
 ghost use Rattle.box_gen.specs.Tree.{content_of, inline};
 ghost use Rattle.line_place.specs.Spread.{spread};
@@ -28,12 +28,13 @@ use crate::sizes::Containing;
 use block_flow::{ChildBox, ParentEdges, stack as stack_of};
 use box_gen::{BoxNode, Content};
 use face_api::{Face, Faces};
+use fragment_types::{Fragment, FragmentKind, Fragments, Item};
 use margin_collapse::Margins;
 use para_lines::{Atom, Container, paragraph_lines};
 use para_prepare::Prepared;
 use std::alloc::{AllocError, Global};
 use std::sync::ledger::Ledger;
-use style_types::{Fragment, FragmentKind, Fragments, Item, Style};
+use style_types::Style;
 use wm_modes::FlowRect;
 use wm_units::Steps;
 
@@ -64,16 +65,11 @@ fn child_of(laid: &LaidBox) -> ChildBox
 {
     let size = laid.fragment.rect.block;
     match &laid.fragment.kind {
-        FragmentKind::Box {
-            start,
-            end,
-            through,
-            ..
-        } => ChildBox {
+        FragmentKind::Box(part) => ChildBox {
             size,
-            start: *start,
-            end: *end,
-            through: *through,
+            start: part.start,
+            end: part.end,
+            through: part.through,
         },
         FragmentKind::Line { .. }
         | FragmentKind::Span
@@ -252,7 +248,7 @@ pub(crate) fn filled<L: Ledger>(
         (Content::Inline(items), Some(text)) => {
             let container = Container {
                 name: node.name,
-                style: node.style,
+                style: *node.style,
                 size,
             };
             let made = paragraph(alloc, &container, items, text, laid, faces, arranged)?;

@@ -15,10 +15,10 @@ use crate::sizes::Containing;
 use box_arena::{BoxArena, BoxKey};
 use bumpalo::Bump;
 use face_api::{Face, Faces};
+use fragment_types::Constraint;
 use para_prepare::Prepared;
 use std::alloc::{AllocError, Global};
 use std::sync::ledger::Ledger;
-use style_types::Constraint;
 use wm_units::Steps;
 
 /// The greatest count of boxes under one root.
@@ -54,7 +54,7 @@ pub(crate) fn flow<L: Ledger, M: Ledger>(
             break;
         };
         next = arena.next(key);
-        let style = arena.node(key).style;
+        let style = arena.node(key).style.clone()?;
         if let Some(fragment) = kept(arena, key, c)? {
             laid.push(LaidBox { style, fragment })?;
             continue;

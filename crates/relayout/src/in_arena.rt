@@ -3,7 +3,7 @@
 ghost use Rattle.std.specs.Prelude.{◌≡◌, ◌+◌, ◌*◌, ◌≤◌, ◌^◌, ℕ, All, IfOk, List, None, OnErr, OnOk, Some, length, option_map};
 ghost use Rattle.face_api.specs.Faces.{faces_of};
 ghost use Rattle.slab.specs.Slab.{ContainsKey};
-ghost use Rattle.style_types.specs.Fragment.{piece_of};
+ghost use Rattle.fragment_types.specs.Fragment.{piece_of};
 ghost use Rattle.box_arena.specs.Arena.{Keeps};
 ghost use Rattle.box_arena.specs.At.{Node, first_at, kept_at, node_at, text_at};
 ghost use Rattle.box_gen.specs.Tree.{content_of};
@@ -30,10 +30,10 @@ use box_arena::{BoxArena, BoxKey};
 use box_gen::{BoxNode, Content};
 use bumpalo::Bump;
 use face_api::{Face, Faces};
+use fragment_types::{Constraint, Fragment};
 use para_prepare::Prepared;
 use std::alloc::{AllocError, Global};
 use std::sync::ledger::Ledger;
-use style_types::{Constraint, Fragment};
 use wm_units::Steps;
 
 // The same fragment, with what is below it shared.

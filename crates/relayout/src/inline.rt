@@ -9,10 +9,11 @@ ghost use Rattle.relayout.specs.Reach.{IsBase, IsPageView};
 
 use crate::edges::{inner_edges_along, margin, margins_along};
 use crate::sizes::{Containing, inline_sizes, is_atom, sizes_along};
+use fragment_types::Constraint;
 use line_fill::Intrinsic;
 use ortho_flow::available;
 use size_rules::{Used, fit, inline_equation};
-use style_types::{Constraint, Style};
+use style_types::Style;
 use wm_modes::{FlowSide, WritingMode, side_of};
 
 /// The view's sizes across and down the page, from 0 to 2^32 units of 1/64 px.

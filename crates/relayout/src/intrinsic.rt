@@ -4,9 +4,9 @@
 ghost use Rattle.std.specs.Prelude.{◌≡◌, ◌+◌, ◌≤◌, ◌^◌, List, Option, All, IfOk, IfSome, OnOk, length, map, option_copied, unsigned_abs};
 ghost use Rattle.face_api.specs.Faces.{faces_of};
 ghost use Rattle.face_api.specs.Table.{Table};
-ghost use Rattle.style_types.specs.declared.fragment.Fragment.{out-Fragment};
-ghost use Rattle.style_types.specs.Fragment.{kind_of};
-ghost use Rattle.style_types.specs.Item.{entries_of, entry_of};
+ghost use Rattle.fragment_types.specs.declared.fragment.Fragment.{out-Fragment};
+ghost use Rattle.fragment_types.specs.Fragment.{kind_of};
+ghost use Rattle.fragment_types.specs.Item.{entries_of, entry_of};
 ghost use Rattle.style_types.specs.declared.style.Style as styles;
 ghost use Rattle.style_types.specs.Style.{IsBounded};
 ghost use Rattle.box_gen.specs.Tree.{content_of};
@@ -22,12 +22,13 @@ use crate::edges::margins_along;
 use box_gen::Content;
 use bumpalo::Bump;
 use face_api::{Face, Faces};
+use fragment_types::{Fragment, FragmentKind, Item, Items};
 use line_fill::Intrinsic;
 use para_lines::paragraph_sizes;
 use para_prepare::{Paragraph, Prepared, prepare};
 use std::alloc::{AllocError, Global};
 use std::sync::ledger::Ledger;
-use style_types::{Fragment, FragmentKind, Item, Items, Style, UnicodeBidi};
+use style_types::{Style, UnicodeBidi};
 use wm_modes::{Direction, FlowRect, WritingMode};
 use wm_units::{Steps, cap_size};
 
@@ -46,7 +47,7 @@ pub(crate) fn contributed(mode: WritingMode, style: &Style, child: &Fragment) ->
             min: *min,
             max: *max,
         },
-        FragmentKind::Box { .. }
+        FragmentKind::Box(_)
         | FragmentKind::Line { .. }
         | FragmentKind::Span
         | FragmentKind::Run { .. } => whole(mode, style, child.rect),
@@ -100,11 +101,11 @@ fn copy_of(item: &Item) -> Result<Item, AllocError>
         Item::Text { node, text, style } => Item::Text {
             node: *node,
             text: text.clone()?,
-            style: *style,
+            style: style.clone()?,
         },
         Item::Open { node, style, opens } => Item::Open {
             node: *node,
-            style: *style,
+            style: style.clone()?,
             opens: *opens,
         },
         Item::Close { node, closes } => Item::Close {

@@ -7,9 +7,10 @@ ghost use Rattle.relayout.specs.Reach as reach;
 ghost use Rattle.relayout.specs.Reach.{IsBase};
 ghost use Rattle.relayout.specs.Sizes as rule;
 
+use fragment_types::Constraint;
 use line_fill::Intrinsic;
 use size_rules::{resolved, resolved_or_zero, used_size};
-use style_types::{Constraint, Display, Size, Style};
+use style_types::{Display, Size, Style};
 use wm_modes::{Direction, WritingMode};
 
 /// What a containing block is to the boxes in it: its mode and its used direction.

@@ -28,11 +28,12 @@ use crate::intrinsic::{contributed, inner};
 use crate::sizes::{Containing, sizes_along};
 use box_gen::BoxNode;
 use face_api::{Face, Faces};
+use fragment_types::{Constraint, Fragment};
 use line_fill::Intrinsic;
 use para_prepare::Prepared;
 use std::alloc::{AllocError, Global};
 use std::sync::ledger::Ledger;
-use style_types::{Constraint, Fragment, Style};
+use style_types::Style;
 use wm_modes::WritingMode;
 use wm_units::Steps;
 

@@ -4,7 +4,7 @@ ghost use Rattle.std.specs.Prelude.{◌≡◌, ◌≤◌, ◌-◌, ◌^◌, List
 ghost use Rattle.face_api.specs.Faces.{faces_of};
 ghost use Rattle.face_api.specs.Table.{Table};
 ghost use Rattle.slab.specs.Slab.{ContainsKey};
-ghost use Rattle.style_types.specs.Fragment.{piece_of};
+ghost use Rattle.fragment_types.specs.Fragment.{piece_of};
 ghost use Rattle.wm_modes.specs.Mode.{is_horizontal};
 ghost use Rattle.box_arena.specs.At.{parent_at};
 ghost use Rattle.line_place.specs.Spread.{spread};
@@ -24,10 +24,10 @@ use crate::sizes::Containing;
 use box_arena::{BoxArena, BoxKey};
 use bumpalo::Bump;
 use face_api::{Face, Faces};
+use fragment_types::{Constraint, Fragment};
 use para_prepare::Prepared;
 use std::alloc::{AllocError, Global};
 use std::sync::ledger::Ledger;
-use style_types::{Constraint, Fragment};
 use wm_modes::{FlowRect, FlowSide, WritingMode};
 use wm_units::{Steps, View};
 
@@ -90,7 +90,7 @@ pub fn relayout<L: Ledger, M: Ledger>(
     ensures near { IfOk result (λ made. spread (piece_of made) ≤ 2 ^ 60 - 2 ^ 37) }
     ensures layout { IfOk result (λ made. IsLayout (faces_of ⟦<dyn Face as Face>⟧ faces.now) view arena.old.slots root (piece_of made)) }
 {
-    let style = arena.node(root).style;
+    let style = *arena.node(root).style;
     let mut scratch = Bump::new(alloc);
     let laid = flow(
         alloc,

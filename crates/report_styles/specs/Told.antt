@@ -16,7 +16,7 @@ use Rattle.css_values.specs.Error.{Fault, syntax}
 use Rattle.css_values.specs.Reports as reports
 use Rattle.css_values.specs.Reports.{Reported}
 use Rattle.css_values.specs.Value.{no_items}
-use Rattle.style_types.specs.Rule.{Compound, Styling}
+use Rattle.css_types.specs.Rule.{Compound, Styling}
 use Rattle.css_sheet.specs.Sheet.{heads}
 use Rattle.css_sheet.specs.Styled.{Placed, styling}
 use Rattle.html_read.specs.Values.{TextAt, Acting, Kind, Node, Whole}

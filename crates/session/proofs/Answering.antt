@@ -2,8 +2,8 @@
 use Rattle.std.proofs.Common.{◌≡◌, ◌∙◌, sym, ap, subst, arith, ℕ, ◌≤◌, List, [], get_or}
 use Rattle.std.specs.List.{All, Contains}
 use Rattle.std.proofs.lemmas.Option.{get_or_from_slice_get, slice_get_within}
-use Rattle.style_types.specs.declared.value.Declaration.{Declaration}
-use Rattle.style_types.specs.Rule.{Ruling}
+use Rattle.css_types.specs.declared.value.Declaration.{Declaration}
+use Rattle.css_types.specs.Rule.{Ruling}
 use Rattle.html_read.specs.Values.{Node}
 use Rattle.dom_store.specs.Opening.{IsTooDeep, depths}
 use Rattle.dom_store.specs.State.{greatest_depth}

@@ -2,7 +2,7 @@
 use Rattle.std.proofs.Common.{◌≡◌, subst, ap, sym, ◌≤◌, ◌^◌, ℕ, List, Option, Ok}
 use Rattle.face_api.specs.Table.{Table}
 use Rattle.wm_units.specs.declared.view.View.{View}
-use Rattle.style_types.specs.Rule.{Ruling}
+use Rattle.css_types.specs.Rule.{Ruling}
 use Rattle.style_types.specs.Tree.{Nodes}
 use Rattle.dom_store.specs.Opening.{AreSame, greatest_count}
 use Rattle.dom_store.specs.Standing.{live_count}

@@ -4,8 +4,8 @@ use Rattle.std.specs.Prelude.{⊤}
 use Rattle.std.proofs.lemmas.List.Elements.{All-append, All-cons}
 use Rattle.style_types.specs.declared.style.Display.TheVariants.{Block, Inline, InlineBlock, FlowRoot, Hidden}
 use Rattle.style_types.specs.declared.style.Style.{Style}
-use Rattle.style_types.specs.Item as item
-use Rattle.style_types.specs.Item.{Entry}
+use Rattle.fragment_types.specs.Item as item
+use Rattle.fragment_types.specs.Item.{Entry}
 use Rattle.style_types.specs.Style.{IsBounded}
 use Rattle.style_types.specs.Tree as styled
 use Rattle.style_types.specs.Tree.{NodeKind, Nodes}

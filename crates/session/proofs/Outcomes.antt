@@ -1,6 +1,6 @@
 -- What an edit of an open document leads to, by what the document and its boxes answer.
 use Rattle.std.proofs.Common.{◌≡◌, ◌⊎◌, ◌+◌, ◌≤◌, sym, ap, subst, refl, inl, inr, ℕ, List, [], Option, Some, None, Err}
-use Rattle.style_types.specs.Rule.{Ruling}
+use Rattle.css_types.specs.Rule.{Ruling}
 use Rattle.dom_store.specs.declared.error.EditError.{EditError}
 use Rattle.dom_store.specs.declared.error.EditError.TheVariants as refusals
 use Rattle.dom_store.specs.Edited.{IsFitting, IsSaidEdit, accepted, bytes_brought, edited, refused, unless}

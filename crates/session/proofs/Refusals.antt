@@ -1,7 +1,7 @@
 -- The boxes of a document, or why there are none.
 use Rattle.std.proofs.Common.{◌≡◌, ◌⊎◌, inl, inr, refl, List, [], Err}
-use Rattle.style_types.specs.declared.value.Declaration.{Declaration}
-use Rattle.style_types.specs.Rule.{Ruling}
+use Rattle.css_types.specs.declared.value.Declaration.{Declaration}
+use Rattle.css_types.specs.Rule.{Ruling}
 use Rattle.html_read.specs.Values.{Node}
 use Rattle.style_types.specs.Tree.{Nodes}
 use Rattle.box_gen.specs.declared.error.BoxError.{BoxError}

@@ -3,7 +3,7 @@ use Rattle.std.proofs.Common.{◌≡◌, ℕ, zero, suc, ◌≤◌, List, [], �
 use Rattle.html_tokens.specs.declared.tag.Tag.{Tag}
 use Rattle.html_tokens.specs.declared.tag.Tag.TheVariants as tags
 use Rattle.style_types.specs.declared.style.Style.{Style}
-use Rattle.style_types.specs.Rule.{Ruling}
+use Rattle.css_types.specs.Rule.{Ruling}
 use Rattle.dom_store.specs.State as dom
 use Rattle.dom_store.specs.State.{Entry, State, Tree, What, tree_of, tree_to, tree_with}
 use Rattle.tree_laws.specs.Laws.{CountsAreTotals, TreesWeighNoMore}

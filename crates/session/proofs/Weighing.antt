@@ -1,8 +1,8 @@
 -- How far the boxes of a styled tree reach together.
 use Rattle.std.proofs.Common.{◌≡◌, ℕ, suc, ◌+◌, ◌*◌, ◌-◌, ◌≤◌, ◌^◌, Bool, true, false, List, [], ◌∷◌, ◌++◌, arith}
 use Rattle.style_types.specs.declared.style.Style.{Style}
-use Rattle.style_types.specs.Item as item
-use Rattle.style_types.specs.Item.{Entry}
+use Rattle.fragment_types.specs.Item as item
+use Rattle.fragment_types.specs.Item.{Entry}
 use Rattle.style_types.specs.Tree as styled
 use Rattle.style_types.specs.Tree.{NodeKind, Nodes}
 use Rattle.box_gen.specs.Boxes.{Blocks, Held, Role, Run, atom, block_level, container, held, inline_before, inline_box, is_blank, join, line_break, made, no_more, nothing, own_name, placed, role_of, root_boxes, stacked, then, words, wrapped}

@@ -1,6 +1,6 @@
 -- What an edit of an open document leads to.
 use Rattle.std.specs.Prelude.{◌≡◌, ◌⊎◌, List, [], Some, None, Result, Ok, Err, ⊤}
-use Rattle.style_types.specs.Rule.{Ruling}
+use Rattle.css_types.specs.Rule.{Ruling}
 use Rattle.dom_store.specs.declared.error.EditError.{EditError}
 use Rattle.dom_store.specs.declared.error.EditError.TheVariants as refusals
 use Rattle.dom_store.specs.Edits.{EditOf, remove, after}

@@ -2,7 +2,7 @@
 use Rattle.std.specs.Prelude.{ℕ, suc, ◌+◌, ◌-◌, ◌≤◌, ◌^◌, max, List, length}
 use Rattle.style_types.specs.Tree as styled
 use Rattle.style_types.specs.Tree.{NodeKind, Nodes}
-use Rattle.style_types.specs.Rule.{Ruling}
+use Rattle.css_types.specs.Rule.{Ruling}
 use Rattle.dom_store.specs.Opening.{greatest_count}
 use Rattle.dom_store.specs.Standing.{live_count}
 use Rattle.dom_store.specs.State.{State}

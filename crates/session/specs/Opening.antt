@@ -1,8 +1,8 @@
 -- How a document is opened: which are refused, and what the others are.
 use Rattle.std.specs.Prelude.{◌≡◌, ℕ, ◌≤◌, ◌<◌, ⊤, List, [], length, Some, Result, Ok, Err}
 use Rattle.std.specs.List.{All}
-use Rattle.style_types.specs.declared.value.Declaration.{Declaration}
-use Rattle.style_types.specs.Rule.{Ruling}
+use Rattle.css_types.specs.declared.value.Declaration.{Declaration}
+use Rattle.css_types.specs.Rule.{Ruling}
 use Rattle.style_types.specs.Tree.{Nodes}
 use Rattle.html_read.specs.Values.{Node}
 use Rattle.dom_store.specs.declared.document.Document.{Document}

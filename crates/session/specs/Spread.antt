@@ -3,7 +3,7 @@ use Rattle.std.specs.Prelude.{◌+◌, ◌≤◌, ◌^◌, ℕ, max, unsigned_ab
 use Rattle.wm_modes.specs.declared.mode.Direction.{Direction}
 use Rattle.wm_modes.specs.declared.mode.WritingMode.{WritingMode}
 use Rattle.wm_modes.specs.declared.rects.Rect.{Rect}
-use Rattle.style_types.specs.Fragment.{Pieces}
+use Rattle.fragment_types.specs.Fragment.{Pieces}
 use Rattle.line_place.specs.Spread.{spread}
 use Rattle.place_map.specs.Near.{AreNear}
 

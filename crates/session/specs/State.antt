@@ -1,8 +1,8 @@
 -- What a session holds, and the page that it shows.
 use Rattle.std.specs.Prelude.{◌≡◌, ◌≤◌, ◌⊎◌, List, [], None, Option, IfSome, Result, Ok, Err}
 use Rattle.face_api.specs.Table.{Table}
-use Rattle.style_types.specs.declared.value.Declaration.{Declaration}
-use Rattle.style_types.specs.Rule.{Ruling}
+use Rattle.css_types.specs.declared.value.Declaration.{Declaration}
+use Rattle.css_types.specs.Rule.{Ruling}
 use Rattle.style_types.specs.Tree.{Nodes}
 use Rattle.wm_units.specs.View.{IsView}
 use Rattle.wm_units.specs.declared.view.View.{View}

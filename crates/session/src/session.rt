@@ -3,7 +3,7 @@
 ghost use Rattle.std.specs.Prelude.{◌≡◌, ◌≤◌, IfErr, IfOk, None, length, map};
 ghost use Rattle.std.specs.List.{All};
 ghost use Rattle.face_api.specs.Faces.{faces_of};
-ghost use Rattle.style_types.specs.Rule.{rulings_of};
+ghost use Rattle.css_types.specs.Rule.{rulings_of};
 ghost use Rattle.wm_units.specs.View.{IsView};
 ghost use Rattle.html_read.specs.Shape.{IsInDocumentOrder, IsShaped, text_bytes};
 ghost use Rattle.html_read.specs.Values.{nodes_of};
@@ -21,6 +21,7 @@ use crate::laws::{
 use crate::planting::{Rooted, grown};
 use crate::stored::stored;
 use cascade::RuleIndex;
+use css_types::Styled;
 use dom_store::Document;
 use face_api::{Face, Faces};
 use html_read::ReadDocument;
@@ -29,7 +30,6 @@ use relayout::laws::what_is_not_kept_is_right;
 use relayout::relayout;
 use std::alloc::{AllocError, Global};
 use std::sync::ledger::Ledger;
-use style_types::Styled;
 use tree_laws::laws::{
     live_counts_are_totals, opened_documents_are_reached, opened_documents_are_whole,
 };

@@ -10,10 +10,10 @@ ghost use Rattle.std.specs.Prelude.{None};
 ghost use Rattle.session.specs.Opening.{Stores};
 
 use crate::error::OpenError;
+use css_types::Styled;
 use dom_store::Document;
 use html_read::ReadDocument;
 use std::alloc::Global;
-use style_types::Styled;
 
 /// The document of these nodes, with their declarations.
 pub(crate) fn stored(

@@ -1,7 +1,7 @@
 //! The layout of one paragraph.
 
 ghost use Rattle.std.specs.Prelude.{◌≡◌, ◌≤◌, All, IfOk, length};
-ghost use Rattle.style_types.specs.Item.{entries_of};
+ghost use Rattle.fragment_types.specs.Item.{entries_of};
 ghost use Rattle.style_types.specs.Style.{IsBounded};
 ghost use Rattle.para_prepare.specs.Limits.{HasFontSize, text_bytes};
 ghost use Rattle.para_prepare.specs.Preparation.{atoms_of};
@@ -13,7 +13,8 @@ use para_lines::{Container, paragraph_lines};
 use para_prepare::{Paragraph, prepare};
 use std::alloc::{AllocError, Global};
 use std::sync::ledger::Ledger;
-use style_types::{BoxName, Fragments, Item, Items, Style};
+use fragment_types::{BoxName, Fragments, Item, Items};
+use style_types::Style;
 use wm_modes::{Direction, WritingMode};
 use wm_units::Steps;
 

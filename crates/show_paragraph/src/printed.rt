@@ -2,7 +2,7 @@
 
 use std::io;
 use std::io::Write;
-use style_types::{Fragment, FragmentKind, RunUnit};
+use fragment_types::{Fragment, FragmentKind, RunUnit};
 
 /// Prints fragments, a line each, those inside one another further in. Places are in units of 1/64 px: along the line from the
 /// top, and across the lines from the first.

@@ -6,7 +6,7 @@ use Rattle.dom_store.specs.State as dom
 use Rattle.std.specs.List.{All}
 use Rattle.style_types.specs.declared.style.Style.{Style}
 use Rattle.style_types.specs.declared.tree.StyledNode.{StyledNode}
-use Rattle.style_types.specs.Rule.{Ruling}
+use Rattle.css_types.specs.Rule.{Ruling}
 use Rattle.style_types.specs.Tree.{Nodes, none, before, all_nodes_of, nodes_of}
 use Rattle.dom_store.specs.State.{What, Entry, State, Tree, tree_to, tree_with}
 use Rattle.style_tree.specs.Styling.{AreBounded, styled_in, styled_one}

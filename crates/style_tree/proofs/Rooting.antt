@@ -7,7 +7,7 @@ use Rattle.style_types.specs.declared.style.Style.{Style}
 use Rattle.style_types.specs.declared.tree.StyledNode.{StyledNode}
 use Rattle.style_types.specs.declared.tree.StyledNode.TheOpen.{StyledNode-F}
 use Rattle.style_types.specs.declared.tree.StyledNode.TheViews.{roll-StyledNode}
-use Rattle.style_types.specs.Rule.{Ruling}
+use Rattle.css_types.specs.Rule.{Ruling}
 use Rattle.style_types.specs.Tree as styled
 use Rattle.style_types.specs.Tree.{Nodes, all_nodes_of, nodes_of}
 use Rattle.dom_store.specs.State as dom

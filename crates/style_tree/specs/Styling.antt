@@ -10,7 +10,7 @@ use Rattle.style_types.specs.declared.style.Style.{Style}
 use Rattle.style_types.specs.declared.style.TextOrientation.{TextOrientation}
 use Rattle.style_types.specs.declared.style.TextOrientation.TheVariants.{Mixed, Upright}
 use Rattle.style_types.specs.Initial.{initial}
-use Rattle.style_types.specs.Rule.{Ruling}
+use Rattle.css_types.specs.Rule.{Ruling}
 use Rattle.style_types.specs.Style.{IsBounded, is_upright}
 use Rattle.style_types.specs.Tree as styled
 use Rattle.style_types.specs.Tree.{Nodes, NodeKind}

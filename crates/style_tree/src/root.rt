@@ -6,7 +6,8 @@ ghost use Rattle.cascade.specs.Winners.{AreSaidWinners};
 ghost use Rattle.style_tree.specs.Styling as definitions;
 
 use computed::compute;
-use style_types::{Display, Style, TextOrientation, Winners};
+use css_types::Winners;
+use style_types::{Display, Style, TextOrientation};
 use wm_modes::Direction;
 
 /// The style of `body`, which has the mode that its own winners give it and never turns.

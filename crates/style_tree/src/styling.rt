@@ -17,7 +17,7 @@ use cascade::{KeptLine, RuleIndex};
 use computed::compute;
 use dom_store::{Document, Node, NodeKind};
 use std::alloc::{AllocError, Global};
-use style_types::{Style, StyledNode, StyledNodes};
+use style_types::{SharedStyle, Style, StyledNode, StyledNodes};
 
 /// Each node of a document with its style, as a tree: `html`, in it `body`, and in this all others, in document order.
 /// A text has the style of its parent. The nodes at most 64 deep are in it, as they all are in a document. Linear in the
@@ -84,8 +84,9 @@ impl<'a> Styling<'a> {
     {
         let body = self.document.node(1).unwrap();
         let mut kept = KeptLine::new(self.document, body);
-        let children = self.nodes(alloc, &mut kept, &body.children, style, 62)?;
-        let made = made(1, &body.kind, *style, children)?;
+        let style = SharedStyle::new(alloc, *style)?;
+        let children = self.nodes(alloc, &mut kept, &body.children, &style, 62)?;
+        let made = made(1, &body.kind, style, children)?;
         Ok(made)
     }
 
@@ -100,7 +101,7 @@ impl<'a> Styling<'a> {
         let html = self.document.node(0).unwrap();
         let mut children = StyledNodes::with_capacity(alloc, 1)?;
         children.push(body)?;
-        let made = made(0, &html.kind, style, children)?;
+        let made = made(0, &html.kind, SharedStyle::new(alloc, style)?, children)?;
         Ok(made)
     }
 
@@ -134,8 +135,8 @@ impl<'a> Styling<'a> {
         kept: &mut KeptLine<'a>,
         number: u32,
         node: &'a Node,
-        parent: &Style,
-    ) -> Result<Style, AllocError>
+        parent: &SharedStyle,
+    ) -> Result<SharedStyle, AllocError>
         requires here { (state_of self.now.document.now).node_at number ≡ Some (entry_of node.now) }
         requires kept { IsKept kept.old }
         requires document { kept_state kept.old ≡ state_of self.now.document.now }
@@ -148,10 +149,10 @@ impl<'a> Styling<'a> {
         ensures bounded { IfOk result (λ style. IsBounded style) }
     {
         let NodeKind::Element { .. } = node.kind else {
-            return Ok(*parent);
+            return parent.clone();
         };
         let winners = self.rules.winners_in(alloc, kept, number, node, parent)?;
-        Ok(compute(parent, &winners))
+        SharedStyle::new(alloc, compute(parent, &winners))
     }
 
     // A node with its style and all inside it, down to a depth.
@@ -162,7 +163,7 @@ impl<'a> Styling<'a> {
         kept: &mut KeptLine<'a>,
         number: u32,
         node: &'a Node,
-        parent: &Style,
+        parent: &SharedStyle,
         depth: usize,
     ) -> Result<StyledNode, AllocError>
         requires here { (state_of self.now.document.now).node_at number ≡ Some (entry_of node.now) }
@@ -178,11 +179,12 @@ impl<'a> Styling<'a> {
         ensures bounded { IfOk result (λ made. AreBounded (nodes_of made)) }
     {
         let style = self.style_in(alloc, kept, number, node, parent)?;
+        let children = self.nodes(alloc, kept, &node.children, &style, depth)?;
         Ok(StyledNode {
             node: number,
             kind: kind_of(&node.kind)?,
             style,
-            children: self.nodes(alloc, kept, &node.children, &style, depth)?,
+            children,
         })
     }
 
@@ -193,7 +195,7 @@ impl<'a> Styling<'a> {
         alloc: Global,
         kept: &mut KeptLine<'a>,
         numbers: &[u32],
-        parent: &Style,
+        parent: &SharedStyle,
         depth: usize,
     ) -> Result<StyledNodes, AllocError>
         requires kept { IsKept kept.old }
@@ -223,7 +225,7 @@ impl<'a> Styling<'a> {
 fn made(
     number: u32,
     kind: &NodeKind,
-    style: Style,
+    style: SharedStyle,
     children: StyledNodes,
 ) -> Result<StyledNode, AllocError>
     requires style { IsBounded style }

@@ -1,15 +1,3 @@
-pub mod Defaulting
-pub mod Fragment
-pub mod Glyphs
 pub mod Initial
-pub mod Item
-pub mod Keywords
-pub mod Laws
-pub mod Page
-pub mod Property
-pub mod Reach
-pub mod Rule
 pub mod Style
-pub mod Table
 pub mod Tree
-pub mod Value

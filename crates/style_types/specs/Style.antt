@@ -16,7 +16,7 @@ use Rattle.style_types.specs.declared.style.Size.TheVariants as sizes
 use Rattle.style_types.specs.declared.style.Style.{Style}
 use Rattle.style_types.specs.declared.style.TextOrientation.{TextOrientation}
 use Rattle.style_types.specs.declared.style.TextOrientation.TheVariants.{Mixed, Upright, Sideways}
-use Rattle.style_types.specs.Value.{IsSayable}
+use Rattle.wm_units.specs.Numbers.{IsSayable}
 
 abbrev pub is_upright : TextOrientation → Bool
 is_upright Mixed = false

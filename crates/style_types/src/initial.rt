@@ -1,7 +1,7 @@
 //! The initial style (CSS 2, 6.1.1).
 
 ghost use Rattle.std.specs.Prelude.{◌≡◌};
-ghost use Rattle.style_types.specs.Initial.{IsInitial, initial};
+ghost use Rattle.style_types.specs.Initial.{initial};
 ghost use Rattle.style_types.specs.Style.{IsBounded};
 
 use crate::style::{
@@ -11,12 +11,11 @@ use crate::style::{
 use wm_modes::{Direction, WritingMode};
 
 impl Style {
-    /// The style of the root's parent: each field has the initial value of its property in the table of
-    /// properties. Takes no memory.
+    /// The style of the root's parent: each field has what the initial value of its property computes to (a law of
+    /// the crate `defaulting`). Takes no memory.
     #[tactic(auto, unfolding(crate::specs::Initial::initial))]
     pub fn initial() -> Style
-        ensures initial { IsInitial result }
-        ensures written { result ≡ initial }
+        ensures initial { result ≡ initial }
         ensures bounded { IsBounded result }
     {
         let none = SideSizes {

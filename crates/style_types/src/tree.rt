@@ -1,7 +1,8 @@
 //! Nodes with their computed styles, as a tree.
 
-use crate::lists::{Letters, StyledNodes};
-use crate::style::Style;
+use crate::lists::StyledNodes;
+use crate::shared_style::SharedStyle;
+use letters::SharedText;
 
 /// What a node of a styled tree is.
 #[derive(Debug, Drop)]
@@ -9,7 +10,7 @@ pub enum StyledKind {
     Element,
     /// A `br`.
     Break,
-    Text { text: Letters },
+    Text { text: SharedText },
 }
 
 /// A node with its computed style, and those below it in document order.
@@ -17,6 +18,6 @@ pub enum StyledKind {
 pub struct StyledNode {
     pub node: u32,
     pub kind: StyledKind,
-    pub style: Style,
+    pub style: SharedStyle,
     pub children: StyledNodes,
 }

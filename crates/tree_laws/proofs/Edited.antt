@@ -1,7 +1,7 @@
 -- Documents that are opened or edited are whole.
 use Rattle.std.proofs.Common.{◌≡◌, ◌∙◌, ℕ, Bool, true, false, List, length, refl, ap, sym, subst, Option, Some, None}
 use Rattle.std.proofs.lemmas.Bool.{false≢true}
-use Rattle.style_types.specs.declared.value.Declaration.{Declaration}
+use Rattle.css_types.specs.declared.value.Declaration.{Declaration}
 use Rattle.html_read.specs.Shape.{IsShaped, kind_bytes, text_bytes}
 use Rattle.html_read.specs.Values.{Node}
 use Rattle.dom_store.specs.declared.error.EditError.{EditError}

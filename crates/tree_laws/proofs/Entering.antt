@@ -4,7 +4,7 @@ use Rattle.std.specs.Prelude.{nat_eq, is_some}
 use Rattle.std.specs.List.{All, Contains, slice_get}
 use Rattle.std.proofs.lemmas.Bool.{cases_eq, cases_lt, eq-eqb, false≢true, le-ltb, lt-ltb}
 use Rattle.std.proofs.lemmas.Option.{none-some, slice_get-get_or, slice_get-map, slice_get_within}
-use Rattle.style_types.specs.declared.value.Declaration.{Declaration}
+use Rattle.css_types.specs.declared.value.Declaration.{Declaration}
 use Rattle.html_read.specs.Shape.{IsShaped}
 use Rattle.html_read.specs.Values.{Node}
 use Rattle.dom_store.specs.State.{Entry, State, greatest_depth}

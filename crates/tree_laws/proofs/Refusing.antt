@@ -5,7 +5,7 @@ use Rattle.std.specs.List.{Contains, list_all, list_any, position_or_len}
 use Rattle.std.proofs.lemmas.Bool.{and_parts, cases_lt, eqb-false, ltb-false, not-false, or_parts, false≢true}
 use Rattle.std.proofs.lemmas.Option.{none-some}
 use Rattle.html_read.specs.Values.{Node}
-use Rattle.style_types.specs.declared.value.Declaration.{Declaration}
+use Rattle.css_types.specs.declared.value.Declaration.{Declaration}
 use Rattle.dom_store.specs.declared.error.EditError.{EditError}
 use Rattle.dom_store.specs.declared.error.EditError.TheVariants.{Inside, NoNode, IsRoot, TooDeep, TooManyNodes}
 use Rattle.dom_store.specs.State.{Entry, State, greatest_depth}

@@ -1,6 +1,6 @@
 -- Documents stay whole, and how much they have is known.
 use Rattle.std.specs.Prelude.{◌≡◌, ℕ, ◌+◌, ◌≤◌, List, length, None}
-use Rattle.style_types.specs.declared.value.Declaration.{Declaration}
+use Rattle.css_types.specs.declared.value.Declaration.{Declaration}
 use Rattle.html_read.specs.Shape.{IsShaped, text_bytes}
 use Rattle.html_read.specs.Values.{Node}
 use Rattle.dom_store.specs.State.{What, State, tree_of}

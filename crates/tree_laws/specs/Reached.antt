@@ -1,7 +1,7 @@
 -- Each node that lives can be reached from `html`. DOM, 4.2.
 use Rattle.std.specs.Prelude.{◌≡◌, ℕ, zero, suc, ◌<◌, ◌≤◌, true, List, None}
 use Rattle.std.specs.List.{All, Contains}
-use Rattle.style_types.specs.declared.value.Declaration.{Declaration}
+use Rattle.css_types.specs.declared.value.Declaration.{Declaration}
 use Rattle.html_read.specs.Shape.{IsInDocumentOrder, IsShaped}
 use Rattle.html_read.specs.Values.{Node}
 use Rattle.dom_store.specs.State.{State, IsRooted, greatest_depth}

@@ -1,7 +1,11 @@
 -- Lengths as whole numbers of 1/64 px, here without bound. A number of a style sheet comes as a whole
 -- number of hundredths. CSS 2, 4.3.2 (lengths), 4.3.3 (percentages).
-use Rattle.std.specs.Prelude.{suc, ◌+◌, ◌/◌, ◌^◌, ℤ, pos, negsuc, ◌*ℤ◌, neg_ℤ, int_div}
+use Rattle.std.specs.Prelude.{suc, ◌+◌, ◌/◌, ◌^◌, ℤ, pos, negsuc, ◌*ℤ◌, neg_ℤ, int_div, ◌≤◌, unsigned_abs}
 use Rattle.std.specs.Int.{int_min, int_max, int_div_euclid}
+
+-- hundredths that a style sheet can say: seven digits before the point and two after it
+abbrev pub IsSayable : ℤ → Type 0
+IsSayable hundredths = unsigned_abs hundredths ≤ 999999999
 
 -- the whole number nearest to n hundredths; of two that are as near, the one away from 0
 abbrev pub nearest_hundredth : ℤ → ℤ

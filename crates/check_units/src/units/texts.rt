@@ -2,7 +2,8 @@
 //! these characters and of the rules of orientation, advance and combining. That CR and LF are one cluster is rule GB3.
 
 use cluster_units::Unit;
-use style_types::{Combine, TextOrientation, UnitKind};
+use fragment_types::UnitKind;
+use style_types::{Combine, TextOrientation};
 use wm_chars::BreakClass;
 
 /// A text, its orientation, combining, font size and face, and its units.

@@ -1,8 +1,9 @@
 use denote.Enum.Bare.{same_false}
 use Rattle.box_gen.specs.contracts.role.Role.{the_type}
+use Rattle.style_types.specs.declared.style.Style.{Style}
 use Rattle.style_types.specs.Tree as styled
-use Rattle.style_types.specs.Item as item
-use Rattle.style_types.specs.declared.item.BoxName.{BoxName}
+use Rattle.fragment_types.specs.Item as item
+use Rattle.fragment_types.specs.declared.item.BoxName.{BoxName}
 use Rattle.box_gen.specs.Tree.{Boxes, none, boxes_of}
 use Rattle.std.proofs.Common.{◌⊎◌, inl, inr, ◌∷◌, ◌≡◌, ◌∙◌, ap, sym, rules, arith, ◌+◌, drop, List, [], true, false}
 use Rattle.style_types.specs.declared.tree.StyledNode.{StyledNode}
@@ -120,6 +121,7 @@ put_inline_box-returns t c =
     let whole = out-StyledNode n in
     let nodes = c.deref-child-items.result.now in
     let was = run_of c.args.run.now in
+    let same : c.in_ok-clone.field-0 ≡ whole.style = search rules in
     let begin = run_with (item.begins whole.node whole.style true ∷ []) none false in
     let end = run_with (item.ends whole.node true ∷ []) none false in
     ok_gives c.put_item-2.result _ _ c.put_item-2.ensures (λ x is e.
@@ -129,7 +131,7 @@ put_inline_box-returns t c =
     put_is _ was (and_then (and_then begin (first_run (all_nodes_of whole.children.items))) end) _
     (is ∙ ap (λ (r : Run). and_then r end) (run_inside
     ∙ ap (λ (ns : List StyledNode). and_then (run_of c.put_item.new.self) (first_run (all_nodes_of ns))) c.deref-child-items.ensures.value
-    ∙ ap (λ (r : Run). and_then r (first_run (all_nodes_of whole.children.items))) c.in_ok-put_item.ensures
+    ∙ ap (λ (r : Run). and_then r (first_run (all_nodes_of whole.children.items))) (c.in_ok-put_item.ensures ∙ ap (λ (style : Style). and_then was (run_with (item.begins whole.node style true ∷ []) none false)) same)
     ∙ and_then_assoc was begin (first_run (all_nodes_of whole.children.items)))
     ∙ and_then_assoc was (and_then begin (first_run (all_nodes_of whole.children.items))) end)
     (run_of_box n c.requires))

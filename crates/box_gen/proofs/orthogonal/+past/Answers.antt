@@ -1,5 +1,6 @@
 use Rattle.std.proofs.Common.{◌≡◌, ◌∙◌, ◌⊎◌, inl, inr, [], List, ℕ, ◌+◌, ap, arith, drop, Option, sym}
 use Rattle.wm_modes.specs.declared.mode.WritingMode.{WritingMode}
+use Rattle.style_types.specs.declared.style.Style.{Style}
 use Rattle.style_types.specs.declared.tree.StyledNode.{StyledNode}
 use Rattle.style_types.specs.declared.tree.StyledNode.TheViews.{out-StyledNode}
 use Rattle.style_types.specs.Tree.{Nodes, all_nodes_of, before, nodes_of}
@@ -59,8 +60,9 @@ least_past_at-returns-in-Atom t c =
     let n = out-StyledNode c.args.node.now in
     let inner = past (all_nodes_of n.children.items) n.style.mode in
     let role : (role_in (nodes_of c.args.node.now) ≡ Atom) ⊎ (role_in (nodes_of c.args.node.now) ≡ BlockLevel) = rw c.role_of.ensures at c.in-Atom.is in
-    c.with_number.ensures (inner c.turns_in-own.result) (inside_of _ _ _ n.style.mode c.turns_in-own.result c.least_past-inside.ensures c.deref-in-Atom.ensures.value)
-    ∙ ap (λ (own : ℕ). least (past_box n.node own inner)) c.turns_in-own.ensures.value
+    c.with_number.ensures (inner c.turns_in-own.result) (inside_of _ _ _ n.style.mode c.turns_in-own.result
+    (c.least_past-inside.ensures ∙ ap (λ (style : Style). least (past (all_nodes_of c.deref-in-Atom-2.result.now) style.mode c.turns_in-own.result)) c.deref-in-Atom-3.ensures) c.deref-in-Atom-2.ensures.value)
+    ∙ ap (λ (own : ℕ). least (past_box n.node own inner)) (c.turns_in-own.ensures.value ∙ ap (λ (style : Style). turns_in c.args.mode style.mode c.args.turns) c.deref-in-Atom.ensures)
     ∙ sym (ap least (box_at c.args.node.now c.args.mode c.args.turns role))
 
 nothing_at : (n : StyledNode) (mode : WritingMode) (turns : ℕ) → (role_in (nodes_of n) ≡ Nothing) ⊎ ((role_in (nodes_of n) ≡ Words) ⊎ (role_in (nodes_of n) ≡ LineBreak)) → past (nodes_of n) mode turns ≡ []

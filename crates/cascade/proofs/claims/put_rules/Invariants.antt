@@ -1,5 +1,5 @@
 use Rattle.std.proofs.Common.{◌≡◌, ◌++◌, drop}
-use Rattle.style_types.specs.Rule.{rulings_of}
+use Rattle.css_types.specs.Rule.{rulings_of}
 use Rattle.cascade.specs.Claims.{claims_of_rules}
 use Rattle.cascade.specs.Line.{whats_of}
 use Rattle.cascade.specs.Sheet.{origin_in}

@@ -1,5 +1,5 @@
 use Rattle.std.proofs.Common.{List, ◌∙◌, ap, sym}
-use Rattle.style_types.specs.Rule.{rulings_of}
+use Rattle.css_types.specs.Rule.{rulings_of}
 use Rattle.dom_store.specs.State.{What, state_of}
 use Rattle.cascade.specs.Line.{whats_of}
 use Rattle.cascade.specs.Winners.{winners}

@@ -1,5 +1,5 @@
 use Rattle.std.proofs.Common.{◌≡◌, length, reverse}
-use Rattle.style_types.specs.Rule.{compounds_of}
+use Rattle.css_types.specs.Rule.{compounds_of}
 use Rattle.cascade.specs.Chains.{behind_nearest}
 use Rattle.cascade.specs.ClassSets.{AreOf}
 use Rattle.cascade.specs.Line.{whats_of}

@@ -1,5 +1,5 @@
 use Rattle.std.proofs.Common.{◌≡◌, ◌≤◌, length, reverse}
-use Rattle.style_types.specs.Rule.{compounds_of}
+use Rattle.css_types.specs.Rule.{compounds_of}
 use Rattle.cascade.specs.Filing.{Heading, heading_above}
 use Rattle.cascade.proofs.shelves.upper_name.Given as goal
 

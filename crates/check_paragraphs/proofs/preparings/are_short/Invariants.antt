@@ -1,6 +1,6 @@
 use Rattle.std.proofs.Common.{◌≡◌, ◌≤◌, take}
 use Rattle.std.specs.List.{sum_by}
-use Rattle.style_types.specs.Item.{entry_of}
+use Rattle.fragment_types.specs.Item.{entry_of}
 use Rattle.para_prepare.specs.Limits.{bytes_in}
 use Rattle.check_paragraphs.proofs.preparings.are_short.Given as goal
 

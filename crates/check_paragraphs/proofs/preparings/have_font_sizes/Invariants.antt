@@ -1,6 +1,6 @@
 use Rattle.std.proofs.Common.{ℕ, ◌<◌, slice_index_or}
-use Rattle.style_types.specs.declared.item.Item.{Item}
-use Rattle.style_types.specs.Item.{entry_of}
+use Rattle.fragment_types.specs.declared.item.Item.{Item}
+use Rattle.fragment_types.specs.Item.{entry_of}
 use Rattle.para_prepare.specs.Limits.{HasFontSize}
 use Rattle.check_paragraphs.proofs.preparings.have_font_sizes.Given as goal
 

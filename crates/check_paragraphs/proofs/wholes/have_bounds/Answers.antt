@@ -1,7 +1,7 @@
 use Rattle.std.proofs.Common.{arith, inl, inr, sym, subst, ◌∙◌, ap, get_or}
 use Rattle.std.proofs.lemmas.Bool.{cases_eq}
 use Rattle.std.proofs.lemmas.List.{get_or_default}
-use Rattle.style_types.specs.declared.item.Item.{Item}
+use Rattle.fragment_types.specs.declared.item.Item.{Item}
 use Rattle.check_paragraphs.specs.Bounds.{IsBoundedItem}
 use Rattle.check_paragraphs.proofs.wholes.have_bounds.Goals as goal
 

@@ -1,5 +1,5 @@
 use Rattle.std.proofs.Common.{ℕ, ◌<◌, slice_index_or}
-use Rattle.style_types.specs.declared.item.Item.{Item}
+use Rattle.fragment_types.specs.declared.item.Item.{Item}
 use Rattle.check_paragraphs.specs.Bounds.{IsBoundedItem}
 use Rattle.check_paragraphs.proofs.wholes.have_bounds.Given as goal
 

@@ -1,5 +1,5 @@
 use Rattle.std.proofs.Common.{◌∙◌, ap, subst, sym}
-use Rattle.style_types.specs.Rule.{rulings_of}
+use Rattle.css_types.specs.Rule.{rulings_of}
 use Rattle.cascade.specs.Winners.{AreSaidRules}
 use Rattle.check_styles.proofs.engine.style.Goals as goal
 

@@ -1,7 +1,7 @@
 use Rattle.std.proofs.Common.{◌∙◌, sym, ap, Bool}
 use Rattle.std.specs.Prelude.{if◌then◌else◌}
-use Rattle.style_types.specs.declared.unit_kind.UnitKind.{UnitKind}
-use Rattle.style_types.specs.declared.unit_kind.UnitKind.TheVariants.{Turned, Upright}
+use Rattle.fragment_types.specs.declared.unit_kind.UnitKind.{UnitKind}
+use Rattle.fragment_types.specs.declared.unit_kind.UnitKind.TheVariants.{Turned, Upright}
 use Rattle.cluster_units.proofs.Upright.{mixed_is}
 use Rattle.cluster_units.proofs.single.mixed_kind.Goals as goal
 

@@ -1,5 +1,5 @@
 use Rattle.std.proofs.Common.{sym, ap, subst, ◌∙◌}
-use Rattle.style_types.specs.Rule.{rulings_of}
+use Rattle.css_types.specs.Rule.{rulings_of}
 use Rattle.cascade.specs.Winners.{AreSaidRules}
 use Rattle.count_styles.proofs.counting.take_on.Goals as goal
 

@@ -1,6 +1,6 @@
 use Rattle.std.proofs.Common.{rules, sym, ◌∙◌, arith}
 use Rattle.std.proofs.lemmas.Result.{err_from_is_err_and}
-use Rattle.style_types.specs.Rule.{compound_of}
+use Rattle.css_types.specs.Rule.{compound_of}
 use Rattle.css_sheet.proofs.Turning.{compounding_starts, compounding_goes_on, compounding_stops, compounding_ends}
 use Rattle.css_sheet.proofs.compound.with_simples.Goals as goal
 

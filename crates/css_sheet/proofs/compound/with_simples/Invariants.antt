@@ -1,7 +1,7 @@
 use Rattle.std.proofs.Common.{◌≤◌, length}
 use denote.Text.{Utf8}
 use denote.Shadow.{shadow}
-use Rattle.style_types.specs.Rule.{compound_of}
+use Rattle.css_types.specs.Rule.{compound_of}
 use Rattle.css_sheet.proofs.Turning.{IsCompounding}
 use Rattle.css_sheet.proofs.compound.with_simples.Given as goal
 

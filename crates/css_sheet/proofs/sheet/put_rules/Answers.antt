@@ -1,7 +1,7 @@
 use Rattle.std.proofs.Common.{rules, ◌≡◌, ℕ, ◌*◌, length, ap, ◌∙◌}
 use Rattle.std.specs.Prelude.{min}
 use Rattle.std.specs.Vec.Iter.{into_iter_items, into_iter_len}
-use Rattle.style_types.specs.Rule.{rulings_of}
+use Rattle.css_types.specs.Rule.{rulings_of}
 use Rattle.css_sheet.specs.Views.{sheet_of}
 use Rattle.css_sheet.proofs.Sheeting.{ruling_ends}
 use Rattle.css_sheet.proofs.sheet.put_rules.Goals as goal

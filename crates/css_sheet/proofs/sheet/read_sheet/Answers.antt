@@ -1,4 +1,4 @@
-use Rattle.style_types.specs.Rule.{rulings_of}
+use Rattle.css_types.specs.Rule.{rulings_of}
 use Rattle.css_sheet.proofs.Rulings.{told_ruled}
 use Rattle.css_sheet.proofs.sheet.read_sheet.Goals as goal
 

@@ -1,4 +1,4 @@
-use Rattle.style_types.specs.Rule.{styled_of}
+use Rattle.css_types.specs.Rule.{styled_of}
 use Rattle.html_read.specs.Values.{whole_of}
 use Rattle.css_sheet.proofs.StyledLaws.{placing_counted, placing_kept, placing_none, placing_ruled, placing_styles}
 use Rattle.css_sheet.proofs.styled.read_styled.Goals as goal

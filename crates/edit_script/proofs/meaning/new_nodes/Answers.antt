@@ -1,6 +1,6 @@
 use Rattle.std.proofs.Common.{ap}
 use Rattle.std.proofs.lemmas.Result.{err_from_is_err_and}
-use Rattle.style_types.specs.Rule.{styled_of}
+use Rattle.css_types.specs.Rule.{styled_of}
 use Rattle.html_read.specs.Values.{nodes_of, sheets_of}
 use Rattle.edit_script.proofs.Bringing.{styles_read, styles_refused}
 use Rattle.edit_script.proofs.meaning.new_nodes.Goals as goal

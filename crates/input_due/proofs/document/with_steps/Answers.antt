@@ -1,6 +1,6 @@
 use Rattle.std.proofs.Common.{subst, sym, Err}
 use Rattle.face_api.specs.Faces.{faces_of}
-use Rattle.style_types.specs.Rule.{styled_of}
+use Rattle.css_types.specs.Rule.{styled_of}
 use Rattle.html_read.specs.Values.{nodes_of}
 use Rattle.edit_script.specs.declared.error.ScriptError.{ScriptError}
 use Rattle.edit_script.specs.Views.{steps_of}

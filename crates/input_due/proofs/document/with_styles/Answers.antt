@@ -2,7 +2,7 @@ use Rattle.std.proofs.Common.{subst, sym}
 use Rattle.css_sheet.specs.Styled.{Fails, styling}
 use Rattle.css_values.specs.declared.error.CssError.{CssError}
 use Rattle.face_api.specs.Faces.{faces_of}
-use Rattle.style_types.specs.Rule.{styled_of}
+use Rattle.css_types.specs.Rule.{styled_of}
 use Rattle.html_read.specs.Values.{whole_of}
 use Rattle.input_due.specs.Document.{stands_behind}
 use Rattle.input_due.specs.Due.{IsDueBy}

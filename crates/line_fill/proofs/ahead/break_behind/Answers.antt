@@ -1,6 +1,6 @@
 use Rattle.std.proofs.Common.{arith}
 use Rattle.std.specs.Prelude.{pos, false}
-use Rattle.style_types.specs.declared.breaking.Breaking.TheVariants.{No}
+use Rattle.fragment_types.specs.declared.breaking.Breaking.TheVariants.{No}
 use Rattle.line_fill.proofs.Reaching.{break_last}
 use Rattle.line_fill.proofs.ahead.break_behind.Goals as goal
 

@@ -1,7 +1,7 @@
 use Rattle.std.proofs.Common.{◌≡◌, ◌<◌, arith, length, sym, subst, List, ℕ, w64, to_z, of_z}
 use Rattle.std.specs.Prelude.{pos, false}
 use Rattle.std.proofs.lemmas.Int.{to_z-of_z}
-use Rattle.style_types.specs.declared.breaking.Breaking.TheVariants.{No}
+use Rattle.fragment_types.specs.declared.breaking.Breaking.TheVariants.{No}
 use Rattle.line_fill.specs.declared.item.FillItem.{FillItem}
 use Rattle.line_fill.specs.Filling.{line_end}
 use Rattle.line_fill.proofs.Lining.{Filled, filled_first, filled_on}

@@ -1,6 +1,6 @@
 use Rattle.std.proofs.Common.{◌≡◌, ◌∙◌, ◌<◌, ◌+◌, ap, sym, arith, length, List}
 use Rattle.std.specs.Prelude.{pos, false}
-use Rattle.style_types.specs.declared.breaking.Breaking.TheVariants.{No}
+use Rattle.fragment_types.specs.declared.breaking.Breaking.TheVariants.{No}
 use Rattle.line_fill.specs.declared.item.FillItem.{FillItem}
 use Rattle.line_fill.proofs.Ending.{break_inside}
 use Rattle.line_fill.proofs.Reaching.{break_last}

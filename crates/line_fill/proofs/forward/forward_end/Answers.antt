@@ -1,7 +1,7 @@
 use Rattle.std.proofs.Common.{◌≡◌, ◌∙◌, ap, arith, sym, subst, ◌+◌, ◌≤◌, ◌^◌, max, take, List, Option, None, unsigned_abs, w64, to_z, of_z}
 use Rattle.std.specs.Prelude.{pos, false}
 use Rattle.std.proofs.lemmas.Int.{to_z-of_z}
-use Rattle.style_types.specs.declared.breaking.Breaking.TheVariants.{No, May, Must}
+use Rattle.fragment_types.specs.declared.breaking.Breaking.TheVariants.{No, May, Must}
 use Rattle.line_fill.specs.declared.item.FillItem.{FillItem}
 use Rattle.line_fill.specs.declared.forward.Stop.{Stop}
 use Rattle.line_fill.specs.Filling.{fits}

@@ -1,7 +1,7 @@
 use Rattle.std.proofs.Common.{◌≡◌, ◌∙◌, ap, arith, List, [], ◌∷◌, ◌++◌, to_z, of_z, w64}
 use Rattle.std.proofs.lemmas.Int.{ints}
-use Rattle.style_types.specs.Fragment.{none, pieces_of}
-use Rattle.style_types.specs.declared.fragment.Fragment.{Fragment}
+use Rattle.fragment_types.specs.Fragment.{none, pieces_of}
+use Rattle.fragment_types.specs.declared.fragment.Fragment.{Fragment}
 use Rattle.line_place.specs.TextLine.{text_of}
 use Rattle.line_place.proofs.TextLaws.{text_over, text_parts, text_under}
 use Rattle.line_place.proofs.text_line.place_text.Goals as goal

@@ -1,10 +1,10 @@
 use Rattle.std.proofs.Common.{◌≡◌, ◌∙◌, ap, arith, List, None, ℤ, ◌-ℤ◌, to_z, of_z, w64}
 use Rattle.std.proofs.lemmas.Int.{ints}
 use Rattle.wm_modes.specs.declared.rects.FlowRect.{FlowRect}
-use Rattle.style_types.specs.declared.item.BoxName.{BoxName}
-use Rattle.style_types.specs.declared.fragment.RunUnit.{RunUnit}
-use Rattle.style_types.specs.Fragment.{Pieces, none, piece}
-use Rattle.style_types.specs.Fragment as fragments
+use Rattle.fragment_types.specs.declared.item.BoxName.{BoxName}
+use Rattle.fragment_types.specs.RunUnit.{RunUnit}
+use Rattle.fragment_types.specs.Fragment.{Pieces, none, piece}
+use Rattle.fragment_types.specs.Fragment as fragments
 use Rattle.line_place.specs.Placing.{offset, text_rect, unnumbered}
 use Rattle.line_place.specs.TextLine.{Text, text_of, text_piece}
 use Rattle.line_place.proofs.text_line.run_of.Goals as goal

@@ -1,7 +1,7 @@
 use Rattle.std.proofs.Common.{◌≡◌, ◌∙◌, ap, map, List, ℤ, None, to_z, of_z, w64, rules}
 use Rattle.std.proofs.lemmas.Int.{to_z-of_z}
 use Rattle.line_place.specs.Placing as rule
-use Rattle.style_types.specs.declared.fragment.Fragment.{Fragment}
+use Rattle.fragment_types.specs.declared.fragment.Fragment.{Fragment}
 use Rattle.line_place.specs.UnitLine.{leaf_in, units_of}
 use Rattle.line_place.specs.Walk.{followed}
 use Rattle.line_place.proofs.Fragments.{followed_push}

@@ -1,6 +1,6 @@
 use Rattle.std.proofs.Common.{◌≡◌, ◌∙◌, ap, arith, List, to_z, of_z, w64}
 use Rattle.std.proofs.lemmas.Int.{ints}
-use Rattle.style_types.specs.declared.fragment.Fragment.{Fragment}
+use Rattle.fragment_types.specs.declared.fragment.Fragment.{Fragment}
 use Rattle.std.proofs.lemmas.List.{get_or_default}
 use Rattle.line_place.specs.Line.{no_box}
 use Rattle.line_place.specs.Marks.{box_at}

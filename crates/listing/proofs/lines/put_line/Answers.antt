@@ -10,7 +10,7 @@ use Rattle.listing.proofs.lines.put_line.Goals as goal
 pub returns-in-Box-clause-front : goal.returns-in-Box-clause-front
 returns-in-Box-clause-front g c =
     let p = out-PlacedPart c.args.part.now in
-    let b = c.in-Box in
+    let b = c.in-Box.field-0.value in
     front_of_same (g.K.Sink.held c.args.sink.now) (g.K.Sink.held c.put.new.sink) c.args.waiting.now c.as_bytes.result.now (line_at c.args.mode c.args.part.now)
     (c.as_bytes.ensures.value ∙ c.deref.ensures.0 ∙ c.box_line.ensures ∙ box_text c.args.mode p.name p.rect p.kind b.mode b.dir b.content b.definite b.start b.end b.through (search rules))
     c.put.ensures.front
@@ -18,7 +18,7 @@ returns-in-Box-clause-front g c =
 pub returns-in-Box-clause-waits : goal.returns-in-Box-clause-waits
 returns-in-Box-clause-waits g c =
     let p = out-PlacedPart c.args.part.now in
-    let b = c.in-Box in
+    let b = c.in-Box.field-0.value in
     put_same (g.K.Sink.held c.args.sink.now) (g.K.Sink.held c.put.new.sink) c.args.waiting.now c.as_bytes.result.now (line_at c.args.mode c.args.part.now)
     (c.as_bytes.ensures.value ∙ c.deref.ensures.0 ∙ c.box_line.ensures ∙ box_text c.args.mode p.name p.rect p.kind b.mode b.dir b.content b.definite b.start b.end b.through (search rules))
     c.put.result c.put.new.self c.put.ensures.waits

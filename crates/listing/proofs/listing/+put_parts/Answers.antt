@@ -1,5 +1,5 @@
 use Rattle.std.proofs.Common.{◌++◌, refl, arith}
-use Rattle.style_types.specs.Fragment.{kind_of}
+use Rattle.fragment_types.specs.Fragment.{kind_of}
 use Rattle.place_map.specs.Placed.{parts_of}
 use Rattle.place_map.specs.declared.placed.PlacedPart.{out-PlacedPart}
 use Rattle.listing.specs.Listing.{lines, mode_inside}

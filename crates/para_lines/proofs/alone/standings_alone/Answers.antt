@@ -1,5 +1,5 @@
 use Rattle.std.proofs.Common.{rules, ◌≡◌, ◌<◌, ◌≤◌, ◌∙◌, [], ◌∷◌, refl, ap, arith, length, map, List, None}
-use Rattle.style_types.specs.Item.{Entry}
+use Rattle.fragment_types.specs.Item.{Entry}
 use Rattle.line_fill.specs.declared.item.FillItem.{FillItem}
 use Rattle.para_lines.specs.Alone.{fill_alone}
 use Rattle.para_lines.specs.Around.{no_entry}

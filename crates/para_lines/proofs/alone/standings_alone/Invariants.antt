@@ -1,6 +1,6 @@
 use Rattle.std.proofs.Common.{◌≡◌, ◌≤◌, ◌+◌, ◌-◌, List, length}
 use Rattle.std.specs.Vec.{vec_capacity, vec_len}
-use Rattle.style_types.specs.Item.{Entry}
+use Rattle.fragment_types.specs.Item.{Entry}
 use Rattle.para_lines.proofs.AloneLaws.{AreAlone}
 use Rattle.para_lines.proofs.alone.standings_alone.Given as goal
 

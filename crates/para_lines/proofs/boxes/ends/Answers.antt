@@ -1,6 +1,6 @@
 use Rattle.std.proofs.Common.{rules, ◌≡◌, ◌-◌, ◌∙◌, ap, sym, arith, length, get_or, None, pos}
 use Rattle.std.proofs.lemmas.List.{length-map}
-use Rattle.style_types.specs.Item.{Entry, entries_of, entry_of}
+use Rattle.fragment_types.specs.Item.{Entry, entries_of, entry_of}
 use Rattle.para_lines.specs.declared.boxes.Round.{Round}
 use Rattle.para_lines.specs.Around.{chains, no_entry}
 use Rattle.para_lines.specs.Boxes.{round_of, with_end}

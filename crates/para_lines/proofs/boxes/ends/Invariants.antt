@@ -1,4 +1,4 @@
-use Rattle.style_types.specs.Item.{entries_of}
+use Rattle.fragment_types.specs.Item.{entries_of}
 use Rattle.para_lines.proofs.Chaining.{Ending}
 use Rattle.para_lines.proofs.boxes.ends.Given as goal
 

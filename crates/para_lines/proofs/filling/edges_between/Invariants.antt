@@ -1,4 +1,4 @@
-use Rattle.style_types.specs.Item.{entries_of}
+use Rattle.fragment_types.specs.Item.{entries_of}
 use Rattle.para_lines.specs.Boxes.{chain_at, chain_behind}
 use Rattle.para_lines.proofs.Chaining.{left_of}
 use Rattle.para_lines.proofs.FillLaws.{Edging}

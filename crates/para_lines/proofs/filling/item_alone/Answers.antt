@@ -1,9 +1,9 @@
 use Rattle.std.proofs.Common.{rules, ◌≡◌, ◌<◌, ◌∙◌, ap, sym, arith, length, get_or, ℤ, pos, Bool, List, [], ℕ, Option, w64, FitsSigned}
 use Rattle.std.proofs.lemmas.Int.{to_z-of_z}
 use Rattle.std.proofs.lemmas.List.{get_or_default}
-use Rattle.style_types.specs.declared.breaking.Breaking.{Breaking}
-use Rattle.style_types.specs.declared.breaking.Breaking.TheVariants.{No}
-use Rattle.style_types.specs.Item.{Entry}
+use Rattle.fragment_types.specs.declared.breaking.Breaking.{Breaking}
+use Rattle.fragment_types.specs.declared.breaking.Breaking.TheVariants.{No}
+use Rattle.fragment_types.specs.Item.{Entry}
 use Rattle.line_fill.specs.declared.item.FillItem.{FillItem}
 use Rattle.para_prepare.specs.declared.item.PreparedItem.{PreparedItem}
 use Rattle.para_lines.specs.Boxes.{chain_at, chain_behind}

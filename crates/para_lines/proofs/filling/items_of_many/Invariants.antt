@@ -1,6 +1,6 @@
 use Rattle.std.proofs.Common.{◌≤◌, ◌+◌, ◌-◌, length}
 use Rattle.std.specs.Vec.{vec_capacity, vec_len}
-use Rattle.style_types.specs.Item.{entries_of}
+use Rattle.fragment_types.specs.Item.{entries_of}
 use Rattle.para_lines.proofs.FillLaws.{Filling}
 use Rattle.para_lines.proofs.filling.items_of_many.Given as goal
 

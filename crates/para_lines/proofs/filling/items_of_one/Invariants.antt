@@ -1,6 +1,6 @@
 use Rattle.std.proofs.Common.{◌≡◌, ◌≤◌, ◌+◌, ◌-◌, List, Option, ℤ, length}
 use Rattle.std.specs.Vec.{vec_capacity, vec_len}
-use Rattle.style_types.specs.Item.{Entry}
+use Rattle.fragment_types.specs.Item.{Entry}
 use Rattle.para_lines.proofs.FillLaws.{Filling}
 use Rattle.para_lines.proofs.filling.items_of_one.Given as goal
 

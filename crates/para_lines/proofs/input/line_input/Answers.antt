@@ -1,6 +1,6 @@
 use Rattle.std.proofs.Common.{◌∙◌, sym, arith, List}
 use Rattle.std.proofs.lemmas.List.{length-map}
-use Rattle.style_types.specs.Item.{Entry, entries_of, entry_of}
+use Rattle.fragment_types.specs.Item.{Entry, entries_of, entry_of}
 use Rattle.para_lines.proofs.LineReach.{line_far, line_near}
 use Rattle.para_lines.proofs.Nesting.{line_inside, line_nested}
 use Rattle.para_lines.proofs.OnLine.{on_line_within}

@@ -1,7 +1,7 @@
 use Rattle.std.proofs.Common.{rules, sym, subst, List, ℕ, w64, FitsSigned}
 use Rattle.std.proofs.lemmas.Int.{to_z-of_z}
 use Rattle.std.proofs.lemmas.List.{length-map}
-use Rattle.style_types.specs.Item.{Entry, entries_of, entry_of}
+use Rattle.fragment_types.specs.Item.{Entry, entries_of, entry_of}
 use Rattle.para_lines.specs.Line.{AreOnLine}
 use Rattle.para_lines.proofs.LineLaws.{line_is}
 use Rattle.para_lines.proofs.OnLine.{all_on_line}

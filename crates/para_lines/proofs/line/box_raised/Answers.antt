@@ -1,7 +1,7 @@
 use Rattle.std.proofs.Common.{rules, ◌∙◌, ◌+ℤ◌, ap, sym, List, w64, to_z, of_z, FitsSigned}
 use Rattle.std.proofs.lemmas.Int.{to_z-of_z}
 use Rattle.wm_units.specs.Numbers.{cap}
-use Rattle.style_types.specs.Item.{Entry, entries_of}
+use Rattle.fragment_types.specs.Item.{Entry, entries_of}
 use Rattle.para_lines.specs.declared.boxes.Round.{Round}
 use Rattle.para_lines.specs.Edges.{shifts}
 use Rattle.para_lines.proofs.Chaining.{outer_is}

@@ -4,7 +4,7 @@ use Rattle.std.proofs.lemmas.Int.{to_z-of_z}
 use Rattle.wm_modes.specs.declared.sides.FlowSide.{FlowSide}
 use Rattle.wm_modes.specs.declared.sides.FlowSide.TheVariants.{LineOver, LineUnder, LineLeft, LineRight}
 use Rattle.style_types.specs.declared.style.Style.{Style}
-use Rattle.style_types.specs.Item.{Entry, entries_of}
+use Rattle.fragment_types.specs.Item.{Entry, entries_of}
 use Rattle.para_prepare.specs.Parts.{used_direction}
 use Rattle.para_lines.specs.declared.boxes.Round.{Round}
 use Rattle.para_lines.specs.Around.{box_at, has}

@@ -1,6 +1,6 @@
 use Rattle.std.proofs.Common.{◌≡◌, ◌<◌, ◌++◌, [], drop, length}
 use Rattle.std.specs.Prelude.{IfSome}
-use Rattle.style_types.specs.Item.{entries_of}
+use Rattle.fragment_types.specs.Item.{entries_of}
 use Rattle.para_lines.specs.Boxes.{chain_behind}
 use Rattle.para_lines.specs.Line.{on_line}
 use Rattle.para_lines.proofs.line.boxes_on.Given as goal

@@ -2,7 +2,7 @@ use Rattle.std.proofs.Common.{rules, ◌≡◌, ◌∙◌, ap, List, Option, ℕ
 use Rattle.std.proofs.lemmas.Int.{to_z-of_z}
 use Rattle.face_api.specs.Table.{Table}
 use Rattle.style_types.specs.declared.style.Style.{Style}
-use Rattle.style_types.specs.Item.{Entry, entries_of}
+use Rattle.fragment_types.specs.Item.{Entry, entries_of}
 use Rattle.line_place.specs.declared.line.Extents.{Extents}
 use Rattle.para_lines.specs.declared.paragraph.Container.{Container}
 use Rattle.para_lines.specs.Around.{box_at}

@@ -1,5 +1,5 @@
 use Rattle.std.proofs.Common.{rules, ◌<◌, length}
-use Rattle.style_types.specs.Item.{entries_of}
+use Rattle.fragment_types.specs.Item.{entries_of}
 use Rattle.para_lines.proofs.OnLine.{on_line_there}
 use Rattle.para_lines.proofs.line.line_boxes.Goals as goal
 

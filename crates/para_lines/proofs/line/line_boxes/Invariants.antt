@@ -1,7 +1,7 @@
 use Rattle.std.proofs.Common.{◌≡◌, map, take}
 use Rattle.std.specs.Prelude.{All}
 use Rattle.face_api.specs.Faces.{faces_of}
-use Rattle.style_types.specs.Item.{entries_of}
+use Rattle.fragment_types.specs.Item.{entries_of}
 use Rattle.line_place.specs.Reach.{AreNear}
 use Rattle.para_lines.specs.Boxes.{chain_behind}
 use Rattle.para_lines.specs.Lines as rule

@@ -1,6 +1,6 @@
 use Rattle.std.proofs.Common.{◌≤◌, arith, length, w64}
 use Rattle.std.proofs.lemmas.Int.{to_z-of_z}
-use Rattle.style_types.specs.Item.{entries_of}
+use Rattle.fragment_types.specs.Item.{entries_of}
 use Rattle.para_lines.specs.Prepared.{preparation_of}
 use Rattle.para_lines.proofs.RoomLaws.{fills_are}
 use Rattle.para_lines.proofs.lines.fills_of.Goals as goal

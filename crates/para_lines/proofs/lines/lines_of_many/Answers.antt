@@ -1,7 +1,7 @@
 use Rattle.std.proofs.Common.{rules, ◌≡◌, ◌≤◌, ◌^◌, ◌∙◌, ap, sym, arith, subst, length, map, List, ℕ, ℤ, to_z, of_z, w64}
 use Rattle.std.proofs.lemmas.Int.{to_z-of_z}
 use Rattle.std.proofs.lemmas.List.{length-map}
-use Rattle.style_types.specs.Item.{Entry, entries_of, entry_of}
+use Rattle.fragment_types.specs.Item.{Entry, entries_of, entry_of}
 use Rattle.line_fill.specs.declared.item.FillItem.{FillItem}
 use Rattle.line_fill.specs.Item.{spread}
 use Rattle.line_fill.specs.Filling.{Divide, lines}

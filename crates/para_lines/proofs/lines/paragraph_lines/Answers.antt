@@ -1,5 +1,5 @@
 use Rattle.std.proofs.Common.{ℕ, ◌+◌, ◌*◌, ◌≤◌, ◌^◌, ap, subst, length}
-use Rattle.style_types.specs.Fragment.{pieces_of}
+use Rattle.fragment_types.specs.Fragment.{pieces_of}
 use Rattle.line_place.specs.Spread.{spread}
 use Rattle.para_prepare.specs.Preparation.{Preparation, atoms_in}
 use Rattle.para_lines.specs.Prepared.{preparation_of}

@@ -1,6 +1,6 @@
 use Rattle.std.proofs.Common.{rules, ◌∙◌, ap, w64, FitsSigned}
 use Rattle.std.proofs.lemmas.Int.{to_z-of_z}
-use Rattle.style_types.specs.Item.{entries_of}
+use Rattle.fragment_types.specs.Item.{entries_of}
 use Rattle.para_lines.specs.Line.{content_in, first_atom}
 use Rattle.para_lines.proofs.LineLaws.{line_item_is}
 use Rattle.para_lines.proofs.standing.line_item.Goals as goal

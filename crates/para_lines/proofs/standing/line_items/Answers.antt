@@ -1,6 +1,6 @@
 use Rattle.std.proofs.Common.{rules, ◌≡◌, ◌<◌, sym, subst, true, List, ℕ, length}
 use Rattle.std.specs.Prelude.{IfSome}
-use Rattle.style_types.specs.Item.{Entry, entries_of}
+use Rattle.fragment_types.specs.Item.{Entry, entries_of}
 use Rattle.para_lines.specs.Around.{has}
 use Rattle.para_lines.specs.Boxes.{chain_at, innermost}
 use Rattle.para_lines.proofs.OnLine.{item_on_line}

@@ -1,6 +1,6 @@
 use Rattle.std.proofs.Common.{◌≡◌, ◌≤◌, ◌+◌, ◌-◌, length, map, take}
 use Rattle.std.specs.Vec.{vec_capacity, vec_len}
-use Rattle.style_types.specs.Item.{entries_of}
+use Rattle.fragment_types.specs.Item.{entries_of}
 use Rattle.line_place.specs.Line.{item_of}
 use Rattle.para_lines.specs.Line.{standing_of}
 use Rattle.para_lines.specs.Lines as rule

@@ -1,6 +1,6 @@
 use Rattle.std.proofs.Common.{◌≤◌, ◌+◌, ◌-◌, List, length}
 use Rattle.std.specs.Vec.{vec_capacity, vec_len}
-use Rattle.style_types.specs.Item.{Entry}
+use Rattle.fragment_types.specs.Item.{Entry}
 use Rattle.para_lines.proofs.StandLaws.{Standings}
 use Rattle.para_lines.proofs.standing.standings.Given as goal
 

@@ -1,5 +1,5 @@
 use Rattle.std.proofs.Common.{rules, ◌<◌, refl, arith, List}
-use Rattle.style_types.specs.Item.{Entry, entries_of}
+use Rattle.fragment_types.specs.Item.{Entry, entries_of}
 use Rattle.para_lines.proofs.TextLines.{first_base_is, units_found}
 use Rattle.para_lines.proofs.text.text_in.Goals as goal
 

@@ -1,5 +1,5 @@
 use Rattle.std.proofs.Common.{refl}
-use Rattle.style_types.specs.Item.{entries_of}
+use Rattle.fragment_types.specs.Item.{entries_of}
 use Rattle.para_lines.proofs.UnitLines.{units_found}
 use Rattle.para_lines.proofs.units.units_in.Goals as goal
 

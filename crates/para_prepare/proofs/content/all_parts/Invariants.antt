@@ -1,6 +1,6 @@
 use Rattle.std.specs.Prelude.{◌≤◌, ◌+◌, All, drop, length}
 use Rattle.face_api.specs.Faces.{faces_of}
-use Rattle.style_types.specs.Item.{entries_of}
+use Rattle.fragment_types.specs.Item.{entries_of}
 use Rattle.para_prepare.proofs.ContentLaws.{AreCut}
 use Rattle.para_prepare.specs.Content.{parts}
 use Rattle.para_prepare.specs.Views.{IsSound, parts_of}

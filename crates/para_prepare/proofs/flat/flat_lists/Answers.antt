@@ -1,6 +1,6 @@
 use Rattle.std.proofs.Common.{◌≡◌, ◌<◌, length, slice_index_or, subst, sym, ap, refl, arith}
 use Rattle.std.specs.Prelude.{All}
-use Rattle.style_types.specs.Item.{entry_of, entries_of}
+use Rattle.fragment_types.specs.Item.{entry_of, entries_of}
 use Rattle.para_prepare.specs.Flat.{HasBoundsIn, Rises}
 use Rattle.para_prepare.proofs.ContentLaws.{item_bytes, next_at, one_end_each, size_at}
 use Rattle.para_prepare.proofs.FlatLaws.{same_flat}

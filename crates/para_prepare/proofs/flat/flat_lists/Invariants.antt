@@ -1,6 +1,6 @@
 use Rattle.std.specs.Prelude.{◌≤◌, ◌+◌, All, drop, length}
 use Rattle.face_api.specs.Faces.{faces_of}
-use Rattle.style_types.specs.Item.{entries_of}
+use Rattle.fragment_types.specs.Item.{entries_of}
 use Rattle.para_prepare.specs.Content.{parts}
 use Rattle.para_prepare.specs.Flat.{HasBoundsIn, flat_of}
 use Rattle.para_prepare.proofs.FlatRuns.{AreLaid}

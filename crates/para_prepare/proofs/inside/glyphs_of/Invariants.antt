@@ -1,6 +1,6 @@
 use Rattle.std.specs.Prelude.{◌≡◌, ◌++◌, map, drop}
 use Rattle.std.specs.List.{slice_range}
-use Rattle.style_types.specs.Glyphs.{lists_of}
+use Rattle.fragment_types.specs.Glyphs.{lists_of}
 use Rattle.para_prepare.specs.Inside.{seen_at}
 use Rattle.para_prepare.proofs.inside.glyphs_of.Given as goal
 

@@ -1,6 +1,6 @@
 use Rattle.std.proofs.Common.{◌≡◌, ◌∙◌, [], ◌∷◌, ◌+◌, ◌++◌, length, ap, sym, drop, rules}
 use Rattle.std.proofs.lemmas.List.{drop_all}
-use Rattle.style_types.specs.Item.{entries_of, entry_of}
+use Rattle.fragment_types.specs.Item.{entries_of, entry_of}
 use Rattle.para_prepare.proofs.KeptLaws.{ends_more, kept_first, letters_more, no_end_left, none_left}
 use Rattle.para_prepare.proofs.PlacedLaws.{few_signs}
 use Rattle.para_prepare.proofs.WhiteLaws.{all_marks}

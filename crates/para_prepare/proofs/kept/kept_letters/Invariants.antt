@@ -1,5 +1,5 @@
 use Rattle.std.specs.Prelude.{◌≡◌, ◌++◌, drop, false, length}
-use Rattle.style_types.specs.Item.{entries_of}
+use Rattle.fragment_types.specs.Item.{entries_of}
 use Rattle.para_prepare.specs.Kept.{ends_from, joined, kept_from}
 use Rattle.para_prepare.specs.Marks.{marks_with}
 use Rattle.para_prepare.specs.White.{signs}

@@ -1,6 +1,6 @@
 use Rattle.std.proofs.Common.{◌≤◌, ◌∙◌, ap₂, ap, length, subst, sym, arith}
 use Rattle.std.proofs.lemmas.List.{length-map}
-use Rattle.style_types.specs.Item.{entries_of, entry_of}
+use Rattle.fragment_types.specs.Item.{entries_of, entry_of}
 use Rattle.para_prepare.specs.Views.{parts_of}
 use Rattle.para_prepare.specs.Limits.{text_bytes}
 use Rattle.para_prepare.specs.Preparation.{AreFrom, atoms_in, atoms_of}

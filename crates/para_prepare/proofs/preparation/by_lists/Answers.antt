@@ -2,7 +2,7 @@ use Rattle.std.proofs.Common.{◌≤◌, ◌≡◌, ◌∙◌, ◌+◌, length, 
 use Rattle.std.specs.Prelude.{All}
 use Rattle.std.proofs.lemmas.List.{length-map}
 use Rattle.face_api.specs.Faces.{faces_of}
-use Rattle.style_types.specs.Item.{entries_of, entry_of}
+use Rattle.fragment_types.specs.Item.{entries_of, entry_of}
 use Rattle.para_prepare.specs.Content.{parts}
 use Rattle.para_prepare.specs.Flat.{flat_of, grown, nothing}
 use Rattle.para_prepare.specs.Limits.{text_bytes}

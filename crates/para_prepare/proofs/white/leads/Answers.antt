@@ -1,6 +1,6 @@
 use Rattle.std.proofs.Common.{ap, sym, ◌∙◌, ◌||◌}
 use Rattle.std.specs.Str.{chars}
-use Rattle.style_types.specs.Item.{entries_of}
+use Rattle.fragment_types.specs.Item.{entries_of}
 use Rattle.para_prepare.specs.White.{leads, signs}
 use Rattle.para_prepare.proofs.WhiteLaws.{leads_text}
 use Rattle.para_prepare.proofs.white.leads.Goals as goal

@@ -1,6 +1,6 @@
 use Rattle.std.proofs.Common.{ap, ◌∙◌, List, arith}
-use Rattle.style_types.specs.declared.fragment.Fragment.{Fragment}
-use Rattle.style_types.specs.Fragment.{pieces_of}
+use Rattle.fragment_types.specs.declared.fragment.Fragment.{Fragment}
+use Rattle.fragment_types.specs.Fragment.{pieces_of}
 use Rattle.place_map.specs.declared.placed.PlacedPart.TheFolds.{fold-roll-PlacedPart}
 use Rattle.place_map.specs.Placed.{Parts, part_step}
 use Rattle.place_map.specs.Placing.{placed}

@@ -1,5 +1,5 @@
 use Rattle.std.proofs.Common.{◌≡◌, ◌+◌, ◌*◌, drop}
-use Rattle.style_types.specs.Fragment.{piece_of, pieces_of}
+use Rattle.fragment_types.specs.Fragment.{piece_of, pieces_of}
 use Rattle.place_map.specs.Placed.{followed}
 use Rattle.place_map.specs.Placing.{placed}
 use Rattle.place_map.proofs.Trees.{count}

@@ -1,8 +1,8 @@
 use Rattle.std.proofs.Common.{rules, ◌≡◌, ◌∙◌, ap, sym, arith, ◌+◌, ◌<◌, ◌≤◌, length, Some, true, ◌+ℤ◌, unsigned_abs, w64, to_z, of_z}
 use Rattle.std.specs.Global.{Vec}
 use Rattle.std.proofs.lemmas.Int.{ints, to_z-of_z}
-use Rattle.style_types.specs.declared.fragment.Fragment.{Fragment}
-use Rattle.style_types.specs.Fragment.{block, kind_of, pieces_of}
+use Rattle.fragment_types.specs.declared.fragment.Fragment.{Fragment}
+use Rattle.fragment_types.specs.Fragment.{block, kind_of, pieces_of}
 use Rattle.relayout.specs.Atoms.{further, last_line, same_mode}
 use Rattle.relayout.specs.Flowed.{Part, part_of}
 use Rattle.relayout.specs.Near.{line_reach}
@@ -37,37 +37,37 @@ last_line-returns-in-Some-clause-near t c = λ near.
 pub line_of-returns-in_ok-found-in-Box-clause-value : goal.line_of-returns-in_ok-found-in-Box-clause-value
 line_of-returns-in_ok-found-in-Box-clause-value t c = λ near.
     let part : Part = part_of c.args.fragment.now in
-    let own = c.in-Box.own in
-    let kind : part.kind ≡ block own c.in-Box.dir c.in-Box.content c.in-Box.definite c.in-Box.start c.in-Box.end c.in-Box.through = ap kind_of c.in-Box.is in
-    let whole = block_reach own c.in-Box.dir c.in-Box.content c.in-Box.definite c.in-Box.start c.in-Box.end c.in-Box.through part kind in
+    let own = c.in-Box.part.value.mode in
+    let kind : part.kind ≡ block own c.in-Box.part.value.dir c.in-Box.part.value.content c.in-Box.part.value.definite c.in-Box.part.value.start c.in-Box.part.value.end c.in-Box.part.value.through = ap kind_of c.in-Box.is in
+    let whole = block_reach own c.in-Box.part.value.dir c.in-Box.part.value.content c.in-Box.part.value.definite c.in-Box.part.value.start c.in-Box.part.value.end c.in-Box.part.value.through part kind in
     let inner : pieces_of c.deref-in-Box.result.now ≡ part.inner = ap pieces_of (c.deref-in-Box.ensures.value ∙ ap (λ (v : Vec Fragment). v.items) c.deref.ensures) in
     let reach : line_reach (pieces_of c.deref-in-Box.result.now) ≡ line_reach part.inner = ap line_reach inner in
     let close = c.in_ok-found-in-Box.ensures.near (omega arith) in
     let here : Some c.in_ok-found-in-Box.found ≡ last_line c.args.mode part.inner = c.in_ok-found-in-Box.ensures.value (omega arith) ∙ ap (last_line c.args.mode) inner in
     let same : same_mode own c.args.mode ≡ true = search rules in
     let b : to_z w64 (of_z w64 part.rect.b) ≡ part.rect.b = to_z-of_z w64 part.rect.b (search rules) in
-    let cb : to_z w64 (of_z w64 c.in-Box.content.b) ≡ c.in-Box.content.b = to_z-of_z w64 c.in-Box.content.b (search rules) in
-    let distance : c.sum.result ≡ part.rect.b +ℤ c.in-Box.content.b = sum_is c.sum.result part.rect.b _ c.in-Box.content.b _ b cb c.sum.ensures (omega arith) in
+    let cb : to_z w64 (of_z w64 c.in-Box.part.value.content.b) ≡ c.in-Box.part.value.content.b = to_z-of_z w64 c.in-Box.part.value.content.b (search rules) in
+    let distance : c.sum.result ≡ part.rect.b +ℤ c.in-Box.part.value.content.b = sum_is c.sum.result part.rect.b _ c.in-Box.part.value.content.b _ b cb c.sum.ensures (omega arith) in
     let d : to_z w64 (of_z w64 c.sum.result) ≡ c.sum.result = to_z-of_z w64 c.sum.result (search rules) in
-    let short : unsigned_abs c.sum.result ≤ unsigned_abs part.rect.b + unsigned_abs c.in-Box.content.b = rw distance (omega (arith, ints)) in
+    let short : unsigned_abs c.sum.result ≤ unsigned_abs part.rect.b + unsigned_abs c.in-Box.part.value.content.b = rw distance (omega (arith, ints)) in
     let far : Some c.further.result ≡ further c.sum.result (Some c.in_ok-found-in-Box.found) = far_is c.sum.result _ c.in_ok-found-in-Box.found c.further.result d c.further.ensures (omega arith) in
-    block_line c.args.mode own c.in-Box.dir c.in-Box.content c.in-Box.definite c.in-Box.start c.in-Box.end c.in-Box.through part _ c.in_ok-found-in-Box.found c.further.result
+    block_line c.args.mode own c.in-Box.part.value.dir c.in-Box.part.value.content c.in-Box.part.value.definite c.in-Box.part.value.start c.in-Box.part.value.end c.in-Box.part.value.through part _ c.in_ok-found-in-Box.found c.further.result
     kind same here far distance
 
 pub line_of-returns-in_ok-found-in-Box-clause-near : goal.line_of-returns-in_ok-found-in-Box-clause-near
 line_of-returns-in_ok-found-in-Box-clause-near t c = λ near.
     let part : Part = part_of c.args.fragment.now in
-    let own = c.in-Box.own in
-    let kind : part.kind ≡ block own c.in-Box.dir c.in-Box.content c.in-Box.definite c.in-Box.start c.in-Box.end c.in-Box.through = ap kind_of c.in-Box.is in
-    let whole = block_reach own c.in-Box.dir c.in-Box.content c.in-Box.definite c.in-Box.start c.in-Box.end c.in-Box.through part kind in
+    let own = c.in-Box.part.value.mode in
+    let kind : part.kind ≡ block own c.in-Box.part.value.dir c.in-Box.part.value.content c.in-Box.part.value.definite c.in-Box.part.value.start c.in-Box.part.value.end c.in-Box.part.value.through = ap kind_of c.in-Box.is in
+    let whole = block_reach own c.in-Box.part.value.dir c.in-Box.part.value.content c.in-Box.part.value.definite c.in-Box.part.value.start c.in-Box.part.value.end c.in-Box.part.value.through part kind in
     let inner : pieces_of c.deref-in-Box.result.now ≡ part.inner = ap pieces_of (c.deref-in-Box.ensures.value ∙ ap (λ (v : Vec Fragment). v.items) c.deref.ensures) in
     let reach : line_reach (pieces_of c.deref-in-Box.result.now) ≡ line_reach part.inner = ap line_reach inner in
     let close = c.in_ok-found-in-Box.ensures.near (omega arith) in
     let b : to_z w64 (of_z w64 part.rect.b) ≡ part.rect.b = to_z-of_z w64 part.rect.b (search rules) in
-    let cb : to_z w64 (of_z w64 c.in-Box.content.b) ≡ c.in-Box.content.b = to_z-of_z w64 c.in-Box.content.b (search rules) in
-    let distance : c.sum.result ≡ part.rect.b +ℤ c.in-Box.content.b = sum_is c.sum.result part.rect.b _ c.in-Box.content.b _ b cb c.sum.ensures (omega arith) in
+    let cb : to_z w64 (of_z w64 c.in-Box.part.value.content.b) ≡ c.in-Box.part.value.content.b = to_z-of_z w64 c.in-Box.part.value.content.b (search rules) in
+    let distance : c.sum.result ≡ part.rect.b +ℤ c.in-Box.part.value.content.b = sum_is c.sum.result part.rect.b _ c.in-Box.part.value.content.b _ b cb c.sum.ensures (omega arith) in
     let d : to_z w64 (of_z w64 c.sum.result) ≡ c.sum.result = to_z-of_z w64 c.sum.result (search rules) in
-    let short : unsigned_abs c.sum.result ≤ unsigned_abs part.rect.b + unsigned_abs c.in-Box.content.b = rw distance (omega (arith, ints)) in
+    let short : unsigned_abs c.sum.result ≤ unsigned_abs part.rect.b + unsigned_abs c.in-Box.part.value.content.b = rw distance (omega (arith, ints)) in
     let far : Some c.further.result ≡ further c.sum.result (Some c.in_ok-found-in-Box.found) = far_is c.sum.result _ c.in_ok-found-in-Box.found c.further.result d c.further.ensures (omega arith) in
     let reached = far_near c.sum.result c.in_ok-found-in-Box.found c.further.result (line_reach part.inner) far (omega arith) in
     omega arith

@@ -1,5 +1,5 @@
 use Rattle.std.proofs.Common.{◌≡◌, ◌≤◌, ◌-◌, ◌^◌, length, take}
-use Rattle.style_types.specs.Fragment.{pieces_of}
+use Rattle.fragment_types.specs.Fragment.{pieces_of}
 use Rattle.relayout.specs.Atoms.{last_line}
 use Rattle.relayout.specs.Near.{line_reach}
 use Rattle.relayout.proofs.atoms.+last_line.Given as goal

@@ -1,6 +1,6 @@
 use Rattle.std.proofs.Common.{rules, w64, to_z, of_z, FitsSigned}
 use Rattle.std.proofs.lemmas.Int.{to_z-of_z}
-use Rattle.style_types.specs.Fragment.{piece_of}
+use Rattle.fragment_types.specs.Fragment.{piece_of}
 use Rattle.relayout.specs.Flowed.{part_of}
 use Rattle.relayout.proofs.AtomLaws.{atom_near, same_near}
 use Rattle.relayout.proofs.atoms.atom_in.Goals as goal

@@ -2,8 +2,8 @@ use Rattle.std.proofs.Common.{◌≡◌, ◌∙◌, sym, subst, arith, ◌<◌, 
 use Rattle.std.specs.Prelude.{slice_get}
 use Rattle.std.proofs.lemmas.Int.{ints}
 use Rattle.std.proofs.lemmas.Option.{get_or_from_slice_get, slice_get_within}
-use Rattle.style_types.specs.declared.fragment.Fragment.{Fragment}
-use Rattle.style_types.specs.Fragment.{pieces_of}
+use Rattle.fragment_types.specs.declared.fragment.Fragment.{Fragment}
+use Rattle.fragment_types.specs.Fragment.{pieces_of}
 use Rattle.para_lines.specs.Reach.{IsNearLine}
 use Rattle.relayout.specs.Content.{block_extent}
 use Rattle.relayout.specs.Flowed.{part_of}

@@ -1,9 +1,9 @@
 use Rattle.std.proofs.Common.{◌≡◌, ◌∙◌, ◌+◌, ◌*◌, ◌≤◌, ◌^◌, ap, arith, sym, subst, length, List, w64}
 use Rattle.std.specs.Prelude.{option_copied}
 use Rattle.std.proofs.lemmas.Int.{to_z-of_z}
-use Rattle.style_types.specs.declared.item.Item.{Item}
-use Rattle.style_types.specs.Item.{entries_of}
-use Rattle.style_types.specs.Fragment.{pieces_of}
+use Rattle.fragment_types.specs.declared.item.Item.{Item}
+use Rattle.fragment_types.specs.Item.{entries_of}
+use Rattle.fragment_types.specs.Fragment.{pieces_of}
 use Rattle.box_gen.specs.Tree.{Content, content_of, inline}
 use Rattle.line_place.specs.Spread.{spread}
 use Rattle.relayout.specs.Fit.{room_in}

@@ -3,8 +3,8 @@ use Rattle.std.proofs.lemmas.Int.{to_z-of_z}
 use Rattle.line_place.specs.Walk.{followed}
 use Rattle.line_place.proofs.Fragments.{followed_push}
 use Rattle.line_place.proofs.WalkLaws.{followed_all}
-use Rattle.style_types.specs.declared.fragment.Fragment.{Fragment}
-use Rattle.style_types.specs.Fragment.{Pieces}
+use Rattle.fragment_types.specs.declared.fragment.Fragment.{Fragment}
+use Rattle.fragment_types.specs.Fragment.{Pieces}
 use Rattle.relayout.specs.Content.{put, set_down}
 use Rattle.relayout.specs.Flowed.{as_laid}
 use Rattle.relayout.proofs.LaidLaws.{set_all, set_more}

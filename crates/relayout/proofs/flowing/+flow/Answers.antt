@@ -1,8 +1,8 @@
 use Rattle.std.proofs.Common.{◌≡◌, ◌∙◌, refl, sym, ap, subst, arith, suc, ◌+◌, ◌-◌, ◌≤◌, ◌^◌, List, length, Option, Some, ℤ}
 use Rattle.std.specs.Prelude.{All, option_map}
 use Rattle.face_api.specs.Faces.{faces_of}
-use Rattle.style_types.specs.declared.constraint.Constraint.{Constraint}
-use Rattle.style_types.specs.Fragment.{piece_of}
+use Rattle.fragment_types.specs.declared.constraint.Constraint.{Constraint}
+use Rattle.fragment_types.specs.Fragment.{piece_of}
 use Rattle.box_arena.specs.At.{Node, links_at, node_at, node_of, text_at}
 use Rattle.box_arena.specs.Links.{IsLinked}
 use Rattle.box_arena.proofs.Climbs.{links_move}

@@ -1,5 +1,5 @@
 use Rattle.std.proofs.Common.{◌≡◌, take}
-use Rattle.style_types.specs.Item.{entries_of}
+use Rattle.fragment_types.specs.Item.{entries_of}
 use Rattle.relayout.proofs.intrinsic.copies_of.Given as goal
 
 abbrev pub invariant-loop-item : goal.invariant-loop-item

@@ -4,7 +4,7 @@ use Rattle.face_api.specs.Table.{Table}
 use Rattle.box_gen.specs.Tree.{content_of}
 use Rattle.relayout.specs.Intrinsic.{IsTextOf}
 use Rattle.std.proofs.lemmas.Int.{to_z-of_z}
-use Rattle.style_types.specs.Fragment.{Pieces}
+use Rattle.fragment_types.specs.Fragment.{Pieces}
 use Rattle.block_flow.specs.declared.adjoining.BlockBox.{BlockBox}
 use Rattle.block_flow.specs.Adjoining.{edges}
 use Rattle.box_arena.specs.At.{node_of}

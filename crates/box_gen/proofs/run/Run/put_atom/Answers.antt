@@ -1,6 +1,6 @@
 use Rattle.std.proofs.Common.{◌∙◌}
-use Rattle.style_types.specs.Item as item
-use Rattle.style_types.specs.Item.{entries_of}
+use Rattle.fragment_types.specs.Item as item
+use Rattle.fragment_types.specs.Item.{entries_of}
 use Rattle.box_gen.proofs.Results.{ok_gives}
 use Rattle.box_gen.proofs.Runs.{atom_put}
 use Rattle.box_gen.proofs.run.Run.put_atom.Goals as goal

@@ -1,6 +1,6 @@
 use Rattle.std.proofs.Common.{List, ◌∙◌, ap}
 use Rattle.std.specs.Prelude.{slice_get}
-use Rattle.style_types.specs.declared.rule.Rule.{Rule}
+use Rattle.css_types.specs.declared.rule.Rule.{Rule}
 use Rattle.cascade.specs.Line.{whats_of}
 use Rattle.cascade.specs.Sheet.{origin_in}
 use Rattle.cascade.proofs.Filing.{none_there, nothing_at}

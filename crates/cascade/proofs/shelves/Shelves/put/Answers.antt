@@ -1,6 +1,6 @@
 use Rattle.std.proofs.Common.{List, ◌∙◌, ap, subst}
-use Rattle.style_types.specs.declared.rule.Part.{Part}
-use Rattle.style_types.specs.Rule.{compounds_of}
+use Rattle.css_types.specs.declared.rule.Part.{Part}
+use Rattle.css_types.specs.Rule.{compounds_of}
 use Rattle.cascade.specs.Filing.{Heading, IsPut, heading}
 use Rattle.cascade.proofs.Shelving.{heading_of_none, put_other}
 use Rattle.cascade.proofs.shelves.Shelves.put.Goals as goal

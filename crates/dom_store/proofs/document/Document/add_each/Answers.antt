@@ -5,7 +5,7 @@ use Rattle.slab.specs.Slab as slots
 use Rattle.std.proofs.lemmas.List.{length-map, length-drop}
 use Rattle.html_read.specs.declared.node.ReadNode.{ReadNode}
 use Rattle.html_read.specs.Values.{kind_of, node_of, nodes_of}
-use Rattle.style_types.specs.declared.value.Declaration.{Declaration}
+use Rattle.css_types.specs.declared.value.Declaration.{Declaration}
 use Rattle.dom_store.specs.Building.{Grows}
 use Rattle.dom_store.specs.Opening.{what_of}
 use Rattle.dom_store.specs.State.{Entry, state_of}

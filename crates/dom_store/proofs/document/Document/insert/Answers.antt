@@ -6,7 +6,7 @@ use Rattle.slab.specs.Slab as slots
 use Rattle.std.proofs.lemmas.List.{length-map}
 use Rattle.html_read.specs.declared.node.ReadNode.{ReadNode}
 use Rattle.html_read.specs.Values.{node_of, nodes_of}
-use Rattle.style_types.specs.declared.value.Declaration.{Declaration}
+use Rattle.css_types.specs.declared.value.Declaration.{Declaration}
 use Rattle.dom_store.specs.Building.{FollowParents, added_under, tops_from}
 use Rattle.dom_store.specs.Edits.{changed, insert, with_children, with_put}
 use Rattle.dom_store.specs.Refusals.{refusal}

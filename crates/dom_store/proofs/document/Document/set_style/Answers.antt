@@ -1,5 +1,5 @@
 use Rattle.std.proofs.Common.{◌∙◌, List, ap}
-use Rattle.style_types.specs.declared.value.Declaration.{Declaration}
+use Rattle.css_types.specs.declared.value.Declaration.{Declaration}
 use Rattle.dom_store.specs.Edits.{changed, set_style, with_own, with_what}
 use Rattle.dom_store.specs.State.{state_of}
 use Rattle.dom_store.proofs.ApplyLaws.{accepts}

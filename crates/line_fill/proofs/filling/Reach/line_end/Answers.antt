@@ -1,7 +1,7 @@
 use Rattle.std.proofs.Common.{◌≡◌, ◌∙◌, sym, w64, to_z, of_z, ◌+◌}
 use Rattle.std.specs.Prelude.{pos, false}
 use Rattle.std.specs.List.{list_any}
-use Rattle.style_types.specs.declared.breaking.Breaking.TheVariants.{No}
+use Rattle.fragment_types.specs.declared.breaking.Breaking.TheVariants.{No}
 use Rattle.line_fill.specs.declared.item.FillItem.{FillItem}
 use Rattle.std.proofs.lemmas.Int.{to_z-of_z}
 use Rattle.line_fill.specs.Filling.{fits, ends}

@@ -1,7 +1,7 @@
 use Rattle.std.proofs.Common.{◌∙◌, ap, sym, arith, Global}
 use Rattle.std.proofs.lemmas.List.{same_from_push}
 use Rattle.std.specs.declared.vec.Vec.{Vec}
-use Rattle.style_types.specs.declared.fragment.Fragment.{Fragment}
+use Rattle.fragment_types.specs.declared.fragment.Fragment.{Fragment}
 use Rattle.line_place.specs.declared.walk.Open.{Open}
 use Rattle.line_place.proofs.Lengths.{held}
 use Rattle.line_place.proofs.WalkLaws.{ended_as, innermost}

@@ -1,6 +1,6 @@
 use Rattle.std.proofs.Common.{◌∙◌, sym, arith}
 use Rattle.std.proofs.lemmas.List.{length-map}
-use Rattle.style_types.specs.Item.{entries_of, entry_of}
+use Rattle.fragment_types.specs.Item.{entries_of, entry_of}
 use Rattle.para_lines.proofs.Chaining.{climbing_ends, climbing_first, climbing_on, climbing_stops, climbing_within, inside_read, less_left, other_within, table_count}
 use Rattle.para_lines.proofs.boxes.Boxes.apart.Goals.{in-Some+then-stands_round, in_default}
 use Rattle.para_lines.proofs.boxes.Boxes.apart.Goals as goal

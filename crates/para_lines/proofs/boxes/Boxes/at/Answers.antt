@@ -1,8 +1,8 @@
 use Rattle.std.proofs.Common.{◌∙◌, [], ap, sym, subst}
 use Rattle.std.proofs.lemmas.List.{length-map}
 use Rattle.std.proofs.Common.{arith}
-use Rattle.style_types.specs.declared.item.Item.{Item}
-use Rattle.style_types.specs.Item.{entries_of, entry_of}
+use Rattle.fragment_types.specs.declared.item.Item.{Item}
+use Rattle.fragment_types.specs.Item.{entries_of, entry_of}
 use Rattle.para_lines.specs.Around.{box_by}
 use Rattle.para_lines.specs.Boxes.{HasBounds}
 use Rattle.para_lines.proofs.Chaining.{bounded_there, box_style_there, closes_there, node_there, opens_there}

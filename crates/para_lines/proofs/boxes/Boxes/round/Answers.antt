@@ -1,6 +1,6 @@
 use Rattle.std.proofs.Common.{arith}
 use Rattle.std.proofs.lemmas.List.{length-map}
-use Rattle.style_types.specs.Item.{entries_of, entry_of}
+use Rattle.fragment_types.specs.Item.{entries_of, entry_of}
 use Rattle.para_lines.proofs.Chaining.{round_near, round_read, table_count}
 use Rattle.para_lines.proofs.boxes.Boxes.round.Goals as goal
 

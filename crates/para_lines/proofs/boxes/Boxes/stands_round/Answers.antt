@@ -1,6 +1,6 @@
 use Rattle.std.proofs.Common.{arith, length}
 use Rattle.std.proofs.lemmas.List.{length-map}
-use Rattle.style_types.specs.Item.{entries_of, entry_of}
+use Rattle.fragment_types.specs.Item.{entries_of, entry_of}
 use Rattle.para_lines.proofs.Chaining.{begun_within, has_none, has_told, some_within}
 use Rattle.para_lines.proofs.boxes.Boxes.stands_round.Goals as goal
 

@@ -1,6 +1,6 @@
 use Rattle.std.proofs.Common.{◌∙◌, ℕ, ◌+◌, ◌≤◌, ◌^◌, arith, ap, subst, List, [], length, drop, take}
 use Rattle.std.specs.List.{slice_range}
-use Rattle.style_types.specs.Item.{Entry}
+use Rattle.fragment_types.specs.Item.{Entry}
 use Rattle.line_place.specs.Line.{Line}
 use Rattle.line_place.specs.Placing.{line_over, line_under, parts}
 use Rattle.line_place.specs.Reach.{line_reach, total}

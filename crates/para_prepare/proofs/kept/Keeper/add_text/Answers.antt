@@ -4,7 +4,7 @@ use Rattle.std.specs.Str.Iter.{chars_rest}
 use Rattle.std.proofs.lemmas.Str.{IsUtf8-past_char, chars_past_char}
 use Rattle.std.proofs.StrCases.{chars_of_empty}
 use Rattle.para_prepare.proofs.KeptLaws.{chosen_more, follows_more, none_chosen}
-use Rattle.style_types.specs.Item.{entries_of}
+use Rattle.fragment_types.specs.Item.{entries_of}
 use Rattle.para_prepare.specs.Marks.{follows_all, is_kept_with}
 use Rattle.para_prepare.specs.White.{chosen, leads, sign_of, signs}
 use Rattle.para_prepare.proofs.kept.Keeper.add_text.Goals as goal

@@ -1,7 +1,7 @@
 use Rattle.std.specs.Prelude.{◌≡◌, ◌+◌, ◌++◌, length, map}
 use Rattle.std.specs.Str.{chars, IsUtf8}
 use Rattle.std.specs.Str.Iter.{chars_rest}
-use Rattle.style_types.specs.Item.{entries_of}
+use Rattle.fragment_types.specs.Item.{entries_of}
 use Rattle.para_prepare.specs.Marks.{follows_all, marks_with}
 use Rattle.para_prepare.specs.White.{chosen, sign_of, signs}
 use Rattle.para_prepare.proofs.kept.Keeper.add_text.Given as goal

@@ -1,7 +1,7 @@
 use Rattle.std.proofs.Common.{◌≡◌, ◌∙◌, [], sym, subst, List, map, Err, ap, arith}
 use Rattle.std.proofs.lemmas.Result.{err_from_is_err_and}
 use Rattle.face_api.specs.Faces.{faces_of}
-use Rattle.style_types.specs.Rule.{Ruling, rulings_of}
+use Rattle.css_types.specs.Rule.{Ruling, rulings_of}
 use Rattle.style_types.specs.Tree.{Nodes}
 use Rattle.html_read.specs.Values.{nodes_of}
 use Rattle.box_gen.specs.Boxes.{root_caught}

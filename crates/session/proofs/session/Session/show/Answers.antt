@@ -1,6 +1,6 @@
 use Rattle.face_api.specs.Faces.{faces_of}
-use Rattle.style_types.specs.Fragment.{kind_of, piece_of}
-use Rattle.style_types.specs.declared.fragment.Fragment.{out-Fragment}
+use Rattle.fragment_types.specs.Fragment.{kind_of, piece_of}
+use Rattle.fragment_types.specs.declared.fragment.Fragment.{out-Fragment}
 use Rattle.session.proofs.Near.{view_near}
 use Rattle.session.proofs.Standing.{steady_sound}
 use Rattle.session.proofs.session.Session.show.Goals as goal

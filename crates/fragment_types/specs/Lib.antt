@@ -1,0 +1,4 @@
+pub mod Fragment
+pub mod Glyphs
+pub mod Item
+pub mod RunUnit
