@@ -84,9 +84,9 @@ impl<'a> Styling<'a> {
     {
         let body = self.document.node(1).unwrap();
         let mut kept = KeptLine::new(self.document, body);
-        let style = SharedStyle::new(alloc, *style)?;
-        let children = self.nodes(alloc, &mut kept, &body.children, &style, 62)?;
-        let made = made(1, &body.kind, style, children)?;
+        let own = SharedStyle::new(alloc, *style)?;
+        let children = self.nodes(alloc, &mut kept, &body.children, &own, 62)?;
+        let made = made(1, &body.kind, own, children)?;
         Ok(made)
     }
 
@@ -101,7 +101,8 @@ impl<'a> Styling<'a> {
         let html = self.document.node(0).unwrap();
         let mut children = StyledNodes::with_capacity(alloc, 1)?;
         children.push(body)?;
-        let made = made(0, &html.kind, SharedStyle::new(alloc, style)?, children)?;
+        let own = SharedStyle::new(alloc, style)?;
+        let made = made(0, &html.kind, own, children)?;
         Ok(made)
     }
 
@@ -151,8 +152,10 @@ impl<'a> Styling<'a> {
         let NodeKind::Element { .. } = node.kind else {
             return parent.clone();
         };
-        let winners = self.rules.winners_in(alloc, kept, number, node, parent)?;
-        SharedStyle::new(alloc, compute(parent, &winners))
+        let inherited: &Style = parent;
+        let winners = self.rules.winners_in(alloc, kept, number, node, inherited)?;
+        let own = SharedStyle::new(alloc, compute(inherited, &winners))?;
+        Ok(own)
     }
 
     // A node with its style and all inside it, down to a depth.

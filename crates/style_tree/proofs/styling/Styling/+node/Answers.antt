@@ -10,7 +10,7 @@ use Rattle.style_tree.proofs.styling.Styling.+node.Goals as goal
 use Rattle.style_tree.proofs.styling.Styling.+node.Goals.{nodes-in-Some+in_ok-node+in_ok-push, nodes-in_default}
 
 pub node-returns-clause-bounded : goal.node-returns-clause-bounded
-node-returns-clause-bounded t c = bounded_rolled _ c.in_ok-style.ensures.bounded c.in_ok-nodes.ensures.bounded
+node-returns-clause-bounded t c = bounded_rolled _ c.in_ok-style.ensures.bounded c.in_ok-children.ensures.bounded
 
 pub nodes-returns-then-depth-eq0-clause-styled : goal.nodes-returns-then-depth-eq0-clause-styled
 nodes-returns-then-depth-eq0-clause-styled t c = ap all_nodes_of c.new.ensures.items ∙ used_up _ _ _ _ c.args.depth c.if-depth-eq0.true

@@ -12,4 +12,4 @@ compute-requires-clause-winners c = c.in_ok-winners.ensures.said c.requires.rule
 pub returns-clause-style : goal.returns-clause-style
 returns-clause-style c =
     c.compute.ensures.style ∙ ap (style_of c.initial-parent.result) c.in_ok-winners.ensures.winners
-    ∙ ap (λ (parent : Style). style_of parent (winners_at (index_rules c.args.self.now.rules.now) (state_of c.args.self.now.document.now) 0 parent)) c.initial-parent.ensures.written
+    ∙ ap (λ (parent : Style). style_of parent (winners_at (index_rules c.args.self.now.rules.now) (state_of c.args.self.now.document.now) 0 parent)) c.initial-parent.ensures.initial

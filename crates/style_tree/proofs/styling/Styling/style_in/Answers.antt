@@ -1,5 +1,6 @@
 use Rattle.std.proofs.Common.{sym, ap, subst, ◌∙◌}
-use Rattle.dom_store.specs.State.{IsSaidState, State, line}
+use Rattle.style_types.specs.declared.style.Style.{Style}
+use Rattle.dom_store.specs.State.{IsSaidState, State, line, state_of}
 use Rattle.cascade.specs.Index.{index_rules}
 use Rattle.cascade.specs.Winners.{winners}
 use Rattle.computed.specs.Step.{style_of}
@@ -13,6 +14,8 @@ compute-requires-clause-winners c = c.in_ok-winners.ensures.said c.requires.rule
 
 pub returns-clause-style : goal.returns-clause-style
 returns-clause-style c =
-    rw c.in-Element.is (c.compute.ensures.style
-    ∙ ap (style_of c.args.parent.now)
-    (c.in_ok-winners.ensures.winners ∙ ap (λ (s : State). winners (index_rules c.args.self.now.rules.now) (line s c.args.number) c.args.parent.now) c.requires.document))
+    let rules = index_rules c.args.self.now.rules.now in
+    let inherited = c.deref-inherited.result.now in
+    rw c.in-Element.is (c.in_ok-own.ensures ∙ c.compute.ensures.style
+    ∙ ap (style_of inherited) (c.in_ok-winners.ensures.winners ∙ ap (λ (s : State). winners rules (line s c.args.number) inherited) c.requires.document)
+    ∙ ap (λ (parent : Style). style_of parent (winners rules (line (state_of c.args.self.now.document.now) c.args.number) parent)) c.deref-inherited.ensures)
