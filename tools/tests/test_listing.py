@@ -1,0 +1,72 @@
+"""Tests of the reading of listings and of what stands in what (tools/listing.py, tools/source.py)."""
+import listing
+import source
+
+from tools.tests import support
+from tools.tests.support import all_listings, all_script_listings, example, held
+
+
+class Listings(support.ToolCase):
+    """Listings are read as they are written, and nothing else is."""
+
+    def test_what_is_read_is_written_again(self):
+        """What is read is written again as it was, and what a document's nodes are agrees with the listing."""
+        for path in all_listings():
+            page = listing.read(held(path))[0]
+            self.same(page.text(), held(path), f"{path} read and written again")
+            nodes = source.read_nodes(held(path.replace(".listing", ".html")))
+            texts = {fragment.node for fragment in page.fragments if fragment.kind == "run"}
+            elements = {fragment.node for fragment in page.fragments} - texts
+            self.hold(all(nodes[number].tag is None for number in texts), f"{path}: runs are of texts")
+            self.hold(all(nodes[number].tag for number in elements), f"{path}: boxes are of elements")
+        for path in all_script_listings():
+            parts = listing.read(held(path))
+            self.same("".join(part.text() for part in parts), held(path), f"{path} read and written again")
+
+    def test_nodes_of_documents(self):
+        """The nodes of documents, with what may look like a tag and is none."""
+        document = (
+            "<!DOCTYPE html><!-- <head> --><html><head><title>a<b></title><style>/* </head> */</style></head>"
+            "<body title='>'><p>a<br>b</p><!-- <i> --><div></div>d<!-- e -->f</body><!-- g --></html>\nshow\n"
+        )
+        nodes = source.read_nodes(document)
+        self.same([node.tag for node in nodes], ["html", "body", "p", None, "br", None, "div", None], "the tags of nodes")
+        self.same([node.parent for node in nodes], [None, 0, 1, 2, 2, 2, 1, 1], "the parents of nodes")
+        self.same(document[nodes[7].begin : nodes[7].end], "d<!-- e -->f", "where a text is written")
+        for wrong in ("", "<html>", "<html><body></html>", "<html><body><b></i></body></html>", "<html><body", "page 1 1"):
+            try:
+                source.read_nodes(wrong)
+                self.hold(False, f"{wrong!r} is read as a document")
+            except listing.InputError:
+                self.hold(True, "")
+
+    def test_owners_by_the_document(self):
+        """Each fragment but the first stands in one before it, a line in its box, and by the document in one of its ancestors."""
+        for path in all_listings():
+            page, nodes = listing.read(held(path))[0], source.read_nodes(held(path.replace(".listing", ".html")))
+            owners = listing.owners(page, source.parents_of(nodes))
+            for place, (fragment, owner) in enumerate(zip(page.fragments, owners)):
+                if place == 0:
+                    self.same(owner, None, f"{path}: the owner of the first fragment")
+                else:
+                    before = owner is not None and owner < place
+                    self.hold(before and stands_in(fragment, page.fragments[owner], nodes), f"{path}: the owner of {fragment}")
+
+    def test_no_front_of_a_listing_is_one(self):
+        """No front of a listing is one."""
+        whole = held(example("isolate_in_a_line"))
+        for length in range(len(whole)):
+            try:
+                listing.read(whole[:length])
+                self.hold(False, f"the first {length} bytes of a listing are read")
+            except listing.ListingError:
+                self.hold(True, "")
+
+
+def stands_in(fragment, owner, nodes):
+    if fragment.kind == "line" or (fragment.kind == "box" and fragment.box):
+        return owner.kind == "box" and owner.node == fragment.node
+    above = nodes[fragment.node].parent
+    while above is not None and above != owner.node:
+        above = nodes[above].parent
+    return above is not None

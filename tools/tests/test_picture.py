@@ -1,0 +1,80 @@
+"""Tests of tools/picture and tools/listing-pictures."""
+import collections
+import os
+import xml.etree.ElementTree
+
+import listing
+
+from tools.tests import support
+from tools.tests.support import SCRIPT, TOP, all_listings, example, held, tried
+
+SVG = "{http://www.w3.org/2000/svg}"
+
+
+class Pictures(support.ToolCase):
+    """Pictures have each fragment in its place."""
+
+    def test_pictures_of_listings(self):
+        for path in all_listings()[::3]:
+            ended = tried("picture", path)
+            self.same((ended.status, ended.said), (0, ""), f"picture {path}")
+            self.check_rectangles(path, xml.etree.ElementTree.fromstring(ended.out))
+
+    def check_rectangles(self, path, svg):
+        """Each fragment has its rectangle, in px, in the order of the listing, and each text has its length."""
+        rects = [rect for rect in svg.iter(f"{SVG}rect") if rect.get("data-node")]
+        sides = ("x", "y", "width", "height")
+        found = [(int(rect.get("data-node")), *(float(rect.get(name)) * 64 for name in sides)) for rect in rects]
+        due = [(each.node, *vars(each.rect.upright()).values()) for each in listing.read(held(path))[0].fragments]
+        self.same(found, due, f"picture {path}: rectangles")
+        texts = [text for text in svg.iter(f"{SVG}text") if text.get("class") != "words"]
+        self.hold(all(float(text.get("textLength")) > 0 for text in texts), f"picture {path}: lengths")
+
+    def test_choices(self):
+        whole = {"box": 5, "line": 3, "span": 1, "run": 6}
+        self.same(drawn_kinds(), whole, "picture")
+        self.same(drawn_kinds("--kinds", "box,span"), {"box": 5, "span": 1}, "picture --kinds")
+        self.same(drawn_kinds("--node", "8"), {"span": 1, "run": 1}, "picture --node")
+        self.same(drawn_kinds(given=SCRIPT)["box"], 16, "picture of a script's listings")
+        self.hold('width="1648"' in tried("picture", "--scale", "2", "--no-legend", example("signs")).out, "picture --scale")
+        self.hold(">1 3</text>" in tried("picture", "--names", example("signs")).out, "picture --names")
+        self.same(tried("picture", "--node", "99", example("signs")).status, 1, "picture of a node that isn't there")
+
+    def test_documents_and_files(self):
+        """A document goes through the program; here one that writes a stored listing takes its place."""
+        folder = self.folder()
+        program, new = os.path.join(folder, "program"), os.path.join(folder, "new.svg")
+        with open(program, "w", encoding="utf-8") as file:
+            file.write(f'#!/bin/sh\n[ "$*" = "layout --view-inline 5" ] && exec cat "{example("signs")}"\n')
+        os.chmod(program, 0o755)
+        document = held(example("signs").replace(".listing", ".html"))
+        words = ("--program", program, "--words", "layout --view-inline 5")
+        self.same(drawn_kinds(*words, given=document)["box"], 5, "picture of a document")
+        page = tried("picture", "--html", *words, given=document).out
+        marked = '<span data-node="9" title="node 9">this</span>' in page
+        self.hold(page.startswith("<!DOCTYPE html>") and marked, "picture --html")
+        self.same(tried("picture", "--program", program, given=document).status, 1, "picture: the program fails")
+        self.same(tried("picture", "--program", f"{folder}/none", given=document).status, 1, "picture without a program")
+        self.same(tried("picture", "--html", example("signs")).status, 1, "picture --html without a document")
+        self.same(tried("picture", "--output", new, example("signs")).status, 0, "picture --output")
+        self.same(tried("picture", "--output", new, example("empty_body")).status, 1, "picture --output over a file")
+        self.same(held(new), tried("picture", example("signs")).out, "picture: the file stays as it was")
+
+    def test_pictures_of_the_page_of_listings(self):
+        """The pictures of docs/PROFILE/listing.md are those of their listings, and the listings those of their documents."""
+        folder, page = os.path.join(TOP, "docs", "listing"), held(os.path.join(TOP, "docs", "PROFILE", "listing.md"))
+        for kind in ("page", "box", "line", "span", "run"):
+            self.same(tried("listing-pictures", kind).out, held(os.path.join(folder, f"{kind}.svg")), f"listing-pictures {kind}")
+            self.hold(f"](../listing/{kind}.svg)" in page, f"docs/PROFILE/listing.md shows {kind}.svg")
+        for name in ("horizontal", "vertical"):
+            path = os.path.join(folder, name)
+            if os.path.exists(self.program):
+                found = self.ran(held(f"{path}.args"), held(f"{path}.html").encode("utf-8"))
+                self.same(found, held(f"{path}.listing"), f"{path}.listing")
+
+
+def drawn_kinds(*words, given=None):
+    """How many rectangles of each kind a picture has."""
+    svg = xml.etree.ElementTree.fromstring(tried("picture", *words, given=given or held(example("signs"))).out)
+    rects = (rect for rect in svg.iter(f"{SVG}rect") if rect.get("data-node"))
+    return collections.Counter(rect.get("class").split()[0] for rect in rects)

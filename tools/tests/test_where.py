@@ -1,0 +1,127 @@
+"""Tests of tools/where and of docs/REFUSALS.md, which it tells."""
+import os
+import re
+
+import refusals
+
+from tools.tests import support
+from tools.tests.support import Ended, SCRIPT, TOP, example, held, put_input, tried
+
+# Where a refusal stands: an input, the words of the refusal, its line and column, and the line of the input with its caret.
+WHERE_CASES = (
+    ("<html><body><hr></body></html>", "UnknownTag 12", "1:13", "<html><body><hr></body></html>", " " * 12 + "^"),
+    ("<html><body>\r\n\t<p>東<hr>\r\n", "UnknownTag 21", "2:6", "\t<p>東<hr>", "\t     ^"),
+    ("<html><body>é̂<hr>", "UnknownTag 17", "1:16", "<html><body>é̂<hr>", " " * 13 + "^"),
+    ("<html><body>xé", "Character 14", "1:15", "<html><body>xé", " " * 13 + "^"),
+    ("﻿<html><body><hr>", "UnknownTag 15", "1:14", "<U+FEFF><html><body><hr>", " " * 20 + "^"),
+    ("<html><body>‮a", "Character 12", "1:13", "<html><body><U+202E>a", " " * 12 + "^"),
+    ("<html><body>\n", "Syntax 13", "2:1", "", "^"),
+    ("<html><body>東<hr>", "UnknownTag 14", "1:13", "<html><body>東<hr>", " " * 12 + "^"),
+    ("a" * 200 + "<hr>" + "b" * 200, "UnknownTag 200", "1:201", "…" + "a" * 60 + "<hr>" + "b" * 56 + "…", " " * 61 + "^"),
+    ("<html><body>\n\n</body></html> \nshow\ntext 9 a\r\n", "NoNode 2", "5:1", "text 9 a", "^"),
+)
+# The same for refusals by the number of a node.
+WHERE_NODES = (
+    ("<html><body>\n<p>a</p></body></html>", "TooDeep 4", "2:4", "<p>a</p></body></html>", "   ^"),
+    ("\ufeff<html><body>東<p><!-- a -->b</p></body></html>", "TooDeep 4", "1:18", "<U+FEFF><html><body>東<p><!-- a -->b</p></body></html>", " " * 25 + "^"),
+)
+# Where a row of docs/REFUSALS.md hangs on the place: an input, the words, and what the cause begins with.
+WHERE_ROWS = (
+    ('<html><body><p dir="auto">', "Unsupported 15", "`dir` has"),
+    ('<html><body><p style="float:left">', "Unsupported 15", "this declaration"),
+    ("<html><head><style>p{float:left}</style></head><body></body></html>", "Unsupported 21", "this declaration"),
+    ("<html><head><style>dir:x{}</style></head><body></body></html>", "Unsupported 22", "with this sign"),
+    ("<html><head><!-- <style> --></head><body><p dir='x'></p></body></html>", "Unsupported 44", "`dir` has"),
+    ("<html><body></body></html>\nshow\n", "Syntax 27", "no document"),
+)
+# The same of a number that may be that of a node.
+WHERE_NUMBER = ("<html><body></body></html>\nremove 1\nshow\n", "TooDeep 1", "a node would stand")
+# What the program tells no more than the start of: an input, its command, and the place that `where` finds.
+WHERE_INSIDE = (
+    ('<html><body><p style="width:1px;;float:left"></p></body></html>', "layout", "1:34"),
+    ("<html><body>\n<p style = 'width'></p></body></html>", "layout", "2:18"),
+    ('<html><body><p style="width:1px/*"></p></body></html>', "layout", "1:16"),
+    ('<html><body><p style="a:&quot;"></p></body></html>', "layout", "1:16"),
+    ("<html><body></body></html>\nstyle 1 東:a;float:left\n", "edit", "2:13"),
+    ("<html><body></body></html>\nstyle 1 a:b}\n", "edit", "2:1"),
+    ("<html><body>a</body></html>\ntext 2 東a<b\r\n", "edit", "2:10"),
+    ("<html><body>a</body></html>\ntext 2 a&b<c", "edit", "2:10"),
+    ("<html><body>a</body></html>\ninsert 1 0 <b>x&#x200B;</b>", "edit", "2:16"),
+    ("<html><body>a</body></html>\ninsert 1 0 <p style='color:red;float:left'></p>", "edit", "2:32"),
+    ("<html><body>a</body></html>\ninsert 1 0 <p dir='auto'></p>", "edit", "2:15"),
+    ("<html><body>a</body></html>\ninsert 1 0 a</b>", "edit", "2:13"),
+    ("<html><body>a</body></html>\ninsert 1 0 a<b>", "edit", "2:16"),
+    ("<html><body>a</body></html>\ninsert 1 0 a</body></html>b", "edit", "2:1"),
+)
+
+
+class Where(support.ToolCase):
+    """Each refusal is shown at its place, with its cause and its cure."""
+
+    def test_rows_of_the_page(self):
+        """Each kind that docs/PROFILE/commands.md names has its row, and no other kind has one."""
+        facts = refusals.read_facts(refusals.read_page())
+        rows = re.findall(r"^\| `refused [^|]*\| .*$", held(os.path.join(TOP, "docs", "PROFILE", "commands.md")), re.MULTILINE)
+        named = set(re.findall(r"`(?:refused )?([A-Z][A-Za-z0-9]+)(?: [0-9A-Z]+)?`", " ".join(rows))) - {"KIND", "PLACE", "LINE"}
+        self.same({fact.kind for fact in facts}, named, "the kinds of docs/REFUSALS.md")
+        self.same(len(facts), 29, "the count of rows of docs/REFUSALS.md")
+        for fact in facts:
+            self.same(fact.answer.split()[1], fact.kind, f"docs/REFUSALS.md: the example of {fact.kind}")
+
+    def test_places_in_bytes(self):
+        for case in WHERE_CASES:
+            self.check_where_case(*case)
+
+    def test_rows_by_the_place(self):
+        for row in WHERE_ROWS:
+            self.check_where_row(*row)
+
+    def test_places_of_nodes(self):
+        self.needs_built("report_nodes")
+        self.check_where_row(*WHERE_NUMBER)
+        for case in WHERE_NODES:
+            self.check_where_case(*case)
+
+    def new_path(self):
+        return os.path.join(self.folder(), "page.html")
+
+    def check_where_row(self, given, words, cause):
+        path = self.new_path()
+        put_input(path, given)
+        self.hold(f"\ncause: {cause}" in tried("where", path, f"refused {words}").out, f"where {words}: {cause}")
+
+    def check_where_case(self, given, words, place, line, caret):
+        path = self.new_path()
+        put_input(path, given)
+        found = tried("where", path, "refused", *words.split())
+        self.same(found.out.split("\n")[:3], [f"{path}:{place}: refused {words}", line, caret], f"where {words}")
+        self.same(tried("where", path, "-", given=f"refused {words}\n"), found, f"where {words} on standard input")
+
+    def test_what_is_refused(self):
+        path = self.new_path()
+        put_input(path, "<html><body></body></html>\n")
+        wrong = ("refused Syntax 99", "refused TooDeep 9", "refused NoNode 1", "refused Strange 1", "Syntax 9", "refused Syntax")
+        for words in wrong:
+            self.refuses("where", (path, words), "")
+        self.refuses("where", ("-", "-"), "refused Syntax 1\n")
+        self.refuses("where", (path, "-"), "usage: wm_layout layout\n")
+        self.refuses("where", (path, "--program", f"{path}.none"), "")
+        self.refuses("where", ("--nodes", f"{path}.none", path, "refused TooDeep 1"), "")
+        shown = tried("where", path, "-", given=SCRIPT.split("refused")[0])
+        self.same(shown, Ended(0, f"{path}: nothing is refused\n", ""), "where of a page")
+
+    def test_runs_of_the_program(self):
+        """Each example of docs/REFUSALS.md is refused as it says, and `where` finds that place by running the program itself."""
+        self.needs_built("report_nodes")
+        self.needs(self.program, "the examples of docs/REFUSALS.md")
+        path = self.new_path()
+        for given, command, place in WHERE_INSIDE:
+            put_input(path, given)
+            ended = tried("where", path, "--program", self.program, "--words", command)
+            self.hold(ended.out.startswith(f"{path}:{place}: "), f"where inside {given!r}: {ended}")
+        for example_text, answer in refusals.examples(refusals.read_page()):
+            with open(path, "wb") as file:
+                file.write(refusals.input_of(example_text))
+            ended = tried("where", path, "--program", self.program, "--words", refusals.command_of(example_text))
+            first = ended.out.split("\n", 1)[0]
+            self.hold(first.endswith(f": {answer}") and "\ncause: " in ended.out, f"{example_text} gives {answer}: {ended}")
