@@ -15,6 +15,8 @@ import sys
 
 MODES = ("horizontal-tb", "vertical-rl", "vertical-lr", "sideways-rl", "sideways-lr")
 UNITS_PER_PIXEL = 64
+# How deep elements stand in one another at most (docs/PROFILE/limits.md, "nodes"), where `html` has depth 1.
+DEEPEST = 64
 # The characters that take each other's places in text from right to left (docs/PROFILE/characters.md, "Mirrors").
 MIRROR_PAIRS = ("()", "[]", "{}", "<>", "\u00ab\u00bb", "〈〉", "《》", "「」", "『』", "【】", "（）")
 MIRRORS = {pair[side]: pair[1 - side] for pair in MIRROR_PAIRS for side in (0, 1)}
@@ -270,19 +272,32 @@ def touches(inner, outer):
     return across and outer.y <= inner.y and inner.bottom <= outer.bottom
 
 
+def distance(one, other):
+    """How far two rectangles lie from each other, across and down together; 0 where they meet."""
+    across = max(0, one.x - other.right, other.x - one.right)
+    return across + max(0, one.y - other.bottom, other.y - one.bottom)
+
+
 class Owners:
     """Finds for each fragment of a page the one in which it stands.
 
     The fragments come in tree order, so a fragment stands in the last one or in one round that. A line is known by its box, an
     anonymous box by its element's, and a box stays open up to its last line. What this leaves open is settled by `parents`, the
-    parent of each node in the document, where it is given, and else by the place: the innermost in which most of it lies.
+    parent of each node in the document, where it is given, and else by the place: the innermost in which most of it lies. A box
+    that lies in none of them stands beside the one that it lies nearest to.
+
+    No more than `DEEPEST` boxes and inline boxes are open at once, so the work grows with the count of fragments alone.
     """
 
     def __init__(self, page, parents=None):
         self.fragments = page.fragments
         self.parents = parents
         self.open = []
+        # How many boxes and inline boxes are open up to each of `open`, it included.
+        self.depths = []
         self.owners = []
+        # For each fragment the last one of what stands in it.
+        self.last_inside = {}
         self.with_lines = {(each.node, each.box) for each in self.fragments if each.kind == "line"}
         self.last = self.last_places()
         self.needs_line = self.places_before_text()
@@ -314,9 +329,13 @@ class Owners:
             owner = self.owner_of(place, each)
             while self.open and self.open[-1] != owner:
                 self.open.pop()
+                self.depths.pop()
             self.owners.append(owner)
+            if owner is not None:
+                self.last_inside[owner] = place
             if each.kind != "run":
                 self.open.append(place)
+                self.depths.append((self.depths[-1] if self.depths else 0) + (each.kind != "line"))
         return self.owners
 
     def owner_of(self, place, each):
@@ -327,7 +346,22 @@ class Owners:
         candidates = self.by_document(each, [at for at in self.still_open(place) if self.may_hold(at, each)])
         if not candidates:
             return None
-        return max(candidates, key=lambda at: (self.fit(each, self.fragments[at]), at))
+        fits = {at: self.fit(each, self.fragments[at]) for at in candidates}
+        if each.kind == "box" and max(fits.values()) <= 0:
+            return self.beside_nearest(each, candidates)
+        return max(candidates, key=lambda at: (fits[at], at))
+
+    def beside_nearest(self, each, candidates):
+        """The candidate of which the last part lies nearest to a box that lies in none of them: what flows out of its container
+        goes on where the box before it ended, most often as wide as that. Of several the outermost, so that the fewest are
+        overflowed."""
+        def key(at):
+            last = self.fragments[self.last_inside.get(at, at)].rect.upright()
+            here = each.rect.upright()
+            alike = (here.x, here.width) == (last.x, last.width) or (here.y, here.height) == (last.y, last.height)
+            return distance(here, last), not alike, at
+
+        return min(candidates, key=key)
 
     def named(self, node, box):
         """The open box of this name."""
@@ -339,8 +373,9 @@ class Owners:
     def still_open(self, place):
         """The open fragments from the innermost out to the first that can't be closed yet."""
         last_line = self.outermost_line() if self.needs_line[place] else None
-        for at in reversed(self.open):
-            yield at
+        for at, depth in zip(reversed(self.open), reversed(self.depths)):
+            if depth < DEEPEST:
+                yield at
             if at == last_line or self.reaches(at) > place:
                 return
 
@@ -354,9 +389,11 @@ class Owners:
 
     def may_hold(self, at, each):
         holder = self.fragments[at]
-        if each.kind == "box":
-            return holder.kind in ("line", "span") or (holder.box == 0 and (holder.node, 0) not in self.with_lines)
-        return holder.kind in ("line", "span")
+        if holder.kind in ("line", "span"):
+            return True
+        # The box of `html` holds that of `body` alone.
+        holds = holder.box == 0 and (holder.node, 0) not in self.with_lines and (holder.node > 0 or each.node <= 1)
+        return each.kind == "box" and holds
 
     def by_document(self, each, candidates):
         """Those of the candidates whose node is the nearest round the fragment's, by the document where it is there."""
@@ -370,8 +407,12 @@ class Owners:
 
     def fit(self, each, holder):
         """How well a fragment stands in another, by their places. Things reach out of boxes and lines, hardly out of inline boxes."""
-        if each.kind == "box" and holder.kind == "box" and touches(each.rect, holder.rect):
-            return 1.0
+        if each.kind == "box" and holder.kind == "box":
+            if each.rect == holder.rect and 0 in (holder.rect.width, holder.rect.height):
+                # An empty box stands beside an empty box of its size and place rather than in it.
+                return 0.0
+            if touches(each.rect, holder.rect):
+                return 1.0
         found = share(each.rect, holder.rect)
         return -1.0 if holder.kind == "span" and found == 0 else found
 

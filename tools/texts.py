@@ -2,7 +2,7 @@
 
 
 class Texts:
-    """The texts of one page."""
+    """The texts of one page. What stands in what may be as deep as it likes: no function here calls itself."""
 
     def __init__(self, page, owners):
         self.fragments = page.fragments
@@ -11,17 +11,32 @@ class Texts:
             if owner is not None:
                 self.inside[owner].append(place)
         self.outermost = [place for place, owner in enumerate(owners) if owner is None]
+        # The text of each inline-block, by its place, once it is known.
+        self.atoms = {}
+        self.read_atoms(owners)
+
+    def read_atoms(self, owners):
+        """Reads the text of each inline-block, the inner before the outer, which stand before them."""
+        for place in reversed(range(len(self.fragments))):
+            owner = owners[place]
+            if self.fragments[place].kind == "box" and owner is not None and self.fragments[owner].kind in ("line", "span"):
+                self.atoms[place] = " ".join(line for lines in self.paragraphs([place]) for line in lines)
 
     def paragraphs(self, places=None):
         """The lines of each paragraph, in tree order. An inline-block is part of its line."""
-        lines = []
-        for place in self.outermost if places is None else places:
-            if self.fragments[place].kind == "line":
+        # What is left to be read of each open box, and the lines of it since the last box in it.
+        waiting = [(iter(self.outermost if places is None else places), [])]
+        while waiting:
+            rest, lines = waiting[-1]
+            place = next(rest, None)
+            if place is None:
+                waiting.pop()
+                if lines:
+                    yield lines
+            elif self.fragments[place].kind == "line":
                 lines.append(self.line(place))
             elif self.fragments[place].kind == "box":
-                yield from self.paragraphs(self.inside[place])
-        if lines:
-            yield lines
+                waiting.append((iter(self.inside[place]), []))
 
     def line(self, place, atoms=True):
         """The text of a line, by the order of nodes and characters, with its inline-blocks or without."""
@@ -29,15 +44,18 @@ class Texts:
 
     def pieces(self, place, atoms):
         """What stands on a line or in a span of it, each with its node and its place in the node's text."""
-        for at in self.inside[place]:
+        for at in self.on_line(place):
             each = self.fragments[at]
             if each.kind == "run":
                 yield each.node, each.begin, each.logical()
-            elif each.kind == "span":
-                yield from self.pieces(at, atoms)
-            elif atoms:
-                yield each.node, 0, self.atom(at)
+            elif each.kind == "box" and atoms:
+                yield each.node, 0, self.atoms[at]
 
-    def atom(self, place):
-        """The text of an inline-block in a row."""
-        return " ".join(line for lines in self.paragraphs([place]) for line in lines)
+    def on_line(self, place):
+        """The places of all that stands on a line or in a box and in no other box, in the order of the listing."""
+        waiting = list(reversed(self.inside[place]))
+        while waiting:
+            at = waiting.pop()
+            yield at
+            if self.fragments[at].kind != "box":
+                waiting.extend(reversed(self.inside[at]))

@@ -1,6 +1,9 @@
 """Tests of the reading of listings and of what stands in what (tools/listing.py, tools/source.py)."""
+import time
+
 import listing
 import source
+import texts
 
 from tools.tests import support
 from tools.tests.support import all_listings, all_script_listings, example, held
@@ -61,6 +64,44 @@ class Listings(support.ToolCase):
                 self.hold(False, f"the first {length} bytes of a listing are read")
             except listing.ListingError:
                 self.hold(True, "")
+
+    def test_boxes_that_overflow(self):
+        """Boxes that flow out of their container stand beside each other, and their count alone makes the work."""
+        for what, rows in (("empty boxes", empty_boxes(4000)), ("boxes with paragraphs", boxes_with_paragraphs(4000))):
+            begin = time.process_time()
+            page = listing.read("page 51200 38400 horizontal-tb ltr\n" + rows + "end\n")[0]
+            owners = listing.owners(page)
+            read = list(texts.Texts(page, owners).paragraphs())
+            self.hold(time.process_time() - begin < 2, f"{what}: the time of {len(owners)} fragments")
+            nodes = {place: fragment.node for place, fragment in enumerate(page.fragments)}
+            divs = {nodes[owner] for place, owner in enumerate(owners) if page.fragments[place].kind == "box" and nodes[place] % 3 == 2}
+            self.same(divs, {1}, f"{what}: what they stand in")
+            self.same(len(read), rows.count("run "), f"{what}: the paragraphs")
+
+    def test_boxes_deeper_than_elements(self):
+        """Boxes that lie in one another are taken to stand in one another up to the depth that elements may have."""
+        rows = "".join(f"box {node} 0 {node} {node} {20000 - 2 * node} {20000 - 2 * node}\n" for node in range(5000))
+        owners = listing.owners(listing.read(f"page 51200 38400 horizontal-tb ltr\n{rows}end\n")[0])
+        depths = [0]
+        for owner in owners[1:]:
+            depths.append(depths[owner] + 1)
+        self.same(max(depths), 63, "the depth of 5000 boxes in one another")
+
+
+def empty_boxes(count):
+    """The lines of a body of 100 px with empty boxes in it."""
+    rows = "".join(f"box {3 * number + 2} 0 512 512 50176 0\n" for number in range(count))
+    return f"box 0 0 0 0 51200 7424\nbox 1 0 512 512 50176 6400\n{rows}"
+
+
+def boxes_with_paragraphs(count):
+    """The lines of a body of 100 px with boxes that hold a paragraph each."""
+    rows = ["box 0 0 0 0 51200 6400\nbox 1 0 0 0 51200 6400\n"]
+    for number in range(count):
+        node, top = 3 * number + 2, 1024 * number
+        rows += [f"box {each} 0 0 {top} 51200 1024\n" for each in (node, node + 1)]
+        rows += [f"line {node + 1} 0 0 0 {top} 51200 1024 768\nrun {node + 2} 0 1 0 {top} 512 1024 h 0 0061\n"]
+    return "".join(rows)
 
 
 def stands_in(fragment, owner, nodes):
