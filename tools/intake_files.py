@@ -6,6 +6,7 @@ reader of XML, since in XHTML `<a id="x"/>` is a whole element and in HTML a sta
 import dataclasses
 import html.entities
 import io
+import itertools
 import os
 import posixpath
 import re
@@ -27,6 +28,7 @@ TAG = re.compile(r"<[A-Za-z!?]")
 # XML knows five names of characters, XHTML those of HTML.
 ENTITIES = "".join(f'<!ENTITY {name} "&#{code};">' for name, code in html.entities.name2codepoint.items() if code > 62)
 MARKS = ((b"\xef\xbb\xbf", "utf-8"), (b"\xff\xfe", "utf-16le"), (b"\xfe\xff", "utf-16be"))
+BOOK = b"PK\x03\x04"
 CHAPTER_TYPES = ("application/xhtml+xml", "text/html")
 # A chapter or a sheet that is larger isn't read: a small book may claim to hold anything.
 LARGEST_PART = 1 << 26
@@ -43,13 +45,24 @@ class Source:
 
 def sources_of(path, encoding):
     """The pages of a file: one of HTML, or the chapters of a book."""
-    data = listing.read_bytes(path)
+    data = read_page_or_book(path)
     stem = "standard-input" if path == "-" else os.path.basename(path)
     stem = re.sub(r"\.(x?html?|xht|epub)$", "", stem, flags=re.IGNORECASE)
-    if data.startswith(b"PK\x03\x04"):
+    if data.startswith(BOOK):
         yield from chapters(data, stem, encoding)
     else:
         yield Source(stem, tree_of(data, encoding), FolderBeside("" if path == "-" else os.path.dirname(path)))
+
+
+def read_page_or_book(path):
+    """The bytes of a file. A book may be as large as its pictures make it, a page not."""
+    chunks = listing.chunks_of(path)
+    first = next(chunks, b"")
+    most = listing.MOST_READ if first.startswith(BOOK) else LARGEST_PART
+    data, is_longer = listing.front_of(itertools.chain([first], chunks), most)
+    if is_longer:
+        raise listing.InputError(f"it has more than {most:,} bytes")
+    return data
 
 
 def check_encoding(encoding):

@@ -8,13 +8,19 @@ A listing doesn't say which fragment stands in which. `owners` finds it out, fro
 from the document where there is one.
 """
 import argparse
+import contextlib
 import dataclasses
+import itertools
 import os
 import re
 import sys
 
 MODES = ("horizontal-tb", "vertical-rl", "vertical-lr", "sideways-rl", "sideways-lr")
 UNITS_PER_PIXEL = 64
+# The most bytes that the program takes (docs/PROFILE/limits.md), and that are read as listings.
+MOST_INPUT, MOST_READ = 1_048_576, 1 << 30
+# How much of a file is read at once, and how much of a line is shown that isn't understood.
+CHUNK, MOST_SHOWN = 1 << 20, 60
 # How deep elements stand in one another at most (docs/PROFILE/limits.md, "nodes"), where `html` has depth 1.
 DEEPEST = 64
 # The characters that take each other's places in text from right to left (docs/PROFILE/characters.md, "Mirrors").
@@ -157,7 +163,10 @@ class Refusal:
 
 # Reading. Each kind of line has a pattern of its words, and a function from their match to the fragment.
 
-NUMBER, SIGNED = r"(0|[1-9]\d*)", r"(0|-?[1-9]\d*)"
+# No place and no size of a page is further than 2^60 units from 0, which has this many digits.
+MOST_DIGITS = 19
+NUMBER, SIGNED = rf"(0|[1-9]\d{{,{MOST_DIGITS - 1}}})", rf"(0|-?[1-9]\d{{,{MOST_DIGITS - 1}}})"
+LONG_NUMBER = re.compile(r"(?<=[ c-])[0-9]{20,}", re.ASCII)
 # The extent of a span may be below zero, where margins in it are.
 RECT = rf"{SIGNED} {SIGNED} {SIGNED} {SIGNED}"
 CHARACTER = r"(?:[0-9A-F]{4}|[1-9A-F][0-9A-F]{4,5})"
@@ -177,9 +186,17 @@ def rect_of(words):
     return Rect(*map(int, words))
 
 
+def character_of(digits):
+    """The character of a number in hexadecimal digits, of which a listing has no surrogate and none past the end of Unicode."""
+    number = int(digits, 16)
+    if number > sys.maxunicode or 0xD800 <= number <= 0xDFFF:
+        raise ValueError(f"U+{digits} is no character")
+    return chr(number)
+
+
 def clusters_of(text):
     """The clusters of a run as texts."""
-    return tuple("".join(chr(int(digits, 16)) for digits in cluster.split("+")) for cluster in text.split(","))
+    return tuple("".join(map(character_of, cluster.split("+"))) for cluster in text.split(","))
 
 
 def box_of(words):
@@ -207,21 +224,45 @@ def read_fragment(line, number):
     """The fragment that a line of a listing tells."""
     kind = line.split(" ", 1)[0]
     if kind not in MAKERS:
-        raise ListingError(number, "no word of a listing stands at its start")
+        raise ListingError(number, what_is_wrong(line, "no word of a listing stands at its start"))
     found = FRAGMENT_LINES[kind].fullmatch(line)
     if found is None:
-        raise ListingError(number, f"these are not the words of a line `{kind}`")
+        raise ListingError(number, what_is_wrong(line, f"these are not the words of a line `{kind}`"))
     try:
         return MAKERS[kind](found.groups())
-    except ValueError:
-        raise ListingError(number, "a character past the end of Unicode") from None
+    except ValueError as error:
+        raise ListingError(number, str(error)) from None
+
+
+def what_is_wrong(line, otherwise):
+    """Why a line is none of a listing."""
+    if line.endswith("\r"):
+        return "it ends with a carriage return and a line feed, where the program writes line feeds alone"
+    long = LONG_NUMBER.search(line)
+    if long:
+        return f"a number of {len(long[0]):,} digits, where a listing has {MOST_DIGITS} at most"
+    return otherwise
+
+
+def no_page_line(line):
+    """Why a line begins no listing."""
+    if line.startswith("usage: "):
+        return f"the program was given words that are no job: {shown(line)}"
+    if line.startswith("gen "):
+        return f"this is what the command `gen` counted, and no listing: {shown(line)}"
+    return what_is_wrong(line, f"a listing begins with a line `page`, and this is {shown(line)}")
+
+
+def shown(line):
+    """A line in a message: its front, where it is long."""
+    return f"`{line if len(line) <= MOST_SHOWN else line[:MOST_SHOWN] + '…'}`"
 
 
 def read_page(lines, at):
     """The listing that begins with the line at this place, and the place behind its `end`."""
     head = PAGE_LINE.fullmatch(lines[at])
     if head is None:
-        raise ListingError(at + 1, "a listing begins with a line `page`")
+        raise ListingError(at + 1, no_page_line(lines[at]))
     fragments = []
     for place in range(at + 1, len(lines)):
         if lines[place] == "end":
@@ -237,7 +278,9 @@ def read(text):
         raise ListingError(1, "nothing stands here")
     *lines, rest = text.split("\n")
     if rest:
-        raise ListingError(len(lines) + 1, "the listing was cut off within a line" if lines else "this is no listing")
+        if lines and (PAGE_LINE.fullmatch(lines[0]) or REFUSED_LINE.fullmatch(lines[0])):
+            raise ListingError(len(lines) + 1, "the listing was cut off within a line")
+        raise ListingError(1, no_page_line(lines[0] if lines else rest))
     parts, at = [], 0
     while at < len(lines):
         refused = REFUSED_LINE.fullmatch(lines[at])
@@ -434,41 +477,107 @@ class Parser(argparse.ArgumentParser):
         self.exit(2, f"{self.prog}: {message} (--help says more)\n")
 
 
-def read_bytes(path):
-    """What a file holds, or standard input where it is `-`."""
-    if path == "-":
-        return sys.stdin.buffer.read()
-    with open(path, "rb") as file:
-        return file.read()
+def name_of(path):
+    return "standard input" if path == "-" else path
+
+
+def chunks_of(path):
+    """What a file holds, or standard input where it is `-`, in parts, so that one without an end can be left."""
+    if path == "":
+        raise InputError("the name of a file is empty")
+    if path == "-" and sys.stdin is None:
+        raise InputError("standard input is closed")
+    try:
+        with contextlib.nullcontext(sys.stdin.buffer) if path == "-" else open(path, "rb") as file:
+            while chunk := file.read(CHUNK):
+                yield chunk
+    except (OSError, ValueError) as error:
+        # A name with a character 0 is a ValueError.
+        raise InputError(f"{name_of(path)}: {getattr(error, 'strerror', None) or error}") from None
+
+
+def front_of(chunks, most):
+    """The first bytes of what comes in parts, and whether there are more."""
+    parts, count = [], 0
+    for chunk in chunks:
+        parts.append(chunk)
+        count += len(chunk)
+        if count > most:
+            break
+    return b"".join(parts)[:most], count > most
+
+
+def read_bytes(path, most=MOST_READ):
+    """What a file holds, or standard input where it is `-`: at most so many bytes."""
+    data, is_longer = front_of(chunks_of(path), most)
+    if is_longer:
+        raise InputError(f"{name_of(path)}: it has more than {most:,} bytes")
+    return data
+
+
+def read_input(path):
+    """What the program is to read. It refuses what is longer than its limit, so one byte past that is enough."""
+    return front_of(chunks_of(path), MOST_INPUT + 1)[0]
+
+
+def read_given(path):
+    """A document or listings, whichever a file holds."""
+    chunks = chunks_of(path)
+    first = next(chunks, b"")
+    if is_document(first):
+        return front_of(itertools.chain([first], chunks), MOST_INPUT + 1)[0]
+    return read_rest(path, first, chunks)
+
+
+def read_rest(path, first, chunks):
+    """All of what may be listings. What doesn't begin as one isn't read to its end, which may never come."""
+    begins_as_one = any(first.startswith(word[: len(first)]) for word in (b"page ", b"refused "))
+    data, is_longer = front_of(itertools.chain([first], chunks if begins_as_one else ()), MOST_READ)
+    if is_longer:
+        raise InputError(f"{name_of(path)}: it has more than {MOST_READ:,} bytes")
+    return data
+
+
+def is_document(data):
+    return data.removeprefix("\ufeff".encode()).lstrip().startswith(b"<")
 
 
 def read_file(path):
     """The listings and refusals of a file, or of standard input where it is `-`."""
-    return read_listing_bytes(read_bytes(path))
+    chunks = chunks_of(path)
+    return read_listing_bytes(read_rest(path, next(chunks, b""), chunks))
 
 
 def read_listing_bytes(data):
+    if data.startswith("\ufeff".encode()):
+        raise ListingError(1, "a byte order mark stands before the listing, which the program doesn't write")
     try:
         return read(data.decode("ascii"))
     except UnicodeDecodeError as error:
-        raise ListingError(data.count(b"\n", 0, error.start) + 1, "a byte that no listing has") from None
+        number = data.count(b"\n", 0, error.start) + 1
+        raise ListingError(number, f"the byte {data[error.start]:02X}, and all bytes of a listing are ASCII") from None
 
 
 def pages_of(parts):
     """The pages among what was read; at least one."""
     pages = [part for part in parts if isinstance(part, Page)]
     if not pages:
-        raise InputError(f"there is no page: refused {parts[0].kind} {parts[0].number}")
+        raise InputError(f"there is no page, but a refusal, which tools/where shows: refused {parts[0].kind} {parts[0].number}")
     return pages
 
 
 def put(text, path="-"):
     """Writes the whole of a text to a new file, or to standard output. A file that is there stays as it is."""
-    data = text.encode("utf-8")
+    # The name of a file may have bytes that are no UTF-8: they go out as they came.
+    data = text.encode("utf-8", "surrogateescape")
     if path == "-":
+        if sys.stdout is None:
+            raise InputError("standard output is closed")
         sys.stdout.buffer.write(data)
         sys.stdout.buffer.flush()
         return
+    if path == "":
+        raise InputError("the name of a file is empty")
     with open(path, "xb") as file:
         file.write(data)
 
@@ -483,7 +592,11 @@ def run_tool(main):
         os.dup2(os.open(os.devnull, os.O_WRONLY), sys.stdout.fileno())
         sys.exit(1)
     except OSError as error:
-        sys.exit(f"{name}: {error.filename or 'standard output'}: {error.strerror}")
+        sys.exit(f"{name}: {'standard output' if error.filename is None else error.filename}: {error.strerror}")
+    except MemoryError:
+        sys.exit(f"{name}: out of memory")
+    except KeyboardInterrupt:
+        sys.exit(130)
     except (ListingError, InputError) as error:
         sys.exit(f"{name}: {error}")
 

@@ -3,6 +3,7 @@
 It takes documents that wm_layout lays out (docs/PROFILE/html.md and nodes.md) and judges nothing but how tags nest.
 """
 import dataclasses
+import itertools
 import re
 
 import listing
@@ -128,14 +129,29 @@ def parents_of(nodes):
     return {number: node.parent for number, node in enumerate(nodes)}
 
 
-def nodes_in(path):
-    """The nodes of the document in a file; nothing where no file is given."""
-    return None if path is None else read_nodes(decoded(listing.read_bytes(path)))
+def check_nodes(nodes, parts):
+    """Refuses a document that is of another listing. Nodes past its own may have come by a script."""
+    pages = [part for part in parts if isinstance(part, listing.Page)]
+    for fragment in itertools.chain.from_iterable(page.fragments for page in pages):
+        if fragment.node < len(nodes) and (nodes[fragment.node].tag is None) != (fragment.kind == "run"):
+            found = "a text" if fragment.kind == "run" else "an element"
+            due = f"a <{nodes[fragment.node].tag}>" if nodes[fragment.node].tag else "a text"
+            raise listing.InputError(f"the document is of another listing: node {fragment.node} is {found} there and {due} in it")
 
 
-def parents_in(path):
-    """The parent of each node of the document in a file; nothing where no file is given."""
-    return None if path is None else parents_of(nodes_in(path))
+def nodes_in(path, parts):
+    """The nodes of the document in a file; nothing where no file is given. It has to be that of the pages."""
+    if path is None:
+        return None
+    nodes = read_nodes(decoded(listing.read_input(path)))
+    check_nodes(nodes, parts)
+    return nodes
+
+
+def parents_in(path, parts):
+    """The parent of each node of the document in a file; nothing where no file is given. It has to be that of the pages."""
+    nodes = nodes_in(path, parts)
+    return None if nodes is None else parents_of(nodes)
 
 
 def add_document(parser):
