@@ -12,6 +12,7 @@ import unicodedata
 
 import listing
 import source
+import syntax_hints
 
 MOST_NODES, MOST_LEVELS = 65_536, 64
 # How many open elements are told of.
@@ -22,6 +23,7 @@ NAMED = {"text": 1, "style": 1, "class": 1, "insert": 1, "remove": 1, "move": 2}
 # Which kinds of the reading of a script are about the whole line.
 WHOLE_LINES = ("ScriptSyntax", "TooManyEdits", "TooManyShows")
 REFERENCE = re.compile(r"&#(?:[xX]([0-9A-Fa-f]{1,6})|([0-9]{1,7}));")
+LONG_NUMBER = re.compile(r"\d{8}")
 SPACE = "[\t\n\f\r ]*"
 STYLE = re.compile(rf"style{SPACE}={SPACE}(?:\"([^\"]*)\"|'([^']*)')", re.IGNORECASE)
 BRINGING_LINE = re.compile(r"(?:(text|style) \d{1,7}|(insert) \d{1,7} \d{1,7}) ", re.ASCII)
@@ -144,6 +146,8 @@ def place_of_byte(given, refusal, rows, known):
     if given.nodes and at >= given.nodes[0].end:
         return place_behind_document(given, refusal, rows, known, at)
     rows = rows_at(given, refusal.kind, rows, at)
+    if refusal.kind == "Syntax" and not syntax_hints.is_in_number(given.text, at):
+        rows = without_limits(rows)
     if is_style_attribute(given, refusal.kind, at):
         return place_in_attribute(given, refusal.kind, rows, known, at)
     return Place(at, rows, notes_of_byte(given, refusal.kind, at))
@@ -152,6 +156,11 @@ def place_of_byte(given, refusal, rows, known):
 def rows_at(given, kind, rows, at):
     """The rows of a kind for a place in a document."""
     return tuple(row for row in rows if kind != "Unsupported" or row.of == of_what(given, at))
+
+
+def without_limits(rows):
+    """Rows of which the limit isn't what was passed."""
+    return tuple(dataclasses.replace(row, limit="none") for row in rows)
 
 
 def is_style_attribute(given, kind, at):
@@ -170,6 +179,8 @@ def place_behind_document(given, refusal, rows, known, at):
     if known.command != "edit" and (known.command or at < given.script_begin()):
         return Place(at, tuple(rows), ("this stands behind the document; a script is read by the command edit alone",))
     note = f"line {given.script_line_number(at)} of the script"
+    if refusal.kind == "ScriptSyntax" and not LONG_NUMBER.search(script_line(given, at)):
+        rows = without_limits(rows)
     if refusal.kind in WHOLE_LINES:
         return Place(at, tuple(rows), (note,))
     return place_in_line(given, refusal.kind, rows, known, at, note)
@@ -183,6 +194,9 @@ def place_in_line(given, kind, rows, known, at, note):
         rows = [row for row in rows if row.of != "a sign" and (row.of != "dir" or line.startswith("insert "))]
         return Place(at, tuple(rows), (f"{note}, somewhere behind its words: its start is pointed at",))
     rows = rows_at(given, kind, rows, inner)
+    if kind == "Syntax":
+        hint = syntax_hints.reference_hint(given.text, inner)
+        return Place(inner, without_limits(rows), (note, hint) if hint else (note,))
     character = (name_of_character(given.text, inner),) if kind == "Character" else ()
     return Place(inner, rows, (note, *character))
 
@@ -209,6 +223,8 @@ def notes_of_byte(given, kind, at):
         return ("the input ends here", *told_open(given, given.found.open))
     if kind == "Character":
         return (name_of_character(given.text, at),)
+    if kind == "Syntax":
+        return syntax_hints.hints(given.text, at)
     return told_open(given, given.found.open[-1:]) if kind == "Nesting" else ()
 
 

@@ -30,6 +30,7 @@ class Nodes:
         self.open = []
         # Where the text of each style sheet begins and ends.
         self.sheets = []
+        self.in_head = False
 
     def add(self, tag, begin, end):
         self.nodes.append(Node(self.open[-1] if self.open else None, tag, begin, end))
@@ -57,13 +58,43 @@ class Nodes:
         return len(self.open) > 1
 
 
-def walk(found, text):
-    """Finds the nodes and sheets of a document, up to where it breaks off. What follows `</html>` is no part of it."""
+def tokens(found, text):
+    """Where each token of a document begins, which is read once the next one is asked for. What follows `</html>` is none."""
     at = 0
     while at < len(text) and not (found.nodes and not found.open):
+        yield at
         at = step(found, text, at)
+
+
+def walk(found, text):
+    """Finds the nodes and sheets of a document, up to where it breaks off."""
+    for _ in tokens(found, text):
+        pass
     if found.open or len(found.nodes) < 2:
         raise listing.InputError("this is no whole document")
+
+
+@dataclasses.dataclass(frozen=True)
+class Front:
+    """What stands before a token: how many nodes, whether the body or the head is open, and where the token begins."""
+
+    nodes: int
+    in_body: bool
+    in_head: bool
+    begin: int
+
+
+def front_at(text, place):
+    """What stands before the token at a place, as far as the tags before it nest."""
+    found, front = Nodes(), Front(0, False, False, 0)
+    try:
+        for begin in tokens(found, text):
+            if begin > place:
+                break
+            front = Front(len(found.nodes), found.in_body(), found.in_head, begin)
+    except listing.InputError:
+        pass
+    return front
 
 
 def read_nodes(text):
@@ -95,6 +126,8 @@ def step(found, text, at):
 
 def behind_head_tag(found, text, slash, name, end):
     """The place behind a tag of the head, and behind the text of a title or a style sheet, which may look like anything."""
+    if name == "head":
+        found.in_head = not slash
     if slash or name not in ("title", "style"):
         return end
     closed = re.compile(rf"</{name}[\t\n\f\r ]*>", re.IGNORECASE | re.ASCII).search(text, end)

@@ -3,6 +3,7 @@ import os
 import re
 
 import refusals
+import syntax_hints
 
 from tools.tests import support
 from tools.tests.support import Ended, SCRIPT, TOP, example, held, put_input, tried
@@ -53,6 +54,37 @@ WHERE_INSIDE = (
     ("<html><body>a</body></html>\ninsert 1 0 a<b>", "edit", "2:16"),
     ("<html><body>a</body></html>\ninsert 1 0 a</body></html>b", "edit", "2:1"),
 )
+# Documents that are refused as Syntax, with the place of the byte, and how the hint for it begins.
+HINTS = (
+    ("<html><head><link rel='stylesheet' href='a.css'></head>", 13, "the head holds `<title>`, `<meta>` and `<style>` alone: sheets"),
+    ("<html><head><script>x</script></head>", 14, "the head holds `<title>`, `<meta>` and `<style>` alone: scripts"),
+    ("<html><head><meta charset=utf-8></head>", 26, 'the value of an attribute stands in quotes: `charset="utf-8"`'),
+    ("<html><head></head><p>", 20, "in `<html>` stand a `<head>`, which may be left out, and a `<body>`"),
+    ("<p>a</p>", 1, "a document begins with `<html>`"),
+    ("hello", 0, "a document begins with `<html>`"),
+    ('<?xml version="1.0"?><html>', 1, "an XML declaration isn't read"),
+    ('<!DOCTYPE html PUBLIC "x"><html>', 15, "the doctype is `<!DOCTYPE html>`"),
+    ("<html>text<body></body></html>", 6, "text stands in `<body>` alone"),
+    ("<html><body></body><p>x</html>", 20, "after `</body>` comes `</html>`"),
+    ("<html><body><p dir = rtl>", 21, 'the value of an attribute stands in quotes: `dir="rtl"`'),
+    ('<html><body><p title=""class="a">', 23, "white space has to stand between two attributes"),
+    ('<html><body><p id="1" id="2"></p>', 22, "the attribute `id` stands twice"),
+    ('<html><body><p 1="a">', 15, "the name of an attribute begins with a letter"),
+    ("<html><body><hr/>", 15, "`<br>` and `<meta>` alone may end with `/>`: write `</hr>`"),
+    ("<html><body><svg:a>", 16, "the name of a tag has letters"),
+    ("<html><body><![CDATA[x]]>", 14, "of what begins with `<!` comments alone are read"),
+    ("<html><body>a < b", 15, "a plain `<` is written `&lt;`"),
+    ("<html><body>a & b", 15, "a plain `&` is written `&amp;`"),
+    ('<html><body><p title="a & b">', 25, "a plain `&` is written `&amp;`"),
+    ('<html><body><a href="x?a=1&b=2">', 27, "a plain `&` is written `&amp;`"),
+    ("<html><body>&foo;", 13, "there is no reference `&foo;`"),
+    ("<html><body>&alpha;", 14, "the profile doesn't have the reference `&alpha;`: write its number, `&#945;`"),
+    ("<html><body>&copy;", 13, "the profile has neither the reference `&copy;` nor its character"),
+    ("<html><body>&nbsp</body>", 17, "the reference `&nbsp` has to end with `;`"),
+    ("<html><body>&#xD800;", 19, "`&#xD800;` is no character"),
+    ("<html><body>&#65 ", 16, "the reference `&#65` goes on with digits or ends with `;`"),
+    ("<html><body>&#0000000065;", 21, "the number of a reference is that of a character"),
+)
 
 
 class Where(support.ToolCase):
@@ -71,6 +103,22 @@ class Where(support.ToolCase):
     def test_places_in_bytes(self):
         for case in WHERE_CASES:
             self.check_where_case(*case)
+
+    def test_hints(self):
+        """What is said of the first thing for which a page of one's own is refused, and that a limit is told at numbers alone."""
+        for given, at, due in HINTS:
+            said = syntax_hints.hints(given, at)
+            self.hold(len(said) == 1 and said[0].startswith(due), f"the hint of {given!r}: {said}")
+            path = self.new_path()
+            put_input(path, given)
+            shown = tried("where", path, f"refused Syntax {at}").out
+            self.hold(f"\nhere: {due}" in shown, f"where shows the hint of {given!r}: {shown}")
+            self.same("\nlimit: " in shown, "&#" in given, f"where shows a limit for {given!r}")
+
+    def test_hints_are_of_refusals(self):
+        self.needs(self.program, "what the program says of the hints' documents")
+        for given, at, _ in HINTS:
+            self.same(self.ran("layout", given.encode("utf-8")), f"refused Syntax {at}\n", f"{given!r} is refused")
 
     def test_rows_by_the_place(self):
         for row in WHERE_ROWS:
