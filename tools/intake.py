@@ -10,6 +10,7 @@ import intake_sheets
 import intake_text
 import intake_tree
 import listing
+import programs
 
 
 class Intake:
@@ -19,7 +20,7 @@ class Intake:
         self.words = words
         self.losses = intake_losses.Losses()
         self.characters = intake_text.Characters(words.replace, self.losses)
-        self.judge = None if words.no_sheets else intake_sheets.Judge(words.judge or intake_sheets.PROGRAM)
+        self.judge = None if words.no_sheets else intake_sheets.Judge(words.judge or programs.SHEETS.path)
 
     def document(self, source):
         """The document of a page."""

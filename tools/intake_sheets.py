@@ -12,15 +12,10 @@ import tinycss2
 import tinycss2.ast
 
 import intake_tree
+import programs
 from intake_files import path_of
 from intake_tree import local
 
-TOP = os.path.dirname(os.path.dirname(os.path.abspath(__file__)))
-PROGRAM = os.path.join(TOP, "crates", "check_css", "out", "check_css")
-MISSING = (
-    "there is no program {}, which judges sheets: `rt run` in crates/check_css builds it; --judge names another one,"
-    " --no-sheets goes without sheets"
-)
 # Names that some engines gave properties before the standards had them. Books in vertical lines still use them.
 STANDARD_NAMES = {
     "-epub-writing-mode": "writing-mode",
@@ -74,7 +69,7 @@ DEEPEST_IMPORT = 8
 class Judge:
     """Asks the engine's reader, and keeps what it said: pages of one book have their sheets in common."""
 
-    def __init__(self, program=PROGRAM):
+    def __init__(self, program=programs.SHEETS.path):
         self.program = program
         self.known = {}
 
@@ -88,7 +83,7 @@ class Judge:
             ran = subprocess.run([self.program], input=lines, capture_output=True, encoding="utf-8", check=True)
         except OSError:
             # It would be missing for each page, so the tool ends here.
-            sys.exit(f"take-in: {MISSING.format(self.program)}")
+            sys.exit(f"take-in: {programs.missing(self.program, programs.SHEETS, '--judge')}")
         except subprocess.CalledProcessError as error:
             sys.exit(f"take-in: {self.program} ended with status {error.returncode}")
         answers = ran.stdout.split("\n")[:-1]

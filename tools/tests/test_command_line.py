@@ -4,6 +4,7 @@ import subprocess
 import sys
 
 import listing
+import programs
 
 from tools.tests import support
 from tools.tests.support import NAMES, REFUSED, TOOLS, TOP, example, held, tried
@@ -101,6 +102,19 @@ class CommandLine(support.ToolCase):
         for indent in ("-3", "99999999999", "101", "x", "\u0663"):
             self.refuses("json", (f"--indent={indent}", example("signs")), "")
         self.hold(tried("json", "--indent", "100", example("empty_body")).out.startswith("{\n" + 100 * " "), "json --indent 100")
+
+    def test_missing_programs(self):
+        """What is said of a program that isn't there: the command that makes it, and what can be had before."""
+        for program in (programs.LAYOUT, programs.NODES, programs.STYLES, programs.SHEETS):
+            said = programs.missing(program.path, program, "--program")
+            due = (f"`rt run` in crates/{program.crate} ", program.takes, program.before, "--program names another place")
+            self.hold(all(words in said for words in due) and "\n" not in said, f"a missing {program.crate}: {said}")
+            self.hold(os.path.isdir(os.path.join(TOP, "crates", program.crate)), f"there is a crate {program.crate}")
+        document = example("signs").replace(".listing", ".html")
+        for tool, option in (("picture", "--program"), ("where", "--program"), ("lint", "--program")):
+            said = self.refuses(tool, (document, option, "none"), "")
+            self.same(said, f"{tool}: there is no program at none, which {option} names\n", f"{tool} without its program")
+            self.hold("Permission denied" in self.refuses(tool, (document, option, TOP), ""), f"{tool}: a folder for a program")
 
     def test_help(self):
         others = ("where", "lint", "face-from-font", "listing-pictures", "property-page", "take-in", "check-tools", "check-gallery")
