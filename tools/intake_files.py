@@ -10,6 +10,7 @@ import itertools
 import os
 import posixpath
 import re
+import shlex
 import urllib.parse
 import zipfile
 import zlib
@@ -28,6 +29,7 @@ TAG = re.compile(r"<[A-Za-z!?]")
 # XML knows five names of characters, XHTML those of HTML.
 ENTITIES = "".join(f'<!ENTITY {name} "&#{code};">' for name, code in html.entities.name2codepoint.items() if code > 62)
 MARKS = ((b"\xef\xbb\xbf", "utf-8"), (b"\xff\xfe", "utf-16le"), (b"\xfe\xff", "utf-16be"))
+CONTAINER = "META-INF/container.xml"
 BOOK = b"PK\x03\x04"
 CHAPTER_TYPES = ("application/xhtml+xml", "text/html")
 # A chapter or a sheet that is larger isn't read: a small book may claim to hold anything.
@@ -45,6 +47,8 @@ class Source:
 
 def sources_of(path, encoding):
     """The pages of a file: one of HTML, or the chapters of a book."""
+    if path != "-":
+        check_unpacked(path)
     data = read_page_or_book(path)
     stem = "standard-input" if path == "-" else os.path.basename(path)
     stem = re.sub(r"\.(x?html?|xht|epub)$", "", stem, flags=re.IGNORECASE)
@@ -52,6 +56,16 @@ def sources_of(path, encoding):
         yield from chapters(data, stem, encoding)
     else:
         yield Source(stem, tree_of(data, encoding), FolderBeside("" if path == "-" else os.path.dirname(path)))
+
+
+def check_unpacked(path):
+    """Refuses the folder of an unpacked book, and its container, by what is to be done with it."""
+    folder = path
+    if os.path.basename(path) == "container.xml":
+        folder = os.path.dirname(os.path.dirname(os.path.abspath(path)))
+    if os.path.isfile(os.path.join(folder, CONTAINER)):
+        pack = f"(cd {shlex.quote(folder)} && zip -q -X -r - mimetype .) > book.epub"
+        raise listing.InputError(f"this is a book that was unpacked, which {CONTAINER} tells: `{pack}` packs it")
 
 
 def read_page_or_book(path):
@@ -212,7 +226,7 @@ def stem_of(path):
 
 def chapter_paths(book):
     """The paths of a book's chapters, in the order of its spine."""
-    container = xml_of(book, "META-INF/container.xml")
+    container = xml_of(book, CONTAINER)
     root = next((each.get("full-path") for each in container.iter() if local(each) == "rootfile"), None)
     if root is None:
         raise listing.InputError("this is no EPUB: its container names no package")

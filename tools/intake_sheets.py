@@ -11,6 +11,7 @@ import sys
 import tinycss2
 import tinycss2.ast
 
+import intake_floats
 import intake_tree
 import programs
 from intake_files import path_of
@@ -196,8 +197,24 @@ class Sheets:
         """The sheet that is left for the document of this tree, a rule a line."""
         names = names_of(root)
         rules = [Rule(list(map(rewritten, rule.selectors)), rule.declarations) for rule in self.rules]
+        floated = floated_selectors(rules)
+        rules = [part for rule in rules for part in self.without_pulling(rule, floated)]
         self.ask_all(rules)
         return "".join(filter(None, (self.kept_rule(rule, names) for rule in rules)))
+
+    def without_pulling(self, rule, floated):
+        """The rule, in which the selectors that a rule floats or positions have no negative margins."""
+        pulled, others = ([each for each in rule.selectors if (each in floated) is side] for side in (True, False))
+        if pulled and (less := self.without_negative_margins(rule.declarations)) != rule.declarations:
+            return [Rule(part, declarations) for part, declarations in ((others, rule.declarations), (pulled, less)) if part]
+        return [rule]
+
+    def without_negative_margins(self, declarations):
+        found = [(each, intake_floats.without_negative_margin(each)) for each in declarations]
+        for before, after in found:
+            if after != before:
+                self.losses.add("negative margins of floats and positions left out", before.partition(":")[0].lower())
+        return [after for _, after in found if after is not None]
 
     def ask_all(self, rules):
         self.judge.ask("sheet", [f"{selector}{{}}" for rule in rules for selector in rule.selectors])
@@ -234,13 +251,17 @@ class Sheets:
 
     # Style attributes.
 
+    def in_flow(self, declarations):
+        """The declarations of an attribute, without negative margins where they float or position the box."""
+        return self.without_negative_margins(declarations) if intake_floats.is_taken_out(declarations) else declarations
+
     def mend_attributes(self, root):
         """Leaves in each style attribute what the engine's reader keeps."""
         held = {}
         for element in intake_tree.walk(root):
             text = element.attributes.pop("style", None)
             if text is not None:
-                held[id(element)] = (element, self.declarations_of(text))
+                held[id(element)] = (element, self.in_flow(self.declarations_of(text)))
         self.judge.ask("declarations", [each for _, declarations in held.values() for each in declarations])
         for element, declarations in held.values():
             kept = [each for each in declarations if self.takes("declarations", each, each)]
@@ -248,6 +269,11 @@ class Sheets:
                 element.attributes["style"] = "; ".join(kept)
         # All together once more, for those that ask what an attribute says.
         self.judge.ask("declarations", filter(None, (element.attributes.get("style") for element, _ in held.values())))
+
+
+def floated_selectors(rules):
+    """The selectors of rules that take a box out of the flow, which the profile doesn't do."""
+    return {each for rule in rules if intake_floats.is_taken_out(rule.declarations) for each in rule.selectors}
 
 
 def looks_of(root):

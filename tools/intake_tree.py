@@ -216,6 +216,8 @@ class Builder:
         made = Element(tag, name, self.taken_attributes(attributes))
         if name == "li" and self.markers:
             made.add_text(self.marker(attributes))
+        elif name == "li":
+            self.losses.add("marks of list items left out", "numbers" if self.numbers[-1] is not None else "bullets")
         self.current().children.append(made)
         # A `br` of XHTML may have content, that of the profile not.
         self.open.append(Open(self.current() if tag == "br" else made, name))

@@ -38,6 +38,11 @@ SHEET_PAGES = (
     ("<style>pre b{padding:0}@media print{p{}}</style><pre><b>x</b></pre>", ".was-pre b { padding: 0 }"),
     ("<style>p{-epub-writing-mode:vertical-rl}</style><p>x", "p { writing-mode: vertical-rl }"),
     ("<p style='float:left;margin:0;color:red'>x", '<p style="margin: 0">x</p>'),
+    ("<style>p{float:left;margin-left:-100%;padding:1px}</style><p>x", "\np { padding: 1px }\n"),
+    ("<style>p{float:none;margin-left:-9%}</style><p>x", "\np { margin-left: -9% }\n"),
+    ("<style>p{float:left}p,b{margin:-1px 2px}</style><p>x<b>y", "\nb { margin: -1px 2px }\np { margin: 0 2px }\n"),
+    ("<style>p{position:relative;margin-top:-1em}b{position:relative;top:1px;margin-top:-2em}</style><p>x<b>y", "\np { margin-top: -1em }\n</style>"),
+    ("<p style='position:absolute;margin-block-start:-1em;padding:0'>x", '<p style="padding: 0">x</p>'),
 )
 # What isn't taken in, with a word of what is said.
 NO_PAGES = (
@@ -121,6 +126,27 @@ class TakeIn(support.ToolCase):
             data = document.encode("utf-8")
             ran = subprocess.run([built("wm_layout"), "layout"], input=data, capture_output=True, check=False)
             self.same((ran.returncode, ran.stdout[-4:]), (0, b"end\n"), f"{given[:60]!r} is laid out")
+
+    def test_losses(self):
+        """What is lost is told by kind and count."""
+        self.needs_packages()
+        page = "<ul><li>a<li>b</ul><ol><li>c</ol>"
+        said = tried("take-in", "--no-sheets", given=page).said
+        self.hold("take-in: marks of list items left out: 3 (bullets 2, numbers 1)\n" in said, f"take-in counts marks: {said}")
+        self.hold("marks" not in tried("take-in", "--no-sheets", "--markers", given=page).said, "take-in --markers loses none")
+        self.needs_built("check_css")
+        said = tried("take-in", given="<style>p{float:left;margin:-1px -2px;margin-left:-3px}</style><p>x").said
+        due = "take-in: negative margins of floats and positions left out: 2 (margin 1, margin-left 1)\n"
+        self.hold(due in said, f"take-in counts negative margins: {said}")
+
+    def test_unpacked_book(self):
+        self.needs_packages()
+        folder = self.folder()
+        os.mkdir(os.path.join(folder, "META-INF"))
+        container = written(folder, "META-INF/container.xml", CONTAINER.encode())
+        for path in (folder, container):
+            said = self.refuses("take-in", (path,), "")
+            self.hold(f"(cd {folder} && zip " in said, f"take-in of an unpacked book: {said}")
 
     def test_encodings(self):
         """Encodings that a page names, that its first bytes tell, and that an option names."""
