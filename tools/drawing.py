@@ -5,9 +5,11 @@ What is drawn later lies over what was drawn before, in the order of the listing
 for dark.
 """
 import collections
+import collections.abc
 import dataclasses
 import html
 import itertools
+import typing
 import unicodedata
 
 import listing
@@ -22,8 +24,11 @@ FONTS = "'DejaVu Sans Mono', 'Noto Sans Mono CJK JP', 'Noto Sans CJK JP', monosp
 # Where a text's baseline lies in a run, from line-over: of narrow characters as the engine's first face has it, of wide ones so
 # that their square is inside. An upright character has its middle this far over its baseline.
 NARROW_BASELINE, WIDE_BASELINE, UPRIGHT_MIDDLE = 0.75, 0.84, 0.37
-# From this advance on, in parts of the font size, narrow letters are spaced and not stretched.
-STRETCHED = 0.7
+# How far characters advance in the fonts that are asked for first, in parts of the font size; longer ones are squeezed, at most
+# so much.
+NARROW_EM, WIDE_EM, LEAST_SQUEEZE = 0.602, 1.0, 0.01
+# Arabic letters that join no other, and those that join the letter before them alone.
+UNJOINED, JOINED_BEFORE_ALONE = "\u0621\u0640", "\u0622\u0623\u0624\u0625\u0627\u0629\u062f\u0630\u0631\u0632\u0648"
 
 # The selector, the property, its value in light and in dark.
 COLOURS = (
@@ -55,7 +60,7 @@ SHAPES = """\
 text { white-space: pre; pointer-events: none; font-family: FONTS }
 .odd { direction: rtl; unicode-bidi: bidi-override }
 .even { direction: ltr; unicode-bidi: bidi-override }
-.upright { text-anchor: middle }
+.part { text-anchor: middle }
 .vertical { font-feature-settings: "vert" }
 .words { font-family: sans-serif; font-size: 11px }
 .name { font-size: 8px; font-weight: bold; paint-order: stroke; stroke-width: 2.5 }
@@ -195,70 +200,105 @@ def line_rectangle(line, side):
     return rectangle(line, "line") + element("path", baseline)
 
 
-# Text. Units are set at steps that fill the run: a wide character takes two where a narrow one takes one.
+# Text. Units are set at steps that fill the run: a wide character takes two where a narrow one takes one. Each has its own
+# place, in the middle of its step, so that no two run over each other whatever font draws them.
 
-def is_wide(cluster):
+def is_wide(cluster: str) -> bool:
     return unicodedata.east_asian_width(cluster[0]) in ("W", "F")
 
 
-# Units side by side of one width: the units from line-left, where they begin and how far they reach, in px along the run.
-Piece = collections.namedtuple("Piece", "clusters wide begin length")
+class Part(typing.NamedTuple):
+    """Units that are drawn together: one, or several Arabic letters that join. From line-left, in px along the run."""
+
+    clusters: list[str]
+    begin: float
+    length: float
+
+    @property
+    def middle(self) -> float:
+        return self.begin + self.length / 2
+
+    @property
+    def ems(self) -> float:
+        """How far the units advance in the fonts that are asked for first, in parts of the font size."""
+        return sum(WIDE_EM if is_wide(cluster) else NARROW_EM for cluster in self.clusters)
 
 
-def pieces(run, length):
-    """A run cut where wide and narrow units meet."""
-    total = sum(2 if is_wide(cluster) else 1 for cluster in run.clusters)
-    begin = 0
-    for wide, group in itertools.groupby(run.clusters, is_wide):
-        clusters = list(group)
-        part = length * len(clusters) * (2 if wide else 1) / total
-        yield Piece(clusters, wide, begin, part)
-        begin += part
+def parts_of(run: listing.Run, length: float) -> list[Part]:
+    """The units of a run with the length of each, by which they fill it; those that join are one part."""
+    step = length / sum(2 if is_wide(cluster) else 1 for cluster in run.clusters)
+    parts: list[Part] = []
+    begin = 0.0
+    for place, cluster in enumerate(run.clusters):
+        extent = step * (2 if is_wide(cluster) else 1)
+        # From right to left the one before in the text stands on the right.
+        if place and is_odd(run) and join(cluster, run.clusters[place - 1]):
+            last = parts.pop()
+            parts.append(Part([*last.clusters, cluster], last.begin, last.length + extent))
+        else:
+            parts.append(Part([cluster], begin, extent))
+        begin += extent
+    return parts
 
 
-def text(attributes, content):
-    return element("text", attributes | {"xml:space": "preserve"}, html.escape(content, quote=False))
+def join(first: str, second: str) -> bool:
+    """Whether two units that follow one another in the text are Arabic letters that join."""
+    both = all("\u0620" <= cluster[0] <= "\u064a" and cluster[0] not in UNJOINED for cluster in (first, second))
+    return both and first[0] not in JOINED_BEFORE_ALONE
 
 
-def is_odd(run):
+def text(attributes: dict[str, object], content: str) -> str:
+    return element("text", attributes | {"xml:space": "preserve"}, content)
+
+
+def is_odd(run: listing.Run) -> bool:
     return run.level % 2 == 1
 
 
-def in_order(run, clusters):
+def in_order(run: listing.Run, clusters: collections.abc.Sequence[str]) -> str:
     """The characters as the picture has them: from right to left they stand as written, and the picture's reader turns them."""
     if not is_odd(run):
         return "".join(clusters)
     return "".join(listing.MIRRORS.get(cluster[0], cluster[0]) + cluster[1:] for cluster in reversed(clusters))
 
 
-def joins(content):
-    """Whether letters are joined, so that space between them would part them."""
-    return any("\u0600" <= character <= "\u06ff" for character in content)
+def squeeze(part: Part, size: float) -> float:
+    """How much narrower than the font has it a part is drawn, where it would be longer than its place."""
+    return max(LEAST_SQUEEZE, min(1.0, part.length / (part.ems * size)))
 
 
-def is_spaced(piece, content, size):
-    """Whether space goes between the letters of a piece, since stretched letters would be too wide. One letter has no between."""
-    several = len(piece.clusters) > 1 and piece.length / len(piece.clusters) > STRETCHED * size
-    return several and not piece.wide and not joins(content)
+def is_shown(part: Part) -> bool:
+    """Whether something is seen of a part: spaces aren't drawn."""
+    return bool("".join(part.clusters).strip(" \u00a0\u3000"))
 
 
-def piece_text(run, piece, size):
-    """The text of a piece, in coordinates along the run and across it from line-over."""
-    content = in_order(run, piece.clusters)
-    return text(
-        {
-            "class": "odd" if is_odd(run) else "even",
-            "x": number(piece.begin + (piece.length if is_odd(run) else 0)),
-            "y": number(size * (WIDE_BASELINE if piece.wide else NARROW_BASELINE)),
+def middles(run: listing.Run) -> list[float]:
+    """Where the middles of what is drawn of a horizontal run are, from its left edge, in px."""
+    return [part.middle for part in parts_of(run, run.rect.width / 64) if is_shown(part)]
+
+
+def parts_drawn(run: listing.Run, parts: list[Part], size: float, origin: float, top: float) -> collections.abc.Iterator[str]:
+    """Texts of a row of parts, those in one text that are equally squeezed. `top` is line-over, `origin` line-left."""
+    alike = itertools.groupby(filter(is_shown, parts), lambda part: (number(squeeze(part, size)), is_wide(part.clusters[0]), len(part.clusters) > 1))
+    for (factor, wide, is_joined), group in alike:
+        attributes = {
+            "class": ("odd" if is_odd(run) else "even") + " part",
+            "y": number(top + size * (WIDE_BASELINE if wide else NARROW_BASELINE)),
             "font-size": number(size),
-            "textLength": number(piece.length),
-            "lengthAdjust": "spacing" if is_spaced(piece, content, size) else "spacingAndGlyphs",
-        },
-        content,
-    )
+            "transform": None if factor == "1" else f"scale({factor} 1)",
+        }
+        for some in ([part] for part in group) if is_joined else [list(group)]:
+            # Letters that join can't be set one by one. Where the reader can, it stretches them to their length.
+            stretched = {"textLength": number(some[0].length / float(factor)), "lengthAdjust": "spacingAndGlyphs"} if is_joined else {}
+            yield text(attributes | stretched, "".join(part_drawn(run, part, origin, float(factor)) for part in some))
 
 
-def along_text(run, size):
+def part_drawn(run: listing.Run, part: Part, origin: float, factor: float) -> str:
+    place = {"x": number((origin + part.middle) / factor)}
+    return element("tspan", place, html.escape(in_order(run, part.clusters), quote=False))
+
+
+def along_text(run: listing.Run, size: float) -> str:
     """The text of a run whose units lie along the line, turned as they are."""
     rect = run.rect
     x, y = rect.x / 64, rect.y / 64
@@ -268,38 +308,30 @@ def along_text(run, size):
         "l": f"translate({number(x)} {number(rect.bottom / 64)}) rotate(-90)",
     }[run.orientation]
     length = (rect.width if run.orientation == "h" else rect.height) / 64
-    return element("g", {"transform": turned}, "".join(piece_text(run, piece, size) for piece in pieces(run, length)))
+    return element("g", {"transform": turned}, "".join(parts_drawn(run, parts_of(run, length), size, 0, 0)))
 
 
-def upright_cluster(run, cluster, middle, size, length):
-    """One unit with its middle at this height, as wide as `length`."""
-    vertical = " vertical" if run.orientation == "u" else ""
-    return text(
-        {
-            "class": ("odd" if is_odd(run) else "even") + " upright" + vertical,
-            "x": number((run.rect.x + run.rect.width / 2) / 64),
-            "y": number(middle + UPRIGHT_MIDDLE * size),
-            "font-size": number(size),
-            "textLength": number(length),
-            "lengthAdjust": "spacingAndGlyphs",
-        },
-        in_order(run, [cluster]),
-    )
-
-
-def upright_text(run):
-    """Units that stand upright, one under the other."""
+def upright_text(run: listing.Run) -> collections.abc.Iterator[str]:
+    """Units that stand upright, one under the other, each with its middle in the middle of its step."""
     step = run.rect.height / 64 / len(run.clusters)
     size = min(step, run.rect.width / 64)
     for place, cluster in enumerate(run.clusters):
-        middle = run.rect.y / 64 + step * (place + 0.5)
-        yield upright_cluster(run, cluster, middle, size, size if is_wide(cluster) else size * 0.6)
+        attributes = {
+            "class": ("odd" if is_odd(run) else "even") + " part vertical",
+            "x": number((run.rect.x + run.rect.width / 2) / 64),
+            "y": number(run.rect.y / 64 + step * (place + 0.5) + UPRIGHT_MIDDLE * size),
+            "font-size": number(size),
+        }
+        yield text(attributes, html.escape(in_order(run, [cluster]), quote=False))
 
 
-def combined_text(run):
+def combined_text(run: listing.Run) -> str:
     """Units side by side in the square of one."""
-    middle = (run.rect.y + run.rect.height / 2) / 64
-    return upright_cluster(run, "".join(run.clusters), middle, run.rect.height / 64, run.natural / 64)
+    rect, length = run.rect, (run.natural or 0) / 64
+    size = rect.height / 64
+    # An upright character has its middle in that of the square.
+    top = rect.y / 64 + size * (0.5 + UPRIGHT_MIDDLE - NARROW_BASELINE)
+    return "".join(parts_drawn(run, parts_of(run, length), size, (rect.x + rect.width / 2) / 64 - length / 2, top))
 
 
 def run_text(run):

@@ -21,14 +21,15 @@ class Pictures(support.ToolCase):
             self.check_rectangles(path, xml.etree.ElementTree.fromstring(ended.out))
 
     def check_rectangles(self, path, svg):
-        """Each fragment has its rectangle, in px, in the order of the listing, and each text has its length."""
+        """Each fragment has its rectangle, in px, in the order of the listing, and each text its place."""
         rects = [rect for rect in svg.iter(f"{SVG}rect") if rect.get("data-node")]
         sides = ("x", "y", "width", "height")
         found = [(int(rect.get("data-node")), *(float(rect.get(name)) * 64 for name in sides)) for rect in rects]
         due = [(each.node, *vars(each.rect.upright()).values()) for each in listing.read(held(path))[0].fragments]
         self.same(found, due, f"picture {path}: rectangles")
         texts = [text for text in svg.iter(f"{SVG}text") if text.get("class") != "words"]
-        self.hold(all(float(text.get("textLength")) > 0 for text in texts), f"picture {path}: lengths")
+        parts = [part for text in texts for part in (text.findall(f"{SVG}tspan") or [text])]
+        self.hold(all(part.get("x") and len(part.text or "") for part in parts), f"picture {path}: each text has its place")
 
     def test_choices(self):
         whole = {"box": 5, "line": 3, "span": 1, "run": 6}
