@@ -569,7 +569,11 @@ def pages_of(parts):
 def put(text, path="-"):
     """Writes the whole of a text to a new file, or to standard output. A file that is there stays as it is."""
     # The name of a file may have bytes that are no UTF-8: they go out as they came.
-    data = text.encode("utf-8", "surrogateescape")
+    put_bytes(text.encode("utf-8", "surrogateescape"), path)
+
+
+def put_bytes(data, path="-"):
+    """Writes bytes to a new file, or to standard output. A file that is there stays as it is."""
     if path == "-":
         if sys.stdout is None:
             raise InputError("standard output is closed")

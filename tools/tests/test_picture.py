@@ -1,9 +1,12 @@
 """Tests of tools/picture and tools/listing-pictures."""
 import collections
 import os
+import shutil
+import struct
 import xml.etree.ElementTree
 
 import listing
+import raster
 
 from tools.tests import support
 from tools.tests.support import SCRIPT, TOP, all_listings, example, held, tried
@@ -40,6 +43,18 @@ class Pictures(support.ToolCase):
         self.hold('width="1648"' in tried("picture", "--scale", "2", "--no-legend", example("signs")).out, "picture --scale")
         self.hold(">1 3</text>" in tried("picture", "--names", example("signs")).out, "picture --names")
         self.same(tried("picture", "--node", "99", example("signs")).status, 1, "picture of a node that isn't there")
+
+    def test_png(self):
+        """A PNG is as large as the picture, by either program."""
+        self.refuses("picture", ("--png", "--html", example("signs")), "")
+        svg = tried("picture", example("signs")).out
+        browser = next(filter(None, map(shutil.which, raster.BROWSERS)), None)
+        if not shutil.which("rsvg-convert") and not browser:
+            self.skipTest("PNG: there is no rsvg-convert and no chromium")
+        due = tuple(int(float(size) + 0.999) for size in raster.SIZE.search(svg).groups())
+        for data in [raster.png_of(svg)] + ([raster.by_browser(browser, svg)] if browser else []):
+            self.hold(data.startswith(raster.PNG), "picture --png is a PNG")
+            self.same(struct.unpack(">II", data[16:24]), due, "the size of a PNG")
 
     def test_documents_and_files(self):
         """A document goes through the program; here one that writes a stored listing takes its place."""
