@@ -4,6 +4,7 @@ import subprocess
 import sys
 
 import listing
+import packages
 import programs
 
 from tools.tests import support
@@ -115,6 +116,17 @@ class CommandLine(support.ToolCase):
             said = self.refuses(tool, (document, option, "none"), "")
             self.same(said, f"{tool}: there is no program at none, which {option} names\n", f"{tool} without its program")
             self.hold("Permission denied" in self.refuses(tool, (document, option, TOP), ""), f"{tool}: a folder for a program")
+
+    def test_missing_packages(self):
+        """A library that no interpreter has is told with its package. Without it the tool is started anew once."""
+        self.same(packages.missing(["json", "no_such_library"]), ["no_such_library"], "libraries that are missing")
+        environment = os.environ | {packages.AGAIN: "1"}
+        code = 'import packages; packages.PACKAGES["no_such_library"] = "p"; packages.find_packages(["json", "no_such_library"])'
+        command = [sys.executable, "-c", code]
+        ran = subprocess.run(command, cwd=TOOLS, env=environment, stderr=subprocess.PIPE, check=False)
+        last = ran.stderr.decode("utf-8").splitlines()[-1]
+        due = "listing.InputError: there is no no_such_library: on Debian, apt-get install p"
+        self.same(last, due, "what is said of a library that is missing")
 
     def test_help(self):
         others = ("where", "lint", "face-from-font", "listing-pictures", "property-page", "take-in", "check-tools", "check-gallery")
