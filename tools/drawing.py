@@ -4,13 +4,12 @@ All lengths in the picture are px, a sixty-fourth of those of the listing, so ea
 What is drawn later lies over what was drawn before, in the order of the listing. Colours stand in one table, for light and
 for dark.
 """
-import collections
-import collections.abc
 import dataclasses
 import html
 import itertools
-import typing
 import unicodedata
+from collections.abc import Iterable, Iterator, Mapping, Sequence
+from typing import NamedTuple
 
 import listing
 
@@ -76,26 +75,52 @@ LEGEND = (
     ("level3", "level3", "deeper levels"),
 )
 
-# What to draw: the kinds, a number for each box or none, the legend or none, the one node or none.
-Choices = collections.namedtuple("Choices", "kinds names legend node")
-# A page with the places of the fragments that are drawn, those of all owners, and the area that they take in px.
-Drawn = collections.namedtuple("Drawn", "page places owners area caption")
-Area = collections.namedtuple("Area", "left top right bottom")
+# For each fragment of a page the place of the one in which it stands.
+Owners = list[int | None]
+Attributes = dict[str, object]
 
 
-def number(value):
+class Choices(NamedTuple):
+    """What to draw: the kinds, a number for each box or none, the legend or none, the one node or none."""
+
+    kinds: tuple[str, ...]
+    names: bool
+    legend: bool
+    node: int | None
+
+
+class Area(NamedTuple):
+    """The area of a picture, in px."""
+
+    left: float
+    top: float
+    right: float
+    bottom: float
+
+
+class Drawn(NamedTuple):
+    """A page with the places of the fragments that are drawn, those of all owners, and the area that they take."""
+
+    page: listing.Page
+    places: Sequence[int]
+    owners: Owners
+    area: Area
+    caption: str
+
+
+def number(value: float) -> str:
     """A length in px as short as can be, to a thousandth."""
     told = f"{value:.3f}".rstrip("0").rstrip(".")
     return "0" if told == "-0" else told
 
 
-def element(name, attributes, content=None):
+def element(name: str, attributes: Mapping[str, object], content: str | None = None) -> str:
     """An element of the picture; attributes without a value are left out."""
     words = "".join(f' {key}="{html.escape(str(value))}"' for key, value in attributes.items() if value is not None)
     return f"<{name}{words}/>" if content is None else f"<{name}{words}>{content}</{name}>"
 
 
-def style():
+def style() -> str:
     """The colours in light and in dark, and all else of the look."""
     light = "\n".join(f"{selector} {{ {name}: {value} }}" for selector, name, value, _ in COLOURS)
     dark = "\n".join(f"  {selector} {{ {name}: {value} }}" for selector, name, _, value in COLOURS)
@@ -105,12 +130,12 @@ def style():
 
 # Rectangles.
 
-def rect_attributes(rect):
+def rect_attributes(rect: listing.Rect) -> Attributes:
     rect = rect.upright()
     return {name: listing.pixels(getattr(rect, name)) for name in ("x", "y", "width", "height")}
 
 
-def title(fragment):
+def title(fragment: listing.Fragment) -> str:
     """What is told of a fragment where one points at it: its words in the listing, and the same in px."""
     x, y, width, height = map(listing.pixels, dataclasses.astuple(fragment.rect))
     place = f"at {x}, {y}: {width} x {height} px"
@@ -119,18 +144,18 @@ def title(fragment):
     return element("title", {}, html.escape(f"{said}\n{place}{text}"))
 
 
-def rectangle(fragment, classes):
+def rectangle(fragment: listing.Fragment, classes: str) -> str:
     attributes = {"class": classes} | rect_attributes(fragment.rect) | {"data-node": fragment.node}
     return element("rect", attributes, title(fragment))
 
 
-def box_name(box):
+def box_name(box: listing.Box) -> str:
     return str(box.node) if box.box == 0 else f"{box.node}.{box.box}"
 
 
-def names_drawn(boxes):
+def names_drawn(boxes: Iterable[listing.Box]) -> Iterator[str]:
     """The names of boxes over all else, at their left top corners; boxes that share one have their names side by side."""
-    corners = {}
+    corners: dict[tuple[int, int], list[str]] = {}
     for box in boxes:
         rect = box.rect.upright()
         corners.setdefault((rect.x, rect.y), []).append(box_name(box))
@@ -151,10 +176,11 @@ OVER_BY_MODE = {
 }
 
 
-def line_over_sides(page, owners):
+def line_over_sides(page: listing.Page, owners: Owners) -> dict[int, str]:
     """For each line, by its place, the side that is line-over: by a run on it, else by other lines of its box, else by what is
     round it."""
-    by_line, by_box = {}, {}
+    by_line: dict[int, str] = {}
+    by_box: dict[int | None, str] = {}
     for place, fragment in enumerate(page.fragments):
         if fragment.kind == "run":
             line = line_round(page, owners, place)
@@ -169,14 +195,14 @@ def line_over_sides(page, owners):
     return sides
 
 
-def line_round(page, owners, place):
+def line_round(page: listing.Page, owners: Owners, place: int | None) -> int | None:
     """The line that a fragment stands on."""
     while place is not None and page.fragments[place].kind != "line":
         place = owners[place]
     return place
 
 
-def side_round(page, owners, place, by_box):
+def side_round(page: listing.Page, owners: Owners, place: int | None, by_box: dict[int | None, str]) -> str:
     """The side that is line-over in the innermost box round a line for which it is known."""
     while place is not None:
         place = owners[place]
@@ -185,7 +211,7 @@ def side_round(page, owners, place, by_box):
     return OVER_BY_MODE[page.mode]
 
 
-def baseline_path(line, side):
+def baseline_path(line: listing.Line, side: str) -> str:
     """The baseline, along the line."""
     rect, away = line.rect, line.baseline
     x, y = rect.x, rect.y
@@ -195,7 +221,7 @@ def baseline_path(line, side):
     return f"M{listing.pixels(x)} {listing.pixels(y)}v{listing.pixels(rect.height)}"
 
 
-def line_rectangle(line, side):
+def line_rectangle(line: listing.Line, side: str) -> str:
     baseline = {"class": "baseline", "d": baseline_path(line, side), "data-node": line.node}
     return rectangle(line, "line") + element("path", baseline)
 
@@ -207,7 +233,7 @@ def is_wide(cluster: str) -> bool:
     return unicodedata.east_asian_width(cluster[0]) in ("W", "F")
 
 
-class Part(typing.NamedTuple):
+class Part(NamedTuple):
     """Units that are drawn together: one, or several Arabic letters that join. From line-left, in px along the run."""
 
     clusters: list[str]
@@ -247,7 +273,7 @@ def join(first: str, second: str) -> bool:
     return both and first[0] not in JOINED_BEFORE_ALONE
 
 
-def text(attributes: dict[str, object], content: str) -> str:
+def text(attributes: Attributes, content: str) -> str:
     return element("text", attributes | {"xml:space": "preserve"}, content)
 
 
@@ -255,7 +281,7 @@ def is_odd(run: listing.Run) -> bool:
     return run.level % 2 == 1
 
 
-def in_order(run: listing.Run, clusters: collections.abc.Sequence[str]) -> str:
+def in_order(run: listing.Run, clusters: Sequence[str]) -> str:
     """The characters as the picture has them: from right to left they stand as written, and the picture's reader turns them."""
     if not is_odd(run):
         return "".join(clusters)
@@ -277,7 +303,7 @@ def middles(run: listing.Run) -> list[float]:
     return [part.middle for part in parts_of(run, run.rect.width / 64) if is_shown(part)]
 
 
-def parts_drawn(run: listing.Run, parts: list[Part], size: float, origin: float, top: float) -> collections.abc.Iterator[str]:
+def parts_drawn(run: listing.Run, parts: list[Part], size: float, origin: float, top: float) -> Iterator[str]:
     """Texts of a row of parts, those in one text that are equally squeezed. `top` is line-over, `origin` line-left."""
     alike = itertools.groupby(filter(is_shown, parts), lambda part: (number(squeeze(part, size)), is_wide(part.clusters[0]), len(part.clusters) > 1))
     for (factor, wide, is_joined), group in alike:
@@ -311,12 +337,12 @@ def along_text(run: listing.Run, size: float) -> str:
     return element("g", {"transform": turned}, "".join(parts_drawn(run, parts_of(run, length), size, 0, 0)))
 
 
-def upright_text(run: listing.Run) -> collections.abc.Iterator[str]:
+def upright_text(run: listing.Run) -> Iterator[str]:
     """Units that stand upright, one under the other, each with its middle in the middle of its step."""
     step = run.rect.height / 64 / len(run.clusters)
     size = min(step, run.rect.width / 64)
     for place, cluster in enumerate(run.clusters):
-        attributes = {
+        attributes: Attributes = {
             "class": ("odd" if is_odd(run) else "even") + " part vertical",
             "x": number((run.rect.x + run.rect.width / 2) / 64),
             "y": number(run.rect.y / 64 + step * (place + 0.5) + UPRIGHT_MIDDLE * size),
@@ -334,7 +360,7 @@ def combined_text(run: listing.Run) -> str:
     return "".join(parts_drawn(run, parts_of(run, length), size, (rect.x + rect.width / 2) / 64 - length / 2, top))
 
 
-def run_text(run):
+def run_text(run: listing.Run) -> str:
     """The text of a run, as it stands; nothing where it has no extent."""
     if run.rect.width <= 0 or run.rect.height <= 0:
         return ""
@@ -345,13 +371,13 @@ def run_text(run):
     return along_text(run, (run.rect.height if run.orientation == "h" else run.rect.width) / 64)
 
 
-def run_drawn(run):
+def run_drawn(run: listing.Run) -> str:
     return rectangle(run, f"run level{min(run.level, 3)}") + run_text(run)
 
 
 # Pages.
 
-def below(owners, places):
+def below(owners: Owners, places: Iterable[int]) -> list[int]:
     """Those places and all fragments that stand in them."""
     held = set(places)
     for place, owner in enumerate(owners):
@@ -360,17 +386,17 @@ def below(owners, places):
     return sorted(held)
 
 
-def area_of(rects):
+def area_of(rects: Iterable[listing.Rect]) -> Area:
     """The area that rectangles take, in px."""
     rects = [rect.upright() for rect in rects]
     sides = (min(r.x for r in rects), min(r.y for r in rects), max(r.right for r in rects), max(r.bottom for r in rects))
     return Area(*(max(-FURTHEST, min(FURTHEST, side / 64)) for side in sides))
 
 
-def prepared(page, owners, choices, caption):
+def prepared(page: listing.Page, owners: Owners, choices: Choices, caption: str) -> Drawn | None:
     """What is drawn of a page."""
     if choices.node is None:
-        places = range(len(page.fragments))
+        places: Sequence[int] = range(len(page.fragments))
         rects = [listing.Rect(0, 0, page.width, page.height)]
     else:
         places = below(owners, [place for place, each in enumerate(page.fragments) if each.node == choices.node])
@@ -379,7 +405,7 @@ def prepared(page, owners, choices, caption):
     return Drawn(page, places, owners, area_of(rects), caption) if places or choices.node is None else None
 
 
-def fragments_drawn(drawn, choices):
+def fragments_drawn(drawn: Drawn, choices: Choices) -> Iterator[str]:
     """The fragments in the order of the listing."""
     sides = line_over_sides(drawn.page, drawn.owners)
     for place in drawn.places:
@@ -393,22 +419,23 @@ def fragments_drawn(drawn, choices):
         else:
             yield rectangle(fragment, "span") if fragment.kind == "span" else run_drawn(fragment)
     if choices.names and "box" in choices.kinds:
-        yield from names_drawn(drawn.page.fragments[place] for place in drawn.places if drawn.page.fragments[place].kind == "box")
+        fragments = (drawn.page.fragments[place] for place in drawn.places)
+        yield from names_drawn(each for each in fragments if each.kind == "box")
 
 
-def paper(drawn):
+def paper(drawn: Drawn) -> str:
     page = drawn.page
     attributes = {"class": "paper"} | rect_attributes(listing.Rect(0, 0, page.width, page.height))
     return element("rect", attributes)
 
 
-def cut_to(area, identity):
+def cut_to(area: Area, identity: str) -> str:
     """The area of one node's part, as what is outside it isn't drawn."""
     sizes = {"x": area.left - 2, "y": area.top - 2, "width": area.right - area.left + 4, "height": area.bottom - area.top + 4}
     return element("clipPath", {"id": identity}, element("rect", {key: number(value) for key, value in sizes.items()}))
 
 
-def page_group(drawn, choices, left, top, identity):
+def page_group(drawn: Drawn, choices: Choices, left: float, top: float, identity: str) -> str:
     """A page with its place in the picture."""
     content = [paper(drawn), *fragments_drawn(drawn, choices)]
     clip = None
@@ -420,7 +447,7 @@ def page_group(drawn, choices, left, top, identity):
     return element("g", {"class": "page", "transform": moved}, drawing)
 
 
-def legend_entries(all_drawn, choices):
+def legend_entries(all_drawn: Iterable[Drawn], choices: Choices) -> list[tuple[str, str]]:
     """The rows of the legend of which the pictures have something."""
     seen = set()
     for drawn in all_drawn:
@@ -431,15 +458,16 @@ def legend_entries(all_drawn, choices):
     return [(classes, words) for key, classes, words in LEGEND if key in seen]
 
 
-def legend_key(fragment):
+def legend_key(fragment: listing.Fragment) -> str:
     if fragment.kind == "run":
         return f"level{min(fragment.level, 3)}"
     return "anonymous" if fragment.kind == "box" and fragment.box else fragment.kind
 
 
-def legend_drawn(entries, width, top):
+def legend_drawn(entries: list[tuple[str, str]], width: float, top: float) -> tuple[str, float]:
     """The legend in rows as wide as the picture, and its height."""
-    x, y, drawn = MARGIN, top, []
+    x, y = float(MARGIN), top
+    drawn: list[str] = []
     for classes, words in entries:
         extent = SWATCH + 5 + LEGEND_LETTER * len(words) + 12
         if x > MARGIN and x + extent > width:
@@ -449,11 +477,11 @@ def legend_drawn(entries, width, top):
     return "\n".join(drawn), y + LEGEND_ROW - top if entries else 0
 
 
-def plain_words(x, y, words):
+def plain_words(x: float, y: float, words: str) -> str:
     return element("text", {"class": "words", "x": number(x), "y": number(y)}, html.escape(words))
 
 
-def swatch(classes, x, y):
+def swatch(classes: str, x: float, y: float) -> str:
     # Boxes have an edge of their own; on the ground the others would hardly be seen without one.
     edged = classes if classes.startswith(("box", "span")) else f"{classes} swatch"
     drawn = element("rect", {"class": edged, "x": number(x), "y": number(y), "width": SWATCH, "height": 10})
@@ -462,20 +490,21 @@ def swatch(classes, x, y):
     return drawn
 
 
-def placed(all_drawn):
+def placed(all_drawn: list[Drawn]) -> Iterator[tuple[Drawn, float, float, float, float]]:
     """Each page with its left and top edge: side by side, or one under the other where they are wider than high."""
     sizes = [(each.area.right - each.area.left, each.area.bottom - each.area.top) for each in all_drawn]
     wide = sum(width for width, _ in sizes) > sum(height for _, height in sizes)
-    x, y = MARGIN, MARGIN
+    x, y = float(MARGIN), float(MARGIN)
     for drawn, (width, height) in zip(all_drawn, sizes):
         caption = CAPTION if drawn.caption else 0
         yield drawn, x, y + caption, width, height
         x, y = (x, y + caption + height + MARGIN) if wide else (x + width + MARGIN, y)
 
 
-def svg_of(all_drawn, choices, scale):
+def svg_of(all_drawn: list[Drawn], choices: Choices, scale: float) -> str:
     """The picture of one page or of several."""
-    groups, right, bottom = [], 0, 0
+    groups: list[str] = []
+    right, bottom = 0.0, 0.0
     for place, (drawn, left, top, width, height) in enumerate(placed(all_drawn)):
         if drawn.caption:
             groups.append(plain_words(left, top - 5, drawn.caption))

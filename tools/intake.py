@@ -1,4 +1,5 @@
 """The work of tools/take-in, from files to documents."""
+import argparse
 import os
 import sys
 
@@ -16,18 +17,18 @@ import programs
 class Intake:
     """Makes documents of pages, by the words of the command line."""
 
-    def __init__(self, words):
+    def __init__(self, words: argparse.Namespace) -> None:
         self.words = words
         self.losses = intake_losses.Losses()
         self.characters = intake_text.Characters(words.replace, self.losses)
         self.judge = None if words.no_sheets else intake_sheets.Judge(words.judge or programs.SHEETS.path)
 
-    def document(self, source):
+    def document(self, source: intake_files.Source) -> intake_document.Document:
         """The document of a page."""
         if source.tree is None:
             raise listing.InputError("it can't be read")
         root = intake_tree.Builder(self.characters, self.losses, self.words.markers).build(source.tree)
-        kept = self.styled(root, source) if self.judge else self.unstyled(root)
+        kept = self.styled(root, source.tree, source.beside, self.judge) if self.judge else self.unstyled(root)
         looks = intake_sheets.looks_of(root)
         boxes = intake_boxes.Boxes(self.rules(looks + kept, looks), self.judge, self.losses)
         boxes.mend(root)
@@ -35,24 +36,26 @@ class Intake:
             raise listing.InputError(f"{boxes.most_turned} boxes turn within each other, where the engine takes 6")
         return intake_document.Document(intake_tree.title_of(source.tree), looks + kept, root)
 
-    def styled(self, root, source):
+    def styled(
+        self, root: intake_tree.Element, tree: intake_tree.Tree, beside: intake_files.Beside, judge: intake_sheets.Judge
+    ) -> str:
         """What is kept of the page's sheets. In the style attributes stays what is kept of them."""
-        sheets = intake_sheets.Sheets(self.judge, self.losses)
-        sheets.collect(source.tree, source.beside)
+        sheets = intake_sheets.Sheets(judge, self.losses)
+        sheets.collect(tree, beside)
         intake_sheets.mark_tags(root, sheets.rules)
         sheets.mend_attributes(root)
         return sheets.kept(root)
 
-    def unstyled(self, root):
+    def unstyled(self, root: intake_tree.Element) -> str:
         intake_sheets.mark_tags(root)
         for element in intake_tree.walk(root):
             if element.attributes.pop("style", None) is not None:
                 self.losses.add("attributes left out", "style")
         return ""
 
-    def rules(self, sheet, looks):
+    def rules(self, sheet: str, looks: str) -> list[intake_boxes.Rule]:
         """The rules of the document's sheet that say what boxes there are. Of the looks alone that needs no one's judgement."""
-        if sheet == looks:
+        if sheet == looks or self.judge is None:
             return [intake_boxes.HIDDEN]
         answer = self.judge.answer("sheet", sheet)
         if answer.startswith("refused TooManyRules"):
@@ -61,7 +64,7 @@ class Intake:
             raise listing.InputError(f"its sheet is refused: {answer}")
         return intake_boxes.rules_of(answer)
 
-    def documents(self, source):
+    def documents(self, source: intake_files.Source) -> list[tuple[str, str]]:
         """The names and texts of the documents of a page, within the limits."""
         document = self.document(source)
         passed = list(intake_document.passed_limits(document))
@@ -78,32 +81,32 @@ class Intake:
 class Folder:
     """Where documents go: a folder, or standard output for one."""
 
-    def __init__(self, path):
+    def __init__(self, path: str | None) -> None:
         self.path = path
         self.count = 0
-        self.names = set()
-        self.held = None
+        self.names: set[str] = set()
+        self.held: str | None = None
         if path is not None:
             os.makedirs(path, exist_ok=True)
 
-    def write(self, name, text):
+    def write(self, name: str, text: str) -> None:
         if self.path is None:
             self.hold(text)
         else:
             listing.put(text, os.path.join(self.path, f"{self.free(name)}.html"))
         self.count += 1
 
-    def hold(self, text):
+    def hold(self, text: str) -> None:
         """Keeps the document for standard output: nothing goes there before it is known that there is one alone."""
         if self.held is not None:
             sys.exit("take-in: there are several documents: --output names a folder for them")
         self.held = text
 
-    def close(self):
+    def close(self) -> None:
         if self.held is not None:
             listing.put(self.held)
 
-    def free(self, name):
+    def free(self, name: str) -> str:
         """A name that no document of this run has."""
         found, number = name, 1
         while found in self.names:
@@ -113,11 +116,11 @@ class Folder:
         return found
 
 
-def say(line):
+def say(line: str) -> None:
     print(f"take-in: {line}", file=sys.stderr)
 
 
-def take_in(path, intake, folder):
+def take_in(path: str, intake: Intake, folder: Folder) -> bool:
     """Takes in one file, and says whether all of it was taken."""
     complete = True
     for source in intake_files.sources_of(path, intake.words.encoding):
@@ -130,7 +133,7 @@ def take_in(path, intake, folder):
     return complete
 
 
-def run(words):
+def run(words: argparse.Namespace) -> int:
     """Takes in all files. The status is 1 where one of them, or a part of one, wasn't taken."""
     intake_files.check_encoding(words.encoding)
     intake, folder = Intake(words), Folder(words.output)
@@ -150,7 +153,7 @@ def run(words):
     return 0 if complete else 1
 
 
-def tell(losses, folder):
+def tell(losses: intake_losses.Losses, folder: Folder) -> None:
     say(f"{folder.count} document{'s' if folder.count > 1 else ''}")
     for line in losses.lines():
         say(line)

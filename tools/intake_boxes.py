@@ -5,9 +5,14 @@ the sheets: an inline element round a block becomes a block, and boxes that turn
 """
 import dataclasses
 import re
+from collections.abc import Iterable, Iterator
 
+import intake_losses
+import intake_sheets
 import intake_tree
 
+# One of the two properties, its value, and whether it is important.
+Declared = tuple[str, str, bool]
 PROPERTIES = {"Display": "display", "WritingMode": "mode"}
 INITIAL = {"display": "inline", "mode": "horizontal-tb"}
 BLOCK_LEVEL = ("block", "flow-root")
@@ -22,10 +27,10 @@ class Compound:
 
     is_child: bool
     tag: str | None
-    classes: frozenset
-    ids: frozenset
+    classes: frozenset[str]
+    ids: frozenset[str]
 
-    def matches(self, known):
+    def matches(self, known: "Known") -> bool:
         own = self.tag in (None, known.element.tag) and self.classes <= known.classes
         return own and self.ids <= known.ids
 
@@ -35,11 +40,11 @@ class Known:
     """An element with what selectors ask for."""
 
     element: intake_tree.Element
-    classes: frozenset
-    ids: frozenset
+    classes: frozenset[str]
+    ids: frozenset[str | None]
 
 
-def known(element):
+def known(element: intake_tree.Element) -> Known:
     return Known(element, frozenset(element.classes()), frozenset([element.attributes.get("id")]))
 
 
@@ -47,17 +52,17 @@ def known(element):
 class Rule:
     """A rule with the declarations of the two properties."""
 
-    compounds: list
-    declared: list
+    compounds: list[Compound]
+    declared: list[Declared]
 
-    def says(self, prop):
+    def says(self, prop: str) -> bool:
         return any(name == prop for name, _, _ in self.declared)
 
-    def weight(self):
+    def weight(self) -> tuple[int, ...]:
         """How specific the selector is: ids, classes, types."""
         return tuple(sum(count(each) for each in self.compounds) for count in (count_ids, count_classes, count_types))
 
-    def matches(self, line):
+    def matches(self, line: list[Known]) -> bool:
         """Whether it is of the last element of a line of ancestors."""
         # All places at which what is left of the selector may end, so that none is tried twice.
         places = {len(line) - 1} if self.compounds[-1].matches(line[-1]) else set()
@@ -67,15 +72,15 @@ class Rule:
         return bool(places)
 
 
-def count_ids(compound):
+def count_ids(compound: Compound) -> int:
     return len(compound.ids)
 
 
-def count_classes(compound):
+def count_classes(compound: Compound) -> int:
     return len(compound.classes)
 
 
-def count_types(compound):
+def count_types(compound: Compound) -> int:
     return compound.tag is not None
 
 
@@ -85,20 +90,21 @@ HIDDEN = Rule([Compound(False, None, frozenset(["was-hidden"]), frozenset())], [
 
 # What the reader of sheets said.
 
-def compounds_of(selector):
+def compounds_of(selector: str) -> list[Compound]:
     found, is_child = [], False
     for word in selector.split():
         if word == ">":
             is_child = True
             continue
-        tag, names = re.match(r"([^.#]*)(.*)", word).groups()
+        tag = re.split("[.#]", word, maxsplit=1)[0]
+        names = word[len(tag) :]
         classes, ids = (frozenset(re.findall(rf"{mark}([^.#]+)", names)) for mark in (r"\.", "#"))
         found.append(Compound(is_child, None if tag == "*" else tag, classes, ids))
         is_child = False
     return found
 
 
-def declared_in(text):
+def declared_in(text: str) -> Iterator[Declared]:
     """Each declaration of the two properties with its value, and whether it is important."""
     for name, keyword, plain, important in DECLARATION.findall(text):
         if name in PROPERTIES:
@@ -107,7 +113,7 @@ def declared_in(text):
             yield prop, INITIAL[prop] if word == "initial" else word, bool(important)
 
 
-def rules_of(answer):
+def rules_of(answer: str) -> list[Rule]:
     """The rules of a sheet that say something about the two properties, by what the reader answered."""
     rules = []
     for selector, text in RULE.findall(answer):
@@ -121,7 +127,7 @@ def rules_of(answer):
 class Boxes:
     """The boxes of a document's elements."""
 
-    def __init__(self, rules, judge, losses):
+    def __init__(self, rules: list[Rule], judge: "intake_sheets.Judge | None", losses: intake_losses.Losses) -> None:
         # By weight, and by place where two weigh the same: the last one wins.
         ordered = sorted(rules, key=Rule.weight)
         self.rules = {name: [rule for rule in ordered if rule.says(name)] for name in INITIAL}
@@ -129,19 +135,19 @@ class Boxes:
         self.losses = losses
         self.most_turned = 0
 
-    def mend(self, root):
+    def mend(self, root: intake_tree.Element) -> None:
         """Makes blocks of inline elements round blocks, and counts the boxes that turn within each other."""
         above, body = known(root), known(root.elements()[0])
         # The mode of `html` is that of `body`.
         mode = self.value([above, body], "mode", self.value([above], "mode", INITIAL["mode"]))
         self.holds_block([above], mode, 0)
 
-    def holds_block(self, line, mode, turned):
+    def holds_block(self, line: list[Known], mode: str, turned: int) -> bool:
         """Whether block-level boxes stand in an element, after what is in it was mended."""
         found = [self.is_block([*line, known(child)], mode, turned) for child in line[-1].element.elements()]
         return any(found)
 
-    def is_block(self, line, mode, turned):
+    def is_block(self, line: list[Known], mode: str, turned: int) -> bool:
         """Whether an element makes a block-level box. An inline one round such a box is made one."""
         element = line[-1].element
         display = self.value(line, "display", "block" if element.tag in intake_tree.BLOCK_TAGS else "inline")
@@ -156,12 +162,12 @@ class Boxes:
             return True
         return display in BLOCK_LEVEL
 
-    def make_block(self, element):
+    def make_block(self, element: intake_tree.Element) -> None:
         self.losses.add("inline elements made blocks", element.was)
         before = element.attributes.get("style")
         element.attributes["style"] = f"{before}; {MADE_BLOCK}" if before else MADE_BLOCK
 
-    def value(self, line, prop, otherwise):
+    def value(self, line: list[Known], prop: str, otherwise: str) -> str:
         """The value that wins for the last element of a line: an important one before others, its attribute before sheets.
         Where none is declared, or it is inherited, it is `otherwise`.
         """
@@ -172,12 +178,12 @@ class Boxes:
         word = latest(self.attribute(line[-1].element), prop, *won)[0]
         return otherwise if word == "inherit" else word
 
-    def attribute(self, element):
+    def attribute(self, element: intake_tree.Element) -> list[Declared]:
         text = element.attributes.get("style")
         return list(declared_in(self.judge.answer("declarations", text))) if text and self.judge else []
 
 
-def latest(declared, prop, won, was_important):
+def latest(declared: Iterable[Declared], prop: str, won: str, was_important: bool) -> tuple[str, bool]:
     """What wins once these declarations come behind what has won so far."""
     for name, word, important in declared:
         if name == prop and (important or not was_important):
@@ -185,5 +191,5 @@ def latest(declared, prop, won, was_important):
     return won, was_important
 
 
-def is_vertical(mode):
+def is_vertical(mode: str) -> bool:
     return mode != "horizontal-tb"

@@ -1,8 +1,9 @@
 """Writes the documents that tools/take-in makes, measures them by the engine's limits and cuts what passes them."""
 import dataclasses
 import html
+from collections.abc import Iterator
 
-from intake_tree import Element
+from intake_tree import Child, Element
 
 # docs/PROFILE/limits.md.
 MOST_BYTES = 1_048_576
@@ -20,19 +21,19 @@ class Document:
     sheet: str
     root: Element
 
-    def text(self):
+    def text(self) -> str:
         return f"{self.front()}{element_text(self.body())}\n</html>\n"
 
-    def front(self):
+    def front(self) -> str:
         """All before the body."""
         style = f"<style>\n{self.sheet}</style>\n" if self.sheet else ""
         title = f"<title>{escaped(self.title)}</title>\n" if self.title else ""
         return f'<!DOCTYPE html>\n{start_tag(self.root)}\n<head>\n<meta charset="utf-8">\n{title}{style}</head>\n'
 
-    def body(self):
+    def body(self) -> Element:
         return self.root.elements()[0]
 
-    def with_content(self, children):
+    def with_content(self, children: list[Child]) -> "Document":
         """The same document with another content of the body."""
         body = dataclasses.replace(self.body(), children=children)
         return Document(self.title, self.sheet, dataclasses.replace(self.root, children=[body]))
@@ -40,20 +41,20 @@ class Document:
 
 # The text of a document.
 
-def escaped(text):
+def escaped(text: str) -> str:
     return html.escape(text, quote=False).replace("\u00a0", "&nbsp;")
 
 
-def start_tag(element):
+def start_tag(element: Element) -> str:
     attributes = (attribute_text(name, value) for name, value in element.attributes.items())
     return f"<{element.tag}{''.join(attributes)}>"
 
 
-def attribute_text(name, value):
+def attribute_text(name: str, value: str) -> str:
     return ' {}="{}"'.format(name, value.replace("&", "&amp;").replace('"', "&quot;"))
 
 
-def element_text(element):
+def element_text(element: Element) -> str:
     if element.tag == "br":
         return start_tag(element)
     content = "".join(escaped(each) if isinstance(each, str) else element_text(each) for each in element.children)
@@ -69,32 +70,32 @@ class Size:
     bytes: int
     nodes: int
 
-    def __add__(self, other):
+    def __add__(self, other: "Size") -> "Size":
         return Size(self.bytes + other.bytes, self.nodes + other.nodes)
 
-    def __sub__(self, other):
+    def __sub__(self, other: "Size") -> "Size":
         return Size(self.bytes - other.bytes, self.nodes - other.nodes)
 
-    def fits(self, room):
+    def fits(self, room: "Size") -> bool:
         return self.bytes <= room.bytes and self.nodes <= room.nodes
 
 
-def byte_count(text):
+def byte_count(text: str) -> int:
     return len(text.encode("utf-8"))
 
 
-def size_of(part):
+def size_of(part: Child) -> Size:
     if isinstance(part, str):
         return Size(byte_count(escaped(part)), 1)
     return sum(map(size_of, part.children), tags_size(part))
 
 
-def tags_size(element):
+def tags_size(element: Element) -> Size:
     end = "" if element.tag == "br" else f"</{element.tag}>"
     return Size(byte_count(start_tag(element) + end), 1)
 
 
-def passed_limits(document):
+def passed_limits(document: Document) -> Iterator[str]:
     """The limits that a document passes, as words."""
     found = size_of(document.root)
     count = byte_count(document.text())
@@ -106,7 +107,7 @@ def passed_limits(document):
 
 # Cutting.
 
-def parts_of(document):
+def parts_of(document: Document) -> list[Document]:
     """Documents within the limits that have the content of one after the other."""
     frame = document.with_content([])
     room = Size(MOST_BYTES - byte_count(frame.text()), MOST_NODES - ROOTS)
@@ -115,9 +116,10 @@ def parts_of(document):
     return [document.with_content(children) for children in packed(document.body().children, room)]
 
 
-def packed(children, room):
+def packed(children: list[Child], room: Size) -> list[list[Child]]:
     """The children of an element in groups that fit; those that don't fit by themselves are cut."""
-    groups, left = [[]], room
+    groups: list[list[Child]] = [[]]
+    left = room
     for child in children:
         for piece in pieces_of(child, room):
             size = size_of(piece)
@@ -132,11 +134,11 @@ def packed(children, room):
     return groups
 
 
-def is_break(part):
+def is_break(part: Child) -> bool:
     return isinstance(part, Element) and part.tag == "br"
 
 
-def pieces_of(part, room):
+def pieces_of(part: Child, room: Size) -> list[Child]:
     """A part of the document in pieces that fit, if there is a way."""
     if size_of(part).fits(room):
         return [part]
@@ -148,9 +150,10 @@ def pieces_of(part, room):
     return [pieces[0], *(dataclasses.replace(piece, attributes=rest) for piece in pieces[1:])]
 
 
-def text_pieces(text, most):
+def text_pieces(text: str, most: int) -> list[Child]:
     """A text in pieces of at most so many bytes, cut behind a space where one is near the end."""
-    pieces, at = [], 0
+    pieces: list[Child] = []
+    at = 0
     # An `&` is written with five bytes, a no-break space with six; no character takes more.
     length = max(1, most // 6)
     while at < len(text):

@@ -14,13 +14,15 @@ import shlex
 import urllib.parse
 import zipfile
 import zlib
+from collections.abc import Iterator
+from typing import Protocol
 import xml.etree.ElementTree as ElementTree
 
 import html5lib
 import webencodings
 
 import listing
-from intake_tree import local
+from intake_tree import Tree, local
 
 XML_DECLARATION = re.compile(r"\s*<\?xml\s[^>]*?\?>")
 DECLARED_ENCODING = re.compile(rb"<\?xml\s[^>]*?encoding\s*=\s*[\"']([A-Za-z0-9._-]+)[\"']")
@@ -36,16 +38,23 @@ CHAPTER_TYPES = ("application/xhtml+xml", "text/html")
 LARGEST_PART = 1 << 26
 
 
+class Beside(Protocol):
+    """What stands beside a page."""
+
+    def read(self, path: str) -> bytes | None:
+        """The bytes of a file beside it, or nothing where there is none."""
+
+
 @dataclasses.dataclass
 class Source:
     """A page as it came: the name for its document, its tree or none if it can't be read, and how a file beside it is read."""
 
     name: str
-    tree: ElementTree.Element | None
-    beside: object
+    tree: Tree | None
+    beside: Beside
 
 
-def sources_of(path, encoding):
+def sources_of(path: str, encoding: str | None) -> Iterator[Source]:
     """The pages of a file: one of HTML, or the chapters of a book."""
     if path != "-":
         check_unpacked(path)
@@ -58,7 +67,7 @@ def sources_of(path, encoding):
         yield Source(stem, tree_of(data, encoding), FolderBeside("" if path == "-" else os.path.dirname(path)))
 
 
-def check_unpacked(path):
+def check_unpacked(path: str) -> None:
     """Refuses the folder of an unpacked book, and its container, by what is to be done with it."""
     folder = path
     if os.path.basename(path) == "container.xml":
@@ -68,7 +77,7 @@ def check_unpacked(path):
         raise listing.InputError(f"this is a book that was unpacked, which {CONTAINER} tells: `{pack}` packs it")
 
 
-def read_page_or_book(path):
+def read_page_or_book(path: str) -> bytes:
     """The bytes of a file. A book may be as large as its pictures make it, a page not."""
     chunks = listing.chunks_of(path)
     first = next(chunks, b"")
@@ -79,14 +88,14 @@ def read_page_or_book(path):
     return data
 
 
-def check_encoding(encoding):
+def check_encoding(encoding: str | None) -> None:
     if encoding and webencodings.lookup(encoding) is None:
         raise listing.InputError(f"there is no encoding {encoding}")
 
 
 # One page.
 
-def tree_of(data, encoding, is_xhtml=False):
+def tree_of(data: bytes, encoding: str | None, is_xhtml: bool = False) -> Tree:
     """The tree of a page's bytes."""
     mark = next((name for front, name in MARKS if data.startswith(front)), None)
     if not data.strip():
@@ -94,20 +103,21 @@ def tree_of(data, encoding, is_xhtml=False):
     if mark is None and b"\0" in data[:4096] or data.startswith((b"%PDF", b"\x1f\x8b")):
         raise listing.InputError("it is no text")
     declared = DECLARED_ENCODING.match(data.lstrip()[:200])
-    named = mark or encoding or (declared and declared[1].decode("ascii"))
+    named_inside = declared[1].decode("ascii") if declared else None
+    named = mark or encoding or named_inside
     if is_xhtml or data.removeprefix(b"\xef\xbb\xbf").lstrip().startswith(b"<?xml"):
         tree = tree_of_xhtml(decoded(data, named or "utf-8"))
         if tree is not None:
             return tree
-    return tree_of_html(data, encoding, declared and declared[1].decode("ascii"))
+    return tree_of_html(data, encoding, named_inside)
 
 
-def decoded(data, name):
+def decoded(data: bytes, name: str) -> str:
     """The text of bytes in an encoding by the names that pages use."""
     return webencodings.decode(data, webencodings.lookup(name) or webencodings.UTF8)[0]
 
 
-def tree_of_xhtml(text):
+def tree_of_xhtml(text: str) -> Tree | None:
     """The tree of XHTML, or nothing where it isn't well formed."""
     body = DOCTYPE.sub("", XML_DECLARATION.sub("", text, count=1), count=1)
     try:
@@ -118,7 +128,7 @@ def tree_of_xhtml(text):
     return tree if local(tree) == "html" else None
 
 
-def tree_of_html(data, encoding, declared):
+def tree_of_html(data: bytes, encoding: str | None, declared: str | None) -> Tree:
     """The tree of HTML. Where no encoding is named it is UTF-8 if it can be, else what browsers take, windows-1252."""
     parser = html5lib.HTMLParser()
     likely = "utf-8" if is_utf_8(data) else None
@@ -130,7 +140,7 @@ def tree_of_html(data, encoding, declared):
     return tree
 
 
-def is_utf_8(data):
+def is_utf_8(data: bytes) -> bool:
     try:
         data.decode("utf-8")
         return True
@@ -143,10 +153,10 @@ def is_utf_8(data):
 class FolderBeside:
     """Files beside a page in a folder."""
 
-    def __init__(self, folder):
+    def __init__(self, folder: str) -> None:
         self.folder = folder
 
-    def read(self, path):
+    def read(self, path: str) -> bytes | None:
         """The bytes of a file, or nothing where there is none. A page may name anything, also what never ends."""
         found = os.path.join(self.folder, path)
         try:
@@ -161,15 +171,15 @@ class FolderBeside:
 class BookBeside:
     """Files beside a chapter in a book."""
 
-    def __init__(self, book, folder):
+    def __init__(self, book: zipfile.ZipFile, folder: str) -> None:
         self.book = book
         self.folder = folder
 
-    def read(self, path):
+    def read(self, path: str) -> bytes | None:
         return part_of(self.book, posixpath.normpath(posixpath.join(self.folder, path)))
 
 
-def path_of(link):
+def path_of(link: str) -> str | None:
     """The path that a link means, from the page on; nothing where it leads elsewhere than beside it."""
     try:
         parts = urllib.parse.urlsplit(link.strip())
@@ -182,7 +192,7 @@ def path_of(link):
 
 # Books.
 
-def part_of(book, path):
+def part_of(book: zipfile.ZipFile, path: str) -> bytes | None:
     """The bytes of a file in a book, or nothing where it isn't there or can't be read."""
     try:
         return book.read(path) if book.getinfo(path).file_size <= LARGEST_PART else None
@@ -191,7 +201,7 @@ def part_of(book, path):
         return None
 
 
-def xml_of(book, path):
+def xml_of(book: zipfile.ZipFile, path: str) -> Tree:
     """The tree of an XML file that a book can't do without."""
     data = part_of(book, path)
     if data is None:
@@ -202,7 +212,7 @@ def xml_of(book, path):
         raise listing.InputError(f"this is no EPUB: {path} is not well formed") from None
 
 
-def chapters(data, stem, encoding):
+def chapters(data: bytes, stem: str, encoding: str | None) -> Iterator[Source]:
     """The chapters of a book in the order of its spine."""
     try:
         book = zipfile.ZipFile(io.BytesIO(data))
@@ -219,12 +229,12 @@ def chapters(data, stem, encoding):
         yield Source(f"{stem}-{number:0{digits}}-{stem_of(path)}", tree, BookBeside(book, posixpath.dirname(path)))
 
 
-def stem_of(path):
+def stem_of(path: str) -> str:
     """A part of a file's name that any system takes."""
     return re.sub(r"[^\w-]+", "-", posixpath.splitext(posixpath.basename(path))[0]).strip("-") or "chapter"
 
 
-def chapter_paths(book):
+def chapter_paths(book: zipfile.ZipFile) -> list[str]:
     """The paths of a book's chapters, in the order of its spine."""
     container = xml_of(book, CONTAINER)
     root = next((each.get("full-path") for each in container.iter() if local(each) == "rootfile"), None)

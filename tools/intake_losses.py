@@ -1,5 +1,6 @@
 """What was left out or replaced, counted by kind, for tools/take-in."""
 import collections
+from collections.abc import Iterator
 
 # How many of a kind are named.
 MOST_TOLD = 8
@@ -8,13 +9,13 @@ MOST_TOLD = 8
 class Losses:
     """Counts of what was lost: by kind, and within a kind by what it was."""
 
-    def __init__(self):
-        self.counts = collections.defaultdict(collections.Counter)
+    def __init__(self) -> None:
+        self.counts: dict[str, collections.Counter[str]] = collections.defaultdict(collections.Counter)
 
-    def add(self, kind, what=""):
+    def add(self, kind: str, what: str = "") -> None:
         self.counts[kind][what] += 1
 
-    def lines(self):
+    def lines(self) -> Iterator[str]:
         """A line for each kind, with what was lost most often."""
         for kind in sorted(self.counts):
             counts = self.counts[kind]

@@ -7,6 +7,7 @@ import os
 import re
 import unicodedata
 
+import intake_losses
 import listing
 
 TOP = os.path.dirname(os.path.dirname(os.path.abspath(__file__)))
@@ -39,17 +40,17 @@ LIKE_A_QUESTION = "\u00bf\u2048\u2049\u2753\u2754"
 CROSSINGS = ("\u2500", "\u257f")
 
 
-def near_table():
+def near_table() -> dict[str, str]:
     """The table above by its characters, each with what stands for it."""
     return {entry[0]: entry[1:] for entry in NEAR_TABLE.split()} | NEAR_SPACES
 
 
-def character_of(literal):
+def character_of(literal: str) -> str:
     """The character that a literal of the engine's language says."""
     return chr(int(literal[3:-1], 16)) if literal.startswith("\\u{") else literal[-1]
 
 
-def read_ranges(path=ROWS):
+def read_ranges(path: str = ROWS) -> list[tuple[str, str]]:
     """The first and the last character of each row of the engine's table."""
     try:
         with open(path, encoding="utf-8") as file:
@@ -61,30 +62,30 @@ def read_ranges(path=ROWS):
     return found
 
 
-def read_repertoire():
+def read_repertoire() -> frozenset[str]:
     return frozenset(chr(code) for first, last in read_ranges() for code in range(ord(first), ord(last) + 1))
 
 
 class Characters:
     """Makes texts of the repertoire alone, and counts what it takes for what."""
 
-    def __init__(self, mode, losses):
+    def __init__(self, mode: str, losses: intake_losses.Losses) -> None:
         self.mode = mode
         self.losses = losses
         self.repertoire = read_repertoire()
         self.known = near_table()
 
-    def taken(self, text):
+    def taken(self, text: str) -> str:
         """The text with all characters outside the repertoire replaced or left out."""
         # Most texts are within the repertoire, and one look tells it.
         if self.repertoire.issuperset(text):
             return text
-        found = []
+        found: list[str] = []
         for character in text:
             found.append(character if character in self.repertoire else self.stand_in(character, "".join(found[-1:])))
         return "".join(found)
 
-    def stand_in(self, character, before):
+    def stand_in(self, character: str, before: str) -> str:
         """What is written for a character outside the repertoire, behind what was written before it."""
         near = self.near(character)
         if near == "?" and character in REPEATS and self.mode == "near":
@@ -92,11 +93,11 @@ class Characters:
         self.losses.add(f"characters {kind_of(character, near)}", shown(character))
         return near
 
-    def repeated(self, character, before):
-        first, last = REPEATS[character]
+    def repeated(self, character: str, before: str) -> str:
+        first, last = tuple(REPEATS[character])
         return before[-1] if before and first <= before[-1] <= last else "?"
 
-    def near(self, character):
+    def near(self, character: str) -> str:
         """What stands for a character whatever is before it. Each is looked for once."""
         if self.mode != "near":
             return "?" if self.mode == "question" else ""
@@ -104,7 +105,7 @@ class Characters:
             self.known[character] = self.decomposed(character)
         return self.known[character]
 
-    def decomposed(self, character):
+    def decomposed(self, character: str) -> str:
         """By Unicode's data: a decomposition, of which each part is of the repertoire or has a near character itself."""
         for form in ("NFD", "NFKC", "NFKD"):
             parts = unicodedata.normalize(form, character)
@@ -115,7 +116,7 @@ class Characters:
         return "" if unicodedata.category(character) in ("Mn", "Me", "Cf", "Cc") else "?"
 
 
-def kind_of(character, near):
+def kind_of(character: str, near: str) -> str:
     """What happened to a character, in a word for a message."""
     if near == unicodedata.normalize("NFD", character):
         return "written as a letter and marks"
@@ -124,7 +125,7 @@ def kind_of(character, near):
     return "by near ones" if near else "left out"
 
 
-def shown(character):
+def shown(character: str) -> str:
     """A character's name for a message: its number, and itself where it can be seen."""
     seen = "" if unicodedata.category(character)[0] in "CMZ" else " " + character
     return f"U+{ord(character):04X}{seen}"

@@ -2,8 +2,17 @@
 
 The tables say what stands for each tag and attribute that the profile doesn't have.
 """
+from __future__ import annotations
+
 import dataclasses
 import re
+import typing
+import xml.etree.ElementTree
+from collections.abc import Iterator
+
+if typing.TYPE_CHECKING:
+    import intake_losses
+    import intake_text
 
 BLOCK_TAGS = frozenset(
     "html body div section article header footer main nav aside address p h1 h2 h3 h4 h5 h6 blockquote figure figcaption"
@@ -75,19 +84,19 @@ class Element:
 
     tag: str
     was: str
-    attributes: dict
-    children: list = dataclasses.field(default_factory=list)
+    attributes: dict[str, str]
+    children: list[Child] = dataclasses.field(default_factory=list)
 
-    def elements(self):
+    def elements(self) -> list["Element"]:
         return [child for child in self.children if isinstance(child, Element)]
 
-    def classes(self):
+    def classes(self) -> list[str]:
         return [name for name in SPACES.split(self.attributes.get("class", "")) if name]
 
-    def add_class(self, name):
+    def add_class(self, name: str) -> None:
         self.attributes["class"] = " ".join([*self.classes(), name])
 
-    def add_text(self, text):
+    def add_text(self, text: str) -> None:
         # Text beside text is one node.
         if self.children and isinstance(self.children[-1], str):
             self.children[-1] += text
@@ -95,7 +104,15 @@ class Element:
             self.children.append(text)
 
 
-def walk(element):
+# What stands in an element: an element or a text.
+Child = typing.Union[Element, str]
+# An element of the page as it came.
+Tree = xml.etree.ElementTree.Element
+# A start or an end of an element, or a text.
+Event = tuple[str, typing.Any]
+
+
+def walk(element: Element) -> Iterator[Element]:
     """An element and all elements in it, in document order."""
     yield element
     for child in element.elements():
@@ -104,7 +121,7 @@ def walk(element):
 
 # The page as it came, from left to right.
 
-def events(root):
+def events(root: Tree) -> Iterator[Event]:
     """Starts and ends of elements, and texts. A page may be nested deeper than a function may call itself."""
     stack = [(root, iter(root))]
     yield "start", root
@@ -123,7 +140,7 @@ def events(root):
             yield "text", child.tail
 
 
-def with_text(root):
+def with_text(root: Tree) -> Iterator[Event]:
     """The events, with the text that an element begins with behind its start."""
     for kind, what in events(root):
         yield kind, what
@@ -144,7 +161,7 @@ class Open:
 class Builder:
     """Builds the document's tree from the events of the page."""
 
-    def __init__(self, characters, losses, markers=False):
+    def __init__(self, characters: "intake_text.Characters", losses: "intake_losses.Losses", markers: bool = False) -> None:
         self.characters = characters
         self.losses = losses
         self.markers = markers
@@ -155,9 +172,9 @@ class Builder:
         self.dropped = 0
         self.preformatted = 0
         self.column = 0
-        self.numbers = [1]
+        self.numbers: list[int | None] = [1]
 
-    def build(self, root):
+    def build(self, root: Tree) -> Element:
         for kind, what in with_text(root):
             if kind == "text":
                 self.text(what)
@@ -167,7 +184,7 @@ class Builder:
                 self.end()
         return self.html
 
-    def start(self, name, attributes):
+    def start(self, name: str, attributes: dict[str, str]) -> None:
         if self.dropped or name in DROPPED:
             self.drop(name, attributes)
         elif name in ("html", "body"):
@@ -179,7 +196,7 @@ class Builder:
         else:
             self.element(name, attributes)
 
-    def drop(self, name, attributes):
+    def drop(self, name: str, attributes: dict[str, str]) -> None:
         """Leaves an element out with all in it; of a drawing its words are kept."""
         if not self.dropped and name == "svg":
             self.words(name, attributes)
@@ -188,28 +205,28 @@ class Builder:
         self.dropped += 1
         self.open.append(Open(None, name))
 
-    def root(self, element, attributes):
+    def root(self, element: Element, attributes: dict[str, str]) -> None:
         element.attributes.update(self.taken_attributes(attributes))
         # What stands behind the body is shown in it.
         self.open.append(Open(self.body, element.tag))
 
-    def picture(self, name, attributes):
+    def picture(self, name: str, attributes: dict[str, str]) -> None:
         self.words(name, attributes)
         self.open.append(Open(self.current(), name))
 
-    def words(self, name, attributes):
+    def words(self, name: str, attributes: dict[str, str]) -> None:
         """Puts the words that a picture has in its place."""
         words = attributes.get("alt", "")
         self.losses.add("pictures by their words" if words.strip() else "pictures left out", name)
         self.put(words)
 
-    def unwrap(self, name, attributes):
+    def unwrap(self, name: str, attributes: dict[str, str]) -> None:
         if name not in UNWRAPPED:
             self.losses.add("levels past 64 taken out", name)
         self.open.append(Open(self.current(), name))
         self.enter(name, attributes)
 
-    def element(self, name, attributes):
+    def element(self, name: str, attributes: dict[str, str]) -> None:
         tag = name if name in TAGS else NEAREST.get(name, "span")
         if tag != name:
             self.losses.add("elements replaced", f"{name} by {tag}")
@@ -223,7 +240,7 @@ class Builder:
         self.open.append(Open(self.current() if tag == "br" else made, name))
         self.enter(name, attributes)
 
-    def enter(self, name, attributes):
+    def enter(self, name: str, attributes: dict[str, str]) -> None:
         """What changes within an element."""
         if name in PREFORMATTED:
             self.preformatted += 1
@@ -233,7 +250,7 @@ class Builder:
         if name in AROUND:
             self.put(AROUND[name][0])
 
-    def leave(self, name):
+    def leave(self, name: str) -> None:
         if name in AROUND:
             self.put(AROUND[name][1])
         if name in PREFORMATTED:
@@ -241,7 +258,7 @@ class Builder:
         if name in LISTS:
             self.numbers.pop()
 
-    def end(self):
+    def end(self) -> None:
         closed = self.open[-1]
         if closed.into is None:
             self.dropped -= 1
@@ -249,14 +266,15 @@ class Builder:
             self.leave(closed.name)
         self.open.pop()
 
-    def current(self):
-        return self.open[-1].into
+    def current(self) -> Element:
+        # Where an element is left out nothing is put into it.
+        return self.open[-1].into or self.body
 
-    def depth(self):
+    def depth(self) -> int:
         """How deep the element stands that is open in the document. `html` has depth 1."""
         return len({id(each.into) for each in self.open})
 
-    def marker(self, attributes):
+    def marker(self, attributes: dict[str, str]) -> str:
         """What a list shows before an item, as text: its number, or a hyphen."""
         number = number_of(attributes.get("value"), self.numbers[-1])
         if number is None:
@@ -266,7 +284,7 @@ class Builder:
 
     # Attributes.
 
-    def taken_attributes(self, attributes):
+    def taken_attributes(self, attributes: dict[str, str]) -> dict[str, str]:
         """Those of the profile. A few that the profile doesn't have become classes with a look of their own."""
         taken = {}
         for name, value in attributes.items():
@@ -284,7 +302,7 @@ class Builder:
 
     # Text.
 
-    def text(self, text):
+    def text(self, text: str) -> None:
         # Between `html` and `body` stands white space alone.
         if self.dropped or (self.open[-1].name == "html" and not text.strip()):
             return
@@ -293,12 +311,12 @@ class Builder:
         else:
             self.current().add_text(SPACES.sub(shortened, self.characters.taken(text)))
 
-    def put(self, text):
+    def put(self, text: str) -> None:
         """Puts text that the page shows where no text of it stands."""
         if text.strip():
             self.text(text)
 
-    def lines(self, text):
+    def lines(self, text: str) -> None:
         """Text whose line feeds and spaces are seen: line breaks, and spaces at which no line ends."""
         for number, line in enumerate(re.split(r"\r\n|\r|\n", text)):
             if number:
@@ -307,25 +325,25 @@ class Builder:
             spaced = "".join(self.spaced(character) for character in line)
             self.current().add_text(spaced)
 
-    def spaced(self, character):
+    def spaced(self, character: str) -> str:
         width = TAB - self.column % TAB if character == "\t" else 1
         self.column += width
         return "\u00a0" * width if character in " \t\f" else character
 
 
-def shortened(spaces):
+def shortened(spaces: re.Match[str]) -> str:
     """A run of white space as one character, which is all that is laid out of it; the lines of the source stay."""
     return "\n" if "\n" in spaces[0] else " "
 
 
-def local(element):
+def local(element: Tree) -> str:
     """The name of an element without its namespace, in small letters; the empty text for comments and instructions."""
     return element.tag.rpartition("}")[2].lower() if isinstance(element.tag, str) else ""
 
 
-def attributes_of(element):
+def attributes_of(element: Tree) -> dict[str, str]:
     """The attributes of an element of the page by their names in small letters, without those of other vocabularies."""
-    found = {}
+    found: dict[str, str] = {}
     for name, value in element.attrib.items():
         if name == "{http://www.w3.org/XML/1998/namespace}lang":
             name = "lang"
@@ -334,13 +352,13 @@ def attributes_of(element):
     return found | {"alt": drawing_words(element, found)} if local(element) == "svg" else found
 
 
-def drawing_words(element, attributes):
+def drawing_words(element: Tree, attributes: dict[str, str]) -> str:
     """The words of a drawing: its label, or its title."""
     titles = ("".join(child.itertext()) for child in element if local(child) == "title")
-    return attributes.get("aria-label") or next(titles, "")
+    return attributes.get("aria-label") or next(titles, "") or ""
 
 
-def looks_like(name, value):
+def looks_like(name: str, value: str) -> str | None:
     """The look of an attribute that the profile doesn't have."""
     value = value.strip().lower()
     if name == "hidden" and value != "until-found":
@@ -352,13 +370,13 @@ def looks_like(name, value):
     return None
 
 
-def number_of(text, otherwise):
+def number_of(text: str | None, otherwise: int | None) -> int | None:
     """The whole number that an attribute says."""
     found = re.match(r"\s*([+-]?[0-9]{1,9})", text or "")
     return int(found[1]) if found else otherwise
 
 
-def title_of(root):
+def title_of(root: Tree) -> str:
     """The title of a page."""
     for element in root.iter():
         if local(element) == "title":

@@ -14,6 +14,8 @@ import itertools
 import os
 import re
 import sys
+from collections.abc import Callable, Iterable, Iterator, Sequence
+from typing import Any, ClassVar, Literal, NoReturn
 
 MODES = ("horizontal-tb", "vertical-rl", "vertical-lr", "sideways-rl", "sideways-lr")
 UNITS_PER_PIXEL = 64
@@ -31,7 +33,7 @@ MIRRORS = {pair[side]: pair[1 - side] for pair in MIRROR_PAIRS for side in (0, 1
 class ListingError(Exception):
     """The text is no listing: the number of the line, from 1, and what is wrong there."""
 
-    def __init__(self, line, what):
+    def __init__(self, line: int, what: str) -> None:
         super().__init__(f"line {line}: {what}")
         self.line = line
         self.what = what
@@ -51,14 +53,14 @@ class Rect:
     height: int
 
     @property
-    def right(self):
+    def right(self) -> int:
         return self.x + self.width
 
     @property
-    def bottom(self):
+    def bottom(self) -> int:
         return self.y + self.height
 
-    def upright(self):
+    def upright(self) -> "Rect":
         """The same area with extents of at least zero. A span may end before it begins, where margins in it are below zero."""
         left, top = min(self.x, self.right), min(self.y, self.bottom)
         return Rect(left, top, abs(self.width), abs(self.height))
@@ -71,9 +73,9 @@ class Box:
     node: int
     box: int
     rect: Rect
-    kind = "box"
+    kind: ClassVar[Literal["box"]] = "box"
 
-    def words(self):
+    def words(self) -> tuple[int, ...]:
         return (self.node, self.box, *dataclasses.astuple(self.rect))
 
 
@@ -86,9 +88,9 @@ class Line:
     line: int
     rect: Rect
     baseline: int
-    kind = "line"
+    kind: ClassVar[Literal["line"]] = "line"
 
-    def words(self):
+    def words(self) -> tuple[int, ...]:
         return (self.node, self.box, self.line, *dataclasses.astuple(self.rect), self.baseline)
 
 
@@ -99,9 +101,9 @@ class Span:
     node: int
     box: int
     rect: Rect
-    kind = "span"
+    kind: ClassVar[Literal["span"]] = "span"
 
-    def words(self):
+    def words(self) -> tuple[int, ...]:
         return (self.node, self.box, *dataclasses.astuple(self.rect))
 
 
@@ -116,15 +118,15 @@ class Run:
     orientation: str
     natural: int | None
     level: int
-    clusters: tuple
-    kind = "run"
+    clusters: tuple[str, ...]
+    kind: ClassVar[Literal["run"]] = "run"
 
-    def words(self):
+    def words(self) -> tuple[int | str, ...]:
         stands = self.orientation if self.natural is None else f"c{self.natural}"
         clusters = ",".join("+".join(f"{ord(character):04X}" for character in cluster) for cluster in self.clusters)
         return (self.node, self.begin, self.end, *dataclasses.astuple(self.rect), stands, self.level, clusters)
 
-    def logical(self):
+    def logical(self) -> str:
         """The characters of the run in the order of the text, each as it was written."""
         if self.natural is not None or self.level % 2 == 0:
             # What is in a combined run is ordered by levels of its own, which the listing doesn't tell.
@@ -140,9 +142,9 @@ class Page:
     height: int
     mode: str
     direction: str
-    fragments: tuple
+    fragments: tuple["Fragment", ...]
 
-    def text(self):
+    def text(self) -> str:
         """The listing as the program writes it."""
         head = f"page {self.width} {self.height} {self.mode} {self.direction}"
         rows = (" ".join(map(str, (fragment.kind, *fragment.words()))) for fragment in self.fragments)
@@ -156,9 +158,16 @@ class Refusal:
     kind: str
     number: int
 
-    def text(self):
+    def text(self) -> str:
         """The line as the program writes it."""
         return f"refused {self.kind} {self.number}\n"
+
+
+Fragment = Box | Line | Span | Run
+# What a text has in a row.
+Part = Page | Refusal
+# The parent of each node of a document.
+Parents = dict[int, int | None]
 
 
 # Reading. Each kind of line has a pattern of its words, and a function from their match to the fragment.
@@ -182,11 +191,14 @@ FRAGMENT_LINES = {
 }
 
 
-def rect_of(words):
+Words = Sequence[str]
+
+
+def rect_of(words: Words) -> Rect:
     return Rect(*map(int, words))
 
 
-def character_of(digits):
+def character_of(digits: str) -> str:
     """The character of a number in hexadecimal digits, of which a listing has no surrogate and none past the end of Unicode."""
     number = int(digits, 16)
     if number > sys.maxunicode or 0xD800 <= number <= 0xDFFF:
@@ -194,33 +206,33 @@ def character_of(digits):
     return chr(number)
 
 
-def clusters_of(text):
+def clusters_of(text: str) -> tuple[str, ...]:
     """The clusters of a run as texts."""
     return tuple("".join(map(character_of, cluster.split("+"))) for cluster in text.split(","))
 
 
-def box_of(words):
+def box_of(words: Words) -> Box:
     return Box(int(words[0]), int(words[1]), rect_of(words[2:6]))
 
 
-def line_of(words):
+def line_of(words: Words) -> Line:
     return Line(int(words[0]), int(words[1]), int(words[2]), rect_of(words[3:7]), int(words[7]))
 
 
-def span_of(words):
+def span_of(words: Words) -> Span:
     return Span(int(words[0]), int(words[1]), rect_of(words[2:6]))
 
 
-def run_of(words):
+def run_of(words: Words) -> Run:
     plain, natural, level, clusters = words[7:11]
     stands = ("c", int(natural)) if plain is None else (plain, None)
     return Run(int(words[0]), int(words[1]), int(words[2]), rect_of(words[3:7]), *stands, int(level), clusters_of(clusters))
 
 
-MAKERS = {"box": box_of, "line": line_of, "span": span_of, "run": run_of}
+MAKERS: dict[str, Callable[[Words], Fragment]] = {"box": box_of, "line": line_of, "span": span_of, "run": run_of}
 
 
-def read_fragment(line, number):
+def read_fragment(line: str, number: int) -> Fragment:
     """The fragment that a line of a listing tells."""
     kind = line.split(" ", 1)[0]
     if kind not in MAKERS:
@@ -234,7 +246,7 @@ def read_fragment(line, number):
         raise ListingError(number, str(error)) from None
 
 
-def what_is_wrong(line, otherwise):
+def what_is_wrong(line: str, otherwise: str) -> str:
     """Why a line is none of a listing."""
     if line.endswith("\r"):
         return "it ends with a carriage return and a line feed, where the program writes line feeds alone"
@@ -244,7 +256,7 @@ def what_is_wrong(line, otherwise):
     return otherwise
 
 
-def no_page_line(line):
+def no_page_line(line: str) -> str:
     """Why a line begins no listing."""
     if line.startswith("usage: "):
         return f"the program was given words that are no job: {shown(line)}"
@@ -253,17 +265,17 @@ def no_page_line(line):
     return what_is_wrong(line, f"a listing begins with a line `page`, and this is {shown(line)}")
 
 
-def shown(line):
+def shown(line: str) -> str:
     """A line in a message: its front, where it is long."""
     return f"`{line if len(line) <= MOST_SHOWN else line[:MOST_SHOWN] + '…'}`"
 
 
-def read_page(lines, at):
+def read_page(lines: list[str], at: int) -> tuple[Page, int]:
     """The listing that begins with the line at this place, and the place behind its `end`."""
     head = PAGE_LINE.fullmatch(lines[at])
     if head is None:
         raise ListingError(at + 1, no_page_line(lines[at]))
-    fragments = []
+    fragments: list[Fragment] = []
     for place in range(at + 1, len(lines)):
         if lines[place] == "end":
             width, height, mode, direction = head.groups()
@@ -272,7 +284,7 @@ def read_page(lines, at):
     raise ListingError(len(lines), "the listing was cut off: it has no `end`")
 
 
-def read(text):
+def read(text: str) -> list[Part]:
     """All listings and refusals of a text, in order."""
     if not text:
         raise ListingError(1, "nothing stands here")
@@ -281,7 +293,8 @@ def read(text):
         if lines and (PAGE_LINE.fullmatch(lines[0]) or REFUSED_LINE.fullmatch(lines[0])):
             raise ListingError(len(lines) + 1, "the listing was cut off within a line")
         raise ListingError(1, no_page_line(lines[0] if lines else rest))
-    parts, at = [], 0
+    parts: list[Part] = []
+    at = 0
     while at < len(lines):
         refused = REFUSED_LINE.fullmatch(lines[at])
         if refused:
@@ -295,27 +308,27 @@ def read(text):
 
 # What stands in what.
 
-def between(low, high, begin, end):
+def between(low: int, high: int, begin: int, end: int) -> float:
     """How much of a length from `low` to `high` lies from `begin` to `end`, from 0 to 1. One without extent has to lie inside."""
     if low == high:
         return 1.0 if begin < low < end or begin == low == end else 0.0
     return max(0, min(high, end) - max(low, begin)) / (high - low)
 
 
-def share(inner, outer):
+def share(inner: Rect, outer: Rect) -> float:
     """How much of a rectangle lies in another, from 0 to 1."""
     inner, outer = inner.upright(), outer.upright()
     across = between(inner.x, inner.right, outer.x, outer.right)
     return across * between(inner.y, inner.bottom, outer.y, outer.bottom)
 
 
-def touches(inner, outer):
+def touches(inner: Rect, outer: Rect) -> bool:
     """Whether a rectangle lies in another, its edges included."""
     across = outer.x <= inner.x and inner.right <= outer.right
     return across and outer.y <= inner.y and inner.bottom <= outer.bottom
 
 
-def distance(one, other):
+def distance(one: Rect, other: Rect) -> int:
     """How far two rectangles lie from each other, across and down together; 0 where they meet."""
     across = max(0, one.x - other.right, other.x - one.right)
     return across + max(0, one.y - other.bottom, other.y - one.bottom)
@@ -332,20 +345,20 @@ class Owners:
     No more than `DEEPEST` boxes and inline boxes are open at once, so the work grows with the count of fragments alone.
     """
 
-    def __init__(self, page, parents=None):
+    def __init__(self, page: Page, parents: Parents | None = None) -> None:
         self.fragments = page.fragments
         self.parents = parents
-        self.open = []
+        self.open: list[int] = []
         # How many boxes and inline boxes are open up to each of `open`, it included.
-        self.depths = []
-        self.owners = []
+        self.depths: list[int] = []
+        self.owners: list[int | None] = []
         # For each fragment the last one of what stands in it.
-        self.last_inside = {}
+        self.last_inside: dict[int, int] = {}
         self.with_lines = {(each.node, each.box) for each in self.fragments if each.kind == "line"}
         self.last = self.last_places()
         self.needs_line = self.places_before_text()
 
-    def last_places(self):
+    def last_places(self) -> dict[tuple[int, int], int]:
         """For each box the place of the last line or anonymous box that is known to stand in it."""
         last = {}
         for place, each in enumerate(self.fragments):
@@ -359,7 +372,7 @@ class Owners:
                 last[node, 0] = max(last.get((node, 0), 0), place)
         return last
 
-    def places_before_text(self):
+    def places_before_text(self) -> list[bool]:
         """For each place whether text or an inline box comes behind it with no line of its own before: then a line stays open."""
         needs, found = [], False
         for each in reversed(self.fragments):
@@ -367,7 +380,7 @@ class Owners:
             found = each.kind in ("run", "span") or (found and each.kind != "line")
         return needs[::-1]
 
-    def find(self):
+    def find(self) -> list[int | None]:
         for place, each in enumerate(self.fragments):
             owner = self.owner_of(place, each)
             while self.open and self.open[-1] != owner:
@@ -381,7 +394,7 @@ class Owners:
                 self.depths.append((self.depths[-1] if self.depths else 0) + (each.kind != "line"))
         return self.owners
 
-    def owner_of(self, place, each):
+    def owner_of(self, place: int, each: Fragment) -> int | None:
         if each.kind == "line":
             return self.named(each.node, each.box)
         if each.kind == "box" and each.box:
@@ -394,11 +407,11 @@ class Owners:
             return self.beside_nearest(each, candidates)
         return max(candidates, key=lambda at: (fits[at], at))
 
-    def beside_nearest(self, each, candidates):
+    def beside_nearest(self, each: Box, candidates: list[int]) -> int:
         """The candidate of which the last part lies nearest to a box that lies in none of them: what flows out of its container
         goes on where the box before it ended, most often as wide as that. Of several the outermost, so that the fewest are
         overflowed."""
-        def key(at):
+        def key(at: int) -> tuple[int, bool, int]:
             last = self.fragments[self.last_inside.get(at, at)].rect.upright()
             here = each.rect.upright()
             alike = (here.x, here.width) == (last.x, last.width) or (here.y, here.height) == (last.y, last.height)
@@ -406,14 +419,15 @@ class Owners:
 
         return min(candidates, key=key)
 
-    def named(self, node, box):
+    def named(self, node: int, box: int) -> int | None:
         """The open box of this name."""
         for at in reversed(self.open):
-            if self.fragments[at].kind == "box" and (self.fragments[at].node, self.fragments[at].box) == (node, box):
+            each = self.fragments[at]
+            if each.kind == "box" and (each.node, each.box) == (node, box):
                 return at
         return None
 
-    def still_open(self, place):
+    def still_open(self, place: int) -> Iterator[int]:
         """The open fragments from the innermost out to the first that can't be closed yet."""
         last_line = self.outermost_line() if self.needs_line[place] else None
         for at, depth in zip(reversed(self.open), reversed(self.depths)):
@@ -422,25 +436,25 @@ class Owners:
             if at == last_line or self.reaches(at) > place:
                 return
 
-    def outermost_line(self):
+    def outermost_line(self) -> int | None:
         return next((at for at in self.open if self.fragments[at].kind == "line"), None)
 
-    def reaches(self, at):
+    def reaches(self, at: int) -> int:
         """The place up to which a fragment is known to stay open. All before the next line of a box stands in this one."""
         each = self.fragments[at]
-        return self.last.get((each.node, each.box), at) if each.kind in ("box", "line") else at
+        return self.last.get((each.node, each.box), at) if each.kind == "box" or each.kind == "line" else at
 
-    def may_hold(self, at, each):
+    def may_hold(self, at: int, each: Fragment) -> bool:
         holder = self.fragments[at]
         if holder.kind in ("line", "span"):
             return True
         # The box of `html` holds that of `body` alone.
-        holds = holder.box == 0 and (holder.node, 0) not in self.with_lines and (holder.node > 0 or each.node <= 1)
-        return each.kind == "box" and holds
+        holds = holder.kind == "box" and holder.box == 0 and (holder.node, 0) not in self.with_lines
+        return each.kind == "box" and holds and (holder.node > 0 or each.node <= 1)
 
-    def by_document(self, each, candidates):
+    def by_document(self, each: Fragment, candidates: list[int]) -> list[int]:
         """Those of the candidates whose node is the nearest round the fragment's, by the document where it is there."""
-        node = each.node
+        node: int | None = each.node
         while self.parents is not None and node is not None and candidates:
             node = self.parents.get(node)
             nearest = [at for at in candidates if self.fragments[at].node == node]
@@ -448,7 +462,7 @@ class Owners:
                 return nearest
         return candidates
 
-    def fit(self, each, holder):
+    def fit(self, each: Fragment, holder: Fragment) -> float:
         """How well a fragment stands in another, by their places. Things reach out of boxes and lines, hardly out of inline boxes."""
         if each.kind == "box" and holder.kind == "box":
             if each.rect == holder.rect and 0 in (holder.rect.width, holder.rect.height):
@@ -460,7 +474,7 @@ class Owners:
         return -1.0 if holder.kind == "span" and found == 0 else found
 
 
-def owners(page, parents=None):
+def owners(page: Page, parents: Parents | None = None) -> list[int | None]:
     """For each fragment of a page the place in `fragments` of the one in which it stands, or nothing for the outermost."""
     return Owners(page, parents).find()
 
@@ -470,25 +484,26 @@ def owners(page, parents=None):
 class Parser(argparse.ArgumentParser):
     """Words of the command line, refused by one line."""
 
-    def __init__(self, description, **more):
+    def __init__(self, description: str | None, **more: Any) -> None:
         super().__init__(description=description, formatter_class=argparse.RawDescriptionHelpFormatter, **more)
 
-    def error(self, message):
+    def error(self, message: str) -> NoReturn:
         self.exit(2, f"{self.prog}: {message} (--help says more)\n")
 
 
-def name_of(path):
+def name_of(path: str) -> str:
     return "standard input" if path == "-" else path
 
 
-def chunks_of(path):
+def chunks_of(path: str) -> Iterator[bytes]:
     """What a file holds, or standard input where it is `-`, in parts, so that one without an end can be left."""
     if path == "":
         raise InputError("the name of a file is empty")
     if path == "-" and sys.stdin is None:
         raise InputError("standard input is closed")
     try:
-        with contextlib.nullcontext(sys.stdin.buffer) if path == "-" else open(path, "rb") as file:
+        with contextlib.ExitStack() as files:
+            file = sys.stdin.buffer if path == "-" else files.enter_context(open(path, "rb"))
             while chunk := file.read(CHUNK):
                 yield chunk
     except (OSError, ValueError) as error:
@@ -496,7 +511,7 @@ def chunks_of(path):
         raise InputError(f"{name_of(path)}: {getattr(error, 'strerror', None) or error}") from None
 
 
-def front_of(chunks, most):
+def front_of(chunks: Iterable[bytes], most: int) -> tuple[bytes, bool]:
     """The first bytes of what comes in parts, and whether there are more."""
     parts, count = [], 0
     for chunk in chunks:
@@ -507,7 +522,7 @@ def front_of(chunks, most):
     return b"".join(parts)[:most], count > most
 
 
-def read_bytes(path, most=MOST_READ):
+def read_bytes(path: str, most: int = MOST_READ) -> bytes:
     """What a file holds, or standard input where it is `-`: at most so many bytes."""
     data, is_longer = front_of(chunks_of(path), most)
     if is_longer:
@@ -515,12 +530,12 @@ def read_bytes(path, most=MOST_READ):
     return data
 
 
-def read_input(path):
+def read_input(path: str) -> bytes:
     """What the program is to read. It refuses what is longer than its limit, so one byte past that is enough."""
     return front_of(chunks_of(path), MOST_INPUT + 1)[0]
 
 
-def read_given(path):
+def read_given(path: str) -> bytes:
     """A document or listings, whichever a file holds."""
     chunks = chunks_of(path)
     first = next(chunks, b"")
@@ -529,7 +544,7 @@ def read_given(path):
     return read_rest(path, first, chunks)
 
 
-def read_rest(path, first, chunks):
+def read_rest(path: str, first: bytes, chunks: Iterable[bytes]) -> bytes:
     """All of what may be listings. What doesn't begin as one isn't read to its end, which may never come."""
     begins_as_one = any(first.startswith(word[: len(first)]) for word in (b"page ", b"refused "))
     data, is_longer = front_of(itertools.chain([first], chunks if begins_as_one else ()), MOST_READ)
@@ -538,17 +553,17 @@ def read_rest(path, first, chunks):
     return data
 
 
-def is_document(data):
+def is_document(data: bytes) -> bool:
     return data.removeprefix("\ufeff".encode()).lstrip().startswith(b"<")
 
 
-def read_file(path):
+def read_file(path: str) -> list[Part]:
     """The listings and refusals of a file, or of standard input where it is `-`."""
     chunks = chunks_of(path)
     return read_listing_bytes(read_rest(path, next(chunks, b""), chunks))
 
 
-def read_listing_bytes(data):
+def read_listing_bytes(data: bytes) -> list[Part]:
     if data.startswith("\ufeff".encode()):
         raise ListingError(1, "a byte order mark stands before the listing, which the program doesn't write")
     try:
@@ -558,21 +573,22 @@ def read_listing_bytes(data):
         raise ListingError(number, f"the byte {data[error.start]:02X}, and all bytes of a listing are ASCII") from None
 
 
-def pages_of(parts):
+def pages_of(parts: Sequence[Part]) -> list[Page]:
     """The pages among what was read; at least one."""
     pages = [part for part in parts if isinstance(part, Page)]
-    if not pages:
-        raise InputError(f"there is no page, but a refusal, which tools/where shows: refused {parts[0].kind} {parts[0].number}")
+    refused = next((part for part in parts if isinstance(part, Refusal)), None)
+    if not pages and refused:
+        raise InputError(f"there is no page, but a refusal, which tools/where shows: {refused.text().strip()}")
     return pages
 
 
-def put(text, path="-"):
+def put(text: str, path: str = "-") -> None:
     """Writes the whole of a text to a new file, or to standard output. A file that is there stays as it is."""
     # The name of a file may have bytes that are no UTF-8: they go out as they came.
     put_bytes(text.encode("utf-8", "surrogateescape"), path)
 
 
-def put_bytes(data, path="-"):
+def put_bytes(data: bytes, path: str = "-") -> None:
     """Writes bytes to a new file, or to standard output. A file that is there stays as it is."""
     if path == "-":
         if sys.stdout is None:
@@ -586,7 +602,7 @@ def put_bytes(data, path="-"):
         file.write(data)
 
 
-def run_tool(main):
+def run_tool(main: Callable[[], None]) -> None:
     """Runs a tool. What it can't take ends it with one line on standard error and the status 1."""
     name = os.path.basename(sys.argv[0])
     try:
@@ -605,6 +621,6 @@ def run_tool(main):
         sys.exit(f"{name}: {error}")
 
 
-def pixels(units):
+def pixels(units: int) -> str:
     """A length in px, as short as it is exact."""
     return f"{units / UNITS_PER_PIXEL:.6f}".rstrip("0").rstrip(".")

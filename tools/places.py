@@ -7,12 +7,13 @@ reads the document as the engine does.
 """
 import dataclasses
 import re
-import typing
 import unicodedata
+from collections.abc import Callable, Sequence
 
 import listing
 import source
 import syntax_hints
+from refusals import Fact
 
 MOST_NODES, MOST_LEVELS = 65_536, 64
 # How many open elements are told of.
@@ -33,13 +34,19 @@ CONTENT = ("<html><body>", "</body></html>")
 OTHERWISE = set("@{}<&")
 
 
+# Rows of docs/REFUSALS.md.
+Facts = Sequence[Fact]
+# The program as a function from an input to its refusal, or to nothing.
+Probe = Callable[[bytes], listing.Refusal | None]
+
+
 @dataclasses.dataclass(frozen=True)
 class Place:
     """A place of the input in characters, and what is to be said of it."""
 
     at: int
-    facts: tuple
-    notes: tuple = ()
+    facts: tuple[Fact, ...]
+    notes: tuple[str, ...] = ()
 
 
 @dataclasses.dataclass(frozen=True)
@@ -49,14 +56,14 @@ class Known:
 
     command: str | None
     of_edit: bool | None
-    probe: typing.Callable | None
+    probe: Probe | None
 
 
 class Input:
     """The bytes of a file as characters, where a byte that is no UTF-8 counts as one; and the document in it, if it is whole.
     Where its nodes begin tells a function from the input to their places in bytes, which is asked once it is needed."""
 
-    def __init__(self, name, data, tell_begins=None):
+    def __init__(self, name: str, data: bytes, tell_begins: Callable[[bytes], list[int]] | None = None) -> None:
         self.name = "standard input" if name == "-" else name
         self.data = data
         self.text = data.decode("utf-8", "surrogateescape")
@@ -66,9 +73,10 @@ class Input:
         except listing.InputError as error:
             self.broken = error
         self.nodes = [] if self.broken else self.found.nodes
-        self.tell_begins, self.begins = tell_begins, None
+        self.tell_begins = tell_begins
+        self.begins: list[int] | None = None
 
-    def characters_before(self, byte):
+    def characters_before(self, byte: int) -> int:
         """The place in characters of a byte, or of the character that it is a part of."""
         if byte > len(self.data):
             raise listing.InputError(f"{self.name} has {len(self.data)} bytes: another input was refused at byte {byte}")
@@ -78,37 +86,37 @@ class Input:
             front = self.data[:byte].decode("utf-8", "surrogateescape")
         return len(front)
 
-    def line_and_column(self, at):
+    def line_and_column(self, at: int) -> tuple[int, int]:
         return self.text.count("\n", 0, at) + 1, at - self.text.rfind("\n", 0, at)
 
-    def position(self, at):
+    def position(self, at: int) -> str:
         line, column = self.line_and_column(at)
         return f"{self.name}:{line}:{column}"
 
-    def line_round(self, at):
+    def line_round(self, at: int) -> tuple[str, str]:
         """The line of a place in two parts: before it, and from it on."""
         begin, end = self.text.rfind("\n", 0, at) + 1, self.text.find("\n", at)
         rest = self.text[at:] if end < 0 else self.text[at:end]
         return self.text[begin:at], rest.removesuffix("\r")
 
-    def script_begin(self):
+    def script_begin(self) -> int:
         """Where a script would begin; at the end of the text where no whole document stands before it."""
         return source.script_begin(self.text, self.nodes) if self.nodes else len(self.text)
 
-    def script_line_number(self, at):
+    def script_line_number(self, at: int) -> int:
         return self.text.count("\n", self.script_begin(), at) + 1
 
-    def node(self, number):
+    def node(self, number: int) -> source.Node:
         if self.broken:
             raise self.broken
         if number >= len(self.nodes):
             raise listing.InputError(f"the document in {self.name} has {len(self.nodes)} nodes, and none of the number {number}")
         return self.nodes[number]
 
-    def begin(self, number):
+    def begin(self, number: int) -> int:
         """The place at which a node of the document begins."""
         if self.begins is None:
-            self.begins = self.tell_begins(self.data)
+            self.begins = self.tell_begins(self.data) if self.tell_begins else []
         if number >= len(self.begins):
             raise listing.InputError(f"the document in {self.name} is read with {len(self.begins)} nodes")
         return self.characters_before(self.begins[number])
@@ -116,7 +124,7 @@ class Input:
 
 # What a refusal is about.
 
-def place_of(given, refusal, facts, known):
+def place_of(given: Input, refusal: listing.Refusal, facts: list[Fact], known: Known) -> Place:
     """The place of a refusal, by what its number counts."""
     rows = [fact for fact in facts if fact.kind == refusal.kind]
     numbers = {fact.number for fact in rows}
@@ -130,7 +138,7 @@ def place_of(given, refusal, facts, known):
     return place_of_node(given, refusal.number, [fact for fact in rows if fact.number == "node"])
 
 
-def fits_node(given, refusal):
+def fits_node(given: Input, refusal: listing.Refusal) -> bool:
     """Whether the document can have been refused with this node; else the number is that of a line."""
     if given.script_begin() == len(given.text):
         return True
@@ -141,7 +149,7 @@ def fits_node(given, refusal):
     return refusal.kind != "TooDeep" or source.depth_of(given.nodes, refusal.number) > MOST_LEVELS
 
 
-def place_of_byte(given, refusal, rows, known):
+def place_of_byte(given: Input, refusal: listing.Refusal, rows: Facts, known: Known) -> Place:
     at = given.characters_before(refusal.number)
     if given.nodes and at >= given.nodes[0].end:
         return place_behind_document(given, refusal, rows, known, at)
@@ -153,28 +161,28 @@ def place_of_byte(given, refusal, rows, known):
     return Place(at, rows, notes_of_byte(given, refusal.kind, at))
 
 
-def rows_at(given, kind, rows, at):
+def rows_at(given: Input, kind: str, rows: Facts, at: int) -> tuple[Fact, ...]:
     """The rows of a kind for a place in a document."""
     return tuple(row for row in rows if kind != "Unsupported" or row.of == of_what(given, at))
 
 
-def without_limits(rows):
+def without_limits(rows: Facts) -> tuple[Fact, ...]:
     """Rows of which the limit isn't what was passed."""
     return tuple(dataclasses.replace(row, limit="none") for row in rows)
 
 
-def is_style_attribute(given, kind, at):
+def is_style_attribute(given: Input, kind: str, at: int) -> bool:
     return kind in ("CssSyntax", "Unsupported") and not in_sheet(given, at) and STYLE.match(given.text, at) is not None
 
 
-def place_in_attribute(given, kind, rows, known, at):
+def place_in_attribute(given: Input, kind: str, rows: Facts, known: Known, at: int) -> Place:
     inner = inside_attribute(given, known.probe, kind, at)
     if inner is None:
-        return Place(at, rows, ("somewhere in this style attribute: its name is pointed at",))
-    return Place(inner, rows, (f"in the style attribute at {given.position(at)}",))
+        return Place(at, tuple(rows), ("somewhere in this style attribute: its name is pointed at",))
+    return Place(inner, tuple(rows), (f"in the style attribute at {given.position(at)}",))
 
 
-def place_behind_document(given, refusal, rows, known, at):
+def place_behind_document(given: Input, refusal: listing.Refusal, rows: Facts, known: Known, at: int) -> Place:
     """A place behind `</html>`: in a script, or where there should be none."""
     if known.command != "edit" and (known.command or at < given.script_begin()):
         return Place(at, tuple(rows), ("this stands behind the document; a script is read by the command edit alone",))
@@ -186,7 +194,7 @@ def place_behind_document(given, refusal, rows, known, at):
     return place_in_line(given, refusal.kind, rows, known, at, note)
 
 
-def place_in_line(given, kind, rows, known, at, note):
+def place_in_line(given: Input, kind: str, rows: Facts, known: Known, at: int, note: str) -> Place:
     """A place behind the words of a script's line; its start where no more is known."""
     inner = inside_line(given, known.probe, kind, at)
     if inner is None:
@@ -201,23 +209,23 @@ def place_in_line(given, kind, rows, known, at, note):
     return Place(inner, rows, (note, *character))
 
 
-def script_line(given, at):
+def script_line(given: Input, at: int) -> str:
     end = given.text.find("\n", at)
     return given.text[at:] if end < 0 else given.text[at:end]
 
 
-def in_sheet(given, at):
+def in_sheet(given: Input, at: int) -> bool:
     return any(begin <= at <= end for begin, end in given.found.sheets)
 
 
-def of_what(given, at):
+def of_what(given: Input, at: int) -> str:
     """Which row of `Unsupported` a place in a document has."""
     if in_sheet(given, at):
         return "a sign" if given.text[at : at + 1] in tuple(SIGNS) else "a declaration"
     return "dir" if given.text[at : at + 3].lower() == "dir" else "a declaration"
 
 
-def notes_of_byte(given, kind, at):
+def notes_of_byte(given: Input, kind: str, at: int) -> tuple[str, ...]:
     """What the input itself tells of a refusal in a document."""
     if at == len(given.text):
         return ("the input ends here", *told_open(given, given.found.open))
@@ -228,14 +236,14 @@ def notes_of_byte(given, kind, at):
     return told_open(given, given.found.open[-1:]) if kind == "Nesting" else ()
 
 
-def told_open(given, numbers):
+def told_open(given: Input, numbers: list[int]) -> tuple[str, ...]:
     """The elements that are open where the document breaks off, the innermost first."""
     nodes = [given.found.nodes[each] for each in reversed(numbers)]
     told = [f"open is the <{node.tag}> at {given.position(node.begin)}" for node in nodes[:MOST_OPEN]]
     return (*told, f"and {len(nodes) - MOST_OPEN} more round these") if len(nodes) > MOST_OPEN else tuple(told)
 
 
-def name_of_character(text, at):
+def name_of_character(text: str, at: int) -> str:
     """The number and the name of a character, which may be written as a reference."""
     reference = REFERENCE.match(text, at)
     number = ord(text[at]) if reference is None else int(reference[1], 16) if reference[1] else int(reference[2])
@@ -243,7 +251,7 @@ def name_of_character(text, at):
     return f"U+{number:04X} {name}".rstrip()
 
 
-def told_node(given, number):
+def told_node(given: Input, number: int) -> str:
     """A node in words, with its place in the document."""
     if number >= len(given.nodes):
         return f"node {number} isn't written in the document: an edit brought it, or none has this number"
@@ -251,17 +259,17 @@ def told_node(given, number):
     return f"node {number} is {named(node)} at {given.position(given.begin(number))}"
 
 
-def named(node):
+def named(node: source.Node) -> str:
     return f"a <{node.tag}>" if node.tag else "a text"
 
 
-def place_of_node(given, number, rows):
+def place_of_node(given: Input, number: int, rows: Facts) -> Place:
     node = given.node(number)
     around = (told_node(given, node.parent),) if rows[0].kind == "BlockInInline" and node.parent is not None else ()
     return Place(given.begin(number), tuple(rows), (f"node {number} is {named(node)}", *around))
 
 
-def place_of_edit(given, number, rows):
+def place_of_edit(given: Input, number: int, rows: Facts) -> Place:
     """The line of a script, counted from 1, and the nodes that it names."""
     at = given.script_begin()
     for _ in range(number - 1):
@@ -276,7 +284,7 @@ def place_of_edit(given, number, rows):
 
 # Parts that are given to the program by themselves.
 
-def inside(given, probe, kind, begin, end, around):
+def inside(given: Input, probe: Probe | None, kind: str, begin: int, end: int, around: tuple[str, str]) -> int | None:
     """The place at which a part of the input is refused in a small document; nothing where it isn't refused by this kind."""
     part = given.text[begin:end].encode("utf-8", "surrogateescape")
     found = probe(around[0].encode() + part + around[1].encode()) if probe else None
@@ -287,16 +295,16 @@ def inside(given, probe, kind, begin, end, around):
     return begin + len(part[:at].decode("utf-8", "surrogateescape")) if 0 <= at <= len(part) else None
 
 
-def inside_declarations(given, probe, kind, begin, end):
+def inside_declarations(given: Input, probe: Probe | None, kind: str, begin: int, end: int) -> int | None:
     return None if OTHERWISE & set(given.text[begin:end]) else inside(given, probe, kind, begin, end, SHEET)
 
 
-def inside_attribute(given, probe, kind, at):
+def inside_attribute(given: Input, probe: Probe | None, kind: str, at: int) -> int | None:
     found = STYLE.match(given.text, at)
-    return inside_declarations(given, probe, kind, *found.span(1 if found[1] is not None else 2))
+    return inside_declarations(given, probe, kind, *found.span(1 if found[1] is not None else 2)) if found else None
 
 
-def inside_line(given, probe, kind, at):
+def inside_line(given: Input, probe: Probe | None, kind: str, at: int) -> int | None:
     """The place behind the words of a line `style`, `text` or `insert`."""
     line = script_line(given, at).removesuffix("\r")
     words = BRINGING_LINE.match(line)

@@ -23,10 +23,19 @@ def png_of(svg: str) -> bytes:
     converter = shutil.which("rsvg-convert")
     if converter:
         return made_by([converter], svg.encode("utf-8"))
-    browser = next(filter(None, map(shutil.which, BROWSERS)), None)
+    browser = find_browser()
     if browser is None:
         raise listing.InputError(MISSING)
     return by_browser(browser, svg)
+
+
+def find_browser() -> str | None:
+    """The path of a browser that is installed."""
+    for name in BROWSERS:
+        path = shutil.which(name)
+        if path:
+            return path
+    return None
 
 
 def made_by(command: list[str], data: bytes) -> bytes:
@@ -52,9 +61,8 @@ def by_browser(browser: str, svg: str) -> bytes:
         # The browser's sandbox refuses to run as root.
         words += ["--no-sandbox"] if os.geteuid() == 0 else []
         words += [f"--window-size={width},{height}", f"--screenshot={photograph}", f"file://{page}"]
-        streams = {"stdout": subprocess.DEVNULL, "stderr": subprocess.DEVNULL}
         try:
-            subprocess.run([browser, *words], timeout=LONGEST, check=False, **streams)
+            subprocess.run([browser, *words], timeout=LONGEST, check=False, capture_output=True)
             with open(photograph, "rb") as file:
                 return file.read()
         except (OSError, subprocess.TimeoutExpired) as error:

@@ -33,17 +33,17 @@ class Fact:
     answer: str
 
 
-def plain(cell):
+def plain(cell: str) -> str:
     """The words of a cell, with the paths of pages in place of links."""
     return LINK.sub(r"docs/\2", cell)
 
 
-def read_page():
+def read_page() -> str:
     with open(PAGE, encoding="utf-8") as file:
         return file.read()
 
 
-def read_facts(text):
+def read_facts(text: str) -> list[Fact]:
     """The rows of the page in order."""
     facts, number = [], None
     for line in text.splitlines():
@@ -55,7 +55,7 @@ def read_facts(text):
     return facts
 
 
-def fact_of(row, number):
+def fact_of(row: re.Match[str], number: str) -> Fact:
     kind, of, cause, cure, limit, example = row.groups()
     shown = EXAMPLE.fullmatch(example)
     if shown is None:
@@ -63,16 +63,16 @@ def fact_of(row, number):
     return Fact(kind, (of or "").strip("`"), number, plain(cause), plain(cure), plain(limit), *shown.groups())
 
 
-def examples(text):
+def examples(text: str) -> list[tuple[str, str]]:
     """Each example of the page, in a row or in a sentence, with its line."""
     return EXAMPLE.findall(text)
 
 
-def input_of(example):
+def input_of(example: str) -> bytes:
     """The bytes that an example stands for."""
     text = REPEATED.sub(lambda found: int(found[1]) * found[2], example).replace("\\n", "\n")
     return BYTE.sub(lambda found: bytes([int(found[1], 16)]), text.encode("utf-8"))
 
 
-def command_of(example):
+def command_of(example: str) -> str:
     return "edit" if "\\n" in example else "layout"

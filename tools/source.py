@@ -2,9 +2,11 @@
 
 It takes documents that wm_layout lays out (docs/PROFILE/html.md and nodes.md) and judges nothing but how tags nest.
 """
+import argparse
 import dataclasses
 import itertools
 import re
+from collections.abc import Iterable, Iterator
 
 import listing
 
@@ -25,18 +27,18 @@ class Node:
 class Nodes:
     """Finds the nodes of a document from left to right."""
 
-    def __init__(self):
-        self.nodes = []
-        self.open = []
+    def __init__(self) -> None:
+        self.nodes: list[Node] = []
+        self.open: list[int] = []
         # Where the text of each style sheet begins and ends.
-        self.sheets = []
+        self.sheets: list[tuple[int, int]] = []
         self.in_head = False
 
-    def add(self, tag, begin, end):
+    def add(self, tag: str | None, begin: int, end: int) -> int:
         self.nodes.append(Node(self.open[-1] if self.open else None, tag, begin, end))
         return len(self.nodes) - 1
 
-    def text(self, begin, end):
+    def text(self, begin: int, end: int) -> None:
         # Text on both sides of a comment is one node.
         last = self.nodes[-1]
         if last.tag is None and last.parent == self.open[-1]:
@@ -44,21 +46,21 @@ class Nodes:
         else:
             self.add(None, begin, end)
 
-    def start(self, tag, begin, end):
+    def start(self, tag: str, begin: int, end: int) -> None:
         number = self.add(tag, begin, end)
         if tag != "br":
             self.open.append(number)
 
-    def stop(self, tag, begin, end):
+    def stop(self, tag: str, begin: int, end: int) -> None:
         if not self.open or self.nodes[self.open[-1]].tag != tag:
             raise listing.InputError(f"the document's tags don't nest at character {begin}")
         self.nodes[self.open.pop()].end = end
 
-    def in_body(self):
+    def in_body(self) -> bool:
         return len(self.open) > 1
 
 
-def tokens(found, text):
+def tokens(found: Nodes, text: str) -> Iterator[int]:
     """Where each token of a document begins, which is read once the next one is asked for. What follows `</html>` is none."""
     at = 0
     while at < len(text) and not (found.nodes and not found.open):
@@ -66,7 +68,7 @@ def tokens(found, text):
         at = step(found, text, at)
 
 
-def walk(found, text):
+def walk(found: Nodes, text: str) -> None:
     """Finds the nodes and sheets of a document, up to where it breaks off."""
     for _ in tokens(found, text):
         pass
@@ -84,7 +86,7 @@ class Front:
     begin: int
 
 
-def front_at(text, place):
+def front_at(text: str, place: int) -> Front:
     """What stands before the token at a place, as far as the tags before it nest."""
     found, front = Nodes(), Front(0, False, False, 0)
     try:
@@ -97,14 +99,14 @@ def front_at(text, place):
     return front
 
 
-def read_nodes(text):
+def read_nodes(text: str) -> list[Node]:
     """The nodes of a document by their numbers."""
     found = Nodes()
     walk(found, text)
     return found.nodes
 
 
-def step(found, text, at):
+def step(found: Nodes, text: str, at: int) -> int:
     """Reads one token and gives the place behind it."""
     token = TOKEN.match(text, at)
     if token is None:
@@ -124,7 +126,7 @@ def step(found, text, at):
     return end
 
 
-def behind_head_tag(found, text, slash, name, end):
+def behind_head_tag(found: Nodes, text: str, slash: str, name: str, end: int) -> int:
     """The place behind a tag of the head, and behind the text of a title or a style sheet, which may look like anything."""
     if name == "head":
         found.in_head = not slash
@@ -136,13 +138,13 @@ def behind_head_tag(found, text, slash, name, end):
     return closed.end() if closed else len(text)
 
 
-def script_begin(text, nodes):
+def script_begin(text: str, nodes: list[Node]) -> int:
     """Where the script behind a document begins: on the line after the one on which the document ends."""
     line_feed = text.find("\n", nodes[0].end)
     return len(text) if line_feed < 0 else line_feed + 1
 
 
-def depth_of(nodes, number):
+def depth_of(nodes: list[Node], number: int | None) -> int:
     """How deep a node stands, where `html` is at 1."""
     depth = 0
     while number is not None:
@@ -150,7 +152,7 @@ def depth_of(nodes, number):
     return depth
 
 
-def decoded(data):
+def decoded(data: bytes) -> str:
     """The text of a document's bytes, without the mark that may stand at its start."""
     try:
         return data.decode("utf-8").removeprefix("\ufeff")
@@ -158,11 +160,11 @@ def decoded(data):
         raise listing.InputError(f"the document is no UTF-8 at byte {error.start}") from None
 
 
-def parents_of(nodes):
+def parents_of(nodes: list[Node]) -> listing.Parents:
     return {number: node.parent for number, node in enumerate(nodes)}
 
 
-def check_nodes(nodes, parts):
+def check_nodes(nodes: list[Node], parts: Iterable[listing.Part]) -> None:
     """Refuses a document that is of another listing. Nodes past its own may have come by a script."""
     pages = [part for part in parts if isinstance(part, listing.Page)]
     for fragment in itertools.chain.from_iterable(page.fragments for page in pages):
@@ -172,7 +174,7 @@ def check_nodes(nodes, parts):
             raise listing.InputError(f"the document is of another listing: node {fragment.node} is {found} there and {due} in it")
 
 
-def nodes_in(path, parts):
+def nodes_in(path: str | None, parts: Iterable[listing.Part]) -> list[Node] | None:
     """The nodes of the document in a file; nothing where no file is given. It has to be that of the pages."""
     if path is None:
         return None
@@ -181,12 +183,12 @@ def nodes_in(path, parts):
     return nodes
 
 
-def parents_in(path, parts):
+def parents_in(path: str | None, parts: Iterable[listing.Part]) -> listing.Parents | None:
     """The parent of each node of the document in a file; nothing where no file is given. It has to be that of the pages."""
     nodes = nodes_in(path, parts)
     return None if nodes is None else parents_of(nodes)
 
 
-def add_document(parser):
+def add_document(parser: argparse.ArgumentParser) -> None:
     """The option for the document of the listing."""
     parser.add_argument("--document", metavar="DOCUMENT", help="the document of the listing, which settles what stands in what")

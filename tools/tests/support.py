@@ -1,5 +1,4 @@
 """What the tests of the tools have in common: how a tool is run, and how what it does is held against what is due."""
-import collections
 import glob
 import itertools
 import os
@@ -7,6 +6,10 @@ import subprocess
 import sys
 import tempfile
 import unittest
+from collections.abc import Sequence
+from typing import NamedTuple
+
+import listing
 
 TOP = os.path.dirname(os.path.dirname(os.path.dirname(os.path.abspath(__file__))))
 TOOLS = os.path.join(TOP, "tools")
@@ -48,7 +51,13 @@ end
 """
 REFUSED = "refused UnknownTag 12\n"
 
-Ended = collections.namedtuple("Ended", "status out said")
+
+class Ended(NamedTuple):
+    """How a tool ended: its status, what it wrote and what it said on standard error."""
+
+    status: int
+    out: str
+    said: str
 
 
 class Settings:
@@ -66,19 +75,19 @@ class ToolCase(unittest.TestCase):
     maxDiff = None
 
     @property
-    def program(self):
+    def program(self) -> str:
         return Settings.program
 
-    def hold(self, true, what):
+    def hold(self, true: object, what: str) -> None:
         Settings.count += 1
         if not true:
             with self.subTest(what):
                 self.fail(what)
 
-    def same(self, found, due, what):
+    def same(self, found: object, due: object, what: str) -> None:
         self.hold(found == due, f"{what}\n  due   {due!r}\n  found {found!r}")
 
-    def needs(self, program, what):
+    def needs(self, program: str, what: str) -> None:
         """Goes on where a program of the repository is there; without it the rest is skipped, or fails where all is due."""
         if os.access(program, os.X_OK):
             return
@@ -88,30 +97,30 @@ class ToolCase(unittest.TestCase):
             self.fail(missing)
         self.skipTest(missing)
 
-    def needs_built(self, name):
+    def needs_built(self, name: str) -> None:
         """Goes on where the gate left a program."""
         self.needs(built(name), f"what {name} would say")
 
-    def folder(self):
+    def folder(self) -> str:
         """A folder that is gone once the test has ended."""
         folder = tempfile.TemporaryDirectory(prefix="check-tools-")
         self.addCleanup(folder.cleanup)
         return folder.name
 
-    def refuses(self, tool, words, text):
+    def refuses(self, tool: str, words: Sequence[str], text: str) -> str:
         """Holds that a tool refuses something by one line and writes nothing."""
         ended = tried(tool, *words, given=text)
         one_line = ended.said.count("\n") == 1 and ended.said.startswith(f"{tool}: ")
         self.hold(ended.status in (1, 2) and ended.out == "" and one_line, f"{tool} {words} on {text[:20]!r}: {ended}")
         return ended.said
 
-    def ran(self, words, document):
+    def ran(self, words: str, document: bytes) -> str:
         """What the program writes, as text."""
         done = subprocess.run([self.program, *words.split()], input=document, stdout=subprocess.PIPE, check=False)
         return done.stdout.decode("ascii")
 
 
-def tried(tool, *words, given=""):
+def tried(tool: str, *words: str, given: str = "") -> Ended:
     """How a tool ended, for a text on standard input."""
     data = given.encode("utf-8")
     # By the interpreter of this process, which starts sooner than one that is looked for.
@@ -120,32 +129,37 @@ def tried(tool, *words, given=""):
     return Ended(ran.returncode, ran.stdout.decode("utf-8"), ran.stderr.decode("utf-8"))
 
 
-def held(path):
+def held(path: str) -> str:
     with open(path, encoding="utf-8") as file:
         return file.read()
 
 
-def put_input(path, text):
+def page_of(path: str) -> listing.Page:
+    """The page of a file with one listing."""
+    return listing.pages_of(listing.read(held(path)))[0]
+
+
+def put_input(path: str, text: str) -> None:
     with open(path, "w", encoding="utf-8", newline="") as file:
         file.write(text)
 
 
-def built(name):
+def built(name: str) -> str:
     return os.path.join(TOP, "crates", name, "out", name)
 
 
-def example(name):
+def example(name: str) -> str:
     return os.path.join(TOP, "examples", f"{name}.listing")
 
 
-def all_listings():
+def all_listings() -> list[str]:
     """The listings of documents in examples/ and docs/gallery/ that have a page. Those of scripts have several."""
     folders = (os.path.join(TOP, "examples"), os.path.join(TOP, "docs", "gallery"))
     paths = sorted(itertools.chain.from_iterable(glob.glob(os.path.join(folder, "*.listing")) for folder in folders))
     return [path for path in paths if held(path).startswith("page ") and os.path.exists(path[: -len(".listing")] + ".html")]
 
 
-def all_script_listings():
+def all_script_listings() -> list[str]:
     """What the scripts in examples/ write, where a page is listed."""
     paths = sorted(glob.glob(os.path.join(TOP, "examples", "*.script")))
     written = [path[: -len(".script")] + ".listing" for path in paths]

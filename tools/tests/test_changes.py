@@ -18,7 +18,7 @@ page 2 to page 3:
 class Changes(support.ToolCase):
     """What changed between listings."""
 
-    def test_changes_between_listings(self):
+    def test_changes_between_listings(self) -> None:
         self.same(tried("changes", "-", given=SCRIPT).out, SCRIPT_CHANGES, "changes of a script's listings")
         signs, other = example("signs"), example("upright_text")
         self.same(tried("changes", signs, signs).out, "  nothing changed\n", "changes of a listing to itself")

@@ -50,7 +50,7 @@ WRONG = (
 class CommandLine(support.ToolCase):
     """What no tool takes is refused by one line."""
 
-    def test_what_is_no_listing(self):
+    def test_what_is_no_listing(self) -> None:
         """What is no listing is refused by one line, and nothing is written."""
         for text, place in WRONG:
             try:
@@ -67,7 +67,7 @@ class CommandLine(support.ToolCase):
             self.refuses(tool, (os.path.join(TOP, "none"),), "")
         self.refuses("text", ("--none",), "")
 
-    def test_streams_that_are_closed(self):
+    def test_streams_that_are_closed(self) -> None:
         """A closed stream is told by one line."""
         for tool in NAMES:
             words = ("-",) if tool == "changes" else ()
@@ -79,7 +79,7 @@ class CommandLine(support.ToolCase):
             said = shut("text", example("signs"), streams=">/dev/full")
             self.same(said, (1, "text: standard output: No space left on device\n"), "text on a full device")
 
-    def test_input_without_an_end(self):
+    def test_input_without_an_end(self) -> None:
         """What is no listing isn't read to its end, and of a document no more than the program takes."""
         if os.path.exists("/dev/zero"):
             for tool in NAMES:
@@ -87,24 +87,24 @@ class CommandLine(support.ToolCase):
                 self.hold("line 1: " in said, f"{tool} of /dev/zero")
             self.same(len(listing.read_input("/dev/zero")), listing.MOST_INPUT + 1, "what is read of an input without an end")
 
-    def test_names_of_files(self):
+    def test_names_of_files(self) -> None:
         self.same(self.refuses("text", ("",), ""), "text: the name of a file is empty\n", "an empty name")
         self.same(self.refuses("text", (TOP,), ""), f"text: {TOP}: Is a directory\n", "the name of a folder")
         self.same(self.refuses("picture", ("--output", "", example("signs")), ""), "picture: the name of a file is empty\n", "an empty name")
 
-    def test_document_of_another_listing(self):
+    def test_document_of_another_listing(self) -> None:
         document = example("upright_text").replace(".listing", ".html")
         for tool in NAMES:
             words = (example("signs"), example("signs")) if tool == "changes" else (example("signs"),)
             said = self.refuses(tool, (*words, "--document", document), "")
             self.hold("the document is of another listing: node " in said, f"{tool} --document of another listing: {said}")
 
-    def test_indents(self):
+    def test_indents(self) -> None:
         for indent in ("-3", "99999999999", "101", "x", "\u0663"):
             self.refuses("json", (f"--indent={indent}", example("signs")), "")
         self.hold(tried("json", "--indent", "100", example("empty_body")).out.startswith("{\n" + 100 * " "), "json --indent 100")
 
-    def test_missing_programs(self):
+    def test_missing_programs(self) -> None:
         """What is said of a program that isn't there: the command that makes it, and what can be had before."""
         for program in (programs.LAYOUT, programs.NODES, programs.STYLES, programs.SHEETS):
             said = programs.missing(program.path, program, "--program")
@@ -117,7 +117,7 @@ class CommandLine(support.ToolCase):
             self.same(said, f"{tool}: there is no program at none, which {option} names\n", f"{tool} without its program")
             self.hold("Permission denied" in self.refuses(tool, (document, option, TOP), ""), f"{tool}: a folder for a program")
 
-    def test_missing_packages(self):
+    def test_missing_packages(self) -> None:
         """A library that no interpreter has is told with its package. Without it the tool is started anew once."""
         self.same(packages.missing(["json", "no_such_library"]), ["no_such_library"], "libraries that are missing")
         environment = os.environ | {packages.AGAIN: "1"}
@@ -128,7 +128,7 @@ class CommandLine(support.ToolCase):
         due = "listing.InputError: there is no no_such_library: on Debian, apt-get install p"
         self.same(last, due, "what is said of a library that is missing")
 
-    def test_help(self):
+    def test_help(self) -> None:
         others = ("where", "lint", "face-from-font", "listing-pictures", "property-page", "take-in", "check-tools", "check-gallery")
         for tool in (*NAMES, *others):
             ended = tried(tool, "--help")
@@ -136,7 +136,7 @@ class CommandLine(support.ToolCase):
             self.hold(ended.status == 0 and ended.out.startswith("usage: ") and not ended.said, f"{tool} --help")
 
 
-def shut(tool, *words, streams):
+def shut(tool: str, *words: str, streams: str) -> tuple[int, str]:
     """The status of a tool and what it says where the shell sets its streams."""
     command = ["sh", "-c", f'exec "$@" {streams}', "sh", sys.executable, os.path.join(TOOLS, tool), *words]
     ran = subprocess.run(command, stdin=subprocess.DEVNULL, stdout=subprocess.DEVNULL, stderr=subprocess.PIPE, check=False)

@@ -35,34 +35,34 @@ SHEET = "<html><head><style>{}</style></head><body></body></html>"
 class Lint(support.ToolCase):
     """What becomes of declarations, and what is said of old spellings."""
 
-    def new_path(self):
+    def new_path(self) -> str:
         return os.path.join(self.folder(), "page.html")
 
-    def lint(self, text, *words):
+    def lint(self, text: str, *words: str) -> str:
         """What is told of a document."""
         path = self.new_path()
         put_input(path, text)
         return tried("lint", path, *words).out.replace(path, "page")
 
-    def test_what_is_missing(self):
+    def test_what_is_missing(self) -> None:
         path = self.new_path()
         put_input(path, LINT_PAGE)
         self.refuses("lint", (f"{path}.none",), "")
         self.refuses("lint", (path, "--program", f"{path}.none"), "")
 
-    def test_each_end_of_a_declaration(self):
+    def test_each_end_of_a_declaration(self) -> None:
         self.needs_built("report_styles")
         self.same(self.lint(LINT_PAGE), LINT_DUE, "lint of a page")
         self.same(self.lint(LINT_PAGE, "--all").count(": kept\n"), 4, "lint: what is kept")
         self.same(tried("lint", given=LINT_PAGE).out.replace("standard input", "page"), LINT_DUE, "lint of standard input")
 
-    def test_hints(self):
+    def test_hints(self) -> None:
         self.needs_built("report_styles")
         for declaration, meant in LINT_HINTS:
             page = f'<html><head></head><body style="{declaration}"></body></html>'
             self.hold(f"({meant})" in self.lint(page), f"lint: {declaration}")
 
-    def test_what_comes_after_what_is_wrong(self):
+    def test_what_comes_after_what_is_wrong(self) -> None:
         self.needs_built("report_styles")
         self.hold(": refused CssSyntax: " in self.lint(SHEET.format("p { width: 1px; height")), "lint: a sheet that breaks off")
         told = self.lint(SHEET.format("p { @x y; width: 0; colour: red }"), "--all")
@@ -75,7 +75,7 @@ class Lint(support.ToolCase):
         self.same(told.count("\n"), 2, "lint: a string that isn't closed")
         self.hold(": refused Nesting: " in self.lint("<html><body><b></body></html>"), "lint: a document that is none")
 
-    def test_too_many_rules(self):
+    def test_too_many_rules(self) -> None:
         self.needs_built("report_styles")
         for sheet in 4097 * "p{}", "p" + 4096 * ",p" + "{}", "p{" + 16385 * "margin:0;" + "}":
             told = self.lint(SHEET.format(sheet))

@@ -6,16 +6,16 @@ import source
 import texts
 
 from tools.tests import support
-from tools.tests.support import all_listings, all_script_listings, example, held
+from tools.tests.support import all_listings, all_script_listings, example, held, page_of
 
 
 class Listings(support.ToolCase):
     """Listings are read as they are written, and nothing else is."""
 
-    def test_what_is_read_is_written_again(self):
+    def test_what_is_read_is_written_again(self) -> None:
         """What is read is written again as it was, and what a document's nodes are agrees with the listing."""
         for path in all_listings():
-            page = listing.read(held(path))[0]
+            page = page_of(path)
             self.same(page.text(), held(path), f"{path} read and written again")
             nodes = source.read_nodes(held(path.replace(".listing", ".html")))
             texts = {fragment.node for fragment in page.fragments if fragment.kind == "run"}
@@ -26,7 +26,7 @@ class Listings(support.ToolCase):
             parts = listing.read(held(path))
             self.same("".join(part.text() for part in parts), held(path), f"{path} read and written again")
 
-    def test_nodes_of_documents(self):
+    def test_nodes_of_documents(self) -> None:
         """The nodes of documents, with what may look like a tag and is none."""
         document = (
             "<!DOCTYPE html><!-- <head> --><html><head><title>a<b></title><style>/* </head> */</style></head>"
@@ -43,19 +43,19 @@ class Listings(support.ToolCase):
             except listing.InputError:
                 self.hold(True, "")
 
-    def test_owners_by_the_document(self):
+    def test_owners_by_the_document(self) -> None:
         """Each fragment but the first stands in one before it, a line in its box, and by the document in one of its ancestors."""
         for path in all_listings():
-            page, nodes = listing.read(held(path))[0], source.read_nodes(held(path.replace(".listing", ".html")))
+            page, nodes = page_of(path), source.read_nodes(held(path.replace(".listing", ".html")))
             owners = listing.owners(page, source.parents_of(nodes))
             for place, (fragment, owner) in enumerate(zip(page.fragments, owners)):
                 if place == 0:
                     self.same(owner, None, f"{path}: the owner of the first fragment")
                 else:
-                    before = owner is not None and owner < place
-                    self.hold(before and stands_in(fragment, page.fragments[owner], nodes), f"{path}: the owner of {fragment}")
+                    before = owner is not None and owner < place and stands_in(fragment, page.fragments[owner], nodes)
+                    self.hold(before, f"{path}: the owner of {fragment}")
 
-    def test_no_front_of_a_listing_is_one(self):
+    def test_no_front_of_a_listing_is_one(self) -> None:
         """No front of a listing is one."""
         whole = held(example("isolate_in_a_line"))
         for length in range(len(whole)):
@@ -65,36 +65,41 @@ class Listings(support.ToolCase):
             except listing.ListingError:
                 self.hold(True, "")
 
-    def test_boxes_that_overflow(self):
+    def test_boxes_that_overflow(self) -> None:
         """Boxes that flow out of their container stand beside each other, and their count alone makes the work."""
         for what, rows in (("empty boxes", empty_boxes(4000)), ("boxes with paragraphs", boxes_with_paragraphs(4000))):
             begin = time.process_time()
-            page = listing.read("page 51200 38400 horizontal-tb ltr\n" + rows + "end\n")[0]
+            page = page_with(rows)
             owners = listing.owners(page)
             read = list(texts.Texts(page, owners).paragraphs())
             self.hold(time.process_time() - begin < 2, f"{what}: the time of {len(owners)} fragments")
-            nodes = {place: fragment.node for place, fragment in enumerate(page.fragments)}
-            divs = {nodes[owner] for place, owner in enumerate(owners) if page.fragments[place].kind == "box" and nodes[place] % 3 == 2}
-            self.same(divs, {1}, f"{what}: what they stand in")
+            divs = [owner for each, owner in zip(page.fragments, owners) if each.kind == "box" and each.node % 3 == 2]
+            # The box of the body is the second one.
+            self.same(set(divs), {1}, f"{what}: what they stand in")
             self.same(len(read), rows.count("run "), f"{what}: the paragraphs")
 
-    def test_boxes_deeper_than_elements(self):
+    def test_boxes_deeper_than_elements(self) -> None:
         """Boxes that lie in one another are taken to stand in one another up to the depth that elements may have."""
         rows = "".join(f"box {node} 0 {node} {node} {20000 - 2 * node} {20000 - 2 * node}\n" for node in range(5000))
-        owners = listing.owners(listing.read(f"page 51200 38400 horizontal-tb ltr\n{rows}end\n")[0])
+        owners = listing.owners(page_with(rows))
         depths = [0]
         for owner in owners[1:]:
-            depths.append(depths[owner] + 1)
+            depths.append(1 if owner is None else depths[owner] + 1)
         self.same(max(depths), 63, "the depth of 5000 boxes in one another")
 
 
-def empty_boxes(count):
+def page_with(rows: str) -> listing.Page:
+    """A page of 800 px with these lines."""
+    return listing.pages_of(listing.read(f"page 51200 38400 horizontal-tb ltr\n{rows}end\n"))[0]
+
+
+def empty_boxes(count: int) -> str:
     """The lines of a body of 100 px with empty boxes in it."""
     rows = "".join(f"box {3 * number + 2} 0 512 512 50176 0\n" for number in range(count))
     return f"box 0 0 0 0 51200 7424\nbox 1 0 512 512 50176 6400\n{rows}"
 
 
-def boxes_with_paragraphs(count):
+def boxes_with_paragraphs(count: int) -> str:
     """The lines of a body of 100 px with boxes that hold a paragraph each."""
     rows = ["box 0 0 0 0 51200 6400\nbox 1 0 0 0 51200 6400\n"]
     for number in range(count):
@@ -104,7 +109,7 @@ def boxes_with_paragraphs(count):
     return "".join(rows)
 
 
-def stands_in(fragment, owner, nodes):
+def stands_in(fragment: listing.Fragment, owner: listing.Fragment, nodes: list[source.Node]) -> bool:
     if fragment.kind == "line" or (fragment.kind == "box" and fragment.box):
         return owner.kind == "box" and owner.node == fragment.node
     above = nodes[fragment.node].parent

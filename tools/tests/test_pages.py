@@ -1,11 +1,12 @@
 """Tests of tools/pages."""
 import collections
 import itertools
+from collections.abc import Iterable
 
 import listing
 
 from tools.tests import support
-from tools.tests.support import SCRIPT, all_listings, example, held, tried
+from tools.tests.support import SCRIPT, all_listings, example, held, page_of, tried
 
 # What `pages` makes of three lines of 16 px in a box with a padding of 8 px, on pages of 40 px, in a horizontal and a vertical
 # root.
@@ -53,7 +54,7 @@ PAGE_CASES = (
 class Pages(support.ToolCase):
     """A listing is cut between lines, and nothing of it is lost."""
 
-    def test_pages_of_listings(self):
+    def test_pages_of_listings(self) -> None:
         for given, due in PAGE_CASES:
             self.same(tried("pages", "--block", "40", given=given).out, "".join(due), "pages")
         for path in all_listings()[::3]:
@@ -61,16 +62,16 @@ class Pages(support.ToolCase):
         self.check_pieces(example("signs"), "16384")
         self.same(tried("pages", given=SCRIPT).status, 1, "pages of several listings")
 
-    def check_pieces(self, path, block):
+    def check_pieces(self, path: str, block: str) -> None:
         """All that isn't cut stands on one page, and the pieces of each box are together as large as the box."""
-        page, cut = listing.read(held(path))[0], listing.read(tried("pages", "--block", block, path).out)
+        page, cut = page_of(path), listing.pages_of(listing.read(tried("pages", "--block", block, path).out))
         side = "height" if page.mode == "horizontal-tb" else "width"
         self.same(totals(cut, side), totals([page], side), f"pages {path} {block}")
 
 
-def totals(pages, side):
+def totals(pages: Iterable[listing.Page], side: str) -> collections.Counter[tuple[object, ...]]:
     """How large each box is on the block axis, and how often each other fragment stands on a page."""
-    found = collections.Counter()
+    found: collections.Counter[tuple[object, ...]] = collections.Counter()
     for fragment in itertools.chain.from_iterable(page.fragments for page in pages):
         if fragment.kind == "box":
             found["box", fragment.node, fragment.box] += getattr(fragment.rect, side)

@@ -3,13 +3,13 @@ import collections
 import os
 import shutil
 import struct
-import xml.etree.ElementTree
+from xml.etree.ElementTree import Element, fromstring
 
 import listing
 import raster
 
 from tools.tests import support
-from tools.tests.support import SCRIPT, TOP, all_listings, example, held, tried
+from tools.tests.support import SCRIPT, TOP, all_listings, example, held, page_of, tried
 
 SVG = "{http://www.w3.org/2000/svg}"
 
@@ -17,24 +17,24 @@ SVG = "{http://www.w3.org/2000/svg}"
 class Pictures(support.ToolCase):
     """Pictures have each fragment in its place."""
 
-    def test_pictures_of_listings(self):
+    def test_pictures_of_listings(self) -> None:
         for path in all_listings()[::3]:
             ended = tried("picture", path)
             self.same((ended.status, ended.said), (0, ""), f"picture {path}")
-            self.check_rectangles(path, xml.etree.ElementTree.fromstring(ended.out))
+            self.check_rectangles(path, fromstring(ended.out))
 
-    def check_rectangles(self, path, svg):
+    def check_rectangles(self, path: str, svg: Element) -> None:
         """Each fragment has its rectangle, in px, in the order of the listing, and each text its place."""
         rects = [rect for rect in svg.iter(f"{SVG}rect") if rect.get("data-node")]
         sides = ("x", "y", "width", "height")
-        found = [(int(rect.get("data-node")), *(float(rect.get(name)) * 64 for name in sides)) for rect in rects]
-        due = [(each.node, *vars(each.rect.upright()).values()) for each in listing.read(held(path))[0].fragments]
+        found = [(int(rect.get("data-node", "")), *(float(rect.get(name, "")) * 64 for name in sides)) for rect in rects]
+        due = [(each.node, *vars(each.rect.upright()).values()) for each in page_of(path).fragments]
         self.same(found, due, f"picture {path}: rectangles")
         texts = [text for text in svg.iter(f"{SVG}text") if text.get("class") != "words"]
         parts = [part for text in texts for part in (text.findall(f"{SVG}tspan") or [text])]
         self.hold(all(part.get("x") and len(part.text or "") for part in parts), f"picture {path}: each text has its place")
 
-    def test_choices(self):
+    def test_choices(self) -> None:
         whole = {"box": 5, "line": 3, "span": 1, "run": 6}
         self.same(drawn_kinds(), whole, "picture")
         self.same(drawn_kinds("--kinds", "box,span"), {"box": 5, "span": 1}, "picture --kinds")
@@ -44,19 +44,20 @@ class Pictures(support.ToolCase):
         self.hold(">1 3</text>" in tried("picture", "--names", example("signs")).out, "picture --names")
         self.same(tried("picture", "--node", "99", example("signs")).status, 1, "picture of a node that isn't there")
 
-    def test_png(self):
+    def test_png(self) -> None:
         """A PNG is as large as the picture, by either program."""
         self.refuses("picture", ("--png", "--html", example("signs")), "")
         svg = tried("picture", example("signs")).out
-        browser = next(filter(None, map(shutil.which, raster.BROWSERS)), None)
+        browser = raster.find_browser()
         if not shutil.which("rsvg-convert") and not browser:
             self.skipTest("PNG: there is no rsvg-convert and no chromium")
-        due = tuple(int(float(size) + 0.999) for size in raster.SIZE.search(svg).groups())
+        size = raster.SIZE.search(svg)
+        due = tuple(int(float(each) + 0.999) for each in (size.groups() if size else ()))
         for data in [raster.png_of(svg)] + ([raster.by_browser(browser, svg)] if browser else []):
             self.hold(data.startswith(raster.PNG), "picture --png is a PNG")
             self.same(struct.unpack(">II", data[16:24]), due, "the size of a PNG")
 
-    def test_documents_and_files(self):
+    def test_documents_and_files(self) -> None:
         """A document goes through the program; here one that writes a stored listing takes its place."""
         folder = self.folder()
         program, new = os.path.join(folder, "program"), os.path.join(folder, "new.svg")
@@ -76,7 +77,7 @@ class Pictures(support.ToolCase):
         self.same(tried("picture", "--output", new, example("empty_body")).status, 1, "picture --output over a file")
         self.same(held(new), tried("picture", example("signs")).out, "picture: the file stays as it was")
 
-    def test_pictures_of_the_page_of_listings(self):
+    def test_pictures_of_the_page_of_listings(self) -> None:
         """The pictures of docs/PROFILE/listing.md are those of their listings, and the listings those of their documents."""
         folder, page = os.path.join(TOP, "docs", "listing"), held(os.path.join(TOP, "docs", "PROFILE", "listing.md"))
         for kind in ("page", "box", "line", "span", "run"):
@@ -89,8 +90,8 @@ class Pictures(support.ToolCase):
                 self.same(found, held(f"{path}.listing"), f"{path}.listing")
 
 
-def drawn_kinds(*words, given=None):
+def drawn_kinds(*words: str, given: str | None = None) -> collections.Counter[str]:
     """How many rectangles of each kind a picture has."""
-    svg = xml.etree.ElementTree.fromstring(tried("picture", *words, given=given or held(example("signs"))).out)
+    svg = fromstring(tried("picture", *words, given=given or held(example("signs"))).out)
     rects = (rect for rect in svg.iter(f"{SVG}rect") if rect.get("data-node"))
-    return collections.Counter(rect.get("class").split()[0] for rect in rects)
+    return collections.Counter(rect.get("class", "").split()[0] for rect in rects)

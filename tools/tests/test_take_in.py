@@ -3,6 +3,7 @@ import os
 import re
 import subprocess
 import zipfile
+from collections.abc import Sequence
 
 import intake_text
 import intake_tree
@@ -71,7 +72,7 @@ CHAPTER = """\
 class TakeIn(support.ToolCase):
     """Pages and books become documents of the profile."""
 
-    def test_tables(self):
+    def test_tables(self) -> None:
         """The tables speak of the profile's characters and tags alone."""
         repertoire = intake_text.read_repertoire()
         self.same(len(repertoire), 33048, "the repertoire that is read from the engine's table")
@@ -79,28 +80,28 @@ class TakeIn(support.ToolCase):
             self.hold(character not in repertoire and repertoire.issuperset(near), f"what is near {character!r}")
         page = held(os.path.join(TOP, "docs", "PROFILE", "html.md"))
         rows = re.search(r"Block tags: (.*?)\. Inline tags: (.*?)\. ", page)
-        blocks, inlines = (set(re.findall(r"`([a-z0-9]+)`", row)) for row in rows.groups())
+        blocks, inlines = (set(re.findall(r"`([a-z0-9]+)`", row)) for row in (rows.groups() if rows else ("", "")))
         blocks.update(f"h{number}" for number in range(1, 7))
         self.same(intake_tree.BLOCK_TAGS - {"html", "body"}, blocks, "the block tags")
         self.same(intake_tree.INLINE_TAGS, inlines, "the inline tags")
         self.hold(intake_tree.TAGS.issuperset(intake_tree.NEAREST.values()), "the nearest tags")
 
-    def needs_packages(self):
+    def needs_packages(self) -> None:
         """Ends the test where a library that take-in needs isn't installed."""
         if "apt-get install" in tried("take-in", given="<p>x").said:
             self.skipTest("pages and books: there is no package python3-html5lib or python3-tinycss2")
 
-    def test_pages(self):
+    def test_pages(self) -> None:
         self.needs_packages()
         for words in dict.fromkeys(words for _, _, words in PAGES):
             self.check_taken([page[:2] for page in PAGES if page[2] == words], ("--no-sheets", *words))
 
-    def test_pages_with_sheets(self):
+    def test_pages_with_sheets(self) -> None:
         self.needs_packages()
         self.needs_built("check_css")
         self.check_taken(SHEET_PAGES, ())
 
-    def test_documents_are_laid_out(self):
+    def test_documents_are_laid_out(self) -> None:
         self.needs_packages()
         self.needs_built("wm_layout")
         for words in dict.fromkeys(words for _, _, words in PAGES):
@@ -108,7 +109,7 @@ class TakeIn(support.ToolCase):
         self.needs_built("check_css")
         self.check_laid_out([page for page, _ in SHEET_PAGES], ())
 
-    def taken(self, pages, words):
+    def taken(self, pages: Sequence[str], words: Sequence[str]) -> list[str]:
         """The documents that become of pages, in one run."""
         folder = self.folder()
         paths = [written(folder, f"{number}.html", given.encode("utf-8")) for number, given in enumerate(pages)]
@@ -116,18 +117,18 @@ class TakeIn(support.ToolCase):
         self.same(tried("take-in", *words, "--output", new, *paths).status, 0, f"take-in {words}")
         return [held(os.path.join(new, os.path.basename(path))) for path in paths]
 
-    def check_taken(self, pages, words):
+    def check_taken(self, pages: Sequence[tuple[str, str]], words: Sequence[str]) -> None:
         """A part of each document that becomes of a page."""
         for document, (given, due) in zip(self.taken([given for given, _ in pages], words), pages):
             self.hold(due in document, f"take-in {words} of {given[:60]!r}: {document}")
 
-    def check_laid_out(self, pages, words):
+    def check_laid_out(self, pages: Sequence[str], words: Sequence[str]) -> None:
         for document, given in zip(self.taken(pages, words), pages):
             data = document.encode("utf-8")
             ran = subprocess.run([built("wm_layout"), "layout"], input=data, capture_output=True, check=False)
             self.same((ran.returncode, ran.stdout[-4:]), (0, b"end\n"), f"{given[:60]!r} is laid out")
 
-    def test_losses(self):
+    def test_losses(self) -> None:
         """What is lost is told by kind and count."""
         self.needs_packages()
         page = "<ul><li>a<li>b</ul><ol><li>c</ol>"
@@ -139,7 +140,7 @@ class TakeIn(support.ToolCase):
         due = "take-in: negative margins of floats and positions left out: 2 (margin 1, margin-left 1)\n"
         self.hold(due in said, f"take-in counts negative margins: {said}")
 
-    def test_unpacked_book(self):
+    def test_unpacked_book(self) -> None:
         self.needs_packages()
         folder = self.folder()
         os.mkdir(os.path.join(folder, "META-INF"))
@@ -148,7 +149,7 @@ class TakeIn(support.ToolCase):
             said = self.refuses("take-in", (path,), "")
             self.hold(f"(cd {folder} && zip " in said, f"take-in of an unpacked book: {said}")
 
-    def test_encodings(self):
+    def test_encodings(self) -> None:
         """Encodings that a page names, that its first bytes tell, and that an option names."""
         self.needs_packages()
         folder = self.folder()
@@ -166,7 +167,7 @@ class TakeIn(support.ToolCase):
             ended = tried("take-in", "--no-sheets", "--quiet", *words, path)
             self.hold(f"<p>{text}</p>" in ended.out and ended.said == "", f"take-in of {encoding}: {ended}")
 
-    def test_what_is_not_taken(self):
+    def test_what_is_not_taken(self) -> None:
         """What isn't taken is told by one line, and nothing is written."""
         self.needs_packages()
         folder = self.folder()
@@ -178,7 +179,7 @@ class TakeIn(support.ToolCase):
         for words in ((none,), ("--judge", none, page), ("--no-sheets", page, page), ("--encoding", "none", page), ("--none",)):
             self.refuses("take-in", words, "")
 
-    def test_parts(self):
+    def test_parts(self) -> None:
         """A page that passes a limit is cut, and a file that is there stays as it was."""
         self.needs_packages()
         folder = self.folder()
@@ -192,7 +193,7 @@ class TakeIn(support.ToolCase):
         words = ("--no-sheets", "--output", new, small)
         self.same([tried("take-in", *words).status for _ in range(2)], [0, 1], "take-in over a file")
 
-    def test_books(self):
+    def test_books(self) -> None:
         """The chapters of a book in the order of its spine."""
         self.needs_packages()
         folder = self.folder()
@@ -211,7 +212,7 @@ class TakeIn(support.ToolCase):
             self.hold("\np { margin: 0 }\n" in held(os.path.join(folder, "styled", names[0])), "take-in: the sheet of a book")
 
 
-def written(folder, name, data):
+def written(folder: str, name: str, data: bytes) -> str:
     path = os.path.join(folder, name)
     with open(path, "wb") as file:
         file.write(data)

@@ -18,7 +18,7 @@ TEXTS = {
 class Text(support.ToolCase):
     """The text of a listing as it is read."""
 
-    def test_texts_of_listings(self):
+    def test_texts_of_listings(self) -> None:
         for name, due in TEXTS.items():
             ended = tried("text", example(name))
             self.same((ended.status, ended.said), (0, ""), f"text {name}")

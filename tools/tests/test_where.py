@@ -90,7 +90,7 @@ HINTS = (
 class Where(support.ToolCase):
     """Each refusal is shown at its place, with its cause and its cure."""
 
-    def test_rows_of_the_page(self):
+    def test_rows_of_the_page(self) -> None:
         """Each kind that docs/PROFILE/commands.md names has its row, and no other kind has one."""
         facts = refusals.read_facts(refusals.read_page())
         rows = re.findall(r"^\| `refused [^|]*\| .*$", held(os.path.join(TOP, "docs", "PROFILE", "commands.md")), re.MULTILINE)
@@ -100,11 +100,11 @@ class Where(support.ToolCase):
         for fact in facts:
             self.same(fact.answer.split()[1], fact.kind, f"docs/REFUSALS.md: the example of {fact.kind}")
 
-    def test_places_in_bytes(self):
+    def test_places_in_bytes(self) -> None:
         for case in WHERE_CASES:
             self.check_where_case(*case)
 
-    def test_hints(self):
+    def test_hints(self) -> None:
         """What is said of the first thing for which a page of one's own is refused, and that a limit is told at numbers alone."""
         for given, at, due in HINTS:
             said = syntax_hints.hints(given, at)
@@ -115,37 +115,37 @@ class Where(support.ToolCase):
             self.hold(f"\nhere: {due}" in shown, f"where shows the hint of {given!r}: {shown}")
             self.same("\nlimit: " in shown, "&#" in given, f"where shows a limit for {given!r}")
 
-    def test_hints_are_of_refusals(self):
+    def test_hints_are_of_refusals(self) -> None:
         self.needs(self.program, "what the program says of the hints' documents")
         for given, at, _ in HINTS:
             self.same(self.ran("layout", given.encode("utf-8")), f"refused Syntax {at}\n", f"{given!r} is refused")
 
-    def test_rows_by_the_place(self):
+    def test_rows_by_the_place(self) -> None:
         for row in WHERE_ROWS:
             self.check_where_row(*row)
 
-    def test_places_of_nodes(self):
+    def test_places_of_nodes(self) -> None:
         self.needs_built("report_nodes")
         self.check_where_row(*WHERE_NUMBER)
         for case in WHERE_NODES:
             self.check_where_case(*case)
 
-    def new_path(self):
+    def new_path(self) -> str:
         return os.path.join(self.folder(), "page.html")
 
-    def check_where_row(self, given, words, cause):
+    def check_where_row(self, given: str, words: str, cause: str) -> None:
         path = self.new_path()
         put_input(path, given)
         self.hold(f"\ncause: {cause}" in tried("where", path, f"refused {words}").out, f"where {words}: {cause}")
 
-    def check_where_case(self, given, words, place, line, caret):
+    def check_where_case(self, given: str, words: str, place: str, line: str, caret: str) -> None:
         path = self.new_path()
         put_input(path, given)
         found = tried("where", path, "refused", *words.split())
         self.same(found.out.split("\n")[:3], [f"{path}:{place}: refused {words}", line, caret], f"where {words}")
         self.same(tried("where", path, "-", given=f"refused {words}\n"), found, f"where {words} on standard input")
 
-    def test_what_is_refused(self):
+    def test_what_is_refused(self) -> None:
         path = self.new_path()
         put_input(path, "<html><body></body></html>\n")
         wrong = ("refused Syntax 99", "refused TooDeep 9", "refused NoNode 1", "refused Strange 1", "Syntax 9", "refused Syntax")
@@ -158,7 +158,7 @@ class Where(support.ToolCase):
         shown = tried("where", path, "-", given=SCRIPT.split("refused")[0])
         self.same(shown, Ended(0, f"{path}: nothing is refused\n", ""), "where of a page")
 
-    def test_runs_of_the_program(self):
+    def test_runs_of_the_program(self) -> None:
         """Each example of docs/REFUSALS.md is refused as it says, and `where` finds that place by running the program itself."""
         self.needs_built("report_nodes")
         self.needs(self.program, "the examples of docs/REFUSALS.md")
