@@ -1,5 +1,6 @@
 """The work of tools/take-in, from files to documents."""
 import argparse
+import json
 import os
 import sys
 
@@ -86,15 +87,25 @@ class Folder:
         self.count = 0
         self.names: set[str] = set()
         self.held: str | None = None
+        # What became of each page, for those who want it by a machine.
+        self.became: list[dict[str, object]] = []
         if path is not None:
             os.makedirs(path, exist_ok=True)
 
-    def write(self, name: str, text: str) -> None:
+    def write(self, name: str, text: str, source: intake_files.Source) -> None:
+        file = None
         if self.path is None:
             self.hold(text)
         else:
-            listing.put(text, os.path.join(self.path, f"{self.free(name)}.html"))
+            file = f"{self.free(name)}.html"
+            listing.put(text, os.path.join(self.path, file))
+        title = intake_tree.title_of(source.tree) if source.tree is not None else ""
+        self.became.append({"document": file, "source": source.path, "title": title, "bytes": len(text.encode("utf-8"))})
         self.count += 1
+
+    def refuse(self, path: str, why: str) -> None:
+        """Says why a page isn't taken."""
+        self.became.append({"document": None, "source": path, "refused": why})
 
     def hold(self, text: str) -> None:
         """Keeps the document for standard output: nothing goes there before it is known that there is one alone."""
@@ -120,15 +131,25 @@ def say(line: str) -> None:
     print(f"take-in: {line}", file=sys.stderr)
 
 
+def show_progress(source: intake_files.Source) -> None:
+    """Shows how far a book is, to whoever sits at a terminal."""
+    if source.count > 1 and sys.stderr is not None and sys.stderr.isatty():
+        end = "\r\033[K" if source.number == source.count else ""
+        print(f"\rtake-in: chapter {source.number} of {source.count}{end}", end="", file=sys.stderr, flush=True)
+
+
 def take_in(path: str, intake: Intake, folder: Folder) -> bool:
     """Takes in one file, and says whether all of it was taken."""
     complete = True
     for source in intake_files.sources_of(path, intake.words.encoding):
+        if not intake.words.quiet:
+            show_progress(source)
         try:
             for name, text in intake.documents(source):
-                folder.write(name, text)
+                folder.write(name, text, source)
         except listing.InputError as error:
             say(f"{source.name}: {error}")
+            folder.refuse(source.path, str(error))
             complete = False
     return complete
 
@@ -143,11 +164,15 @@ def run(words: argparse.Namespace) -> int:
             complete &= take_in(path, intake, folder)
         except listing.InputError as error:
             say(f"{path}: {error}")
+            folder.refuse(path, str(error))
             complete = False
         except OSError as error:
             say(f"{error.filename or path}: {error.strerror}")
+            folder.refuse(path, str(error.strerror))
             complete = False
     folder.close()
+    if words.list is not None:
+        listing.put(json.dumps(folder.became, ensure_ascii=False, indent=1) + "\n", words.list)
     if not words.quiet and folder.count:
         tell(intake.losses, folder)
     return 0 if complete else 1

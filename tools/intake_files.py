@@ -47,9 +47,13 @@ class Beside(Protocol):
 
 @dataclasses.dataclass
 class Source:
-    """A page as it came: the name for its document, its tree or none if it can't be read, and how a file beside it is read."""
+    """A page as it came: the name for its document, the path that it came from, its number among the chapters of its book and
+    their count, its tree or none if it can't be read, and how a file beside it is read."""
 
     name: str
+    path: str
+    number: int
+    count: int
     tree: Tree | None
     beside: Beside
 
@@ -64,7 +68,7 @@ def sources_of(path: str, encoding: str | None) -> Iterator[Source]:
     if data.startswith(BOOK):
         yield from chapters(data, stem, encoding)
     else:
-        yield Source(stem, tree_of(data, encoding), FolderBeside("" if path == "-" else os.path.dirname(path)))
+        yield Source(stem, path, 1, 1, tree_of(data, encoding), FolderBeside("" if path == "-" else os.path.dirname(path)))
 
 
 def check_unpacked(path: str) -> None:
@@ -226,7 +230,8 @@ def chapters(data: bytes, stem: str, encoding: str | None) -> Iterator[Source]:
             tree = None if part is None else tree_of(part, encoding, is_xhtml=True)
         except listing.InputError:
             tree = None
-        yield Source(f"{stem}-{number:0{digits}}-{stem_of(path)}", tree, BookBeside(book, posixpath.dirname(path)))
+        name = f"{stem}-{number:0{digits}}-{stem_of(path)}"
+        yield Source(name, path, number, len(paths), tree, BookBeside(book, posixpath.dirname(path)))
 
 
 def stem_of(path: str) -> str:

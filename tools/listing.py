@@ -506,9 +506,9 @@ def chunks_of(path: str) -> Iterator[bytes]:
             file = sys.stdin.buffer if path == "-" else files.enter_context(open(path, "rb"))
             while chunk := file.read(CHUNK):
                 yield chunk
-    except (OSError, ValueError) as error:
-        # A name with a character 0 is a ValueError.
-        raise InputError(f"{name_of(path)}: {getattr(error, 'strerror', None) or error}") from None
+    except OSError as error:
+        # A failed read doesn't say of which file it was.
+        raise OSError(error.errno, error.strerror, name_of(path)) from None
 
 
 def front_of(chunks: Iterable[bytes], most: int) -> tuple[bytes, bool]:

@@ -1,7 +1,9 @@
 """Tests of tools/take-in."""
+import json
 import os
 import re
 import subprocess
+import sys
 import zipfile
 from collections.abc import Sequence
 
@@ -9,7 +11,7 @@ import intake_text
 import intake_tree
 
 from tools.tests import support
-from tools.tests.support import TOP, built, held, tried
+from tools.tests.support import TOOLS, TOP, built, held, tried
 
 # A page, a part of the document that becomes of it, and words for the tool.
 PAGES = (
@@ -193,6 +195,20 @@ class TakeIn(support.ToolCase):
         words = ("--no-sheets", "--output", new, small)
         self.same([tried("take-in", *words).status for _ in range(2)], [0, 1], "take-in over a file")
 
+    def check_list(self, folder: str, path: str, names: list[str]) -> None:
+        """What became of each page, in JSON, and how far the tool is, at a terminal."""
+        wrong, told = written(folder, "wrong.html", b"hello"), os.path.join(folder, "list.json")
+        words = ("--no-sheets", "--output", os.path.join(folder, "listed"), "--list", told, path, wrong)
+        said = terminal_words("take-in", *words)
+        self.hold(said.startswith("\rtake-in: chapter 1 of 2\rtake-in: chapter 2 of 2\r"), f"take-in at a terminal: {said!r}")
+        rows = json.loads(held(told))
+        self.same([row["document"] for row in rows], [*names, None], "take-in --list: the documents")
+        self.same([row["source"] for row in rows], ["in/t wo.xhtml", "in/one.xhtml", wrong], "take-in --list: where they came from")
+        self.hold("no tag" in rows[2]["refused"], "take-in --list: why a page wasn't taken")
+        sizes = [os.path.getsize(os.path.join(folder, "listed", name)) for name in names]
+        self.same([row["bytes"] for row in rows[:2]], sizes, "take-in --list: the sizes")
+        self.refuses("take-in", ("--list", told, path), "")
+
     def test_books(self) -> None:
         """The chapters of a book in the order of its spine."""
         self.needs_packages()
@@ -205,11 +221,22 @@ class TakeIn(support.ToolCase):
         self.same(tried("take-in", "--no-sheets", "--output", new, path).status, 0, "take-in of a book")
         names = sorted(os.listdir(new))
         self.same(names, ["book-01-t-wo.html", "book-02-one.html"], "take-in: the names of chapters")
+        self.check_list(folder, path, names)
         for name, text in zip(names, ("2é", "1é")):
             self.hold(f'<a id="here"></a><p>{text}</p>' in held(os.path.join(new, name)), f"take-in: {name}")
         if os.access(built("check_css"), os.X_OK):
             tried("take-in", "--output", os.path.join(folder, "styled"), path)
             self.hold("\np { margin: 0 }\n" in held(os.path.join(folder, "styled", names[0])), "take-in: the sheet of a book")
+
+
+def terminal_words(*words: str) -> str:
+    """What a tool says on standard error where that is a terminal."""
+    master, terminal = os.openpty()
+    with open(master, "rb", buffering=0) as read:
+        with open(terminal, "wb", buffering=0) as error:
+            command = [sys.executable, os.path.join(TOOLS, words[0]), *words[1:]]
+            subprocess.run(command, stdin=subprocess.DEVNULL, stderr=error, check=False)
+        return read.read(4096).decode("utf-8")
 
 
 def written(folder: str, name: str, data: bytes) -> str:
