@@ -305,18 +305,21 @@ def middles(run: listing.Run) -> list[float]:
 
 def parts_drawn(run: listing.Run, parts: list[Part], size: float, origin: float, top: float) -> Iterator[str]:
     """Texts of a row of parts, those in one text that are equally squeezed. `top` is line-over, `origin` line-left."""
-    alike = itertools.groupby(filter(is_shown, parts), lambda part: (number(squeeze(part, size)), is_wide(part.clusters[0]), len(part.clusters) > 1))
-    for (factor, wide, is_joined), group in alike:
-        attributes = {
+    def look(part: Part) -> tuple[str, bool, bool]:
+        return number(squeeze(part, size)), is_wide(part.clusters[0]), len(part.clusters) > 1
+
+    for (factor, wide, is_joined), group in itertools.groupby(filter(is_shown, parts), look):
+        attributes: Attributes = {
             "class": ("odd" if is_odd(run) else "even") + " part",
             "y": number(top + size * (WIDE_BASELINE if wide else NARROW_BASELINE)),
             "font-size": number(size),
             "transform": None if factor == "1" else f"scale({factor} 1)",
         }
         for some in ([part] for part in group) if is_joined else [list(group)]:
-            # Letters that join can't be set one by one. Where the reader can, it stretches them to their length.
-            stretched = {"textLength": number(some[0].length / float(factor)), "lengthAdjust": "spacingAndGlyphs"} if is_joined else {}
-            yield text(attributes | stretched, "".join(part_drawn(run, part, origin, float(factor)) for part in some))
+            if is_joined:
+                # Letters that join can't be set one by one. Where the reader can, it stretches them to their length.
+                attributes |= {"textLength": number(some[0].length / float(factor)), "lengthAdjust": "spacingAndGlyphs"}
+            yield text(attributes, "".join(part_drawn(run, part, origin, float(factor)) for part in some))
 
 
 def part_drawn(run: listing.Run, part: Part, origin: float, factor: float) -> str:

@@ -106,7 +106,8 @@ def tag_hint(text: str, at: int, front: source.Front) -> str:
     if front.nodes and not front.in_body and not (tag == "body" or front.in_head and tag in HEAD_TAGS):
         return before_body_hint(text, begin, tag, front)
     if name is None:
-        return "of what begins with `<!` comments alone are read" if text.startswith("<!", begin) else "a plain `<` is written `&lt;`"
+        is_markup = text.startswith("<!", begin)
+        return "of what begins with `<!` comments alone are read" if is_markup else "a plain `<` is written `&lt;`"
     if at == name.end() and text[at] != "/":
         return "the name of a tag has letters, digits, `-` and `_` alone"
     return attribute_hint(text, at, begin, tag)

@@ -90,7 +90,8 @@ class CommandLine(support.ToolCase):
     def test_names_of_files(self) -> None:
         self.same(self.refuses("text", ("",), ""), "text: the name of a file is empty\n", "an empty name")
         self.same(self.refuses("text", (TOP,), ""), f"text: {TOP}: Is a directory\n", "the name of a folder")
-        self.same(self.refuses("picture", ("--output", "", example("signs")), ""), "picture: the name of a file is empty\n", "an empty name")
+        said = self.refuses("picture", ("--output", "", example("signs")), "")
+        self.same(said, "picture: the name of a file is empty\n", "an empty name for a new file")
 
     def test_document_of_another_listing(self) -> None:
         document = example("upright_text").replace(".listing", ".html")

@@ -7,7 +7,7 @@ from collections.abc import Iterator
 import listing
 
 from tools.tests import support
-from tools.tests.support import TOOLS, TOP, held, put_input, tried
+from tools.tests.support import TOP, held, put_input, tried
 
 
 class Docs(support.ToolCase):

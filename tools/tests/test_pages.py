@@ -6,7 +6,7 @@ from collections.abc import Iterable
 import listing
 
 from tools.tests import support
-from tools.tests.support import SCRIPT, all_listings, example, held, page_of, tried
+from tools.tests.support import SCRIPT, all_listings, example, page_of, tried
 
 # What `pages` makes of three lines of 16 px in a box with a padding of 8 px, on pages of 40 px, in a horizontal and a vertical
 # root.

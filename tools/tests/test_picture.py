@@ -5,7 +5,6 @@ import shutil
 import struct
 from xml.etree.ElementTree import Element, fromstring
 
-import listing
 import raster
 
 from tools.tests import support

@@ -44,7 +44,8 @@ SHEET_PAGES = (
     ("<style>p{float:left;margin-left:-100%;padding:1px}</style><p>x", "\np { padding: 1px }\n"),
     ("<style>p{float:none;margin-left:-9%}</style><p>x", "\np { margin-left: -9% }\n"),
     ("<style>p{float:left}p,b{margin:-1px 2px}</style><p>x<b>y", "\nb { margin: -1px 2px }\np { margin: 0 2px }\n"),
-    ("<style>p{position:relative;margin-top:-1em}b{position:relative;top:1px;margin-top:-2em}</style><p>x<b>y", "\np { margin-top: -1em }\n</style>"),
+    ("<style>p{position:relative;margin-top:-1em}</style><p>x", "\np { margin-top: -1em }\n"),
+    ("<style>b{position:relative;top:1px;margin-top:-1em;padding:0}</style><b>x", "\nb { padding: 0 }\n"),
     ("<p style='position:absolute;margin-block-start:-1em;padding:0'>x", '<p style="padding: 0">x</p>'),
 )
 # What isn't taken in, with a word of what is said.

@@ -6,7 +6,7 @@ import refusals
 import syntax_hints
 
 from tools.tests import support
-from tools.tests.support import Ended, SCRIPT, TOP, example, held, put_input, tried
+from tools.tests.support import Ended, SCRIPT, TOP, held, put_input, tried
 
 # Where a refusal stands: an input, the words of the refusal, its line and column, and the line of the input with its caret.
 WHERE_CASES = (
