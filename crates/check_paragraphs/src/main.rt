@@ -1,6 +1,6 @@
 //! The program `check_paragraphs` answers for parts of paragraphs, one a line, so that what is prepared of a paragraph, where
-//! its lines end and how they are placed can be compared with others; its tests are those of the public calls of these
-//! crates.
+//! its lines end and how they are placed can be compared with others. It has no tests of its own: its run is that of the
+//! public calls of these crates.
 //!
 //! A question is a line of words. Numbers are decimal, lengths in units of 1/64 px; `-` stands for none; what has a variant
 //! is named by it; a list begins with how many it has. The answer is a line in the same form, with fragments and items in
@@ -24,8 +24,11 @@
 //!   and its min-content and max-content contribution. The answer has the two sizes of the paragraph, and its lines.
 //! - `count`: how far the paragraph is taken, `read`, `prepared` or `lines`; the words of `lines`. The answer has how many items
 //!   are read or prepared, or how many lines there are. It is for tools/count-paragraphs.
+//! - `#`: a comment, which is its own answer.
 //! - A question that no call takes is `outside`, and `too long` where it is of the kind `fill`. What is not such a line is
 //!   `not a case`.
+//!
+//! The files `stdin` and `stdout` hold the worked examples, by values from outside, each under a comment that names it.
 #![tactic(auto)]
 
 ghost use Rattle.std.specs.Prelude.{◌≡◌, ◌<◌};
@@ -111,6 +114,7 @@ fn answer<W: Write, L: Ledger, M: Ledger>(
 ) -> io::Result<()> {
     let mut words = Words::new(line);
     match words.word() {
+        Ok("#") => write!(output, "{line}"),
         Ok("fill") => match fill_case(alloc, &mut words) {
             Ok(case) => answer_fill(alloc, &case, arranged, output),
             Err(error) => print_error(output, error),
@@ -141,6 +145,3 @@ fn print_error<W: Write>(output: &mut W, error: CaseError) -> io::Result<()> {
         CaseError::Memory => Err(io::ErrorKind::OutOfMemory.into()),
     }
 }
-
-#[cfg(test)]
-mod tests;
