@@ -2,25 +2,33 @@
 //! others. A line has words: the base level, which is `0`, `1` or `-` where P2 and P3 find it (UAX 9), and then the
 //! characters as hexadecimal numbers. The answer is a line with three parts, parted by semicolons: the base level, the
 //! levels behind L1 where the paragraph is one line, and the places from left to right of the characters that X9 leaves.
-//! It is `outside` where a character is not in the repertoire. Beside the program stand the tests of wm_chars and of the
-//! bidi crates.
+//! It is `outside` where a character is not in the repertoire.
+//!
+//! A line that begins with another word is a question for a part of the algorithm. It has the base level, two places that
+//! say where a line begins and ends, and the characters, each as its class, its level and its code point in hexadecimal, parted
+//! by colons; a level that is left out is 0, a character `a`.
+//!
+//! - `explicit`: the level that P2 and P3 find, the explicit levels, of which `x` is one that X9 removes, and each isolating run
+//!   sequence with what stands before and after it and its places.
+//! - `sequence`: the levels and classes of a text that is one sequence, once it is resolved.
+//! - `resolved`: the resolved levels, by the classes that are given.
+//! - `reset`: the levels behind L1. `order`: the places by L2. `line`: the places of the line by L1 and L2.
+//! - `text`: the base level, classes and levels that the characters have by themselves, their levels as of the text alone, and
+//!   the places of the line, by the paragraph and by the text alone.
+//! - `repertoire`: how many characters the repertoire has, how many of them are mirrored, brackets, bidi controls and upright, and
+//!   how many differ in one of these or in their class from Unicode's data.
+//! - `#`: a comment, which is its own answer.
 #![tactic(auto)]
 
 ghost use Rattle.std.specs.Prelude.{◌≡◌, ◌≤◌, IfOk, IfSome, length};
 
-#[cfg(test)]
 mod characters;
-#[cfg(test)]
-mod explicit_levels;
-#[cfg(test)]
-mod lines;
-#[cfg(test)]
-mod resolved_levels;
-#[cfg(test)]
-mod rules;
+mod questions;
 
 use bidi_explicit::LevelList;
 use bidi_order::{BidiParagraph, reset};
+use characters::print_repertoire;
+use questions::{answer_question, read_question};
 use std::alloc::{AllocError, Global};
 use std::io;
 use std::io::{BufRead, BufReader, BufWriter, Write};
@@ -33,9 +41,19 @@ fn main(rt: HostRuntime) -> io::Result<()> {
     let mut output = BufWriter::new(rt.alloc(), io::writer(&rt))?;
     for line in input.lines(rt.alloc()) {
         let line = line?;
-        answer(rt.alloc(), line.as_str(), &mut output)?;
+        answer_line(rt.alloc(), line.as_str(), &mut output)?;
     }
     output.flush()
+}
+
+fn answer_line<W: Write>(alloc: Global, line: &str, output: &mut W) -> io::Result<()> {
+    let mut words = line.split_whitespace();
+    match words.next() {
+        Some("#") => writeln!(output, "{line}"),
+        Some("repertoire") => print_repertoire(output),
+        Some("0" | "1" | "-") | None => answer(alloc, line, output),
+        Some(kind) => answer_question(alloc, kind, &read_question(alloc, words)?, output),
+    }
 }
 
 fn answer<W: Write>(alloc: Global, line: &str, output: &mut W) -> io::Result<()> {
