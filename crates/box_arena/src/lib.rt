@@ -11,8 +11,6 @@ pub mod laws;
 mod links;
 mod planting;
 mod results;
-#[cfg(test)]
-mod tests;
 mod write;
 
 pub use arena::BoxArena;

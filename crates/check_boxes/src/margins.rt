@@ -1,36 +1,85 @@
-//! Margins that adjoin, by values from outside (CSS 2, 8.3.1).
+//! Margins that adjoin, and stacks of children (CSS 2, 8.3.1 and 9.4.1).
 
-use margin_collapse::*;
+ghost use Rattle.std.specs.Prelude.{◌*◌, ◌≤◌, ◌^◌, IfOk};
+ghost use Rattle.block_flow.specs.Children.{lengths_of};
 
-#[test]
-fn adjoining_margins_collapse(rt: HostRuntime) {
-    // Four margins, and the one to which they collapse.
-    let table: [(i64, i64, i64, i64, i64); 12] = [
-        (1_280, -512, 768, 0, 768),
-        (0, 0, 0, 0, 0),
-        (640, 0, 0, 0, 640),
-        (-640, 0, 0, 0, -640),
-        (9, -1, 2_921_759_851, 0, 2_921_759_850),
-        (0, 1_465_323_629, 1, -367_315_127, 1_098_008_502),
-        (-1, 1, 1, -1_963, -1_962),
-        (-1, -1_245_075_527, -470, -1, -1_245_075_527),
-        (0, 1, 1, -1, 0),
-        (-2_739, 3_659_372_341, -314, 1, 3_659_369_602),
-        (2_246_850_409, 1, -4_005_156_056, -1, -1_758_305_647),
-        (1, 0, 328_071_512, 0, 328_071_512),
-    ];
-    assert_eq!(rt; table.len(), 12);
-    for (first, second, third, fourth, value) in table {
-        let joined = Margins::of(first)
-            .join(Margins::of(second))
-            .join(Margins::of(third).join(Margins::of(fourth)))
-            .join(Margins::none());
-        assert!(rt; joined.positive.unsigned_abs() <= 1 << 60);
-        assert!(rt; joined.negative.unsigned_abs() <= 1 << 60);
-        assert_eq!(rt;
-            joined.value(),
-            value,
-            "{first}, {second}, {third}, {fourth}"
-        );
+use crate::words::{CaseError, Words};
+use block_flow::{ChildBox, ParentEdges, stack};
+use margin_collapse::Margins;
+use std::alloc::Global;
+use std::sync::ledger::Ledger;
+use wm_units::Steps;
+
+/// The margin to which four collapse.
+pub(crate) fn collapsed(alloc: Global, words: &mut Words<'_>) -> Result<String, CaseError> {
+    let first = words.length()?;
+    let second = words.length()?;
+    let third = words.length()?;
+    let fourth = words.length()?;
+    words.end()?;
+    let value = value_of(first, second, third, fourth)?;
+    Ok(format!(in alloc; "{value}")?)
+}
+
+fn value_of(first: i64, second: i64, third: i64, fourth: i64) -> Result<i64, CaseError> {
+    let joined = Margins::of(first)
+        .join(Margins::of(second))
+        .join(Margins::of(third).join(Margins::of(fourth)))
+        .join(Margins::none());
+    if joined.positive.unsigned_abs() <= 1 << 60 && joined.negative.unsigned_abs() <= 1 << 60 {
+        Ok(joined.value())
+    } else {
+        Err(CaseError::Malformed)
     }
+}
+
+/// Three children, stacked.
+pub(crate) fn stacked<L: Ledger>(
+    alloc: Global,
+    words: &mut Words<'_>,
+    arranged: &mut Steps<L>,
+) -> Result<String, CaseError> {
+    let parent = ParentEdges {
+        start_joins: words.flag()?,
+        end_joins: words.flag()?,
+    };
+    let first = child(words)?;
+    let second = child(words)?;
+    let third = child(words)?;
+    words.end()?;
+    let stack = stack(alloc, parent, &[first, second, third], arranged)?;
+    let mut answer = String::new(alloc);
+    for place in stack.places() {
+        answer.push_str(&format!(in alloc; "{place} ")?)?;
+    }
+    answer.push_str(&format!(in alloc; "{}", stack.extent())?)?;
+    answer.push_str(&pair(alloc, stack.start())?)?;
+    answer.push_str(&pair(alloc, stack.end())?)?;
+    answer.push_str(if stack.through() { " yes" } else { " no" })?;
+    Ok(answer)
+}
+
+fn child(words: &mut Words<'_>) -> Result<ChildBox, CaseError>
+    ensures { IfOk result (λ child. lengths_of child ≤ 5 * 2 ^ 40) }
+{
+    let size = words.length()?;
+    let start = margins(words)?;
+    let end = margins(words)?;
+    let through = words.flag()?;
+    Ok(ChildBox {
+        size,
+        start,
+        end,
+        through,
+    })
+}
+
+fn margins(words: &mut Words<'_>) -> Result<Margins, CaseError> {
+    let positive = words.length()?;
+    let negative = words.length()?;
+    Ok(Margins { positive, negative })
+}
+
+fn pair(alloc: Global, margins: Margins) -> Result<String, CaseError> {
+    Ok(format!(in alloc; " {} {}", margins.positive, margins.negative)?)
 }

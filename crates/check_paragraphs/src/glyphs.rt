@@ -26,7 +26,8 @@ fn characters(alloc: Global, unit: &str) -> Result<Characters, CaseError> {
     Ok(characters)
 }
 
-fn character(code: &str) -> Result<char, CaseError> {
+/// The character of this code point in hexadecimal.
+pub(crate) fn character(code: &str) -> Result<char, CaseError> {
     match u32::from_str_radix(code, 16) {
         Ok(code) => match char::from_u32(code) {
             Some(c) => Ok(c),

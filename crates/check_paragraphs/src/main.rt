@@ -6,6 +6,8 @@
 //! is named by it; a list begins with how many it has. The answer is a line in the same form, with fragments and items in
 //! brackets.
 //!
+//! - `advance`: the number of a face, a character in hexadecimal, and whether it is upright. The answer has the advance, in
+//!   thousandths of the font size, and the ascent and the descent of the face that is used.
 //! - `fill`: the room; the items, each with advance, edges before and after, `yes` where it is a space, and the break
 //!   behind it; pairs of places. The answer has the ends of the lines, the min-content and the max-content size, and the
 //!   width between the places of each pair.
@@ -22,6 +24,8 @@
 //!   bottom and left, margins and paddings (`Auto`, or `Length` or `Percent` with its value) and border widths; the inline-blocks,
 //!   each with node and ordinal, the inline and the block size of its border box, the fields of an `Atom` from its extent on,
 //!   and its min-content and max-content contribution. The answer has the two sizes of the paragraph, and its lines.
+//! - `units`: a style as that of a paragraph, and a text, its bytes in hexadecimal. The answer has each unit with its places,
+//!   kind, advance, natural width and break class.
 //! - `count`: how far the paragraph is taken, `read`, `prepared` or `lines`; the words of `lines`. The answer has how many items
 //!   are read or prepared, or how many lines there are. It is for tools/count-paragraphs.
 //! - `#`: a comment, which is its own answer.
@@ -33,6 +37,7 @@
 
 ghost use Rattle.std.specs.Prelude.{◌≡◌, ◌<◌};
 
+mod advances;
 mod bounds;
 mod fills;
 mod fragments;
@@ -44,9 +49,11 @@ mod preparings;
 mod printed;
 mod styles;
 mod sums;
+mod units;
 mod wholes;
 mod words;
 
+use advances::{advance_case, answer_advance};
 use face_api::{Face, Faces, MonoFace, TableFace, WideFace};
 use fills::{answer_fill, fill_case};
 use placings::{answer_line, line_case};
@@ -56,6 +63,7 @@ use std::io;
 use std::io::{BufRead, BufReader, BufWriter, Write};
 use std::marker::Brand;
 use std::sync::ledger::{Blank, Ledger};
+use units::{answer_units, units_case};
 use wholes::{answer_lines, count_case, lines_case};
 use wm_units::Steps;
 use words::{CaseError, Words};
@@ -115,6 +123,10 @@ fn answer<W: Write, L: Ledger, M: Ledger>(
     let mut words = Words::new(line);
     match words.word() {
         Ok("#") => write!(output, "{line}"),
+        Ok("advance") => match advance_case(&mut words) {
+            Ok(case) => answer_advance(case, faces, output),
+            Err(error) => print_error(output, error),
+        },
         Ok("fill") => match fill_case(alloc, &mut words) {
             Ok(case) => answer_fill(alloc, &case, arranged, output),
             Err(error) => print_error(output, error),
@@ -129,6 +141,10 @@ fn answer<W: Write, L: Ledger, M: Ledger>(
         },
         Ok("count") => match count_case(alloc, &mut words) {
             Ok(case) => answer_lines(alloc, &case, faces, prepared, arranged, output),
+            Err(error) => print_error(output, error),
+        },
+        Ok("units") => match units_case(alloc, &mut words) {
+            Ok(case) => answer_units(alloc, &case, faces, output),
             Err(error) => print_error(output, error),
         },
         Ok("paragraph") => match prepare_case(alloc, &mut words) {

@@ -17,7 +17,7 @@ use wm_chars::BidiClass;
 use wm_modes::WritingMode;
 
 /// A line whose items have glyphs and fragments of their own.
-#[derive(Debug, Drop)]
+#[derive(Drop)]
 pub(crate) struct LineCase {
     mode: WritingMode,
     base: u8,
@@ -29,7 +29,7 @@ pub(crate) struct LineCase {
 }
 
 // The fields of a `LineItem`.
-#[derive(Debug, Drop)]
+#[derive(Drop)]
 struct CaseItem {
     level: u8,
     class: BidiClass,
@@ -41,7 +41,7 @@ struct CaseItem {
 }
 
 // What a `LineContent` borrows.
-#[derive(Debug, Drop)]
+#[derive(Drop)]
 enum CaseContent {
     Unit {
         node: u32,

@@ -76,8 +76,8 @@ fn item(alloc: Global, words: &mut Words<'_>, styles: &[Style]) -> Result<Item, 
     }
 }
 
-// The text whose bytes the next word has; `-` is the empty one.
-fn text(alloc: Global, words: &mut Words<'_>) -> Result<Letters, CaseError> {
+/// The text whose bytes the next word has; `-` is the empty one.
+pub(crate) fn text(alloc: Global, words: &mut Words<'_>) -> Result<Letters, CaseError> {
     let word = words.word()?;
     if word == "-" {
         return Ok(String::new(alloc));

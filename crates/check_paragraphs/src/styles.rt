@@ -9,7 +9,7 @@ use style_types::{LineHeight, SideSizes, SideWidths, Size, Style};
 pub(crate) type CaseStyles = Vec<Style>;
 
 /// How much of a style the words tell; the rest is initial.
-#[derive(Clone, Copy, Debug, PartialEq, Eq)]
+#[derive(Clone, Copy, PartialEq, Eq)]
 pub(crate) enum StyleForm {
     /// What text is prepared by.
     Text,
@@ -42,7 +42,8 @@ pub(crate) fn style_at(styles: &[Style], place: usize) -> Result<Style, CaseErro
     }
 }
 
-fn text_style(words: &mut Words<'_>) -> Result<Style, CaseError> {
+/// The style of the next words, of which nothing but text tells.
+pub(crate) fn text_style(words: &mut Words<'_>) -> Result<Style, CaseError> {
     Ok(Style {
         mode: words.named(&MODES)?,
         direction: words.named(&DIRECTIONS)?,

@@ -37,7 +37,7 @@ type Atoms = Vec<Atom>;
 type Contributions = Vec<i64>;
 
 /// How far a paragraph is taken. Each takes it further than the one before.
-#[derive(Clone, Copy, Debug, PartialEq, Eq)]
+#[derive(Clone, Copy, PartialEq, Eq)]
 pub(crate) enum Stage {
     /// It is read.
     Read,
@@ -56,7 +56,7 @@ const COUNTED: [(&'static str, Stage); 3] = [
 ];
 
 /// A paragraph that is taken so far: its inline-blocks are laid out, and have these min-content and max-content contributions.
-#[derive(Debug, Drop)]
+#[derive(Drop)]
 pub(crate) struct LinesCase {
     stage: Stage,
     paragraph: Paragraph,

@@ -5,7 +5,7 @@ use std::str::SplitWhitespace;
 use fragment_types::BoxName;
 
 /// Why a line is no case.
-#[derive(Clone, Copy, Debug)]
+#[derive(Clone, Copy)]
 pub(crate) enum CaseError {
     Malformed,
     Memory,

@@ -1,6 +1,6 @@
 use Rattle.std.proofs.Common.{◌∙◌, ap}
 use Rattle.box_arena.specs.Links.{parent_of}
-use Rattle.box_arena.proofs.tests.what_is_kept.Goals as goal
+use Rattle.check_calls.proofs.arena.what_is_kept.Goals as goal
 
 pub keep-requires-3 : goal.keep-requires-3
 keep-requires-3 g c = c.mark.ensures.live _ (c.in_ok-keep-2.ensures.ok.live _ (c.in_ok-keep.ensures.ok.live _ c.insert_reserved-key.ensures.inserts.alive))

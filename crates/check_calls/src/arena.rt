@@ -1,8 +1,8 @@
-//! Every call once, with memory enough.
+//! Boxes in an arena: each of its calls once, with memory enough.
 
 ghost use Rattle.slab.specs.Slab.{ContainsKey};
 
-use crate::{BoxArena, BoxKey, Constraint, count};
+use box_arena::{BoxArena, BoxKey, Constraint, count};
 use box_gen::{BoxNode, BoxTree, Content};
 use fragment_types::{BoxName, Fragment, FragmentKind};
 use std::alloc::{AllocError, Global};

@@ -5,7 +5,7 @@ use Rattle.box_arena.specs.At.{IsAbove, Node, links_at, parent_at}
 use Rattle.box_arena.specs.Arena.{Inserts}
 use Rattle.box_arena.specs.Links.{parent_of}
 use Rattle.box_arena.proofs.Climbs.{top_alone}
-use Rattle.box_arena.proofs.tests.a_tree_is_edited.Goals as goal
+use Rattle.check_calls.proofs.arena.a_tree_is_edited.Goals as goal
 
 -- two boxes, one put in after the other, stand apart
 apart : (old mid new : Slab (Entry ℕ)) (one other : ℕ) {a b : Node} → Inserts old mid one a → Inserts mid new other b → IsAbove new.slots other one → ⊥

@@ -1,4 +1,4 @@
-//! Faces: advances, changes, and what is refused.
+//! Faces: changes, and what is refused.
 
 ghost use Rattle.face_api.specs.Kinds.{mono_table};
 
@@ -33,39 +33,6 @@ impl Face for HostFace {
     fn set(&mut self, _c: char, _upright: bool, _value: u32) -> Result<(), FaceError> {
         Err(FaceError::Fixed)
     }
-}
-
-/// A face, a character, whether it is upright, and its advance at first.
-const ADVANCES: [(u8, char, bool, u32); 12] = [
-    (0, 'i', false, 500),
-    (0, '\u{2E7F}', false, 500),
-    (0, '\u{2E80}', false, 1000),
-    (0, 'i', true, 1000),
-    (1, 'i', false, 1000),
-    (1, '\u{3042}', false, 1000),
-    (1, 'i', true, 1000),
-    (2, 'i', false, 250),
-    (2, 'm', false, 750),
-    (2, 'a', false, 500),
-    (2, 'i', true, 1000),
-    (3, 'm', false, 500),
-];
-
-#[test]
-fn advances_are_those_of_the_tables(rt: HostRuntime) -> Result<(), Fail> {
-    let alloc = rt.alloc();
-    let mut boxes: Vec<Box<dyn Face>> = Vec::new(alloc);
-    boxes.push(Box::new(alloc, MonoFace::new())?)?;
-    boxes.push(Box::new(alloc, WideFace::new())?)?;
-    boxes.push(Box::new(alloc, TableFace::new(alloc)?)?)?;
-    let faces = Faces::new(alloc, boxes)?;
-    for (face, c, upright, value) in ADVANCES {
-        assert_eq!(rt; faces.used(face).advance(c, upright), value);
-    }
-    for (face, ascent, descent) in [(0, 750, 250), (1, 875, 125), (2, 625, 250), (7, 750, 250)] {
-        assert_eq!(rt; faces.used(face).metrics(), Metrics { ascent, descent });
-    }
-    Ok(())
 }
 
 #[test]

@@ -1,4 +1,4 @@
-use Rattle.check_boxes.proofs.units.a_counter_has_no_bytes.Given as goal
+use Rattle.check_calls.proofs.counters.a_counter_has_no_bytes.Given as goal
 
 -- the ledger of the counter is that of the blank
 abbrev pub ghosts-counted : goal.ghosts-counted
