@@ -137,13 +137,13 @@ pub(crate) fn answer_question<W: Write>(
         return writeln!(output, "outside");
     }
     match kind {
-        "explicit" => explicit(alloc, question, output),
-        "sequence" => sequence(alloc, question, output),
-        "resolved" => resolved(alloc, question, output),
+        "explicit" => print_explicit_levels(alloc, question, output),
+        "sequence" => print_sequence(alloc, question, output),
+        "resolved" => print_resolved_levels(alloc, question, output),
         "order" => print(output, &order(alloc, &question.levels)?),
-        "reset" => ends(alloc, question, output),
-        "line" => line(alloc, question, output),
-        "text" => text(alloc, question, output),
+        "reset" => print_reset_levels(alloc, question, output),
+        "line" => print_line_order(alloc, question, output),
+        "text" => print_text(alloc, question, output),
         _ => write!(output, "outside"),
     }?;
     writeln!(output)
@@ -160,7 +160,11 @@ fn is_base(base: Option<u8>) -> bool
 
 // The level of the first strong character, the explicit levels, with a sign for what X9 removes, and the isolating run
 // sequences.
-fn explicit<W: Write>(alloc: Global, question: &Question, output: &mut W) -> io::Result<()>
+fn print_explicit_levels<W: Write>(
+    alloc: Global,
+    question: &Question,
+    output: &mut W,
+) -> io::Result<()>
     requires { IfSome question.now.base (λ base. base ≤ 1) }
 {
     match base_level(&question.classes) {
@@ -184,7 +188,7 @@ fn explicit<W: Write>(alloc: Global, question: &Question, output: &mut W) -> io:
 }
 
 // The levels and classes of a paragraph of one sequence, which is resolved.
-fn sequence<W: Write>(alloc: Global, question: &Question, output: &mut W) -> io::Result<()>
+fn print_sequence<W: Write>(alloc: Global, question: &Question, output: &mut W) -> io::Result<()>
     requires base { IfSome question.now.base (λ base. base ≤ 1) }
     requires chars { length question.now.chars.items ≡ length question.now.classes.items }
 {
@@ -201,7 +205,11 @@ fn sequence<W: Write>(alloc: Global, question: &Question, output: &mut W) -> io:
 }
 
 // The levels by the characters' own classes.
-fn resolved<W: Write>(alloc: Global, question: &Question, output: &mut W) -> io::Result<()>
+fn print_resolved_levels<W: Write>(
+    alloc: Global,
+    question: &Question,
+    output: &mut W,
+) -> io::Result<()>
     requires base { IfSome question.now.base (λ base. base ≤ 1) }
     requires chars { length question.now.chars.items ≡ length question.now.classes.items }
 {
@@ -211,7 +219,11 @@ fn resolved<W: Write>(alloc: Global, question: &Question, output: &mut W) -> io:
 }
 
 // The levels behind L1, where the text is one line.
-fn ends<W: Write>(alloc: Global, question: &Question, output: &mut W) -> io::Result<()>
+fn print_reset_levels<W: Write>(
+    alloc: Global,
+    question: &Question,
+    output: &mut W,
+) -> io::Result<()>
     requires base { IfSome question.now.base (λ base. base ≤ 1) }
     requires levels { length question.now.levels.items ≡ length question.now.classes.items }
 {
@@ -222,7 +234,7 @@ fn ends<W: Write>(alloc: Global, question: &Question, output: &mut W) -> io::Res
 }
 
 // The order of the line.
-fn line<W: Write>(alloc: Global, question: &Question, output: &mut W) -> io::Result<()>
+fn print_line_order<W: Write>(alloc: Global, question: &Question, output: &mut W) -> io::Result<()>
     requires base { IfSome question.now.base (λ base. base ≤ 1) }
     requires levels { length question.now.levels.items ≡ length question.now.classes.items }
     requires start { question.now.start ≤ question.now.stop }
@@ -244,7 +256,7 @@ fn line<W: Write>(alloc: Global, question: &Question, output: &mut W) -> io::Res
 
 // The base level, the classes and the levels of the text, and the order of the line, of the paragraph and of the text by
 // itself.
-fn text<W: Write>(alloc: Global, question: &Question, output: &mut W) -> io::Result<()>
+fn print_text<W: Write>(alloc: Global, question: &Question, output: &mut W) -> io::Result<()>
     requires base { IfSome question.now.base (λ base. base ≤ 1) }
     requires chars { length question.now.chars.items ≡ length question.now.classes.items }
     requires start { question.now.start ≤ question.now.stop }

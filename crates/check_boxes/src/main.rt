@@ -41,10 +41,12 @@ mod numbers;
 mod sizes;
 mod words;
 
-use margins::{collapsed, stacked};
+use margins::{collapsed_margin, stacked_children};
 use modes::{flow_rectangle, page_property_named, page_rectangle, sides, upright_direction};
 use numbers::{fixed_length, held_length, percent_of, scaled_length};
-use sizes::{definite, fitting, inline, kept_within, orthogonal, orthogonal_share};
+use sizes::{
+    definite_size, fitting_size, held_size, inline_sizes, orthogonal_contribution, orthogonal_size,
+};
 use std::alloc::Global;
 use std::io;
 use std::io::{BufRead, BufReader, BufWriter, Write};
@@ -100,14 +102,14 @@ fn answer<L: Ledger>(
         "flow" => flow_rectangle(alloc, &mut words),
         "direction" => upright_direction(alloc, &mut words),
         "property" => page_property_named(alloc, &mut words),
-        "available" => orthogonal(alloc, &mut words),
-        "contribution" => orthogonal_share(alloc, &mut words),
-        "equation" => inline(alloc, &mut words),
-        "held" => kept_within(alloc, &mut words),
-        "fit" => fitting(alloc, &mut words),
-        "definite" => definite(alloc, &mut words),
-        "margins" => collapsed(alloc, &mut words),
-        "stack" => stacked(alloc, &mut words, arranged),
+        "available" => orthogonal_size(alloc, &mut words),
+        "contribution" => orthogonal_contribution(alloc, &mut words),
+        "equation" => inline_sizes(alloc, &mut words),
+        "held" => held_size(alloc, &mut words),
+        "fit" => fitting_size(alloc, &mut words),
+        "definite" => definite_size(alloc, &mut words),
+        "margins" => collapsed_margin(alloc, &mut words),
+        "stack" => stacked_children(alloc, &mut words, arranged),
         _ => Err(CaseError::Malformed),
     }
 }

@@ -11,7 +11,7 @@ use std::sync::ledger::Ledger;
 use wm_units::Steps;
 
 /// The margin to which four collapse.
-pub(crate) fn collapsed(alloc: Global, words: &mut Words<'_>) -> Result<String, CaseError> {
+pub(crate) fn collapsed_margin(alloc: Global, words: &mut Words<'_>) -> Result<String, CaseError> {
     let first = words.length()?;
     let second = words.length()?;
     let third = words.length()?;
@@ -34,7 +34,7 @@ fn value_of(first: i64, second: i64, third: i64, fourth: i64) -> Result<i64, Cas
 }
 
 /// Three children, stacked.
-pub(crate) fn stacked<L: Ledger>(
+pub(crate) fn stacked_children<L: Ledger>(
     alloc: Global,
     words: &mut Words<'_>,
     arranged: &mut Steps<L>,
@@ -53,8 +53,8 @@ pub(crate) fn stacked<L: Ledger>(
         answer.push_str(&format!(in alloc; "{place} ")?)?;
     }
     answer.push_str(&format!(in alloc; "{}", stack.extent())?)?;
-    answer.push_str(&pair(alloc, stack.start())?)?;
-    answer.push_str(&pair(alloc, stack.end())?)?;
+    answer.push_str(&margin_pair(alloc, stack.start())?)?;
+    answer.push_str(&margin_pair(alloc, stack.end())?)?;
     answer.push_str(if stack.through() { " yes" } else { " no" })?;
     Ok(answer)
 }
@@ -62,24 +62,20 @@ pub(crate) fn stacked<L: Ledger>(
 fn child(words: &mut Words<'_>) -> Result<ChildBox, CaseError>
     ensures { IfOk result (λ child. lengths_of child ≤ 5 * 2 ^ 40) }
 {
-    let size = words.length()?;
-    let start = margins(words)?;
-    let end = margins(words)?;
-    let through = words.flag()?;
     Ok(ChildBox {
-        size,
-        start,
-        end,
-        through,
+        size: words.length()?,
+        start: Margins {
+            positive: words.length()?,
+            negative: words.length()?,
+        },
+        end: Margins {
+            positive: words.length()?,
+            negative: words.length()?,
+        },
+        through: words.flag()?,
     })
 }
 
-fn margins(words: &mut Words<'_>) -> Result<Margins, CaseError> {
-    let positive = words.length()?;
-    let negative = words.length()?;
-    Ok(Margins { positive, negative })
-}
-
-fn pair(alloc: Global, margins: Margins) -> Result<String, CaseError> {
+fn margin_pair(alloc: Global, margins: Margins) -> Result<String, CaseError> {
     Ok(format!(in alloc; " {} {}", margins.positive, margins.negative)?)
 }

@@ -1,6 +1,7 @@
 //! Sizes within limits, the inline equation and orthogonal boxes (CSS 2, 10.3.3 to 10.7; CSS Writing Modes 4, 7.3).
 
-ghost use Rattle.std.specs.Prelude.{◌≤◌, ◌^◌, IfOk};
+ghost use Rattle.std.specs.Prelude.{◌≡◌, ◌≤◌, ◌^◌, ℤ, unsigned_abs, IfOk};
+ghost use Rattle.style_types.specs.declared.style.Size.TheVariants.{Percent};
 ghost use Rattle.size_rules.specs.Equation.{length_of};
 
 use crate::numbers::hundredths;
@@ -11,16 +12,23 @@ use std::alloc::Global;
 use style_types::Size;
 
 /// What an orthogonal box has.
-pub(crate) fn orthogonal(alloc: Global, words: &mut Words<'_>) -> Result<String, CaseError> {
+pub(crate) fn orthogonal_size(alloc: Global, words: &mut Words<'_>) -> Result<String, CaseError> {
     let containing = words.length_if_any()?;
     let view = words.length()?;
     let edges = words.length()?;
     words.end()?;
-    Ok(format!(in alloc; "{}", available(containing, view, edges))?)
+    let size = match containing {
+        Some(containing) => available(Some(containing), view, edges),
+        None => available(None, view, edges),
+    };
+    Ok(format!(in alloc; "{size}")?)
 }
 
 /// What an orthogonal box asks of its container.
-pub(crate) fn orthogonal_share(alloc: Global, words: &mut Words<'_>) -> Result<String, CaseError> {
+pub(crate) fn orthogonal_contribution(
+    alloc: Global,
+    words: &mut Words<'_>,
+) -> Result<String, CaseError> {
     let block = words.length()?;
     let edges = words.length()?;
     let margins = words.length()?;
@@ -29,7 +37,7 @@ pub(crate) fn orthogonal_share(alloc: Global, words: &mut Words<'_>) -> Result<S
 }
 
 /// The inline equation, solved.
-pub(crate) fn inline(alloc: Global, words: &mut Words<'_>) -> Result<String, CaseError> {
+pub(crate) fn inline_sizes(alloc: Global, words: &mut Words<'_>) -> Result<String, CaseError> {
     let available = words.length()?;
     let edges = words.length()?;
     let size = words.length_if_any()?;
@@ -46,12 +54,14 @@ pub(crate) fn inline(alloc: Global, words: &mut Words<'_>) -> Result<String, Cas
 fn margin(words: &mut Words<'_>) -> Result<Option<i64>, CaseError>
     ensures { IfOk result (λ margin. length_of margin ≤ 2 ^ 40) }
 {
-    let margin = words.length_if_any()?;
-    Ok(margin)
+    match words.length_if_any()? {
+        Some(margin) => Ok(Some(margin)),
+        None => Ok(None),
+    }
 }
 
 /// A size within its minimum and its maximum.
-pub(crate) fn kept_within(alloc: Global, words: &mut Words<'_>) -> Result<String, CaseError> {
+pub(crate) fn held_size(alloc: Global, words: &mut Words<'_>) -> Result<String, CaseError> {
     let size = words.length()?;
     let min = words.length()?;
     let max = words.length_if_any()?;
@@ -60,7 +70,7 @@ pub(crate) fn kept_within(alloc: Global, words: &mut Words<'_>) -> Result<String
 }
 
 /// The size that fits.
-pub(crate) fn fitting(alloc: Global, words: &mut Words<'_>) -> Result<String, CaseError> {
+pub(crate) fn fitting_size(alloc: Global, words: &mut Words<'_>) -> Result<String, CaseError> {
     let min = words.length()?;
     let max = words.length()?;
     let available = words.length()?;
@@ -69,26 +79,38 @@ pub(crate) fn fitting(alloc: Global, words: &mut Words<'_>) -> Result<String, Ca
 }
 
 /// A block size that is known before the contents are laid out.
-pub(crate) fn definite(alloc: Global, words: &mut Words<'_>) -> Result<String, CaseError> {
-    let size = size(words)?;
-    let containing = words.length_if_any()?;
+pub(crate) fn definite_size(alloc: Global, words: &mut Words<'_>) -> Result<String, CaseError> {
+    let length = match words.word()? {
+        "auto" => definite_size_by(Size::Auto, words)?,
+        "length" => {
+            let length = words.length()?;
+            definite_size_by(Size::Length(length), words)?
+        }
+        "percent" => {
+            let hundredths = hundredths(words)?;
+            definite_size_by(Size::Percent(hundredths), words)?
+        }
+        _ => return Err(CaseError::Malformed),
+    };
     words.end()?;
-    if let Some(base) = containing
-        && (base < 0 || base > 1 << 32)
-    {
-        return Err(CaseError::Malformed);
-    }
-    match definite_block(size, containing) {
+    match length {
         Some(length) => Ok(format!(in alloc; "{length}")?),
         None => Ok("-".to_string(alloc)?),
     }
 }
 
-fn size(words: &mut Words<'_>) -> Result<Size, CaseError> {
-    match words.word()? {
-        "auto" => Ok(Size::Auto),
-        "length" => Ok(Size::Length(words.length()?)),
-        "percent" => Ok(Size::Percent(hundredths(words)?)),
-        _ => Err(CaseError::Malformed),
+// The block size, by the size of the containing block that the next word has.
+fn definite_size_by(size: Size, words: &mut Words<'_>) -> Result<Option<i64>, CaseError>
+    requires { (p : ℤ) → size ≡ Percent p → unsigned_abs p ≤ 999999999 }
+{
+    match words.length_if_any()? {
+        None => Ok(definite_block(size, None)),
+        Some(base) => {
+            if 0 <= base && base <= 1 << 32 {
+                Ok(definite_block(size, Some(base)))
+            } else {
+                Err(CaseError::Malformed)
+            }
+        }
     }
 }

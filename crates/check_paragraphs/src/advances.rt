@@ -16,7 +16,7 @@ pub(crate) struct AdvanceCase {
 
 /// The character of these words, after the number of its face.
 pub(crate) fn advance_case(words: &mut Words<'_>) -> Result<AdvanceCase, CaseError> {
-    let face = words.small()?;
+    let face = words.number()?;
     let character = character(words.word()?)?;
     let upright = words.flag()?;
     words.end()?;

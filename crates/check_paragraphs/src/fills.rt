@@ -28,7 +28,7 @@ pub(crate) struct FillCase {
 
 /// The case of these words.
 pub(crate) fn fill_case(alloc: Global, words: &mut Words<'_>) -> Result<FillCase, CaseError> {
-    let available = words.length()?;
+    let available = words.number()?;
     let items = fill_items(alloc, words)?;
     let pairs = pairs(alloc, words)?;
     words.end()?;
@@ -41,11 +41,11 @@ pub(crate) fn fill_case(alloc: Global, words: &mut Words<'_>) -> Result<FillCase
 
 fn fill_items(alloc: Global, words: &mut Words<'_>) -> Result<FillItems, CaseError> {
     let mut items = Vec::new(alloc);
-    for _ in 0..words.place()? {
+    for _ in 0..words.number::<usize>()? {
         items.push(FillItem {
-            advance: words.length()?,
-            before: words.length()?,
-            after: words.length()?,
+            advance: words.number()?,
+            before: words.number()?,
+            after: words.number()?,
             space: words.flag()?,
             end: words.named(&BREAKS)?,
         })?;
@@ -55,8 +55,8 @@ fn fill_items(alloc: Global, words: &mut Words<'_>) -> Result<FillItems, CaseErr
 
 fn pairs(alloc: Global, words: &mut Words<'_>) -> Result<Pairs, CaseError> {
     let mut pairs = Vec::new(alloc);
-    for _ in 0..words.place()? {
-        pairs.push((words.place()?, words.place()?))?;
+    for _ in 0..words.number::<usize>()? {
+        pairs.push((words.number()?, words.number()?))?;
     }
     Ok(pairs)
 }

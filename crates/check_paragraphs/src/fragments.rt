@@ -33,7 +33,7 @@ const KINDS: [(&'static str, KindWord); 5] = [
 /// how many they are.
 pub(crate) fn fragment(alloc: Global, words: &mut Words<'_>) -> Result<Fragment, CaseError> {
     let mut roots: Fragments = Vec::new(alloc);
-    for _ in 0..words.place()? {
+    for _ in 0..words.number::<usize>()? {
         let own = one_fragment(alloc, words, &mut roots)?;
         roots.push(own)?;
     }
@@ -52,7 +52,7 @@ fn one_fragment(
     let name = words.box_name()?;
     let rect = rect(words)?;
     let kind = kind(alloc, words)?;
-    let count = words.place()?;
+    let count = words.number()?;
     match others.len().checked_sub(count) {
         Some(from) => {
             let children = others.split_off(from)?;
@@ -69,17 +69,17 @@ fn one_fragment(
 
 fn rect(words: &mut Words<'_>) -> Result<FlowRect, CaseError> {
     Ok(FlowRect {
-        i: words.length()?,
-        b: words.length()?,
-        inline: words.length()?,
-        block: words.length()?,
+        i: words.number()?,
+        b: words.number()?,
+        inline: words.number()?,
+        block: words.number()?,
     })
 }
 
 fn margins(words: &mut Words<'_>) -> Result<Margins, CaseError> {
     Ok(Margins {
-        positive: words.length()?,
-        negative: words.length()?,
+        positive: words.number()?,
+        negative: words.number()?,
     })
 }
 
@@ -87,16 +87,16 @@ fn kind(alloc: Global, words: &mut Words<'_>) -> Result<FragmentKind, CaseError>
     match words.named(&KINDS)? {
         KindWord::Box => box_kind(words),
         KindWord::Line => Ok(FragmentKind::Line {
-            index: words.place()?,
-            base: words.length()?,
+            index: words.number()?,
+            base: words.number()?,
             mode: words.named(&MODES)?,
             baseline: words.named(&BASELINES)?,
         }),
         KindWord::Span => Ok(FragmentKind::Span),
         KindWord::Run => run_kind(alloc, words),
         KindWord::Measure => Ok(FragmentKind::Measure {
-            min: words.length()?,
-            max: words.length()?,
+            min: words.number()?,
+            max: words.number()?,
         }),
     }
 }
@@ -106,7 +106,7 @@ fn box_kind(words: &mut Words<'_>) -> Result<FragmentKind, CaseError> {
         mode: words.named(&MODES)?,
         dir: words.named(&DIRECTIONS)?,
         content: rect(words)?,
-        definite: words.length_if_any()?,
+        definite: words.number_if_any()?,
         start: margins(words)?,
         end: margins(words)?,
         through: words.flag()?,
@@ -115,8 +115,8 @@ fn box_kind(words: &mut Words<'_>) -> Result<FragmentKind, CaseError> {
 
 fn run_kind(alloc: Global, words: &mut Words<'_>) -> Result<FragmentKind, CaseError> {
     let form = words.named(&FORMS)?;
-    let level = words.small()?;
-    let natural = words.length_if_any()?;
+    let level = words.number()?;
+    let natural = words.number_if_any()?;
     let units = run_units(alloc, words)?;
     Ok(FragmentKind::Run {
         form,
@@ -128,10 +128,10 @@ fn run_kind(alloc: Global, words: &mut Words<'_>) -> Result<FragmentKind, CaseEr
 
 fn run_units(alloc: Global, words: &mut Words<'_>) -> Result<RunUnits, CaseError> {
     let mut units = Vec::new(alloc);
-    for _ in 0..words.place()? {
-        let first = words.character()?;
-        let end = words.character()?;
-        let extent = words.length()?;
+    for _ in 0..words.number::<usize>()? {
+        let first = words.number()?;
+        let end = words.number()?;
+        let extent = words.number()?;
         let glyphs = glyphs(alloc, words)?;
         units.push(RunUnit {
             first,

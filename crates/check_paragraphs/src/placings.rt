@@ -70,9 +70,9 @@ enum CaseContent {
 /// The line of these words.
 pub(crate) fn line_case(alloc: Global, words: &mut Words<'_>) -> Result<LineCase, CaseError> {
     let mode = words.named(&MODES)?;
-    let base = words.small()?;
+    let base = words.number()?;
     let align = words.named(&ALIGNS)?;
-    let available = words.length()?;
+    let available = words.number()?;
     let strut = extents(words)?;
     let items = case_items(alloc, words)?;
     let boxes = line_boxes(alloc, words)?;
@@ -90,17 +90,17 @@ pub(crate) fn line_case(alloc: Global, words: &mut Words<'_>) -> Result<LineCase
 
 fn extents(words: &mut Words<'_>) -> Result<Extents, CaseError> {
     Ok(Extents {
-        ascent: words.length()?,
-        descent: words.length()?,
-        over: words.length()?,
-        under: words.length()?,
-        raised: words.length()?,
+        ascent: words.number()?,
+        descent: words.number()?,
+        over: words.number()?,
+        under: words.number()?,
+        raised: words.number()?,
     })
 }
 
 fn case_items(alloc: Global, words: &mut Words<'_>) -> Result<Vec<CaseItem>, CaseError> {
     let mut items = Vec::new(alloc);
-    for _ in 0..words.place()? {
+    for _ in 0..words.number::<usize>()? {
         items.push(case_item(alloc, words)?)?;
     }
     Ok(items)
@@ -108,12 +108,12 @@ fn case_items(alloc: Global, words: &mut Words<'_>) -> Result<Vec<CaseItem>, Cas
 
 fn case_item(alloc: Global, words: &mut Words<'_>) -> Result<CaseItem, CaseError> {
     Ok(CaseItem {
-        level: words.small()?,
+        level: words.number()?,
         class: words.named(&CLASSES)?,
-        extent: words.length()?,
-        inside: words.place_if_any()?,
+        extent: words.number()?,
+        inside: words.number_if_any()?,
         space: words.flag()?,
-        apart: words.small_if_any()?,
+        apart: words.number_if_any()?,
         what: case_content(alloc, words)?,
     })
 }
@@ -121,24 +121,24 @@ fn case_item(alloc: Global, words: &mut Words<'_>) -> Result<CaseItem, CaseError
 fn case_content(alloc: Global, words: &mut Words<'_>) -> Result<CaseContent, CaseError> {
     match words.word()? {
         "unit" => Ok(CaseContent::Unit {
-            node: words.node()?,
-            first: words.character()?,
-            end: words.character()?,
+            node: words.number()?,
+            first: words.number()?,
+            end: words.number()?,
             form: words.named(&FORMS)?,
             glyphs: glyphs(alloc, words)?,
         }),
         "combined" => Ok(CaseContent::Combined {
-            node: words.node()?,
-            first: words.character()?,
-            end: words.character()?,
-            natural: words.length()?,
+            node: words.number()?,
+            first: words.number()?,
+            end: words.number()?,
+            natural: words.number()?,
             glyphs: glyphs(alloc, words)?,
         }),
         "atom" => Ok(CaseContent::Atom {
-            left_margin: words.length()?,
-            over_margin: words.length()?,
-            over: words.length()?,
-            under: words.length()?,
+            left_margin: words.number()?,
+            over_margin: words.number()?,
+            over: words.number()?,
+            under: words.number()?,
             fragment: fragment(alloc, words)?,
         }),
         "break" => Ok(CaseContent::Break),
@@ -148,7 +148,7 @@ fn case_content(alloc: Global, words: &mut Words<'_>) -> Result<CaseContent, Cas
 
 fn line_boxes(alloc: Global, words: &mut Words<'_>) -> Result<LineBoxes, CaseError> {
     let mut boxes = Vec::new(alloc);
-    for _ in 0..words.place()? {
+    for _ in 0..words.number::<usize>()? {
         boxes.push(line_box(words)?)?;
     }
     Ok(boxes)
@@ -156,16 +156,16 @@ fn line_boxes(alloc: Global, words: &mut Words<'_>) -> Result<LineBoxes, CaseErr
 
 fn line_box(words: &mut Words<'_>) -> Result<LineBox, CaseError> {
     Ok(LineBox {
-        node: words.node()?,
-        outer: words.place_if_any()?,
+        node: words.number()?,
+        outer: words.number_if_any()?,
         extents: extents(words)?,
         dir: words.named(&DIRECTIONS)?,
-        left: words.length()?,
-        right: words.length()?,
-        over: words.length()?,
-        under: words.length()?,
-        left_margin: words.length()?,
-        right_margin: words.length()?,
+        left: words.number()?,
+        right: words.number()?,
+        over: words.number()?,
+        under: words.number()?,
+        left_margin: words.number()?,
+        right_margin: words.number()?,
         first: words.flag()?,
         last: words.flag()?,
     })

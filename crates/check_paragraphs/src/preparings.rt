@@ -35,7 +35,7 @@ pub(crate) fn paragraph_case(
     words: &mut Words<'_>,
     form: StyleForm,
 ) -> Result<Paragraph, CaseError> {
-    let base = words.small_if_any()?;
+    let base = words.number_if_any()?;
     let styles = styles(alloc, words, form)?;
     let style = style_at(&styles, 0)?;
     let items = items(alloc, words, &styles)?;
@@ -44,7 +44,7 @@ pub(crate) fn paragraph_case(
 
 fn items(alloc: Global, words: &mut Words<'_>, styles: &[Style]) -> Result<Items, CaseError> {
     let mut items = Vec::new(alloc);
-    for _ in 0..words.place()? {
+    for _ in 0..words.number::<usize>()? {
         items.push(item(alloc, words, styles)?)?;
     }
     Ok(items)
@@ -53,24 +53,24 @@ fn items(alloc: Global, words: &mut Words<'_>, styles: &[Style]) -> Result<Items
 fn item(alloc: Global, words: &mut Words<'_>, styles: &[Style]) -> Result<Item, CaseError> {
     match words.word()? {
         "text" => Ok(Item::Text {
-            node: words.node()?,
-            style: style_at(styles, words.place()?)?,
+            node: words.number()?,
+            style: style_at(styles, words.number()?)?,
             text: text(alloc, words)?,
         }),
         "open" => Ok(Item::Open {
-            node: words.node()?,
-            style: style_at(styles, words.place()?)?,
+            node: words.number()?,
+            style: style_at(styles, words.number()?)?,
             opens: words.flag()?,
         }),
         "close" => Ok(Item::Close {
-            node: words.node()?,
+            node: words.number()?,
             closes: words.flag()?,
         }),
         "atom" => Ok(Item::Atom {
             name: words.box_name()?,
         }),
         "break" => Ok(Item::Break {
-            node: words.node()?,
+            node: words.number()?,
         }),
         _ => Err(CaseError::Malformed),
     }

@@ -24,7 +24,7 @@ pub(crate) fn styles(
     form: StyleForm,
 ) -> Result<CaseStyles, CaseError> {
     let mut styles = Vec::new(alloc);
-    for _ in 0..words.place()? {
+    for _ in 0..words.number::<usize>()? {
         let style = text_style(words)?;
         styles.push(match form {
             StyleForm::Text => style,
@@ -42,7 +42,7 @@ pub(crate) fn style_at(styles: &[Style], place: usize) -> Result<Style, CaseErro
     }
 }
 
-/// The style of the next words, of which nothing but text tells.
+/// The style of the next words, as far as text depends on it.
 pub(crate) fn text_style(words: &mut Words<'_>) -> Result<Style, CaseError> {
     Ok(Style {
         mode: words.named(&MODES)?,
@@ -50,8 +50,8 @@ pub(crate) fn text_style(words: &mut Words<'_>) -> Result<Style, CaseError> {
         orientation: words.named(&ORIENTATIONS)?,
         combine: words.named(&COMBINES)?,
         bidi: words.named(&BIDIS)?,
-        font_size: words.length()?,
-        face: words.small()?,
+        font_size: words.number()?,
+        face: words.number()?,
         ..Style::initial()
     })
 }
@@ -59,7 +59,7 @@ pub(crate) fn text_style(words: &mut Words<'_>) -> Result<Style, CaseError> {
 fn line_style(words: &mut Words<'_>, text: &Style) -> Result<Style, CaseError> {
     Ok(Style {
         align: words.named(&ALIGNS)?,
-        shift: words.length()?,
+        shift: words.number()?,
         line_height: line_height(words)?,
         margin: sizes(words)?,
         padding: sizes(words)?,
@@ -71,8 +71,8 @@ fn line_style(words: &mut Words<'_>, text: &Style) -> Result<Style, CaseError> {
 fn line_height(words: &mut Words<'_>) -> Result<LineHeight, CaseError> {
     match words.word()? {
         "Normal" => Ok(LineHeight::Normal),
-        "Number" => Ok(LineHeight::Number(words.length()?)),
-        "Length" => Ok(LineHeight::Length(words.length()?)),
+        "Number" => Ok(LineHeight::Number(words.number()?)),
+        "Length" => Ok(LineHeight::Length(words.number()?)),
         _ => Err(CaseError::Malformed),
     }
 }
@@ -89,17 +89,17 @@ fn sizes(words: &mut Words<'_>) -> Result<SideSizes, CaseError> {
 fn size(words: &mut Words<'_>) -> Result<Size, CaseError> {
     match words.word()? {
         "Auto" => Ok(Size::Auto),
-        "Length" => Ok(Size::Length(words.length()?)),
-        "Percent" => Ok(Size::Percent(words.length()?)),
+        "Length" => Ok(Size::Length(words.number()?)),
+        "Percent" => Ok(Size::Percent(words.number()?)),
         _ => Err(CaseError::Malformed),
     }
 }
 
 fn widths(words: &mut Words<'_>) -> Result<SideWidths, CaseError> {
     Ok(SideWidths {
-        top: words.length()?,
-        right: words.length()?,
-        bottom: words.length()?,
-        left: words.length()?,
+        top: words.number()?,
+        right: words.number()?,
+        bottom: words.number()?,
+        left: words.number()?,
     })
 }

@@ -79,7 +79,7 @@ pub(crate) fn count_case(alloc: Global, words: &mut Words<'_>) -> Result<LinesCa
 
 fn case(alloc: Global, words: &mut Words<'_>, stage: Stage) -> Result<LinesCase, CaseError> {
     let name = words.box_name()?;
-    let size = words.length()?;
+    let size = words.number()?;
     let paragraph = paragraph_case(alloc, words, StyleForm::Lines)?;
     let container = Container {
         name,
@@ -94,10 +94,10 @@ fn case(alloc: Global, words: &mut Words<'_>, stage: Stage) -> Result<LinesCase,
         mins: Vec::new(alloc),
         maxs: Vec::new(alloc),
     };
-    for _ in 0..words.place()? {
+    for _ in 0..words.number::<usize>()? {
         case.atoms.push(atom(alloc, words)?)?;
-        case.mins.push(words.length()?)?;
-        case.maxs.push(words.length()?)?;
+        case.mins.push(words.number()?)?;
+        case.maxs.push(words.number()?)?;
     }
     words.end()?;
     Ok(case)
@@ -110,20 +110,20 @@ fn atom(alloc: Global, words: &mut Words<'_>) -> Result<Atom, CaseError> {
         rect: FlowRect {
             i: 0,
             b: 0,
-            inline: words.length()?,
-            block: words.length()?,
+            inline: words.number()?,
+            block: words.number()?,
         },
         kind: FragmentKind::Span,
         children: Rc::new(alloc, Vec::new(alloc))?,
     };
     Ok(Atom {
         fragment,
-        extent: words.length()?,
-        left_margin: words.length()?,
-        over_margin: words.length()?,
-        over: words.length()?,
-        under: words.length()?,
-        shift: words.length()?,
+        extent: words.number()?,
+        left_margin: words.number()?,
+        over_margin: words.number()?,
+        over: words.number()?,
+        under: words.number()?,
+        shift: words.number()?,
     })
 }
 

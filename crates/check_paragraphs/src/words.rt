@@ -1,7 +1,7 @@
 //! A line as words.
 
 use std::alloc::{AllocError, AllocFailed};
-use std::str::SplitWhitespace;
+use std::str::{FromStr, SplitWhitespace};
 use fragment_types::BoxName;
 
 /// Why a line is no case.
@@ -54,73 +54,26 @@ impl<'a> Words<'a> {
         Err(CaseError::Malformed)
     }
 
-    /// A length, in units of 1/64 px.
-    pub(crate) fn length(&mut self) -> Result<i64, CaseError> {
-        match self.word()?.parse::<i64>() {
-            Ok(length) => Ok(length),
-            Err(_) => Err(CaseError::Malformed),
-        }
-    }
-
-    /// A length, or `-` for none.
-    pub(crate) fn length_if_any(&mut self) -> Result<Option<i64>, CaseError> {
-        match self.word()? {
-            "-" => Ok(None),
-            word => match word.parse::<i64>() {
-                Ok(length) => Ok(Some(length)),
-                Err(_) => Err(CaseError::Malformed),
-            },
-        }
-    }
-
-    /// A place in a list or a text, or how many there are.
-    pub(crate) fn place(&mut self) -> Result<usize, CaseError> {
-        match self.word()?.parse::<usize>() {
-            Ok(place) => Ok(place),
-            Err(_) => Err(CaseError::Malformed),
-        }
-    }
-
-    /// A place, or `-` for none.
-    pub(crate) fn place_if_any(&mut self) -> Result<Option<usize>, CaseError> {
-        match self.word()? {
-            "-" => Ok(None),
-            word => match word.parse::<usize>() {
-                Ok(place) => Ok(Some(place)),
-                Err(_) => Err(CaseError::Malformed),
-            },
-        }
-    }
-
-    /// The place of a character in its node's text.
-    pub(crate) fn character(&mut self) -> Result<u32, CaseError> {
-        match self.word()?.parse::<u32>() {
-            Ok(place) => Ok(place),
-            Err(_) => Err(CaseError::Malformed),
-        }
-    }
-
-    /// The number of a node.
-    pub(crate) fn node(&mut self) -> Result<u32, CaseError> {
-        match self.word()?.parse::<u32>() {
-            Ok(node) => Ok(node),
-            Err(_) => Err(CaseError::Malformed),
-        }
-    }
-
-    /// A level, or the number of a face.
-    pub(crate) fn small(&mut self) -> Result<u8, CaseError> {
-        match self.word()?.parse::<u8>() {
+    /// The next word as a number: a length in units of 1/64 px, a place in a list or a text, how many there are, a node, a level
+    /// or a face.
+    pub(crate) fn number<T: FromStr>(&mut self) -> Result<T, CaseError>
+    where
+        T::Err: Drop,
+    {
+        match self.word()?.parse::<T>() {
             Ok(number) => Ok(number),
             Err(_) => Err(CaseError::Malformed),
         }
     }
 
-    /// A level, or `-` for none.
-    pub(crate) fn small_if_any(&mut self) -> Result<Option<u8>, CaseError> {
+    /// The next word as a number, or `-` for none.
+    pub(crate) fn number_if_any<T: FromStr>(&mut self) -> Result<Option<T>, CaseError>
+    where
+        T::Err: Drop,
+    {
         match self.word()? {
             "-" => Ok(None),
-            word => match word.parse::<u8>() {
+            word => match word.parse::<T>() {
                 Ok(number) => Ok(Some(number)),
                 Err(_) => Err(CaseError::Malformed),
             },
@@ -139,8 +92,8 @@ impl<'a> Words<'a> {
     /// The name of a box: its node and its ordinal.
     pub(crate) fn box_name(&mut self) -> Result<BoxName, CaseError> {
         Ok(BoxName {
-            node: self.node()?,
-            ordinal: self.place()?,
+            node: self.number()?,
+            ordinal: self.number()?,
         })
     }
 
