@@ -9,7 +9,7 @@ use crate::run::Run;
 use crate::tree::{BoxNode, BoxTree, BoxTrees, Content};
 use fragment_types::BoxName;
 use std::alloc::{AllocError, Global};
-use style_types::{Display, SharedStyle, Style};
+use style_types::{Display, Style};
 
 /// The boxes up to the last block-level one, how many of them are anonymous, and the inline content behind them.
 #[derive(Drop)]
@@ -36,7 +36,7 @@ impl Filling {
         self,
         alloc: Global,
         number: u32,
-        style: &SharedStyle,
+        style: &Style,
         block: BoxTree,
     ) -> Result<Filling, AllocError>
         requires { self.anonymous < 2 ^ 63 }
@@ -49,25 +49,19 @@ impl Filling {
     }
 
     /// The box of the container, which has all its content.
-    pub fn finished(
-        self,
-        alloc: Global,
-        number: u32,
-        style: &SharedStyle,
-    ) -> Result<BoxTree, AllocError>
+    pub fn finished(self, alloc: Global, number: u32, style: &Style) -> Result<BoxTree, AllocError>
         requires { self.anonymous < 2 ^ 63 }
         ensures { IfOk result (λ tree. boxes_of tree ≡ filled number style.now (filling_of self) (record { first = no_run; others = no_more })) }
     {
         let name = own_name(number);
         if self.boxes.is_empty() {
-            return Ok(paragraph(name, style.clone()?, self.run));
+            return Ok(paragraph(name, *style, self.run));
         }
-        let own = style.clone()?;
         let filling = self.closed(alloc, number, style)?;
         Ok(BoxTree {
             node: BoxNode {
                 name,
-                style: own,
+                style: *style,
                 content: Content::Blocks,
             },
             children: filling.boxes,
@@ -75,7 +69,7 @@ impl Filling {
     }
 
     // The run made an anonymous block, but where it is white space alone.
-    fn closed(self, alloc: Global, number: u32, style: &SharedStyle) -> Result<Filling, AllocError>
+    fn closed(self, alloc: Global, number: u32, style: &Style) -> Result<Filling, AllocError>
         requires { self.anonymous < 2 ^ 63 }
         ensures made { IfOk result (λ f. filling_of f ≡ with_block number style.now (filling_of self) none) }
         ensures count { IfOk result (λ f. f.anonymous ≤ self.anonymous + 1) }
@@ -91,8 +85,7 @@ impl Filling {
                 node: number,
                 ordinal: anonymous,
             };
-            let own = SharedStyle::new(alloc, anonymous_style(style))?;
-            boxes.push(paragraph(name, own, run))?;
+            boxes.push(paragraph(name, anonymous_style(style), run))?;
         }
         Ok(Filling {
             boxes,
@@ -113,7 +106,7 @@ pub fn own_name(number: u32) -> BoxName
 }
 
 // A box whose content is all inline. Most paragraphs have one item, so no room is kept for more.
-fn paragraph(name: BoxName, style: SharedStyle, run: Run) -> BoxTree
+fn paragraph(name: BoxName, style: Style, run: Run) -> BoxTree
     ensures { boxes_of result ≡ box name style (inline (run_of run).items) (run_of run).atoms none }
 {
     let Run {

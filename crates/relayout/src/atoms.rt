@@ -13,7 +13,7 @@ ghost use Rattle.relayout.specs.Reach.{IsBase};
 
 use crate::edges::{margin_or_zero, margins_along, margins_over, side_in};
 use crate::flowed::LaidBox;
-use fragment_types::{Fragment, FragmentKind};
+use fragment_types::{BoxPart, Fragment, FragmentKind};
 use para_lines::Atom;
 use std::alloc::{AllocError, Global};
 use style_types::{Baseline, Style};
@@ -91,11 +91,12 @@ fn line_of(mode: WritingMode, fragment: &Fragment) -> Option<LastLine>
             baseline: *baseline,
         }),
         FragmentKind::Box(part) => {
-            if !same_mode(part.mode, mode) {
+            let own: &BoxPart = part;
+            if !same_mode(own.mode, mode) {
                 return None;
             }
             let found = last_line(mode, &fragment.children)?;
-            Some(found.further(sum(fragment.rect.b, part.content.b)))
+            Some(found.further(sum(fragment.rect.b, own.content.b)))
         }
         FragmentKind::Span | FragmentKind::Run { .. } | FragmentKind::Measure { .. } => None,
     }

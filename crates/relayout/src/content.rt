@@ -248,7 +248,7 @@ pub(crate) fn filled<L: Ledger>(
         (Content::Inline(items), Some(text)) => {
             let container = Container {
                 name: node.name,
-                style: *node.style,
+                style: node.style,
                 size,
             };
             let made = paragraph(alloc, &container, items, text, laid, faces, arranged)?;

@@ -1,12 +1,12 @@
 //! What boxes have come to.
 
 use fragment_types::Fragment;
-use style_types::SharedStyle;
+use style_types::Style;
 
 /// A box inside another, laid out: its style, and its fragment.
 #[derive(Debug, Drop)]
 pub(crate) struct LaidBox {
-    pub(crate) style: SharedStyle,
+    pub(crate) style: Style,
     pub(crate) fragment: Fragment,
 }
 

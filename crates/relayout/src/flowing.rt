@@ -54,7 +54,7 @@ pub(crate) fn flow<L: Ledger, M: Ledger>(
             break;
         };
         next = arena.next(key);
-        let style = arena.node(key).style.clone()?;
+        let style = arena.node(key).style;
         if let Some(fragment) = kept(arena, key, c)? {
             laid.push(LaidBox { style, fragment })?;
             continue;

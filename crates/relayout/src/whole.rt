@@ -90,7 +90,7 @@ pub fn relayout<L: Ledger, M: Ledger>(
     ensures near { IfOk result (λ made. spread (piece_of made) ≤ 2 ^ 60 - 2 ^ 37) }
     ensures layout { IfOk result (λ made. IsLayout (faces_of ⟦<dyn Face as Face>⟧ faces.now) view arena.old.slots root (piece_of made)) }
 {
-    let style = *arena.node(root).style;
+    let style = arena.node(root).style;
     let mut scratch = Bump::new(alloc);
     let laid = flow(
         alloc,

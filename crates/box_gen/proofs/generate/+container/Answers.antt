@@ -9,10 +9,10 @@ use Rattle.std.proofs.Common.{◌⊎◌, inl, inr, ◌∷◌, ◌≡◌, ◌∙�
 use Rattle.style_types.specs.declared.tree.StyledNode.{StyledNode}
 use Rattle.style_types.specs.declared.tree.StyledNode.TheViews.{out-StyledNode}
 use Rattle.style_types.specs.Tree.{Nodes, before, nodes_of, all_nodes_of}
-use Rattle.box_gen.specs.Boxes.{Run, caught, held, root_boxes}
+use Rattle.box_gen.specs.Boxes.{Run, caught, held, no_more, no_run, root_boxes}
 use Rattle.box_gen.specs.declared.filling.Filling.{Filling}
 use Rattle.box_gen.specs.declared.role.Role.TheVariants.{BlockLevel, Atom, Nothing}
-use Rattle.box_gen.specs.Building.{run_of, and_then, run_with, first_run, filling_of, filled, role_in}
+use Rattle.box_gen.specs.Building.{run_of, and_then, run_with, first_run, filling_of, filled, role_in, with_block}
 use Rattle.box_gen.proofs.Results.{ok_gives}
 use Rattle.box_gen.proofs.Contents.{begun, filled_all, filled_more, filled_on, run_on, run_of_break, run_of_atom, run_of_box, run_of_nothing, not_block, uncaught_first, uncaught_rest, uncaught_inside, uncaught_content, uncaught_root, uncaught_block, uncaught_in_box}
 use Rattle.box_gen.proofs.NodeLines.{left_at, none_left}
@@ -51,7 +51,7 @@ container-loop-child-preserved t c =
               | container-then-eq+in_ok-block+in_ok-filling w ↦
                   let role : role_in (nodes_of n) ≡ BlockLevel = sym c.role_of.ensures ∙ search rules in
                   ap (λ (f : Filling). filled whole.node whole.style (filling_of f) (held next)) w.filling-is
-                  ∙ filled_more (all_nodes_of (drop i nodes)) n next whole.node whole.style (filling_of c.loop-child.filling) _ _ _ left role (w.in_ok-block.ensures (uncaught_block n role (uncaught_first n next false here))) w.in_ok-filling.ensures.made so_far.0
+                  ∙ filled_more (all_nodes_of (drop i nodes)) n next whole.node whole.style (filling_of c.loop-child.filling) _ _ _ left role (w.in_ok-block.ensures (uncaught_block n role (uncaught_first n next false here))) (w.in_ok-filling.ensures.made ∙ ap (λ (style : Style). with_block whole.node style (filling_of c.loop-child.filling) (boxes_of w.in_ok-block.block)) w.deref.ensures) so_far.0
               | container-else-eq+in_ok-put_inline w ↦
                   let unlike : role_in (nodes_of n) ≡ BlockLevel → ⊥ = λ is. same_false the_type c.role_of.result BlockLevel (sym c.eq.ensures ∙ w.if-eq.false) (c.role_of.ensures ∙ is) in
                   ap (λ (f : Filling). filled whole.node whole.style (filling_of f) (held next)) w.filling-is
@@ -70,7 +70,8 @@ pub container-returns : goal.container-returns
 container-returns t c =
     let whole = out-StyledNode c.args.node.now in
     ok_gives c.finished.result _ _ c.finished.ensures (λ tree is e.
-    filled_all _ whole.node whole.style (filling_of c.loop-child.filling) (boxes_of tree) _ (none_left c.deref-child-items.result.now c.loop-child.child-index (omega arith)) is (c.loop-child.invariant.0 e).0)
+    filled_all _ whole.node whole.style (filling_of c.loop-child.filling) (boxes_of tree) _ (none_left c.deref-child-items.result.now c.loop-child.child-index (omega arith))
+    (is ∙ ap (λ (style : Style). filled whole.node style (filling_of c.loop-child.filling) (record { first = no_run; others = no_more })) c.deref-2.ensures) (c.loop-child.invariant.0 e).0)
 
 -- what was put is what the node comes to
 put_is : (run run_was : Run) (what own : Run) → run ≡ and_then run_was what → own ≡ what → run ≡ and_then run_was own

@@ -1,6 +1,7 @@
 use Rattle.std.proofs.Common.{rules, ◌≡◌, ◌∙◌, ap, sym, arith, ◌+◌, ◌<◌, ◌≤◌, length, Some, true, ◌+ℤ◌, unsigned_abs, w64, to_z, of_z}
 use Rattle.std.specs.Global.{Vec}
 use Rattle.std.proofs.lemmas.Int.{ints, to_z-of_z}
+use Rattle.fragment_types.specs.declared.fragment.BoxPart.{BoxPart}
 use Rattle.fragment_types.specs.declared.fragment.Fragment.{Fragment}
 use Rattle.fragment_types.specs.Fragment.{block, kind_of, pieces_of}
 use Rattle.relayout.specs.Atoms.{further, last_line, same_mode}
@@ -37,37 +38,41 @@ last_line-returns-in-Some-clause-near t c = λ near.
 pub line_of-returns-in_ok-found-in-Box-clause-value : goal.line_of-returns-in_ok-found-in-Box-clause-value
 line_of-returns-in_ok-found-in-Box-clause-value t c = λ near.
     let part : Part = part_of c.args.fragment.now in
-    let own = c.in-Box.part.value.mode in
-    let kind : part.kind ≡ block own c.in-Box.part.value.dir c.in-Box.part.value.content c.in-Box.part.value.definite c.in-Box.part.value.start c.in-Box.part.value.end c.in-Box.part.value.through = ap kind_of c.in-Box.is in
-    let whole = block_reach own c.in-Box.part.value.dir c.in-Box.part.value.content c.in-Box.part.value.definite c.in-Box.part.value.start c.in-Box.part.value.end c.in-Box.part.value.through part kind in
+    let o = c.deref-own.result.now in
+    let own = o.mode in
+    let kind : part.kind ≡ block own o.dir o.content o.definite o.start o.end o.through
+    = ap kind_of c.in-Box.is ∙ ap (λ (b : BoxPart). block b.mode b.dir b.content b.definite b.start b.end b.through) (sym c.deref-own.ensures) in
+    let whole = block_reach own o.dir o.content o.definite o.start o.end o.through part kind in
     let inner : pieces_of c.deref-in-Box.result.now ≡ part.inner = ap pieces_of (c.deref-in-Box.ensures.value ∙ ap (λ (v : Vec Fragment). v.items) c.deref.ensures) in
     let reach : line_reach (pieces_of c.deref-in-Box.result.now) ≡ line_reach part.inner = ap line_reach inner in
     let close = c.in_ok-found-in-Box.ensures.near (omega arith) in
     let here : Some c.in_ok-found-in-Box.found ≡ last_line c.args.mode part.inner = c.in_ok-found-in-Box.ensures.value (omega arith) ∙ ap (last_line c.args.mode) inner in
     let same : same_mode own c.args.mode ≡ true = search rules in
     let b : to_z w64 (of_z w64 part.rect.b) ≡ part.rect.b = to_z-of_z w64 part.rect.b (search rules) in
-    let cb : to_z w64 (of_z w64 c.in-Box.part.value.content.b) ≡ c.in-Box.part.value.content.b = to_z-of_z w64 c.in-Box.part.value.content.b (search rules) in
-    let distance : c.sum.result ≡ part.rect.b +ℤ c.in-Box.part.value.content.b = sum_is c.sum.result part.rect.b _ c.in-Box.part.value.content.b _ b cb c.sum.ensures (omega arith) in
+    let cb : to_z w64 (of_z w64 o.content.b) ≡ o.content.b = to_z-of_z w64 o.content.b (search rules) in
+    let distance : c.sum.result ≡ part.rect.b +ℤ o.content.b = sum_is c.sum.result part.rect.b _ o.content.b _ b cb c.sum.ensures (omega arith) in
     let d : to_z w64 (of_z w64 c.sum.result) ≡ c.sum.result = to_z-of_z w64 c.sum.result (search rules) in
-    let short : unsigned_abs c.sum.result ≤ unsigned_abs part.rect.b + unsigned_abs c.in-Box.part.value.content.b = rw distance (omega (arith, ints)) in
+    let short : unsigned_abs c.sum.result ≤ unsigned_abs part.rect.b + unsigned_abs o.content.b = rw distance (omega (arith, ints)) in
     let far : Some c.further.result ≡ further c.sum.result (Some c.in_ok-found-in-Box.found) = far_is c.sum.result _ c.in_ok-found-in-Box.found c.further.result d c.further.ensures (omega arith) in
-    block_line c.args.mode own c.in-Box.part.value.dir c.in-Box.part.value.content c.in-Box.part.value.definite c.in-Box.part.value.start c.in-Box.part.value.end c.in-Box.part.value.through part _ c.in_ok-found-in-Box.found c.further.result
+    block_line c.args.mode own o.dir o.content o.definite o.start o.end o.through part _ c.in_ok-found-in-Box.found c.further.result
     kind same here far distance
 
 pub line_of-returns-in_ok-found-in-Box-clause-near : goal.line_of-returns-in_ok-found-in-Box-clause-near
 line_of-returns-in_ok-found-in-Box-clause-near t c = λ near.
     let part : Part = part_of c.args.fragment.now in
-    let own = c.in-Box.part.value.mode in
-    let kind : part.kind ≡ block own c.in-Box.part.value.dir c.in-Box.part.value.content c.in-Box.part.value.definite c.in-Box.part.value.start c.in-Box.part.value.end c.in-Box.part.value.through = ap kind_of c.in-Box.is in
-    let whole = block_reach own c.in-Box.part.value.dir c.in-Box.part.value.content c.in-Box.part.value.definite c.in-Box.part.value.start c.in-Box.part.value.end c.in-Box.part.value.through part kind in
+    let o = c.deref-own.result.now in
+    let own = o.mode in
+    let kind : part.kind ≡ block own o.dir o.content o.definite o.start o.end o.through
+    = ap kind_of c.in-Box.is ∙ ap (λ (b : BoxPart). block b.mode b.dir b.content b.definite b.start b.end b.through) (sym c.deref-own.ensures) in
+    let whole = block_reach own o.dir o.content o.definite o.start o.end o.through part kind in
     let inner : pieces_of c.deref-in-Box.result.now ≡ part.inner = ap pieces_of (c.deref-in-Box.ensures.value ∙ ap (λ (v : Vec Fragment). v.items) c.deref.ensures) in
     let reach : line_reach (pieces_of c.deref-in-Box.result.now) ≡ line_reach part.inner = ap line_reach inner in
     let close = c.in_ok-found-in-Box.ensures.near (omega arith) in
     let b : to_z w64 (of_z w64 part.rect.b) ≡ part.rect.b = to_z-of_z w64 part.rect.b (search rules) in
-    let cb : to_z w64 (of_z w64 c.in-Box.part.value.content.b) ≡ c.in-Box.part.value.content.b = to_z-of_z w64 c.in-Box.part.value.content.b (search rules) in
-    let distance : c.sum.result ≡ part.rect.b +ℤ c.in-Box.part.value.content.b = sum_is c.sum.result part.rect.b _ c.in-Box.part.value.content.b _ b cb c.sum.ensures (omega arith) in
+    let cb : to_z w64 (of_z w64 o.content.b) ≡ o.content.b = to_z-of_z w64 o.content.b (search rules) in
+    let distance : c.sum.result ≡ part.rect.b +ℤ o.content.b = sum_is c.sum.result part.rect.b _ o.content.b _ b cb c.sum.ensures (omega arith) in
     let d : to_z w64 (of_z w64 c.sum.result) ≡ c.sum.result = to_z-of_z w64 c.sum.result (search rules) in
-    let short : unsigned_abs c.sum.result ≤ unsigned_abs part.rect.b + unsigned_abs c.in-Box.part.value.content.b = rw distance (omega (arith, ints)) in
+    let short : unsigned_abs c.sum.result ≤ unsigned_abs part.rect.b + unsigned_abs o.content.b = rw distance (omega (arith, ints)) in
     let far : Some c.further.result ≡ further c.sum.result (Some c.in_ok-found-in-Box.found) = far_is c.sum.result _ c.in_ok-found-in-Box.found c.further.result d c.further.ensures (omega arith) in
     let reached = far_near c.sum.result c.in_ok-found-in-Box.found c.further.result (line_reach part.inner) far (omega arith) in
     omega arith
