@@ -1,4 +1,6 @@
 """Tests of tools/changes."""
+import json
+
 from tools.tests import support
 from tools.tests.support import SCRIPT, example, tried
 
@@ -24,5 +26,16 @@ class Changes(support.ToolCase):
         self.same(tried("changes", signs, signs).out, "  nothing changed\n", "changes of a listing to itself")
         there, back = tried("changes", signs, other).out, tried("changes", other, signs).out
         self.hold("- box 3" in there and "+ box 3" in back, "changes: what goes on the way there comes on the way back")
+        self.same(json.loads(tried("changes", "--json", signs, signs).out), [{"from": 1, "to": 2, "boxes": []}], "changes --json: none")
         for words in ((signs,), (signs, "-"), ("-", signs)):
             self.same(tried("changes", *words, given=SCRIPT).status, 1, f"changes {words}: the count of pages")
+
+    def test_changes_as_json(self) -> None:
+        first, refused, second = json.loads(tried("changes", "--json", "-", given=SCRIPT).out)
+        box = {"x": 0, "y": 0, "width": 6400, "height": 1024}
+        due = {"node": 2, "box": 0, "old": box, "new": box, "lines": [["a"], ["a b"]]}
+        self.same(first, {"from": 1, "to": 2, "boxes": [due]}, "changes --json: a text")
+        self.same(refused, {"refused": "NoNode", "number": 4}, "changes --json: what was refused")
+        self.same([each["node"] for each in second["boxes"]], [0, 1, 2, 4, 5, 6], "changes --json: the boxes that changed")
+        came = second["boxes"][-1]
+        self.same((came["old"], came["lines"]), (None, [None, ["c"]]), "changes --json: a box that came")
