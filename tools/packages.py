@@ -4,6 +4,7 @@ Debian's packages belong to Debian's interpreter, which needn't be the one that 
 """
 import importlib.util
 import os
+import subprocess
 import sys
 from collections.abc import Iterable
 
@@ -12,6 +13,11 @@ import listing
 DEBIAN_PYTHON = "/usr/bin/python3"
 # Set once a tool was started anew, so that it isn't twice.
 AGAIN = "TOOLS_BY_DEBIAN_PYTHON"
+# What is asked of it.
+QUESTION = """\
+import importlib.util, sys
+sys.exit(sys.version_info < (3, 10) or not any(map(importlib.util.find_spec, sys.argv[1:])))
+"""
 # The module of each library, and its package in Debian.
 PACKAGES = {
     "fontTools": "python3-fonttools",
@@ -26,10 +32,18 @@ def missing(needed: Iterable[str]) -> list[str]:
     return [name for name in needed if importlib.util.find_spec(name) is None]
 
 
+def finds_more(lacking: list[str]) -> bool:
+    """Whether Debian's interpreter finds one of these libraries, and is one that runs the tools."""
+    try:
+        return subprocess.run([DEBIAN_PYTHON, "-c", QUESTION, *lacking], capture_output=True, check=False).returncode == 0
+    except OSError:
+        return False
+
+
 def look_for(needed: Iterable[str]) -> list[str]:
     """Starts the tool anew by Debian's interpreter where a library is missing, and says which are missing there too."""
     lacking = missing(needed)
-    if lacking and os.access(DEBIAN_PYTHON, os.X_OK) and AGAIN not in os.environ:
+    if lacking and AGAIN not in os.environ and finds_more(lacking):
         os.environ[AGAIN] = "1"
         os.execv(DEBIAN_PYTHON, [DEBIAN_PYTHON, *sys.argv])
     return lacking

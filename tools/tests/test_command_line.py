@@ -121,6 +121,7 @@ class CommandLine(support.ToolCase):
     def test_missing_packages(self) -> None:
         """A library that no interpreter has is told with its package. Without it the tool is started anew once."""
         self.same(packages.missing(["json", "no_such_library"]), ["no_such_library"], "libraries that are missing")
+        self.hold(not packages.finds_more(["no_such_library"]), "Debian's interpreter doesn't find what isn't there")
         environment = os.environ | {packages.AGAIN: "1"}
         code = 'import packages; packages.PACKAGES["no_such_library"] = "p"; packages.find_packages(["json", "no_such_library"])'
         command = [sys.executable, "-c", code]
