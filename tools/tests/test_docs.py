@@ -67,13 +67,13 @@ class Docs(support.ToolCase):
     def test_page_of_properties(self) -> None:
         """Where a row of the tables changes the page of properties differs, and what is no row of them is refused."""
         page, folder = "docs/PROFILE/properties.md", self.folder()
-        for name in ("crates/style_types/src", "crates/css_values/src"):
+        for name in ("crates/css_types/src", "crates/css_values/src"):
             shutil.copytree(os.path.join(TOP, name), os.path.join(folder, name))
         for name in ("tools/property-page", "tools/property-page.txt", "tools/listing.py", page):
             os.makedirs(os.path.dirname(os.path.join(folder, name)), exist_ok=True)
             shutil.copy(os.path.join(TOP, name), os.path.join(folder, name))
         tool = os.path.join(folder, "tools", "property-page")
-        table = os.path.join(folder, "crates", "style_types", "src", "table.rt")
+        table = os.path.join(folder, "crates", "css_types", "src", "table.rt")
         rows = held(table)
         self.same(tried(tool, "--check").status, 0, "property-page --check")
         put_input(table, rows.replace("Value::Px(1600)", "Value::Px(1500)"))
@@ -82,7 +82,7 @@ class Docs(support.ToolCase):
         self.hold(ended.status == 1 and differs and not ended.said, f"property-page --check of another row: {ended}")
         put_input(table, rows.replace('"font-size" ', '"font-size '))
         ended = tried(tool)
-        one_line = re.fullmatch(r"property-page: crates/style_types/src/table\.rt:\d+: .*\n", ended.said)
+        one_line = re.fullmatch(r"property-page: crates/css_types/src/table\.rt:\d+: .*\n", ended.said)
         self.hold(ended.status == 1 and one_line and not ended.out, f"property-page of a broken row: {ended}")
         self.same(held(os.path.join(folder, page)), held(os.path.join(TOP, page)), "the page behind a broken row")
 

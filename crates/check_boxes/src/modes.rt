@@ -6,7 +6,8 @@ ghost use Rattle.wm_modes.specs.Near.{IsNear, IsNearFlow};
 
 use crate::words::{CaseError, Words};
 use std::alloc::Global;
-use style_types::{PROPERTIES, Property, PropertyRow, Style, TextOrientation, page_property};
+use css_types::{PROPERTIES, Property, PropertyRow, page_property};
+use style_types::{Style, TextOrientation};
 use wm_modes::{
     Direction, FlowRect, FlowSide, Rect, Side, WritingMode, side_of, to_flow, to_physical,
 };

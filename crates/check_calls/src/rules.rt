@@ -2,7 +2,7 @@
 
 use std::rc::Rc;
 use std::test::*;
-use style_types::{Declaration, Joint, Part, Property, Rule, Selector, Value, copy_of_rules};
+use css_types::{Declaration, Joint, Part, Property, Rule, Selector, Value, copy_of_rules};
 
 #[test]
 fn copies_are_made(rt: HostRuntime) -> Result<(), Fail> {

@@ -8,7 +8,8 @@ use face_api::Faces;
 use std::alloc::Global;
 use std::io;
 use std::io::Write;
-use style_types::{Letters, Style};
+use letters::Letters;
+use style_types::Style;
 
 /// A text in a style.
 #[derive(Drop)]
