@@ -1,15 +1,15 @@
 //! Fragments: those inside an atom that is asked, and those of a line that is answered.
 
-use crate::glyphs::{glyphs, print_glyphs};
+use crate::glyphs::{glyphs, print_unit_glyphs};
 use crate::names::{BASELINES, DIRECTIONS, FORMS, MODES};
 use crate::printed::{print_flag, print_if_any};
 use crate::words::{CaseError, Words};
+use fragment_types::{BoxPart, Fragment, FragmentKind, Fragments, RunUnit, RunUnits};
 use margin_collapse::Margins;
 use std::alloc::Global;
 use std::io;
 use std::io::Write;
 use std::rc::Rc;
-use fragment_types::{Fragment, FragmentKind, Fragments, RunUnit, RunUnits};
 use wm_modes::FlowRect;
 
 #[derive(Clone, Copy)]
@@ -85,7 +85,7 @@ fn margins(words: &mut Words<'_>) -> Result<Margins, CaseError> {
 
 fn kind(alloc: Global, words: &mut Words<'_>) -> Result<FragmentKind, CaseError> {
     match words.named(&KINDS)? {
-        KindWord::Box => box_kind(words),
+        KindWord::Box => box_kind(alloc, words),
         KindWord::Line => Ok(FragmentKind::Line {
             index: words.number()?,
             base: words.number()?,
@@ -101,8 +101,8 @@ fn kind(alloc: Global, words: &mut Words<'_>) -> Result<FragmentKind, CaseError>
     }
 }
 
-fn box_kind(words: &mut Words<'_>) -> Result<FragmentKind, CaseError> {
-    Ok(FragmentKind::Box {
+fn box_kind(alloc: Global, words: &mut Words<'_>) -> Result<FragmentKind, CaseError> {
+    let part = BoxPart {
         mode: words.named(&MODES)?,
         dir: words.named(&DIRECTIONS)?,
         content: rect(words)?,
@@ -110,7 +110,8 @@ fn box_kind(words: &mut Words<'_>) -> Result<FragmentKind, CaseError> {
         start: margins(words)?,
         end: margins(words)?,
         through: words.flag()?,
-    })
+    };
+    Ok(FragmentKind::Box(Rc::new(alloc, part)?))
 }
 
 fn run_kind(alloc: Global, words: &mut Words<'_>) -> Result<FragmentKind, CaseError> {
@@ -133,12 +134,7 @@ fn run_units(alloc: Global, words: &mut Words<'_>) -> Result<RunUnits, CaseError
         let end = words.number()?;
         let extent = words.number()?;
         let glyphs = glyphs(alloc, words)?;
-        units.push(RunUnit {
-            first,
-            end,
-            extent,
-            glyphs,
-        })?;
+        units.push(RunUnit::new(alloc, first, end, extent, &glyphs)?)?;
     }
     Ok(units)
 }
@@ -157,22 +153,7 @@ pub(crate) fn print_fragments<W: Write>(output: &mut W, fragments: &[Fragment]) 
 
 fn print_kind<W: Write>(output: &mut W, kind: &FragmentKind) -> io::Result<()> {
     match kind {
-        FragmentKind::Box {
-            mode,
-            dir,
-            content,
-            definite,
-            start,
-            end,
-            through,
-        } => {
-            write!(output, " Box {mode:?} {dir:?}")?;
-            print_rect(output, *content)?;
-            print_if_any(output, *definite)?;
-            print_margins(output, *start)?;
-            print_margins(output, *end)?;
-            print_flag(output, *through)
-        }
+        FragmentKind::Box(part) => print_box(output, part),
         FragmentKind::Line {
             index,
             base,
@@ -194,10 +175,19 @@ fn print_kind<W: Write>(output: &mut W, kind: &FragmentKind) -> io::Result<()> {
     }
 }
 
+fn print_box<W: Write>(output: &mut W, part: &BoxPart) -> io::Result<()> {
+    write!(output, " Box {:?} {:?}", part.mode, part.dir)?;
+    print_rect(output, part.content)?;
+    print_if_any(output, part.definite)?;
+    print_margins(output, part.start)?;
+    print_margins(output, part.end)?;
+    print_flag(output, part.through)
+}
+
 fn print_units<W: Write>(output: &mut W, units: &[RunUnit]) -> io::Result<()> {
     for unit in units {
-        write!(output, " {} {} {}", unit.first, unit.end, unit.extent)?;
-        print_glyphs(output, &unit.glyphs)?;
+        write!(output, " {} {} {}", unit.first(), unit.end(), unit.extent())?;
+        print_unit_glyphs(output, unit)?;
     }
     Ok(())
 }

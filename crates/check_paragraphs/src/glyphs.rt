@@ -1,10 +1,10 @@
 //! What is seen of units, as a word: code points in hexadecimal, `.` between those of one unit and `,` between units.
 
 use crate::words::{CaseError, Words};
+use fragment_types::{Characters, Glyphs, RunUnit};
 use std::alloc::Global;
 use std::io;
 use std::io::Write;
-use fragment_types::{Characters, Glyphs};
 
 /// The next word as what is seen of units; `-` is none.
 pub(crate) fn glyphs(alloc: Global, words: &mut Words<'_>) -> Result<Glyphs, CaseError> {
@@ -46,6 +46,20 @@ pub(crate) fn print_glyphs<W: Write>(output: &mut W, glyphs: &Glyphs) -> io::Res
     for place in 0..glyphs.len() {
         write!(output, "{between}")?;
         print_characters(output, glyphs.unit(place))?;
+        between = ',';
+    }
+    Ok(())
+}
+
+/// Prints what is seen of a unit of a run; `-` is none.
+pub(crate) fn print_unit_glyphs<W: Write>(output: &mut W, unit: &RunUnit) -> io::Result<()> {
+    if unit.glyph_count() == 0 {
+        return write!(output, " -");
+    }
+    let mut between = ' ';
+    for place in 0..unit.glyph_count() {
+        write!(output, "{between}")?;
+        print_characters(output, unit.glyph(place))?;
         between = ',';
     }
     Ok(())

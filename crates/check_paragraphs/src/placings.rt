@@ -5,13 +5,13 @@ use crate::glyphs::glyphs;
 use crate::limits::can_be_placed;
 use crate::names::{ALIGNS, CLASSES, DIRECTIONS, FORMS, MODES};
 use crate::words::{CaseError, Words};
+use fragment_types::{Fragment, Glyphs, UnitKind};
 use line_place::{
     Extents, LineBox, LineBoxes, LineContent, LineInput, LineItem, LineItems, place_line,
 };
 use std::alloc::{AllocError, Global};
 use std::io;
 use std::io::Write;
-use fragment_types::{Fragment, Glyphs, UnitKind};
 use style_types::Align;
 use wm_chars::BidiClass;
 use wm_modes::WritingMode;

@@ -10,16 +10,16 @@ use crate::styles::{StyleForm, style_at, styles};
 use crate::words::{CaseError, Words};
 use bumpalo::Bump;
 use face_api::Faces;
+use fragment_types::{Item, Items};
 use hex::FromHexError;
+use letters::{Letters, SharedText};
 use para_prepare::{Paragraph, Prepared, PreparedContent, PreparedItem, prepare};
 use std::alloc::Global;
 use std::fmt::Debug;
 use std::io;
 use std::io::Write;
 use std::sync::ledger::Ledger;
-use fragment_types::{Item, Items};
-use letters::Letters;
-use style_types::Style;
+use style_types::{SharedStyle, Style};
 use wm_units::Steps;
 
 /// The paragraph of these words, which is to be prepared.
@@ -54,12 +54,12 @@ fn item(alloc: Global, words: &mut Words<'_>, styles: &[Style]) -> Result<Item, 
     match words.word()? {
         "text" => Ok(Item::Text {
             node: words.number()?,
-            style: style_at(styles, words.number()?)?,
-            text: text(alloc, words)?,
+            style: SharedStyle::new(alloc, style_at(styles, words.number()?)?)?,
+            text: SharedText::new(alloc, text(alloc, words)?)?,
         }),
         "open" => Ok(Item::Open {
             node: words.number()?,
-            style: style_at(styles, words.number()?)?,
+            style: SharedStyle::new(alloc, style_at(styles, words.number()?)?)?,
             opens: words.flag()?,
         }),
         "close" => Ok(Item::Close {

@@ -5,10 +5,10 @@ use crate::styles::text_style;
 use crate::words::{CaseError, Words};
 use cluster_units::units;
 use face_api::Faces;
+use letters::Letters;
 use std::alloc::Global;
 use std::io;
 use std::io::Write;
-use letters::Letters;
 use style_types::Style;
 
 /// A text in a style.

@@ -19,6 +19,7 @@ use crate::sums::with_length;
 use crate::words::{CaseError, Words};
 use bumpalo::Bump;
 use face_api::Faces;
+use fragment_types::{Fragment, FragmentKind, Item};
 use para_lines::{Atom, Container, paragraph_lines, paragraph_sizes};
 use para_prepare::{Paragraph, PreparedContent, PreparedItem, prepare};
 use std::alloc::Global;
@@ -26,7 +27,6 @@ use std::io;
 use std::io::Write;
 use std::rc::Rc;
 use std::sync::ledger::Ledger;
-use fragment_types::{Fragment, FragmentKind, Item};
 use wm_modes::FlowRect;
 use wm_units::Steps;
 

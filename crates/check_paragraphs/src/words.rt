@@ -1,8 +1,8 @@
 //! A line as words.
 
+use fragment_types::BoxName;
 use std::alloc::{AllocError, AllocFailed};
 use std::str::{FromStr, SplitWhitespace};
-use fragment_types::BoxName;
 
 /// Why a line is no case.
 #[derive(Clone, Copy)]

@@ -331,7 +331,8 @@ pub(crate) fn boxed(
         through,
     };
     let rect = border_box(containing, style, c, size, extent);
-    let kind = FragmentKind::Box(Rc::new(alloc, part)?);
+    let shared = Rc::new(alloc, part)?;
+    let kind = FragmentKind::Box(shared);
     let made = fragment_of(alloc, node.name, rect, kind, content.parts)?;
     Ok(made)
 }

@@ -9,12 +9,13 @@ ghost use Rattle.para_lines.specs.Boxes.{HasBounds};
 
 use bumpalo::Bump;
 use face_api::Faces;
+use fragment_types::{BoxName, Fragments, Item, Items};
+use letters::SharedText;
 use para_lines::{Container, paragraph_lines};
 use para_prepare::{Paragraph, prepare};
 use std::alloc::{AllocError, Global};
 use std::sync::ledger::Ledger;
-use fragment_types::{BoxName, Fragments, Item, Items};
-use style_types::Style;
+use style_types::{SharedStyle, Style};
 use wm_modes::{Direction, WritingMode};
 use wm_units::Steps;
 
@@ -77,18 +78,18 @@ fn items(alloc: Global, style: Style) -> Result<Items, AllocError>
     let mut items = Vec::new(alloc);
     items.push(Item::Text {
         node: 1,
-        style,
-        text: "縦書きの「text」は".to_string(alloc)?,
+        style: SharedStyle::new(alloc, style)?,
+        text: SharedText::new(alloc, "縦書きの「text」は".to_string(alloc)?)?,
     })?;
     items.push(Item::Open {
         node: 2,
-        style: hebrew,
+        style: SharedStyle::new(alloc, hebrew)?,
         opens: true,
     })?;
     items.push(Item::Text {
         node: 3,
-        style: hebrew,
-        text: "שלום (2)".to_string(alloc)?,
+        style: SharedStyle::new(alloc, hebrew)?,
+        text: SharedText::new(alloc, "שלום (2)".to_string(alloc)?)?,
     })?;
     items.push(Item::Close {
         node: 2,
@@ -96,8 +97,8 @@ fn items(alloc: Global, style: Style) -> Result<Items, AllocError>
     })?;
     items.push(Item::Text {
         node: 4,
-        style,
-        text: "も続く。".to_string(alloc)?,
+        style: SharedStyle::new(alloc, style)?,
+        text: SharedText::new(alloc, "も続く。".to_string(alloc)?)?,
     })?;
     Ok(items)
 }

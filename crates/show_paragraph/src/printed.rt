@@ -1,8 +1,8 @@
 //! What is printed of a paragraph.
 
+use fragment_types::{Fragment, FragmentKind, RunUnit};
 use std::io;
 use std::io::Write;
-use fragment_types::{Fragment, FragmentKind, RunUnit};
 
 /// Prints fragments, a line each, those inside one another further in. Places are in units of 1/64 px: along the line from the
 /// top, and across the lines from the first.
@@ -52,8 +52,8 @@ fn print_fragment<W: Write>(output: &mut W, fragment: &Fragment, depth: usize) -
 // What is seen of the units, from line-left.
 fn print_glyphs<W: Write>(output: &mut W, units: &[RunUnit]) -> io::Result<()> {
     for unit in units {
-        for place in 0..unit.glyphs.len() {
-            for c in unit.glyphs.unit(place) {
+        for place in 0..unit.glyph_count() {
+            for c in unit.glyph(place) {
                 write!(output, "{c}")?;
             }
         }

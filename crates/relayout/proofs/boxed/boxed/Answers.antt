@@ -1,5 +1,7 @@
 use Rattle.std.proofs.Common.{rules, ◌≡◌, ◌∙◌, ap, w64, to_z, of_z, FitsSigned}
 use Rattle.std.proofs.lemmas.Int.{to_z-of_z}
+use Rattle.fragment_types.specs.declared.fragment.BoxPart.{BoxPart}
+use Rattle.fragment_types.specs.Fragment.{block, pieces_of}
 use Rattle.box_arena.specs.At.{node_of}
 use Rattle.relayout.specs.Boxed.{block_size, border_box, content_area}
 use Rattle.relayout.proofs.BoxedLaws.{boxed_is, same_sizes}
@@ -12,7 +14,9 @@ returns-clause-part c = λ filled is.
     let size : to_z w64 (of_z w64 c.args.size) ≡ c.args.size = to_z-of_z w64 c.args.size c.ranges.size in
     let extent : to_z w64 (of_z w64 c.block_size-extent.result) ≡ c.block_size-extent.result = to_z-of_z w64 c.block_size-extent.result (search rules) in
     boxed_is c.args.containing (node_of c.args.node.now) c.args.c c.args.size c.args.content filled _ _ _ _ _ _ _ _ _ c.block_size-extent.result c.block_box.result is
-    c.in_ok-made.ensures is.parts
+    (c.in_ok-made.ensures
+    ∙ ap (λ (own : BoxPart). part_with c.args.node.now.name c.border_box-rect.result (block own.mode own.dir own.content own.definite own.start own.end own.through) (pieces_of c.args.content.parts.items)) c.in_ok-shared.ensures)
+    is.parts
     (c.block_size-extent.ensures.value ∙ ap (block_size c.args.containing c.args.node.now.style c.args.c) content)
     c.block_box.ensures c.is_through-through.ensures
     (c.border_box-rect.ensures ∙ same_sizes (border_box c.args.containing c.args.node.now.style c.args.c) _ _ _ _ size extent)
