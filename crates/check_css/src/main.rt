@@ -1,5 +1,4 @@
-//! The program `check_css` answers for texts of CSS, one a line, so that the readers of CSS can be compared with others;
-//! its tests are those of the public calls of these readers.
+//! The program `check_css` answers for texts of CSS, one a line, so that the readers of CSS can be compared with others.
 //!
 //! A line has three words: the reader, which is `declarations` or `sheet`, the place of the text's first byte, and the
 //! bytes of the text in hexadecimal, or `-` where it has none. The answer is a line.
@@ -57,12 +56,3 @@ fn answer_case<W: Write>(alloc: Global, case: &Case, output: &mut W) -> io::Resu
         },
     }
 }
-
-#[cfg(test)]
-mod declaration_tests;
-#[cfg(test)]
-mod reading_tests;
-#[cfg(test)]
-mod sheet_tests;
-#[cfg(test)]
-mod token_tests;

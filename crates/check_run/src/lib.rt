@@ -1,17 +1,12 @@
-//! Tests of the top call and of what stands next to it: whole runs, listings, sources and sinks.
+//! Tests of the top call and of what stands next to it that need code: streams that fail, and a page that is shown twice. Whole
+//! inputs are compared with outside listings by tools/document-cases.
 #![tactic(auto)]
 
-#[cfg(test)]
-mod pages;
 #[cfg(test)]
 mod running;
 #[cfg(test)]
 mod runs;
 #[cfg(test)]
-mod scripts;
-#[cfg(test)]
 mod shown;
 #[cfg(test)]
 mod streams;
-#[cfg(test)]
-mod worked;

@@ -3,11 +3,10 @@
 ghost use Rattle.std.specs.Prelude.{◌≡◌, ◌<◌};
 
 use face_api::{Face, MonoFace, TableFace, WideFace};
-use io_edge::{Sink, Source, SteadySink, SteadySource};
+use io_edge::{Sink, Source};
 use std::alloc::Global;
 use std::marker::Brand;
 use std::process::Abort;
-use std::str;
 use std::sync::ledger::{Blank, Ledger};
 use std::test::Fail;
 use wm_run::{Status, Words, run};
@@ -67,43 +66,4 @@ fn counted<S: Source, K: Sink, L: Ledger, M: Ledger>(
         &mut prepared,
         &mut arranged,
     ))
-}
-
-/// Runs over streams that don't fail, and holds all that is written, and the status, to what is due.
-pub(crate) fn check(
-    rt: &(impl Abort + AllocGlobal),
-    name: &str,
-    texts: &[&str],
-    input: &[u8],
-    due: &str,
-) -> Result<(), Fail> {
-    check_ended(rt, name, texts, input, due, status_of(due))
-}
-
-/// The same with this status.
-pub(crate) fn check_ended(
-    rt: &(impl Abort + AllocGlobal),
-    name: &str,
-    texts: &[&str],
-    input: &[u8],
-    due: &str,
-    status: Status,
-) -> Result<(), Fail> {
-    let words = words(rt, texts)?;
-    let mut sink = SteadySink::new(rt.alloc());
-    let ended = run_with_faces(rt, &words, &mut SteadySource::new(input), &mut sink)?;
-    assert_eq!(rt; str::from_utf8(sink.bytes())?, due, "{name}: {texts:?}");
-    assert_eq!(rt; ended, status, "{name}: {texts:?}");
-    Ok(())
-}
-
-// The status with which such bytes are due.
-fn status_of(due: &str) -> Status {
-    if due.starts_with("usage") {
-        Status::Usage
-    } else if due.starts_with("refused") {
-        Status::Refused
-    } else {
-        Status::Done
-    }
 }

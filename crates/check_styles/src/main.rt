@@ -64,8 +64,3 @@ fn answer_root<W: Write>(alloc: Global, root: &StyledNode, output: &mut W) -> io
         Err(error) => print_box_refusal(output, error),
     }
 }
-
-#[cfg(test)]
-mod call_tests;
-#[cfg(test)]
-mod worked_tests;

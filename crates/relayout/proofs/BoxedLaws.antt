@@ -39,7 +39,7 @@ handed_outer containing node c not = outer_by node.name.ordinal c.block (definit
 
 -- ---- what was measured
 
-abbrev part_with : BoxName → FlowRect → Kind → Pieces → Part
+abbrev pub part_with : BoxName → FlowRect → Kind → Pieces → Part
 part_with name rect kind inner = record { name = name; rect = rect; kind = kind; inner = inner }
 
 pub measured_is : (containing : Containing) (node : Node) (asked : Intrinsic) (part : Part) (kind : Kind) (inner : Pieces) (i b along across edges : ℤ)

@@ -4,7 +4,7 @@ use Rattle.fragment_types.specs.declared.fragment.BoxPart.{BoxPart}
 use Rattle.fragment_types.specs.Fragment.{block, pieces_of}
 use Rattle.box_arena.specs.At.{node_of}
 use Rattle.relayout.specs.Boxed.{block_size, border_box, content_area}
-use Rattle.relayout.proofs.BoxedLaws.{boxed_is, same_sizes}
+use Rattle.relayout.proofs.BoxedLaws.{boxed_is, part_with, same_sizes}
 use Rattle.relayout.proofs.boxed.boxed.Goals as goal
 
 pub returns-clause-part : goal.returns-clause-part
