@@ -1,9 +1,8 @@
-//! Tests of the reader of documents, by its public calls alone.
+//! Tests of documents that need code: the laws of reading at a rule, and calls that no program makes. What is read of whole
+//! documents is compared with outside answers by tools/document-cases.
 #![tactic(auto)]
 
 #[cfg(test)]
-mod documents;
-#[cfg(test)]
-mod places;
+mod calls;
 #[cfg(test)]
 mod rules;

@@ -45,9 +45,11 @@ static RUNS: [Run; 10] = [
 #[test]
 fn runs_over_streams_with_faults_or_small_pieces(rt: HostRuntime) -> Result<(), Fail> {
     for (texts, failing_read, given, failing_write, taken, status, held) in &RUNS {
+        // A call that doesn't fail moves a byte.
+        let (given, taken) = ((*given).max(1), (*taken).max(1));
         let words = words(&rt, texts)?;
-        let mut source = MemorySource::new(rt.alloc(), DOCUMENT, &[*failing_read], *given)?;
-        let mut sink = MemorySink::new(rt.alloc(), &[*failing_write], *taken)?;
+        let mut source = MemorySource::new(rt.alloc(), DOCUMENT, &[*failing_read], given)?;
+        let mut sink = MemorySink::new(rt.alloc(), &[*failing_write], taken)?;
         let ended = run_with_faces(&rt, &words, &mut source, &mut sink)?;
         assert_eq!(rt; ended, *status, "{texts:?} {failing_read} {failing_write}");
         assert_eq!(rt;

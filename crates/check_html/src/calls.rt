@@ -1,0 +1,32 @@
+//! Calls that no program makes: a copy of a document, and the winners for an element without an index of the rules.
+
+use cascade::winners;
+use css_sheet::read_styled;
+use dom_store::Document;
+use html_read::read_document;
+use std::test::Fail;
+use style_types::{Keyword, Property, Style, Value};
+
+const SOURCE: &[u8] =
+    b"<html><head><style>.a{width:5px !important}</style></head><body><p class=\"a\" style=\"width:3px\">x</p></body></html>";
+
+/// What wins for the `p`.
+const WINNERS: [(Property, Value); 4] = [
+    (Property::Display, Value::Keyword(Keyword::Block)),
+    (Property::Width, Value::Px(500)),
+    (Property::MarginTop, Value::Em(100)),
+    (Property::MarginBottom, Value::Em(100)),
+];
+
+#[test]
+fn a_copy_and_winners(rt: HostRuntime) -> Result<(), Fail> {
+    let read = read_document(rt.alloc(), SOURCE)?;
+    let styles = read_styled(rt.alloc(), &read)?;
+    let document = Document::from_read(rt.alloc(), &read, &styles)?;
+    let copy = document.copy(rt.alloc())?;
+    assert_eq!(rt; copy.child(2, 0), Some(3));
+    assert!(rt; copy.node(4).is_none());
+    let won = winners(rt.alloc(), &document, &styles.rules, 2, &Style::initial())?;
+    assert_eq!(rt; won.as_slice(), WINNERS.as_slice());
+    Ok(())
+}
