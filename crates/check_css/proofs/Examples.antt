@@ -1,6 +1,6 @@
 -- What the readers read from some texts, by computation. The functions of the code give what these readers give.
-use Rattle.std.specs.Prelude.{◌≡◌, ℕ, true, false, List, [], ◌∷◌, codes, find, bytes_eq, ℤ, pos, neg_ℤ, Option, Some, None, Ok, Err, refl}
-use Rattle.reading.specs.Readers.{strip, strip_either_case, starts, one_of, run_of, skip, next_is, until, up_to, after, turns, repeat}
+use Rattle.std.specs.Prelude.{◌≡◌, ℕ, true, false, List, [], ◌∷◌, codes, bytes_eq, pos, neg_ℤ, Some, None, Ok, Err, refl}
+use Rattle.reading.specs.Readers.{strip, strip_either_case, starts, one_of, run_of, skip, until, up_to, after, turns, repeat}
 use Rattle.reading.specs.White.{white}
 use Rattle.reading.specs.Decimals.{number, more_digits}
 use Rattle.reading.specs.Names.{lowered}

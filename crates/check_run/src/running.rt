@@ -5,13 +5,13 @@ ghost use Rattle.std.specs.Prelude.{◌≡◌, ◌<◌};
 use face_api::{Face, MonoFace, TableFace, WideFace};
 use io_edge::{Sink, Source};
 use std::alloc::Global;
-use std::marker::Brand;
 use std::process::Abort;
 use std::sync::ledger::{Blank, Ledger};
 use std::test::Fail;
 use wm_run::{Status, Words, run};
 use wm_units::Steps;
 
+/// The words of a command.
 pub(crate) fn words(rt: &(impl Abort + AllocGlobal), texts: &[&str]) -> Result<Words, Fail> {
     let mut words = Words::new(rt.alloc());
     for text in texts {
@@ -20,23 +20,8 @@ pub(crate) fn words(rt: &(impl Abort + AllocGlobal), texts: &[&str]) -> Result<W
     Ok(words)
 }
 
-pub(crate) fn run_with_faces<S: Source, K: Sink>(
-    rt: &(impl Abort + AllocGlobal),
-    words: &Words,
-    source: &mut S,
-    sink: &mut K,
-) -> Result<Status, Fail> {
-    counted::<_, _, Brand, Brand>(
-        rt.alloc(),
-        words,
-        source,
-        sink,
-        Blank::new(1),
-        Blank::new(1),
-    )
-}
-
-fn counted<S: Source, K: Sink, L: Ledger, M: Ledger>(
+/// Runs the words with the three faces of the program, and counters of these blanks.
+pub(crate) fn counted<S: Source, K: Sink, L: Ledger, M: Ledger>(
     alloc: Global,
     words: &Words,
     source: &mut S,

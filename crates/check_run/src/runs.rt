@@ -1,8 +1,11 @@
 //! Runs over streams that fail, or that move few bytes at a call. Contracts say that no other bytes are written than those that
 //! are due; that a fault isn't passed over stands in none.
 
-use crate::running::{run_with_faces, words};
+use crate::running::{counted, words};
 use io_edge::{MemorySink, MemorySource};
+use std::marker::Brand;
+use std::process::Abort;
+use std::sync::ledger::Blank;
 use std::test::Fail;
 use wm_run::Status;
 
@@ -42,19 +45,32 @@ static RUNS: [Run; 10] = [
     (GEN, 0, 1, NEVER, 4_096, Status::Done, 25),
 ];
 
+// With which status a run ends, and how many bytes the sink then holds.
+fn ended(rt: &(impl Abort + AllocGlobal), run: &Run) -> Result<(Status, usize), Fail> {
+    let (texts, failing_read, given, failing_write, taken, _, _) = *run;
+    let words = words(rt, texts)?;
+    // A call that doesn't fail moves a byte.
+    let mut source = MemorySource::new(rt.alloc(), DOCUMENT, &[failing_read], given.max(1))?;
+    let mut sink = MemorySink::new(rt.alloc(), &[failing_write], taken.max(1))?;
+    let status = counted::<_, _, Brand, Brand>(
+        rt.alloc(),
+        &words,
+        &mut source,
+        &mut sink,
+        Blank::new(1),
+        Blank::new(1),
+    )?;
+    Ok((status, sink.bytes().len()))
+}
+
 #[test]
 fn runs_over_streams_with_faults_or_small_pieces(rt: HostRuntime) -> Result<(), Fail> {
-    for (texts, failing_read, given, failing_write, taken, status, held) in &RUNS {
-        // A call that doesn't fail moves a byte.
-        let (given, taken) = ((*given).max(1), (*taken).max(1));
-        let words = words(&rt, texts)?;
-        let mut source = MemorySource::new(rt.alloc(), DOCUMENT, &[*failing_read], given)?;
-        let mut sink = MemorySink::new(rt.alloc(), &[*failing_write], taken)?;
-        let ended = run_with_faces(&rt, &words, &mut source, &mut sink)?;
-        assert_eq!(rt; ended, *status, "{texts:?} {failing_read} {failing_write}");
+    for run in &RUNS {
+        let (texts, failing_read, _, failing_write, _, status, held) = *run;
+        let found = ended(&rt, run)?;
         assert_eq!(rt;
-            sink.bytes().len(),
-            *held,
+            found,
+            (status, held),
             "{texts:?} {failing_read} {failing_write}"
         );
     }

@@ -1,4 +1,4 @@
-use Rattle.check_run.proofs.running.run_with_faces.Given as goal
+use Rattle.check_run.proofs.runs.ended.Given as goal
 
 -- the ledger of each counter is that of its blank
 abbrev pub ghosts-counted-L-Ledger : goal.ghosts-counted-L-Ledger
