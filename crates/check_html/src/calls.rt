@@ -5,7 +5,8 @@ use css_sheet::read_styled;
 use dom_store::Document;
 use html_read::read_document;
 use std::test::Fail;
-use style_types::{Keyword, Property, Style, Value};
+use css_types::{Keyword, Property, Value};
+use style_types::Style;
 
 const SOURCE: &[u8] =
     b"<html><head><style>.a{width:5px !important}</style></head><body><p class=\"a\" style=\"width:3px\">x</p></body></html>";

@@ -15,7 +15,7 @@ returns-clause-part c = λ filled is.
     let extent : to_z w64 (of_z w64 c.block_size-extent.result) ≡ c.block_size-extent.result = to_z-of_z w64 c.block_size-extent.result (search rules) in
     boxed_is c.args.containing (node_of c.args.node.now) c.args.c c.args.size c.args.content filled _ _ _ _ _ _ _ _ _ c.block_size-extent.result c.block_box.result is
     (c.in_ok-made.ensures
-    ∙ ap (λ (own : BoxPart). part_with c.args.node.now.name c.border_box-rect.result (block own.mode own.dir own.content own.definite own.start own.end own.through) (pieces_of c.args.content.parts.items)) c.in_ok-shared.ensures)
+    ∙ ap (λ (own : BoxPart). part_with c.args.node.now.name c.border_box-rect.result (block own.mode own.dir own.content own.definite own.start own.end own.through) (pieces_of c.args.content.parts.items)) c.in_ok-shared.ensures.ok)
     is.parts
     (c.block_size-extent.ensures.value ∙ ap (block_size c.args.containing c.args.node.now.style c.args.c) content)
     c.block_box.ensures c.is_through-through.ensures
