@@ -1,9 +1,7 @@
 //! Sizes, margins, paddings and borders (CSS 2, 8.3 to 8.5, 10.2 and 10.4).
 
 ghost use Rattle.std.specs.Prelude.{◌≡◌};
-ghost use Rattle.std.specs.List.{All};
 ghost use Rattle.style_types.specs.Style.{AreBorders, IsExtent, IsMargin, IsPadding, IsSize, OnSides};
-ghost use Rattle.css_types.specs.Value.{HasSayable};
 ghost use Rattle.computed.specs.Lengths.{IsFontSize};
 ghost use Rattle.computed.specs.Sides as sides;
 
@@ -20,7 +18,6 @@ const MEDIUM: i64 = 192;
 #[tactic(auto, unfolding(crate::specs::Sides::size_at, style_types::specs::Initial::initial))]
 pub fn size_at(font_size: i64, winners: &Marked, property: Property) -> Size
     requires font_size { IsFontSize font_size }
-    requires winners { All (λ w. HasSayable w.1) winners.now.list.now.items }
     ensures value { result ≡ sides.size_at font_size winners.now.list.now.items property }
     ensures bounded { IsSize result }
 {
@@ -34,7 +31,6 @@ pub fn size_at(font_size: i64, winners: &Marked, property: Property) -> Size
 #[tactic(auto, unfolding(crate::specs::Sides::margins))]
 pub fn margins(font_size: i64, winners: &Marked) -> SideSizes
     requires font_size { IsFontSize font_size }
-    requires winners { All (λ w. HasSayable w.1) winners.now.list.now.items }
     ensures value { result ≡ sides.margins font_size winners.now.list.now.items }
     ensures bounded { OnSides IsMargin result }
 {
@@ -49,7 +45,6 @@ pub fn margins(font_size: i64, winners: &Marked) -> SideSizes
 #[tactic(auto, unfolding(crate::specs::Sides::margin_at, style_types::specs::Initial::initial))]
 fn margin_at(font_size: i64, winners: &Marked, property: Property) -> Size
     requires font_size { IsFontSize font_size }
-    requires winners { All (λ w. HasSayable w.1) winners.now.list.now.items }
     ensures value { result ≡ sides.margin_at font_size winners.now.list.now.items property }
     ensures bounded { IsMargin result }
 {
@@ -63,7 +58,6 @@ fn margin_at(font_size: i64, winners: &Marked, property: Property) -> Size
 #[tactic(auto, unfolding(crate::specs::Sides::paddings))]
 pub fn paddings(font_size: i64, winners: &Marked) -> SideSizes
     requires font_size { IsFontSize font_size }
-    requires winners { All (λ w. HasSayable w.1) winners.now.list.now.items }
     ensures value { result ≡ sides.paddings font_size winners.now.list.now.items }
     ensures bounded { OnSides IsPadding result }
 {
@@ -78,7 +72,6 @@ pub fn paddings(font_size: i64, winners: &Marked) -> SideSizes
 #[tactic(auto, unfolding(crate::specs::Sides::padding_at, style_types::specs::Initial::initial))]
 fn padding_at(font_size: i64, winners: &Marked, property: Property) -> Size
     requires font_size { IsFontSize font_size }
-    requires winners { All (λ w. HasSayable w.1) winners.now.list.now.items }
     ensures value { result ≡ sides.padding_at font_size winners.now.list.now.items property }
     ensures bounded { IsPadding result }
 {
@@ -92,7 +85,6 @@ fn padding_at(font_size: i64, winners: &Marked, property: Property) -> Size
 #[tactic(auto, unfolding(crate::specs::Sides::borders))]
 pub fn borders(font_size: i64, winners: &Marked) -> SideWidths
     requires font_size { IsFontSize font_size }
-    requires winners { All (λ w. HasSayable w.1) winners.now.list.now.items }
     ensures value { result ≡ sides.borders font_size winners.now.list.now.items }
     ensures bounded { AreBorders result }
 {
@@ -128,7 +120,6 @@ pub fn borders(font_size: i64, winners: &Marked) -> SideWidths
 #[tactic(auto, unfolding(crate::specs::Sides::border_at))]
 fn border_at(font_size: i64, winners: &Marked, style: Property, width: Property) -> i64
     requires font_size { IsFontSize font_size }
-    requires winners { All (λ w. HasSayable w.1) winners.now.list.now.items }
     ensures value { result ≡ sides.border_at font_size winners.now.list.now.items style width }
     ensures bounded { IsExtent result }
 {

@@ -35,7 +35,6 @@ pub fn compute(parent: &Style, winners: &Winners) -> Style
 fn sized(parent: &Style, font_size: i64, winners: &Marked) -> Style
     requires parent { IsBounded parent.now }
     requires font_size { IsFontSize font_size }
-    requires winners { All (λ w. HasSayable w.1) winners.now.list.now.items }
     ensures style { result ≡ step.sized parent.now font_size winners.now.list.now.items }
     ensures bounded { IsBounded result }
 {
@@ -70,7 +69,6 @@ fn sized(parent: &Style, font_size: i64, winners: &Marked) -> Style
 #[tactic(auto, unfolding(crate::specs::Step::own_font_size, style_types::specs::Initial::initial))]
 fn own_font_size(parent: &Style, winners: &Marked) -> i64
     requires parent { IsFontSize parent.now.font_size }
-    requires winners { All (λ w. HasSayable w.1) winners.now.list.now.items }
     ensures value { result ≡ step.own_font_size parent.now winners.now.list.now.items }
     ensures bounded { IsFontSize result }
 {
@@ -82,7 +80,6 @@ fn own_font_size(parent: &Style, winners: &Marked) -> i64
 
 #[tactic(auto, unfolding(crate::specs::Step::own_mode))]
 fn own_mode(parent: WritingMode, winners: &Marked) -> WritingMode
-    requires winners { All (λ w. HasSayable w.1) winners.now.list.now.items }
     ensures { result ≡ step.own_mode parent winners.now.list.now.items }
 {
     computed_mode(parent, won(winners, Property::WritingMode))
@@ -90,7 +87,6 @@ fn own_mode(parent: WritingMode, winners: &Marked) -> WritingMode
 
 #[tactic(auto, unfolding(crate::specs::Step::own_display, style_types::specs::Initial::initial))]
 fn own_display(parent: WritingMode, mode: WritingMode, winners: &Marked) -> Display
-    requires winners { All (λ w. HasSayable w.1) winners.now.list.now.items }
     ensures { result ≡ step.own_display parent mode winners.now.list.now.items }
 {
     let display = match said(winners, Property::Display) {
@@ -113,7 +109,6 @@ fn turned(differs: bool, display: Display) -> Display
 
 #[tactic(auto, unfolding(crate::specs::Step::own_direction))]
 fn own_direction(parent: Direction, winners: &Marked) -> Direction
-    requires winners { All (λ w. HasSayable w.1) winners.now.list.now.items }
     ensures { result ≡ step.own_direction parent winners.now.list.now.items }
 {
     computed_direction(parent, won(winners, Property::Direction))
@@ -121,7 +116,6 @@ fn own_direction(parent: Direction, winners: &Marked) -> Direction
 
 #[tactic(auto, unfolding(crate::specs::Step::own_orientation))]
 fn own_orientation(parent: TextOrientation, winners: &Marked) -> TextOrientation
-    requires winners { All (λ w. HasSayable w.1) winners.now.list.now.items }
     ensures { result ≡ step.own_orientation parent winners.now.list.now.items }
 {
     computed_orientation(parent, won(winners, Property::TextOrientation))
@@ -130,7 +124,6 @@ fn own_orientation(parent: TextOrientation, winners: &Marked) -> TextOrientation
 #[tactic(auto, unfolding(crate::specs::Step::own_combine, style_types::specs::Initial::initial))]
 fn own_combine(parent: Combine, winners: &Marked) -> Combine
     requires parent { IsCombine parent }
-    requires winners { All (λ w. HasSayable w.1) winners.now.list.now.items }
     ensures value { result ≡ step.own_combine parent winners.now.list.now.items }
     ensures bounded { IsCombine result }
 {
@@ -142,7 +135,6 @@ fn own_combine(parent: Combine, winners: &Marked) -> Combine
 
 #[tactic(auto, unfolding(crate::specs::Step::own_bidi, style_types::specs::Initial::initial))]
 fn own_bidi(winners: &Marked) -> UnicodeBidi
-    requires winners { All (λ w. HasSayable w.1) winners.now.list.now.items }
     ensures { result ≡ step.own_bidi winners.now.list.now.items }
 {
     match said(winners, Property::UnicodeBidi) {
@@ -154,7 +146,6 @@ fn own_bidi(winners: &Marked) -> UnicodeBidi
 #[tactic(auto, unfolding(crate::specs::Step::own_face, style_types::specs::Initial::initial))]
 fn own_face(parent: u8, winners: &Marked) -> u8
     requires parent { parent < 8 }
-    requires winners { All (λ w. HasSayable w.1) winners.now.list.now.items }
     ensures value { result ≡ step.own_face parent winners.now.list.now.items }
     ensures bounded { result < 8 }
 {
@@ -168,7 +159,6 @@ fn own_face(parent: u8, winners: &Marked) -> u8
 fn own_line_height(parent: LineHeight, font_size: i64, winners: &Marked) -> LineHeight
     requires parent { IsLineHeight parent }
     requires font_size { IsFontSize font_size }
-    requires winners { All (λ w. HasSayable w.1) winners.now.list.now.items }
     ensures value { result ≡ step.own_line_height parent font_size winners.now.list.now.items }
     ensures bounded { IsLineHeight result }
 {
@@ -180,7 +170,6 @@ fn own_line_height(parent: LineHeight, font_size: i64, winners: &Marked) -> Line
 
 #[tactic(auto, unfolding(crate::specs::Step::own_align, style_types::specs::Initial::initial))]
 fn own_align(parent: Align, winners: &Marked) -> Align
-    requires winners { All (λ w. HasSayable w.1) winners.now.list.now.items }
     ensures { result ≡ step.own_align parent winners.now.list.now.items }
 {
     match said(winners, Property::TextAlign) {
@@ -192,7 +181,6 @@ fn own_align(parent: Align, winners: &Marked) -> Align
 #[tactic(auto, unfolding(crate::specs::Step::own_shift, style_types::specs::Initial::initial))]
 fn own_shift(font_size: i64, winners: &Marked) -> i64
     requires font_size { IsFontSize font_size }
-    requires winners { All (λ w. HasSayable w.1) winners.now.list.now.items }
     ensures value { result ≡ step.own_shift font_size winners.now.list.now.items }
     ensures bounded { IsLength result }
 {
