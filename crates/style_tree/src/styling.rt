@@ -8,6 +8,7 @@ ghost use Rattle.dom_store.specs.State.{IsRooted, IsSaidState, entry_of, state_o
 ghost use Rattle.cascade.specs.Index.{index_rules};
 ghost use Rattle.cascade.specs.Kept.{IsKept, kept_state};
 ghost use Rattle.cascade.specs.Winners.{AreSaidRules};
+ghost use Rattle.style_tree.specs.Said.{AreSaidRules-prop, IsSaidState-prop};
 ghost use Rattle.style_tree.specs.Styling as definitions;
 ghost use Rattle.style_tree.specs.Styling.{AreBounded, IsBodyOf, IsHtmlOf, styled_document, styled_in, styled_one};
 
@@ -41,18 +42,19 @@ pub fn styled(
     Ok(root)
 }
 
-/// A document, and the rules that its nodes are styled by.
+/// A document, and the rules that its nodes are styled by: the numbers of both are such as a style sheet can say.
 #[derive(Clone, Copy)]
 pub struct Styling<'a> {
     pub document: &'a Document,
     pub rules: &'a RuleIndex,
+
+    ghost are_said_rules: { AreSaidRules (index_rules rules.now) } by { AreSaidRules-prop (index_rules rules.now) },
+    ghost is_said_state: { IsSaidState (state_of document.now) } by { IsSaidState-prop (state_of document.now) },
 }
 
 impl<'a> Styling<'a> {
     /// The computed style of `html`.
     pub fn html_style(&self, alloc: Global) -> Result<Style, AllocError>
-        requires rules { AreSaidRules (index_rules self.now.rules.now) }
-        requires own { IsSaidState (state_of self.now.document.now) }
         ensures style { IfOk result (λ style. style ≡ definitions.html_style (index_rules self.now.rules.now) (state_of self.now.document.now)) }
         ensures bounded { IfOk result (λ style. IsBounded style) }
     {
@@ -63,8 +65,6 @@ impl<'a> Styling<'a> {
 
     /// The style of `body`, where `html` has this one.
     pub fn body_style(&self, alloc: Global, html: &Style) -> Result<Style, AllocError>
-        requires rules { AreSaidRules (index_rules self.now.rules.now) }
-        requires own { IsSaidState (state_of self.now.document.now) }
         requires html { IsBounded html.now }
         ensures style { IfOk result (λ style. style ≡ definitions.unturned html.now (definitions.winners_at (index_rules self.now.rules.now) (state_of self.now.document.now) 1 html.now)) }
         ensures bounded { IfOk result (λ style. IsBounded style) }
@@ -76,8 +76,6 @@ impl<'a> Styling<'a> {
     // `body` in this style, with all inside it.
     fn body_node(&self, alloc: Global, style: &Style) -> Result<StyledNode, AllocError>
         requires rooted { IsRooted (state_of self.now.document.now) }
-        requires rules { AreSaidRules (index_rules self.now.rules.now) }
-        requires own { IsSaidState (state_of self.now.document.now) }
         requires style { IsBounded style.now }
         ensures styled { IfOk result (λ made. IsBodyOf (index_rules self.now.rules.now) (state_of self.now.document.now) style.now (nodes_of made)) }
         ensures bounded { IfOk result (λ made. AreBounded (nodes_of made)) }
@@ -114,8 +112,6 @@ impl<'a> Styling<'a> {
         node: &Node,
         parent: &Style,
     ) -> Result<Style, AllocError>
-        requires rules { AreSaidRules (index_rules self.now.rules.now) }
-        requires own { IsSaidState (state_of self.now.document.now) }
         requires parent { IsBounded parent.now }
         ensures style { IfOk result (λ style. style ≡ definitions.style_at (index_rules self.now.rules.now) (state_of self.now.document.now) number (what_of node.now.kind) parent.now) }
         ensures bounded { IfOk result (λ style. IsBounded style) }
@@ -141,8 +137,6 @@ impl<'a> Styling<'a> {
         requires here { (state_of self.now.document.now).node_at number ≡ Some (entry_of node.now) }
         requires kept { IsKept kept.old }
         requires document { kept_state kept.old ≡ state_of self.now.document.now }
-        requires rules { AreSaidRules (index_rules self.now.rules.now) }
-        requires own { IsSaidState (state_of self.now.document.now) }
         requires parent { IsBounded parent.now }
         ensures kept { IsKept kept.new }
         ensures same { kept_state kept.new ≡ kept_state kept.old }
@@ -172,8 +166,6 @@ impl<'a> Styling<'a> {
         requires here { (state_of self.now.document.now).node_at number ≡ Some (entry_of node.now) }
         requires kept { IsKept kept.old }
         requires document { kept_state kept.old ≡ state_of self.now.document.now }
-        requires rules { AreSaidRules (index_rules self.now.rules.now) }
-        requires own { IsSaidState (state_of self.now.document.now) }
         requires parent { IsBounded parent.now }
         ensures kept { IsKept kept.new }
         ensures same { kept_state kept.new ≡ kept_state kept.old }
@@ -203,8 +195,6 @@ impl<'a> Styling<'a> {
     ) -> Result<StyledNodes, AllocError>
         requires kept { IsKept kept.old }
         requires document { kept_state kept.old ≡ state_of self.now.document.now }
-        requires rules { AreSaidRules (index_rules self.now.rules.now) }
-        requires own { IsSaidState (state_of self.now.document.now) }
         requires parent { IsBounded parent.now }
         ensures kept { IsKept kept.new }
         ensures same { kept_state kept.new ≡ kept_state kept.old }

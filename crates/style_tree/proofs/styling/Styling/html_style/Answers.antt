@@ -7,7 +7,7 @@ use Rattle.style_tree.specs.Styling.{winners_at}
 use Rattle.style_tree.proofs.styling.Styling.html_style.Goals as goal
 
 pub compute-requires-clause-winners : goal.compute-requires-clause-winners
-compute-requires-clause-winners c = c.in_ok-winners.ensures.said c.requires.rules c.requires.own
+compute-requires-clause-winners c = c.in_ok-winners.ensures.said c.args.self.now.are_said_rules c.args.self.now.is_said_state
 
 pub returns-clause-style : goal.returns-clause-style
 returns-clause-style c =

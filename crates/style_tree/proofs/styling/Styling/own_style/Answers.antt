@@ -3,7 +3,7 @@ use Rattle.computed.specs.Step.{style_of}
 use Rattle.style_tree.proofs.styling.Styling.own_style.Goals as goal
 
 pub compute-requires-clause-winners : goal.compute-requires-clause-winners
-compute-requires-clause-winners c = c.in_ok-winners-in-Element.ensures.said c.requires.rules c.requires.own
+compute-requires-clause-winners c = c.in_ok-winners-in-Element.ensures.said c.args.self.now.are_said_rules c.args.self.now.is_said_state
 
 pub returns-in_ok-winners-in-Element-clause-style : goal.returns-in_ok-winners-in-Element-clause-style
 returns-in_ok-winners-in-Element-clause-style c =

@@ -10,7 +10,7 @@ pub winners_in-requires-clause-here : goal.winners_in-requires-clause-here
 winners_in-requires-clause-here c = ap (λ (s : State). s.node_at c.args.number) c.requires.document ∙ c.requires.here
 
 pub compute-requires-clause-winners : goal.compute-requires-clause-winners
-compute-requires-clause-winners c = c.in_ok-winners.ensures.said c.requires.rules (subst IsSaidState (sym c.requires.document) c.requires.own)
+compute-requires-clause-winners c = c.in_ok-winners.ensures.said c.args.self.now.are_said_rules (subst IsSaidState (sym c.requires.document) c.args.self.now.is_said_state)
 
 pub returns-clause-style : goal.returns-clause-style
 returns-clause-style c =
