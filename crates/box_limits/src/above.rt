@@ -1,9 +1,8 @@
 //! What stands above a node is styled, up to `html` (CSS 2, 6.1; CSS Writing Modes 4, 8).
 
 ghost use Rattle.std.specs.Prelude.{◌≡◌, ◌<◌, ℕ, IfOk};
-ghost use Rattle.dom_store.specs.State.{IsSaidState, line, state_of};
+ghost use Rattle.dom_store.specs.State.{line, state_of};
 ghost use Rattle.cascade.specs.Index.{index_rules};
-ghost use Rattle.cascade.specs.Winners.{AreSaidRules};
 ghost use Rattle.tree_laws.specs.Reached.{IsAtLevel};
 ghost use Rattle.box_limits.specs.Lines.{site_on};
 ghost use Rattle.box_limits.specs.Judging.{IsFit, IsTree, site_of};
@@ -19,8 +18,6 @@ impl<'a> Judging<'a> {
     /// Where the nodes stand that are in the node of this number, which stands at most so deep.
     pub(crate) fn site(&self, alloc: Global, number: u32, most: usize) -> Result<Site, AllocError>
         requires tree { IsTree (state_of self.now.styling.document.now) }
-        requires rules { AreSaidRules (index_rules self.now.styling.rules.now) }
-        requires own { IsSaidState (state_of self.now.styling.document.now) }
         ensures site { IfOk result (λ site. (level : ℕ) → IsAtLevel (state_of self.now.styling.document.now) level number → level < most
             → site_of site ≡ site_on (index_rules self.now.styling.rules.now) (line (state_of self.now.styling.document.now) number)) }
         ensures fit { IfOk result (λ site. IsFit site) }
@@ -46,8 +43,6 @@ impl<'a> Judging<'a> {
     // Where the nodes stand that are in `body`.
     fn body_site(&self, alloc: Global) -> Result<Site, AllocError>
         requires tree { IsTree (state_of self.now.styling.document.now) }
-        requires rules { AreSaidRules (index_rules self.now.styling.rules.now) }
-        requires own { IsSaidState (state_of self.now.styling.document.now) }
         ensures site { IfOk result (λ site. site_of site ≡ site_on (index_rules self.now.styling.rules.now) (line (state_of self.now.styling.document.now) 1)) }
         ensures fit { IfOk result (λ site. IsFit site) }
     {

@@ -53,8 +53,6 @@ pub fn check_edited(
 impl<'a> Judging<'a> {
     // Of all nodes those that break a limit after this edit.
     fn edited(&self, alloc: Global, edit: &Edit) -> Result<Found, AllocError>
-        requires rules { AreSaidRules (index_rules self.now.styling.rules.now) }
-        requires own { IsSaidState (state_of self.now.styling.document.now) }
         requires edited { (state : State) × IsEditedFrom (index_rules self.now.styling.rules.now) (edit_of edit.now) (state_of self.now.styling.document.now) state }
         ensures { IfOk result (λ found. FindsAll (index_rules self.now.styling.rules.now) (state_of self.now.styling.document.now) found) }
     {
@@ -83,8 +81,6 @@ impl<'a> Judging<'a> {
     // Where the others break no limit, of all nodes those that do, after the node of this number was changed.
     fn changed(&self, alloc: Global, number: u32) -> Result<Found, AllocError>
         requires tree { IsTree (state_of self.now.styling.document.now) }
-        requires rules { AreSaidRules (index_rules self.now.styling.rules.now) }
-        requires own { IsSaidState (state_of self.now.styling.document.now) }
         ensures { IfOk result (λ found. AreCovered (index_rules self.now.styling.rules.now) (state_of self.now.styling.document.now) (all_below (state_of self.now.styling.document.now) (number ∷ []))
             → FindsAll (index_rules self.now.styling.rules.now) (state_of self.now.styling.document.now) found) }
     {
@@ -102,8 +98,6 @@ impl<'a> Judging<'a> {
     // Of all nodes those that break a limit.
     fn below_body(&self, alloc: Global) -> Result<Found, AllocError>
         requires tree { IsTree (state_of self.now.styling.document.now) }
-        requires rules { AreSaidRules (index_rules self.now.styling.rules.now) }
-        requires own { IsSaidState (state_of self.now.styling.document.now) }
         ensures { IfOk result (λ found. FindsAll (index_rules self.now.styling.rules.now) (state_of self.now.styling.document.now) found) }
     {
         let body = self.styling.document.node(BODY).unwrap();
@@ -120,8 +114,6 @@ impl<'a> Judging<'a> {
         count: usize,
     ) -> Result<Found, AllocError>
         requires tree { IsTree (state_of self.now.styling.document.now) }
-        requires rules { AreSaidRules (index_rules self.now.styling.rules.now) }
-        requires own { IsSaidState (state_of self.now.styling.document.now) }
         requires below { (level : ℕ) × IsAtLevel (state_of self.now.styling.document.now) (level + 1) parent }
         requires within { index + count ≤ length (children_at (state_of self.now.styling.document.now) parent) }
         ensures { IfOk result (λ found. FindsBelow (index_rules self.now.styling.rules.now) (state_of self.now.styling.document.now) (take count (drop index (children_at (state_of self.now.styling.document.now) parent))) found) }

@@ -2,9 +2,8 @@
 
 ghost use Rattle.std.specs.Prelude.{◌≡◌, IfOk};
 ghost use Rattle.style_types.specs.Tree as trees;
-ghost use Rattle.dom_store.specs.State.{IsSaidState, state_of, tree_to, what_of};
+ghost use Rattle.dom_store.specs.State.{state_of, tree_to, what_of};
 ghost use Rattle.cascade.specs.Index.{index_rules};
-ghost use Rattle.cascade.specs.Winners.{AreSaidRules};
 ghost use Rattle.style_tree.specs.Styling as styling;
 ghost use Rattle.style_tree.specs.Styling.{styled_in};
 ghost use Rattle.box_limits.specs.Judging.{AreInside, FindsBelow, IsFit, IsTree, found_from, site_of};
@@ -35,8 +34,6 @@ impl<'a> Judging<'a> {
         site: &Site,
         depth: usize,
     ) -> Result<Found, AllocError>
-        requires rules { AreSaidRules (index_rules self.now.styling.rules.now) }
-        requires own { IsSaidState (state_of self.now.styling.document.now) }
         requires site { IsFit site.now }
         ensures { IfOk result (λ found. found ≡ found_from (site_of site.now)
             (styling.styled_one (index_rules self.now.styling.rules.now) (state_of self.now.styling.document.now) site.now.style number (what_of node.now.kind) (tree_to depth (state_of self.now.styling.document.now) node.now.children.items) trees.none)) }
@@ -58,8 +55,6 @@ impl<'a> Judging<'a> {
         site: &Site,
         depth: usize,
     ) -> Result<Found, AllocError>
-        requires rules { AreSaidRules (index_rules self.now.styling.rules.now) }
-        requires own { IsSaidState (state_of self.now.styling.document.now) }
         requires site { IsFit site.now }
         ensures { IfOk result (λ found. found ≡ found_from (site_of site.now) (styled_in (index_rules self.now.styling.rules.now) (state_of self.now.styling.document.now) site.now.style (tree_to depth (state_of self.now.styling.document.now) numbers.now))) }
     {
@@ -84,8 +79,6 @@ impl<'a> Judging<'a> {
         numbers: &[u32],
     ) -> Result<Found, AllocError>
         requires tree { IsTree (state_of self.now.styling.document.now) }
-        requires rules { AreSaidRules (index_rules self.now.styling.rules.now) }
-        requires own { IsSaidState (state_of self.now.styling.document.now) }
         requires inside { AreInside (state_of self.now.styling.document.now) parent numbers.now }
         ensures { IfOk result (λ found. FindsBelow (index_rules self.now.styling.rules.now) (state_of self.now.styling.document.now) numbers.now found) }
     {

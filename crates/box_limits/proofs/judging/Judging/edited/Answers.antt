@@ -13,8 +13,8 @@ use Rattle.box_limits.proofs.judging.Judging.edited.Goals as goal
 pub inserted-requires-clause-tree : goal.inserted-requires-clause-tree
 inserted-requires-clause-tree c = edited_tree _ _ _ _ c.requires.edited.1 c.accepted_edits_keep_roots.ensures c.accepted_edits_keep_documents_whole.ensures c.accepted_edits_keep_documents_reached.ensures
 
-pub changed-requires-clause-tree : goal.changed-requires-clause-tree
-changed-requires-clause-tree c = edited_tree _ _ _ _ c.requires.edited.1 c.accepted_edits_keep_roots.ensures c.accepted_edits_keep_documents_whole.ensures c.accepted_edits_keep_documents_reached.ensures
+pub changed-requires : goal.changed-requires
+changed-requires c = record { tree = edited_tree _ _ _ _ c.requires.edited.1 c.accepted_edits_keep_roots.ensures c.accepted_edits_keep_documents_whole.ensures c.accepted_edits_keep_documents_reached.ensures }
 
 pub returns-in-Text : goal.returns-in-Text
 returns-in-Text c =
