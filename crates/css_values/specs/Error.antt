@@ -1,5 +1,5 @@
 -- What a style sheet or a style attribute is refused for, and how the code tells it.
-use Rattle.std.specs.Prelude.{◌≡◌, ℕ, List, Result, Ok, Err, ⊤}
+use Rattle.std.specs.Prelude.{◌≡◌, ℕ, List, Result, Ok, Err, codes, ⊤}
 use Rattle.reading.specs.Readers.{ReadOr, Reader}
 use Rattle.reading.specs.Stop as stop
 use Rattle.reading.specs.Stop.{place_before}
@@ -7,6 +7,7 @@ use Rattle.reading.specs.declared.stop.Stop as stop_type
 use Rattle.reading.specs.declared.stop.Stop.TheVariants as stops
 use Rattle.css_values.specs.declared.error.Refusal.{Refusal}
 use Rattle.css_values.specs.declared.error.Refusal.TheVariants.{CssSyntax}
+use Rattle.css_values.specs.declared.error.Refusal.TheVariants as kinds
 use Rattle.css_values.specs.declared.error.CssError.{CssError}
 use Rattle.css_values.specs.declared.error.CssError.TheVariants as errors
 
@@ -42,3 +43,9 @@ Told end_ view (Err error) read = IsRefused end_ error read
 abbrev pub Tells : (end_ : ℕ) → Stop → CssError → Type 0
 Tells end_ (stops.Refused kind left) error = error ≡ errors.Refused kind (place_before end_ left.now)
 Tells end_ stops.Memory error = error ≡ errors.Memory
+
+-- the word of what is wrong, as a line of refusal has it
+unfoldable pub kind_word : Refusal → List ℕ
+kind_word kinds.CssSyntax = codes "CssSyntax"
+kind_word kinds.Unsupported = codes "Unsupported"
+kind_word kinds.TooManyRules = codes "TooManyRules"

@@ -1,6 +1,7 @@
 //! Why a style sheet or a style attribute could not be read.
 
-ghost use Rattle.std.specs.Prelude.{◌≡◌};
+ghost use Rattle.std.specs.Prelude.{◌≡◌, ◌≤◌, length};
+ghost use Rattle.css_values.specs.Error.{kind_word};
 ghost use Rattle.css_values.specs.declared.error.CssError.TheVariants.{Memory as NoMemory};
 ghost use Rattle.css_values.specs.declared.error.Refusal.TheVariants.{CssSyntax};
 
@@ -17,6 +18,21 @@ pub enum Refusal {
     Unsupported,
     /// There are more rules or declarations than the limits allow.
     TooManyRules,
+}
+
+impl Refusal {
+    /// The word that a line of refusal has for it.
+    #[tactic(auto, unfolding(crate::specs::Error::kind_word))]
+    pub fn word(self) -> &'static str
+        ensures word { result.now ≡ kind_word self }
+        ensures short { length result.now ≤ 12 }
+    {
+        match self {
+            Refusal::CssSyntax => "CssSyntax",
+            Refusal::Unsupported => "Unsupported",
+            Refusal::TooManyRules => "TooManyRules",
+        }
+    }
 }
 
 /// Why it was not read.

@@ -10,6 +10,7 @@ use Rattle.css_values.specs.Tables.{properties, shorthands, keywords, widths, re
 use Rattle.css_values.specs.Longhand.{single, face_number, entries, first_face, family, longhand}
 use Rattle.css_values.specs.Border.{pieces}
 use Rattle.css_values.specs.Shorthand.{each, shorthand}
+use Rattle.css_values.specs.Error.{kind_word}
 use Rattle.css_values.specs.Value.{value, ends_important}
 use Rattle.css_values.specs.declared.error.Refusal.TheVariants as refusal
 use Rattle.css_values.specs.Declarations as css
@@ -77,27 +78,27 @@ unfolding strip starts one_of run_of skip until up_to after joined turns repeat 
 kept_and_dropped = refl
 
 behind_a_selector : flat_map line (with_sheet [] (record { text = codes "p:hover { height: 3px } b { float: left; ; height: 5em }"; place = 19 })) ≡ codes "refused Unsupported 20\nUnsupported 47 float\nKept 62 height\n"
-unfolding strip starts one_of run_of skip until up_to after joined turns repeat many strip_either_case white spaces comment gap name_ahead name hash_ahead hash string_piece string numeric named sign_token token sign point number_ahead decimals number is_refused is_unsupported meaning expanded properties shorthands keywords widths refusals colours resets single face_number entries first_face family longhand pieces each shorthand value ends_important property_name stated declaration next selector_name type_name compound selector heads piece seek behind_declaration behind_rule declarations rules told_of_document digits
+unfolding strip starts one_of run_of skip until up_to after joined turns repeat many strip_either_case white spaces comment gap name_ahead name hash_ahead hash string_piece string numeric named sign_token token sign point number_ahead decimals number is_refused is_unsupported meaning expanded properties shorthands keywords widths refusals colours resets single face_number entries first_face family longhand pieces each shorthand value ends_important property_name stated declaration next selector_name type_name compound selector heads piece seek behind_declaration behind_rule declarations rules told_of_document digits kind_word
 behind_a_selector = refl
 
 an_at_rule_in_a_rule : flat_map line (with_sheet [] (record { text = codes "p { @x y;width: 0 } q"; place = 19 })) ≡ codes "refused Unsupported 23\nKept 28 width\nrefused CssSyntax 40\n"
-unfolding strip starts one_of run_of skip until up_to after joined turns repeat many strip_either_case white spaces comment gap name_ahead name hash_ahead hash string_piece string numeric named sign_token token sign point number_ahead decimals number is_refused is_unsupported meaning expanded properties shorthands keywords widths refusals colours resets single face_number entries first_face family longhand pieces each shorthand value ends_important property_name stated declaration next selector_name type_name compound selector heads piece seek behind_declaration behind_rule declarations rules told_of_document digits
+unfolding strip starts one_of run_of skip until up_to after joined turns repeat many strip_either_case white spaces comment gap name_ahead name hash_ahead hash string_piece string numeric named sign_token token sign point number_ahead decimals number is_refused is_unsupported meaning expanded properties shorthands keywords widths refusals colours resets single face_number entries first_face family longhand pieces each shorthand value ends_important property_name stated declaration next selector_name type_name compound selector heads piece seek behind_declaration behind_rule declarations rules told_of_document digits kind_word
 an_at_rule_in_a_rule = refl
 
 behind_the_block_of_an_at_rule : flat_map line (with_sheet [] (record { text = codes "a{@x{} height:1px; width:2px}"; place = 19 })) ≡ codes "refused Unsupported 21\nKept 26 height\nKept 38 width\n"
-unfolding strip starts one_of run_of skip until up_to after joined turns repeat many strip_either_case white spaces comment gap name_ahead name hash_ahead hash string_piece string numeric named sign_token token sign point number_ahead decimals number is_refused is_unsupported meaning expanded properties shorthands keywords widths refusals colours resets single face_number entries first_face family longhand pieces each shorthand value ends_important property_name stated declaration next selector_name type_name compound selector heads piece seek behind_declaration behind_rule declarations rules told_of_document digits
+unfolding strip starts one_of run_of skip until up_to after joined turns repeat many strip_either_case white spaces comment gap name_ahead name hash_ahead hash string_piece string numeric named sign_token token sign point number_ahead decimals number is_refused is_unsupported meaning expanded properties shorthands keywords widths refusals colours resets single face_number entries first_face family longhand pieces each shorthand value ends_important property_name stated declaration next selector_name type_name compound selector heads piece seek behind_declaration behind_rule declarations rules told_of_document digits kind_word
 behind_the_block_of_an_at_rule = refl
 
 a_comment_is_open : flat_map line (with_sheet [] (record { text = codes "p { width: 0 } /* x"; place = 19 })) ≡ codes "Kept 23 width\nrefused CssSyntax 38\n"
-unfolding strip starts one_of run_of skip until up_to after joined turns repeat many strip_either_case white spaces comment gap name_ahead name hash_ahead hash string_piece string numeric named sign_token token sign point number_ahead decimals number is_refused is_unsupported meaning expanded properties shorthands keywords widths refusals colours resets single face_number entries first_face family longhand pieces each shorthand value ends_important property_name stated declaration next selector_name type_name compound selector heads piece seek behind_declaration behind_rule declarations rules told_of_document digits
+unfolding strip starts one_of run_of skip until up_to after joined turns repeat many strip_either_case white spaces comment gap name_ahead name hash_ahead hash string_piece string numeric named sign_token token sign point number_ahead decimals number is_refused is_unsupported meaning expanded properties shorthands keywords widths refusals colours resets single face_number entries first_face family longhand pieces each shorthand value ends_important property_name stated declaration next selector_name type_name compound selector heads piece seek behind_declaration behind_rule declarations rules told_of_document digits kind_word
 a_comment_is_open = refl
 
 a_block_is_open : flat_map line (with_sheet [] (record { text = codes "p { height: auto"; place = 19 })) ≡ codes "refused CssSyntax 35\n"
-unfolding strip starts one_of run_of skip until up_to after joined turns repeat many strip_either_case white spaces comment gap name_ahead name hash_ahead hash string_piece string numeric named sign_token token sign point number_ahead decimals number is_refused is_unsupported meaning expanded properties shorthands keywords widths refusals colours resets single face_number entries first_face family longhand pieces each shorthand value ends_important property_name stated declaration next selector_name type_name compound selector heads piece seek behind_declaration behind_rule declarations rules told_of_document digits
+unfolding strip starts one_of run_of skip until up_to after joined turns repeat many strip_either_case white spaces comment gap name_ahead name hash_ahead hash string_piece string numeric named sign_token token sign point number_ahead decimals number is_refused is_unsupported meaning expanded properties shorthands keywords widths refusals colours resets single face_number entries first_face family longhand pieces each shorthand value ends_important property_name stated declaration next selector_name type_name compound selector heads piece seek behind_declaration behind_rule declarations rules told_of_document digits kind_word
 a_block_is_open = refl
 
 a_declaration_stops : flat_map line (with_sheet [] (record { text = codes "p { width ) 1px; a:b} i {}"; place = 19 })) ≡ codes "refused CssSyntax 29\nUnknownName 36 a\n"
-unfolding strip starts one_of run_of skip until up_to after joined turns repeat many strip_either_case white spaces comment gap name_ahead name hash_ahead hash string_piece string numeric named sign_token token sign point number_ahead decimals number is_refused is_unsupported meaning expanded properties shorthands keywords widths refusals colours resets single face_number entries first_face family longhand pieces each shorthand value ends_important property_name stated declaration next selector_name type_name compound selector heads piece seek behind_declaration behind_rule declarations rules told_of_document digits
+unfolding strip starts one_of run_of skip until up_to after joined turns repeat many strip_either_case white spaces comment gap name_ahead name hash_ahead hash string_piece string numeric named sign_token token sign point number_ahead decimals number is_refused is_unsupported meaning expanded properties shorthands keywords widths refusals colours resets single face_number entries first_face family longhand pieces each shorthand value ends_important property_name stated declaration next selector_name type_name compound selector heads piece seek behind_declaration behind_rule declarations rules told_of_document digits kind_word
 a_declaration_stops = refl
 
 told_at_its_place : flat_map line (with_attribute [] (record { text = codes "width: 3px; widht: 4px"; place = 15 })) ≡ codes "Kept 15 width\nUnknownName 15 widht\n"
@@ -105,7 +106,7 @@ unfolding strip starts one_of run_of skip until up_to after joined turns repeat 
 told_at_its_place = refl
 
 a_refusal_in_an_attribute : flat_map line (with_attribute [] (record { text = codes "height } 2px;height: 2px"; place = 15 })) ≡ codes "refused CssSyntax 15\nKept 15 height\n"
-unfolding strip starts one_of run_of skip until up_to after joined turns repeat many strip_either_case white spaces comment gap name_ahead name hash_ahead hash string_piece string numeric named sign_token token sign point number_ahead decimals number is_refused is_unsupported meaning expanded properties shorthands keywords widths refusals colours resets single face_number entries first_face family longhand pieces each shorthand value ends_important property_name stated declaration next selector_name type_name compound selector heads piece seek behind_declaration behind_rule declarations rules told_of_document digits
+unfolding strip starts one_of run_of skip until up_to after joined turns repeat many strip_either_case white spaces comment gap name_ahead name hash_ahead hash string_piece string numeric named sign_token token sign point number_ahead decimals number is_refused is_unsupported meaning expanded properties shorthands keywords widths refusals colours resets single face_number entries first_face family longhand pieces each shorthand value ends_important property_name stated declaration next selector_name type_name compound selector heads piece seek behind_declaration behind_rule declarations rules told_of_document digits kind_word
 a_refusal_in_an_attribute = refl
 
 the_sheets_come_first : flat_map line (told_of_document (record { nodes = record { parent = None; kind = kinds.element tags.P (record { id = None; classes = []; dir = None; style = Some (record { text = codes "a:b"; place = 9 }) }) } ∷ []; sheets = record { text = codes "p{c:d}"; place = 3 } ∷ []; length = 99 })) ≡ codes "UnknownName 5 c\nUnknownName 9 a\n"

@@ -1,8 +1,7 @@
 -- The lines that are written.
 use Rattle.std.specs.Prelude.{ℕ, List, ◌++◌, codes, flat_map, length, Ok, Err}
 use Rattle.std.specs.Fmt.{decimal}
-use Rattle.css_values.specs.declared.error.Refusal.{Refusal}
-use Rattle.css_values.specs.declared.error.Refusal.TheVariants as kinds
+use Rattle.css_values.specs.Error.{kind_word}
 use Rattle.css_values.specs.declared.reports.Fate.{Fate}
 use Rattle.css_values.specs.declared.reports.Fate.TheVariants as fates
 use Rattle.reading.specs.Readers.{ReadOr}
@@ -19,11 +18,6 @@ fate_word fates.Kept = codes "Kept"
 fate_word fates.UnknownName = codes "UnknownName"
 fate_word fates.InvalidValue = codes "InvalidValue"
 fate_word fates.Unsupported = codes "Unsupported"
-
-abbrev pub kind_word : Refusal → List ℕ
-kind_word kinds.CssSyntax = codes "CssSyntax"
-kind_word kinds.Unsupported = codes "Unsupported"
-kind_word kinds.TooManyRules = codes "TooManyRules"
 
 abbrev pub line : Told → List ℕ
 line (told_.judged what) = fate_word what.fate ++ codes " " ++ decimal what.place ++ codes " " ++ what.name ++ codes "\n"

@@ -6,7 +6,7 @@ ghost use Rattle.report_styles.specs.Lines as spec;
 ghost use Rattle.report_styles.specs.Views.{all_of, told_of};
 
 use crate::telling::Told;
-use css_values::{Fate, Refusal, Report};
+use css_values::{Fate, Report};
 use report_lines::write_refused;
 use std::io;
 use std::io::Write;
@@ -29,7 +29,7 @@ fn write_told<W: Write>(told: &Told<'_>, output: &mut W) -> io::Result<()>
         Told::Judged(Report { name, place, fate }) => {
             writeln!(output, "{} {place} {name}", fate_word(*fate))
         }
-        Told::Refused { kind, place } => write_refused(kind_word(*kind), *place, output),
+        Told::Refused { kind, place } => write_refused(kind.word(), *place, output),
     }
 }
 
@@ -41,15 +41,5 @@ fn fate_word(fate: Fate) -> &'static str
         Fate::UnknownName => "UnknownName",
         Fate::InvalidValue => "InvalidValue",
         Fate::Unsupported => "Unsupported",
-    }
-}
-
-fn kind_word(kind: Refusal) -> &'static str
-    ensures { result.now ≡ spec.kind_word kind }
-{
-    match kind {
-        Refusal::CssSyntax => "CssSyntax",
-        Refusal::Unsupported => "Unsupported",
-        Refusal::TooManyRules => "TooManyRules",
     }
 }
