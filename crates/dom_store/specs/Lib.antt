@@ -1,6 +1,7 @@
 pub mod Building
 pub mod Edited
 pub mod Edits
+pub mod Error
 pub mod Keys
 pub mod Laws
 pub mod Opening

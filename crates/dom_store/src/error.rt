@@ -1,6 +1,7 @@
 //! Why a state or an edit is refused.
 
-ghost use Rattle.std.specs.Prelude.{◌≡◌};
+ghost use Rattle.std.specs.Prelude.{◌≡◌, ◌≤◌, length};
+ghost use Rattle.dom_store.specs.Error.{error_word};
 ghost use Rattle.dom_store.specs.declared.error.EditError.TheVariants.{Memory};
 
 use std::alloc::{AllocError, AllocFailed};
@@ -37,6 +38,27 @@ pub enum EditError {
     TooDeep(u32),
     #[error("Memory")]
     Memory,
+}
+
+impl EditError {
+    /// The word that a line of refusal has for it.
+    #[tactic(auto, unfolding(crate::specs::Error::error_word))]
+    pub fn word(self) -> &'static str
+        ensures word { result.now ≡ error_word self }
+        ensures short { length result.now ≤ 12 }
+    {
+        match self {
+            EditError::NoNode => "NoNode",
+            EditError::IsRoot => "IsRoot",
+            EditError::NotText => "NotText",
+            EditError::NotElement => "NotElement",
+            EditError::Inside => "Inside",
+            EditError::BadIndex => "BadIndex",
+            EditError::TooManyNodes(_) => "TooManyNodes",
+            EditError::TooDeep(_) => "TooDeep",
+            EditError::Memory => "Memory",
+        }
+    }
 }
 
 impl From<AllocError> for EditError {
