@@ -8,4 +8,5 @@ mod Lines
 mod MeaningLaws
 mod Reading
 mod ScriptLaws
+mod TableRows
 mod Tables

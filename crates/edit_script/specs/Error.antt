@@ -1,11 +1,13 @@
--- Why a line is not read, as the code tells it.
-use Rattle.std.specs.Prelude.{◌≡◌, ℕ, Result, Ok, Err, ⊤}
+-- Why a script or a line of it is not read, as the code tells it.
+use Rattle.std.specs.Prelude.{◌≡◌, ℕ, List, codes, Result, Ok, Err, ⊤}
 use Rattle.html_tokens.specs.Error as html_stop
+use Rattle.css_values.specs.Error as css_stop
 use Rattle.reading.specs.declared.stop.Stop.TheVariants as stops
 use Rattle.html_read.specs.declared.error.HtmlError.{HtmlError}
 use Rattle.html_read.specs.declared.error.HtmlError.TheVariants as html_errors
 use Rattle.css_values.specs.declared.error.CssError.{CssError}
 use Rattle.css_values.specs.declared.error.CssError.TheVariants as css_errors
+use Rattle.edit_script.specs.declared.error.Refusal.{Refusal}
 use Rattle.edit_script.specs.declared.error.Refusal.TheVariants as kinds
 use Rattle.edit_script.specs.declared.error.ScriptError.{ScriptError}
 use Rattle.edit_script.specs.declared.error.ScriptError.TheVariants as errors
@@ -39,3 +41,11 @@ Reads view (Err halt) said = Halts halt said
 abbrev pub told_at : (place : ℕ) → Halt → ScriptError
 told_at place (halts.Refused kind) = errors.Refused kind place
 told_at place halts.Memory = errors.Memory
+
+-- the word of what is wrong, as a line of refusal has it
+unfoldable pub kind_word : Refusal → List ℕ
+kind_word kinds.ScriptSyntax = codes "ScriptSyntax"
+kind_word kinds.TooManyEdits = codes "TooManyEdits"
+kind_word kinds.TooManyShows = codes "TooManyShows"
+kind_word (kinds.Html kind) = html_stop.kind_word kind
+kind_word (kinds.Css kind) = css_stop.kind_word kind

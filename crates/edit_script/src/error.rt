@@ -1,12 +1,12 @@
 //! Why a script could not be read.
 
-ghost use Rattle.std.specs.Prelude.{◌≡◌};
+ghost use Rattle.std.specs.Prelude.{◌≡◌, ◌≤◌, length};
 ghost use Rattle.html_read.specs.declared.error.HtmlError as html_error;
 ghost use Rattle.css_values.specs.declared.error.CssError as css_error;
 ghost use Rattle.edit_script.specs.declared.error.Halt.TheVariants.{Memory};
 ghost use Rattle.edit_script.specs.declared.error.Halt.TheVariants as halts;
 ghost use Rattle.edit_script.specs.declared.error.Refusal.TheVariants.{ScriptSyntax};
-ghost use Rattle.edit_script.specs.Error.{of_css_error, of_html_error, of_html_stop};
+ghost use Rattle.edit_script.specs.Error.{kind_word, of_css_error, of_html_error, of_html_stop};
 
 use css_values::CssError;
 use html_read::HtmlError;
@@ -27,6 +27,23 @@ pub enum Refusal {
     Html(html_read::Refusal),
     /// The declarations that an edit brings can't be read.
     Css(css_values::Refusal),
+}
+
+impl Refusal {
+    /// The word that a line of refusal has for it.
+    #[tactic(auto, unfolding(crate::specs::Error::kind_word))]
+    pub fn word(self) -> &'static str
+        ensures word { result.now ≡ kind_word self }
+        ensures short { length result.now ≤ 16 }
+    {
+        match self {
+            Refusal::ScriptSyntax => "ScriptSyntax",
+            Refusal::TooManyEdits => "TooManyEdits",
+            Refusal::TooManyShows => "TooManyShows",
+            Refusal::Html(kind) => kind.word(),
+            Refusal::Css(kind) => kind.word(),
+        }
+    }
 }
 
 /// Why a script was not read.
