@@ -10,7 +10,7 @@ use Rattle.fragment_types.specs.Fragment.{Kind, Pieces, none, piece, before, kin
 use Rattle.place_map.specs.declared.frame.Frame.{Frame}
 use Rattle.place_map.specs.declared.placed.PlacedPart.{PlacedPart}
 use Rattle.place_map.specs.Frame.{inside, on_page}
-use Rattle.place_map.specs.Near.{AreNear, IsNearPart}
+use Rattle.place_map.specs.Near.{AreNear, AreNearParts, IsNearPart}
 use Rattle.place_map.specs.Placed as page
 use Rattle.place_map.specs.Placed.{Parts, part, followed, parts_of}
 use Rattle.place_map.specs.Placing.{placed}
@@ -128,3 +128,13 @@ one_more frame fs k f made p all lt is placed_so so_far =
 pub all_placed : (frame : Frame) (fs : List Fragment) (k : ℕ) (made : List PlacedPart) (all : Parts)
     → length fs ≤ k → followed made (placed frame (pieces_of (drop k fs))) ≡ all → parts_of made ≡ all
 all_placed frame fs k made all end_ so_far = sym (followed_none made) ∙ sym (ap (λ (l : List Fragment). followed made (placed frame (pieces_of l))) (drop_all k fs end_)) ∙ so_far
+
+-- ---- what is placed is near
+
+near_placed : (frame : Frame) (pieces : Pieces) → AreNear frame pieces → AreNearParts (placed frame pieces)
+near_placed frame none near = tt
+near_placed frame (piece name rect kind inner next) near =
+    (near.0.page, near.0.content, near_placed (inside frame kind (on_page frame rect)) inner near.1, near_placed frame next near.2)
+
+pub near_root : (frame own : Frame) (f : Fragment) (parts : Parts) → AreNear frame (piece_of f) → own ≡ frame → parts ≡ placed own (piece_of f) → AreNearParts parts
+near_root frame own f parts near within is = subst AreNearParts (sym (is ∙ ap (λ (w : Frame). placed w (piece_of f)) within)) (near_placed frame (piece_of f) near)

@@ -5,6 +5,8 @@ use Rattle.wm_modes.specs.declared.rects.FlowRect.{FlowRect}
 use Rattle.fragment_types.specs.Fragment.{Kind, block, line, span, run, measure, Pieces, none, piece}
 use Rattle.place_map.specs.declared.frame.Frame.{Frame}
 use Rattle.place_map.specs.Frame.{inside, on_page}
+use Rattle.place_map.specs.Placed as page
+use Rattle.place_map.specs.Placed.{Parts, part}
 
 abbrev pub IsNearFrame : Frame → Type 0
 IsNearFrame frame = IsNear frame.area
@@ -28,3 +30,8 @@ abbrev pub AreNear : Frame → Pieces → Type 0
 AreNear frame none = ⊤
 AreNear frame (piece name rect kind inner next) =
     IsNearPart frame rect kind × AreNear (inside frame kind (on_page frame rect)) inner × AreNear frame next
+
+-- these parts of a page and all inside them: no coordinate is further than 2^60 from 0
+abbrev pub AreNearParts : Parts → Type 0
+AreNearParts page.none = ⊤
+AreNearParts (part name rect kind inner next) = IsNear rect × IsNearKind kind × AreNearParts inner × AreNearParts next

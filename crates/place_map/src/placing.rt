@@ -4,7 +4,7 @@ ghost use Rattle.std.specs.Prelude.{◌≡◌, IfOk};
 ghost use Rattle.fragment_types.specs.Fragment.{Pieces, before, kind_of, piece_of, pieces_of};
 ghost use Rattle.fragment_types.specs.declared.fragment.Fragment.{out-Fragment};
 ghost use Rattle.place_map.specs.Frame.{of_view};
-ghost use Rattle.place_map.specs.Near.{AreNear};
+ghost use Rattle.place_map.specs.Near.{AreNear, AreNearParts};
 ghost use Rattle.place_map.specs.Placed.{before as part_before, parts_of, placed_of};
 ghost use Rattle.place_map.specs.Placing as rule;
 
@@ -16,10 +16,11 @@ use wm_units::View;
 
 /// Carries a tree of fragments to the page, from the view down: each box by the mode and the used direction of its containing
 /// block; what stands in a line from line-left and line-over. All rectangles, of the flow and of the page, and their content
-/// areas lie within 2^60 units of 0. Takes memory for the tree.
+/// areas lie within 2^60 units of 0, and so do all rectangles of the page that it gives. Takes memory for the tree.
 pub fn place(alloc: Global, root: &Fragment, view: View) -> Result<Placed, AllocError>
     requires near { AreNear (of_view view (kind_of (out-Fragment root.now).kind)) (piece_of root.now) }
-    ensures { IfOk result (λ made. placed_of made ≡ rule.place view (piece_of root.now)) }
+    ensures page { IfOk result (λ made. placed_of made ≡ rule.place view (piece_of root.now)) }
+    ensures near { IfOk result (λ made. AreNearParts (placed_of made).parts) }
 {
     let frame = Frame::of_view(view, &root.kind);
     let root = placed_part(alloc, frame, root)?;
