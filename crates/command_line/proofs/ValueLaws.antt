@@ -1,6 +1,6 @@
 -- Texts are read as the values that they spell.
 use Rattle.std.proofs.Common.{◌≡◌, refl, sym, ap, ◌∙◌, subst, arith, ℕ, ◌≤◌, Bool, true, false, cond, ◌&&◌, nat_le, List, [], ◌∷◌, length, append-nil, ne_eqb, ℤ, Option, Some, None, option_map, Ok, Err, codes}
-use Rattle.std.specs.Prelude.{bytes_eq, slice_get}
+use Rattle.std.specs.Prelude.{bytes_eq, find, slice_get, ⊤}
 use Rattle.std.specs.Char.{IsAsciiDigit}
 use Rattle.std.proofs.lemmas.Slice.Eq.{bytes_eq-Decides}
 use Rattle.clap.specs.Walk.{Text}
@@ -9,6 +9,7 @@ use Rattle.reading.specs.Decimals.{number, IsDecimal}
 use Rattle.reading.proofs.DecimalLaws.{decimal_spells}
 use Rattle.command_line.specs.declared.job.Command.{Command}
 use Rattle.command_line.specs.declared.job.Command.TheVariants.{Layout, Edit, Gen}
+use Rattle.command_line.specs.declared.values.TheConstants.{COMMANDS}
 use Rattle.command_line.specs.Command.{IsNumberTo, IsValue, IsViewSize, command_name, px}
 use Rattle.command_line.specs.Reading.{command_of, number_read, number_to, size_of, value_or, within}
 use Rattle.command_line.proofs.Looking.{Looks, bare, no_hyphen}
@@ -78,21 +79,25 @@ name_bare Layout = no_hyphen _ _ refl
 name_bare Edit = no_hyphen _ _ refl
 name_bare Gen = no_hyphen _ _ refl
 
-pub name_takes : (text : Text) (c : Command) → command_of text ≡ Some c → text ≡ command_name c
-name_takes text c e = go (bytes_eq text (codes "layout")) refl (bytes_eq text (codes "edit")) refl (bytes_eq text (codes "gen")) refl
-  where
-    is : (a b d : Bool) → bytes_eq text (codes "layout") ≡ a → bytes_eq text (codes "edit") ≡ b → bytes_eq text (codes "gen") ≡ d
-        → cond a (Some Layout) (cond b (Some Edit) (cond d (Some Gen) None)) ≡ Some c
-    is a b d ea eb ed =
-        sym (ap (λ a. cond a (Some Layout) (cond (bytes_eq text (codes "edit")) (Some Edit) (cond (bytes_eq text (codes "gen")) (Some Gen) None))) ea
-        ∙ ap (λ b. cond a (Some Layout) (cond b (Some Edit) (cond (bytes_eq text (codes "gen")) (Some Gen) None))) eb
-        ∙ ap (λ d. cond a (Some Layout) (cond b (Some Edit) (cond d (Some Gen) None))) ed) ∙ e
+-- rows of a table by their words and their commands
+module _ {Row : Type 0} (word : Row → Text) (command : Row → Command) where
+  -- each row has the word of its command
+  abbrev AreNamed : List Row → Type 0
+  AreNamed [] = ⊤
+  AreNamed (row ∷ rows) = (word row ≡ command_name (command row)) × AreNamed rows
 
-    go : (a : Bool) → bytes_eq text (codes "layout") ≡ a → (b : Bool) → bytes_eq text (codes "edit") ≡ b → (d : Bool) → bytes_eq text (codes "gen") ≡ d → text ≡ command_name c
-    go true ea b eb d ed = (bytes_eq-Decides text (codes "layout")).0 ea ∙ ap command_name (same_some Layout c (is true b d ea eb ed))
-    go false ea true eb d ed = (bytes_eq-Decides text (codes "edit")).0 eb ∙ ap command_name (same_some Edit c (is false true d ea eb ed))
-    go false ea false eb true ed = (bytes_eq-Decides text (codes "gen")).0 ed ∙ ap command_name (same_some Gen c (is false false true ea eb ed))
-    go false ea false eb false ed = let bad : None ≡ Some c = is false false false ea eb ed in absurd (cc)
+  found_is_named : (rows : List Row) → AreNamed rows → (text : Text) (c : Command) → option_map command (find (λ row. bytes_eq (word row) text) rows) ≡ Some c → text ≡ command_name c
+  found_is_named [] named text c e = let bad : None ≡ Some c = e in absurd (cc)
+  found_is_named (row ∷ rows) named text c e = go (bytes_eq (word row) text) refl (found_is_named rows named.1 text c) where
+    by_test : (b : Bool) → bytes_eq (word row) text ≡ b → option_map command (cond b (Some row) (find (λ r. bytes_eq (word r) text) rows)) ≡ Some c
+    by_test b is = sym (ap (λ (b : Bool). option_map command (cond b (Some row) (find (λ r. bytes_eq (word r) text) rows))) is) ∙ e
+
+    go : (b : Bool) → bytes_eq (word row) text ≡ b → (option_map command (find (λ r. bytes_eq (word r) text) rows) ≡ Some c → text ≡ command_name c) → text ≡ command_name c
+    go true is others = sym ((bytes_eq-Decides (word row) text).0 is) ∙ named.0 ∙ ap command_name (same_some _ _ (by_test true is))
+    go false is others = others (by_test false is)
+
+pub name_takes : (text : Text) (c : Command) → command_of text ≡ Some c → text ≡ command_name c
+name_takes text c e = found_is_named (λ row. row.0.now) (λ row. row.1) COMMANDS (refl, (refl, (refl, tt))) text c e
 
 -- ---- options
 

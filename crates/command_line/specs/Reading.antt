@@ -1,13 +1,14 @@
 -- The words of a command line as they are read: by the kit's `clap`, whose function of the words is
 -- `fault_of` and `matches_of`, and then text by text, with a function here for each of the code.
-use Rattle.std.specs.Prelude.{ℕ, ◌==◌, ◌&&◌, true, nat_le, length, if◌then◌else◌, List, [], ◌∷◌, codes, ℤ, Option, Some, None, option_map, option_and_then, Ok, Err, bytes_eq}
+use Rattle.std.specs.Prelude.{ℕ, ◌==◌, ◌&&◌, true, nat_le, length, if◌then◌else◌, List, [], ◌∷◌, codes, ℤ, Option, Some, None, option_map, option_and_then, Ok, Err, bytes_eq, find}
 use Rattle.std.specs.Borrow.{Bor}
+use denote.Bor as borrowed
 use Rattle.clap.specs.Words.{App, Row, Rule, fault_of, first_of, matches_of, new_app, new_rule, with_rule}
 use Rattle.clap.specs.Simple.{new_shape}
 use Rattle.reading.specs.Readers.{Read}
 use Rattle.reading.specs.Decimals.{number}
 use Rattle.command_line.specs.declared.job.Command.{Command}
-use Rattle.command_line.specs.declared.job.Command.TheVariants.{Layout, Edit, Gen}
+use Rattle.command_line.specs.declared.values.TheConstants.{COMMANDS}
 use Rattle.command_line.specs.declared.job.Job.{Job}
 use Rattle.command_line.specs.Command.{px}
 
@@ -28,10 +29,13 @@ command_line = with_rule (with_rule (with_rule (with_rule without_rules
 
 -- ---- texts
 
+-- the command of the row that has this word
+abbrev pub command_in : List (borrowed.Bor (List ℕ) × Command) → List ℕ → Option Command
+command_in table name = option_map (λ row. row.1) (find (λ row. bytes_eq row.0.now name) table)
+
+-- the command of the row of the code's table that has this word
 abbrev pub command_of : List ℕ → Option Command
-command_of name = if bytes_eq name (codes "layout") then Some Layout
-    else (if bytes_eq name (codes "edit") then Some Edit
-    else (if bytes_eq name (codes "gen") then Some Gen else None))
+command_of name = option_map (λ row. row.1) (find (λ row. bytes_eq row.0.now name) COMMANDS)
 
 -- a number with nothing behind it
 abbrev pub within : (most number : ℕ) → List ℕ → Option ℕ

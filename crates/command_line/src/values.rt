@@ -1,12 +1,19 @@
 //! What the texts of a command line stand for.
 
-ghost use Rattle.std.specs.Prelude.{◌≡◌, ◌*◌, ◌≤◌, pos};
+ghost use Rattle.std.specs.Prelude.{◌≡◌, ◌*◌, ◌≤◌, bytes_eq, pos};
 ghost use Rattle.wm_units.specs.Numbers as numbers;
 ghost use Rattle.command_line.specs.Reading as readings;
 
 use crate::job::Command;
 use reading::decimal;
 use wm_units::fixed;
+
+/// The commands with their words.
+pub(crate) static COMMANDS: [(&str, Command); 3] = [
+    ("layout", Command::Layout),
+    ("edit", Command::Edit),
+    ("gen", Command::Gen),
+];
 
 /// The greatest size of the view on either axis, in pixels.
 const MOST_PIXELS: u32 = 16_384;
@@ -34,12 +41,19 @@ pub(crate) fn command_of(name: Option<&str>) -> Option<Command>
 fn command_named(name: &str) -> Option<Command>
     ensures { result ≡ readings.command_of name.now }
 {
-    match name {
-        "layout" => Some(Command::Layout),
-        "edit" => Some(Command::Edit),
-        "gen" => Some(Command::Gen),
-        _ => None,
-    }
+    command_in(&COMMANDS, name)
+}
+
+// The command of the row that has this word.
+fn command_in(table: &[(&str, Command)], name: &str) -> Option<Command>
+    ensures { result ≡ readings.command_in table.now name.now }
+{
+    let row = table.iter().find(
+        |row| -> bool
+            ensures { result ≡ bytes_eq row.now.now.0.now name.entry.now }
+        { row.0 == name },
+    )?;
+    Some(row.1)
 }
 
 /// The view's size on the root's inline axis, in units of 1/64 px.
