@@ -13,14 +13,14 @@ use reading::{same_name, strip};
 use std::alloc::Global;
 
 /// A bracket that is open.
-#[derive(Clone, Copy, Debug)]
+#[derive(Clone, Copy)]
 pub(crate) enum Bracket {
     Round,
     Square,
 }
 
 /// What is read of a value so far.
-#[derive(Debug, Drop)]
+#[derive(Drop)]
 pub(crate) struct Begun<'a> {
     /// The brackets that are open, the innermost last.
     pub brackets: Vec<Bracket>,

@@ -12,7 +12,7 @@ use css_tokens::Token;
 use css_types::{LINES, Value, WIDTHS};
 
 /// What is given.
-#[derive(Clone, Copy, Debug)]
+#[derive(Clone, Copy)]
 pub(crate) struct Found {
     pub width: Option<Value>,
     pub style: Option<Value>,

@@ -19,15 +19,15 @@ use crate::refused::is_unsupported;
 use crate::value::{Written, value};
 use crate::within::Within;
 use css_tokens::{gap, name, name_ahead};
+use css_types::Declarations;
 use reading::{starts, strip};
 use std::alloc::Global;
-use css_types::Declarations;
 
 /// The greatest count of declarations in the rules of a document's sheets, each counted for each selector.
 const MOST_DECLARATIONS: usize = 65_536;
 
 /// A declaration as it stands, and the text from its name on.
-#[derive(Debug, Drop)]
+#[derive(Drop)]
 pub(crate) struct Stated<'a> {
     pub name: &'a str,
     pub value: Written<'a>,

@@ -7,8 +7,8 @@ ghost use Rattle.css_values.specs.Family.{first_of, found_behind};
 ghost use Rattle.css_values.specs.Views.{lexemes_of};
 
 use css_tokens::Token;
-use reading::strip_either_case;
 use css_types::Value;
+use reading::strip_either_case;
 
 /// The first face among names and strings with commas between them, and face 0 where there is none.
 #[tactic(auto, using(crate::proofs::Families::starts, crate::proofs::Families::goes_on, crate::proofs::Families::stops, crate::proofs::Families::ends_behind, crate::proofs::Families::ends_before))]

@@ -13,12 +13,14 @@ use crate::error::Stop;
 use crate::longhand::longhand;
 use crate::shorthand::declare_shorthand;
 use css_tokens::Token;
+use css_types::{
+    Declaration, Declarations, PROPERTIES, Property, PropertyRow, SHORTHANDS, Shorthand, Value,
+};
 use reading::{named, same_name};
 use std::alloc::Global;
-use css_types::{Declaration, Declarations, PROPERTIES, Property, PropertyRow, SHORTHANDS, Shorthand, Value};
 
 /// What a name stands for.
-#[derive(Clone, Copy, Debug)]
+#[derive(Clone, Copy)]
 pub(crate) enum Meaning {
     Property(PropertyRow),
     Shorthand(Shorthand),
@@ -26,7 +28,7 @@ pub(crate) enum Meaning {
 }
 
 /// How a declaration declares: whether it is `!important`, and the place of its name.
-#[derive(Clone, Copy, Debug)]
+#[derive(Clone, Copy)]
 pub(crate) struct Manner {
     pub important: bool,
     pub place: usize,

@@ -8,8 +8,8 @@ ghost use Rattle.css_values.specs.Views.{lexemes_of};
 use crate::family::family;
 use crate::words::{is_one_of, is_word_alone};
 use css_tokens::Token;
-use reading::{named, same_name};
 use css_types::{Keywords, More, PropertyRow, Range, Value, Values, WIDTH_NAMES, WORDS};
+use reading::{named, same_name};
 
 /// The value of a longhand, if the tokens are one.
 #[tactic(auto, unfolding(crate::specs::Longhand::longhand))]

@@ -8,8 +8,8 @@ use crate::judging::Meaning;
 use crate::names::RESETS;
 use crate::words::{begins_so, is_one_alone, is_one_of, is_word_alone};
 use css_tokens::Token;
-use reading::{same_name, starts};
 use css_types::{REFUSALS, Refused};
+use reading::{same_name, starts};
 
 /// Is a declaration of this name and value unsupported? `has_var` says whether `var(` stands in the value.
 #[tactic(auto, unfolding(crate::specs::Judging::is_unsupported, crate::specs::Judging::is_refused, crate::specs::Tables::refusals))]

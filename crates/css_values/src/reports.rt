@@ -15,9 +15,9 @@ use crate::refused::is_unsupported;
 use crate::value::Written;
 use crate::within::Within;
 use css_tokens::gap;
+use css_types::Declarations;
 use reading::{starts, strip};
 use std::alloc::Global;
-use css_types::Declarations;
 
 /// What becomes of a declaration once it is wholly read (CSS 2, 4.2).
 #[derive(Clone, Copy, Debug, Drop, PartialEq, Eq)]

@@ -12,8 +12,8 @@ use crate::judging::{Manner, put};
 use crate::longhand::single;
 use crate::words::is_word_alone;
 use css_tokens::Token;
-use std::alloc::Global;
 use css_types::{Declarations, Longhands, Shorthand, Value, Values};
+use std::alloc::Global;
 
 /// Puts the longhands that a shorthand declares behind the others; none where the value isn't one of it.
 #[tactic(auto, unfolding(crate::specs::Shorthand::shorthand))]

@@ -16,7 +16,7 @@ use reading::same_name;
 use std::alloc::Global;
 
 /// A value as it is written.
-#[derive(Debug, Drop)]
+#[derive(Drop)]
 pub(crate) struct Written<'a> {
     /// Its tokens outside brackets, without `!important`; of a bracket the token that opens it alone.
     pub tokens: Vec<Token<'a>>,
