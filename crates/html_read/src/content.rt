@@ -17,14 +17,14 @@ use reading::{Stop, starts, strip};
 use std::alloc::Global;
 
 /// Where the outermost items stand: in `body`, up to its end tag, or in nothing, up to the end of the text.
-#[derive(Clone, Copy, Debug, PartialEq, Eq)]
+#[derive(Clone, Copy, PartialEq, Eq)]
 pub(crate) enum Base {
     Body,
     Fragment,
 }
 
 /// An element that is open: its name as it is written, and its place in the list of nodes.
-#[derive(Clone, Copy, Debug)]
+#[derive(Clone, Copy)]
 pub(crate) struct Open<'a> {
     name: &'a str,
     number: usize,

@@ -15,7 +15,7 @@ use reading::{Stop, same_name, strip, strip_either_case};
 use std::alloc::Global;
 
 /// An element that begins.
-#[derive(Debug, Drop)]
+#[derive(Drop)]
 pub(crate) struct Start<'a> {
     pub name: &'a str,
     pub tag: Tag,
