@@ -32,7 +32,7 @@ pub fn extents(ascent: u32, descent: u32, style: &Style, baseline: Baseline, rai
 }
 
 // How far text reaches over and under its own baseline.
-#[derive(Clone, Copy, Debug, PartialEq, Eq)]
+#[derive(Clone, Copy, PartialEq, Eq)]
 struct TextExtents {
     over: i64,
     under: i64,

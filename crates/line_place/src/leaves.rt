@@ -14,7 +14,7 @@ use std::alloc::{AllocError, Global};
 
 /// An item of a line: its place in logical order, its level after L1, and whether it is a Space at the end of the line, which
 /// has no extent there and isn't seen.
-#[derive(Clone, Copy, Debug)]
+#[derive(Clone, Copy)]
 pub(crate) struct Leaf<'a> {
     pub(crate) item: &'a LineItem<'a>,
     pub(crate) place: usize,

@@ -13,7 +13,7 @@ use std::alloc::{AllocError, Global};
 
 /// What a line has from line-left: a fragment of an inline box begins or ends, by the place of the box, or leaves stand
 /// there. `edge` says that the fragment is the leftmost one of its box where it begins, and the rightmost one where it ends.
-#[derive(Clone, Copy, Debug)]
+#[derive(Clone, Copy)]
 pub(crate) enum Mark<'a> {
     Begins { place: usize, edge: bool },
     Ends { place: usize, edge: bool },

@@ -25,7 +25,7 @@ use wm_modes::FlowRect;
 
 /// An inline box whose fragment has begun, by its place among the line's boxes: where the fragment begins, and what stands
 /// before it in the box round it.
-#[derive(Debug, Drop)]
+#[derive(Drop)]
 pub(crate) struct Open {
     pub(crate) place: usize,
     pub(crate) left: i64,
@@ -33,7 +33,7 @@ pub(crate) struct Open {
 }
 
 /// How far the walk has come along the line, the boxes that are open there, and what stands in the innermost one.
-#[derive(Debug, Drop)]
+#[derive(Drop)]
 pub(crate) struct Walk {
     pub(crate) at: i64,
     pub(crate) opened: Vec<Open>,
@@ -41,7 +41,7 @@ pub(crate) struct Walk {
 }
 
 // The text node of a run, its form, and its natural width where it is combined.
-#[derive(Clone, Copy, Debug)]
+#[derive(Clone, Copy)]
 struct TextName {
     node: u32,
     form: UnitKind,
@@ -50,7 +50,7 @@ struct TextName {
 
 // Where an atom stands in its margin box: its margins at line-left and line-over, and how far its margin box reaches over the
 // baseline.
-#[derive(Clone, Copy, Debug)]
+#[derive(Clone, Copy)]
 struct AtomMargins {
     left: i64,
     over: i64,
