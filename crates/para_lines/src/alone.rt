@@ -23,7 +23,7 @@ use para_prepare::PreparedContent;
 use std::alloc::{AllocError, Global};
 
 /// Items of such a paragraph, from which lines are filled: no box begins before one or ends behind it.
-#[derive(Clone, Copy, Debug)]
+#[derive(Clone, Copy)]
 pub(crate) struct Alone<'a> {
     pub(crate) standings: &'a [Standing<'a>],
 }

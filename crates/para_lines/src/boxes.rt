@@ -12,7 +12,7 @@ use std::alloc::{AllocError, Global};
 use style_types::Style;
 
 /// What stands round an item of a paragraph.
-#[derive(Clone, Copy, Debug)]
+#[derive(Clone, Copy)]
 pub(crate) struct Round {
     /// The innermost inline box, by the place of its beginning.
     pub(crate) inside: Option<usize>,
@@ -21,7 +21,7 @@ pub(crate) struct Round {
 }
 
 /// Where an inline box ends, and whether it has its inline-end edges there.
-#[derive(Clone, Copy, Debug)]
+#[derive(Clone, Copy)]
 pub(crate) struct BoxEnd {
     pub(crate) place: usize,
     pub(crate) closes: bool,
@@ -31,7 +31,7 @@ pub(crate) struct BoxEnd {
 type BoxEnds = Vec<BoxEnd>;
 
 /// An inline box where it begins: its node and style, and whether it has edges there and at its end.
-#[derive(Clone, Copy, Debug)]
+#[derive(Clone, Copy)]
 pub(crate) struct Beginning {
     pub(crate) node: u32,
     pub(crate) style: Style,
@@ -40,7 +40,7 @@ pub(crate) struct Beginning {
 }
 
 /// What stands round each item of a paragraph, and where the box ends that begins there.
-#[derive(Debug, Drop)]
+#[derive(Drop)]
 pub(crate) struct Boxes<'a> {
     pub(crate) items: &'a [Item],
     pub(crate) rounds: Vec<Round>,

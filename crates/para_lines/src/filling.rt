@@ -19,7 +19,7 @@ use std::alloc::{AllocError, Global};
 use wm_modes::FlowSide;
 
 /// The two ends of an inline box.
-#[derive(Clone, Copy, Debug, PartialEq, Eq)]
+#[derive(Clone, Copy, PartialEq, Eq)]
 pub(crate) enum BoxSide {
     Start,
     End,

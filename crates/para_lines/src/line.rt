@@ -79,14 +79,14 @@ fn add_reversed(places: &mut Places, fresh: &[usize]) -> Result<(), AllocError>
 }
 
 /// The boxes of a line, and a table by box of their places in this list.
-#[derive(Clone, Copy, Debug)]
+#[derive(Clone, Copy)]
 pub(crate) struct Seated<'a> {
     pub(crate) places: &'a [usize],
     pub(crate) seats: &'a [usize],
 }
 
 /// What the items on both sides of a line come from.
-#[derive(Clone, Copy, Debug)]
+#[derive(Clone, Copy)]
 pub(crate) struct Sides {
     pub(crate) before: Option<usize>,
     pub(crate) after: Option<usize>,

@@ -241,7 +241,7 @@ fn stacked(
 }
 
 // Lines one under the other.
-#[derive(Debug, Drop)]
+#[derive(Drop)]
 struct LineStack {
     // A table by box for the use of each line.
     seats: Places,

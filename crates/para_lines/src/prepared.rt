@@ -9,7 +9,7 @@ use wm_chars::BidiClass;
 
 /// The items of a prepared paragraph, and for each its level, its class for L1 of UAX 9, the base level of its bidi paragraph
 /// and whether a line may end behind it.
-#[derive(Clone, Copy, Debug)]
+#[derive(Clone, Copy)]
 pub(crate) struct PreparedLists<'a> {
     pub(crate) items: &'a [PreparedItem],
     pub(crate) levels: &'a [u8],

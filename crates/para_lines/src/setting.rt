@@ -28,7 +28,7 @@ use std::alloc::{AllocError, Global};
 use std::rc::Rc;
 
 /// What all lines of a paragraph are made from: its boxes, its container, and all its items.
-#[derive(Clone, Copy, Debug)]
+#[derive(Clone, Copy)]
 pub(crate) struct Setting<'a> {
     pub(crate) boxes: &'a Boxes<'a>,
     pub(crate) container: &'a Container,

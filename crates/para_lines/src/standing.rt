@@ -26,7 +26,7 @@ use std::alloc::{AllocError, Global};
 use wm_chars::BidiClass;
 
 /// An item of a paragraph on its way to a line: all that is prepared of it, its extent along the line, and the atoms from it on.
-#[derive(Clone, Copy, Debug)]
+#[derive(Clone, Copy)]
 pub(crate) struct Standing<'a> {
     pub(crate) item: &'a PreparedItem,
     pub(crate) level: u8,

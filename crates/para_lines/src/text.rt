@@ -27,14 +27,14 @@ use std::alloc::{AllocError, Global};
 use std::rc::Rc;
 
 /// The text node and the form of units.
-#[derive(Clone, Copy, Debug)]
+#[derive(Clone, Copy)]
 pub(crate) struct TextName {
     pub(crate) node: u32,
     pub(crate) form: UnitKind,
 }
 
 /// The text of a line: how many of its items stand before the Spaces at its end.
-#[derive(Clone, Copy, Debug)]
+#[derive(Clone, Copy)]
 pub(crate) struct Text {
     pub(crate) name: TextName,
     pub(crate) count: usize,
