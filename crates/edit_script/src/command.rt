@@ -10,7 +10,7 @@ ghost use Rattle.edit_script.specs.Views.{command_of};
 use reading::{decimal, strip};
 
 /// The word with which a line begins.
-#[derive(Clone, Copy, Debug, PartialEq, Eq)]
+#[derive(Clone, Copy, PartialEq, Eq)]
 pub(crate) enum Word {
     Text,
     Style,
@@ -33,7 +33,7 @@ pub(crate) static WORDS: [(&str, Word); 7] = [
 ];
 
 /// What the words of a line say; `rest` is all that stands behind them.
-#[derive(Clone, Copy, Debug, Drop)]
+#[derive(Clone, Copy, Drop)]
 pub(crate) enum Command<'a> {
     Text {
         node: u32,

@@ -58,7 +58,7 @@ pub enum ScriptError {
 }
 
 /// Why a line was not read.
-#[derive(Clone, Copy, Debug, Drop)]
+#[derive(Clone, Copy, Drop)]
 pub(crate) enum Halt {
     Refused(Refusal),
     Memory,

@@ -23,7 +23,7 @@ const MOST_EDITS: u32 = 10_000;
 const MOST_SHOWS: u32 = 64;
 
 /// What is read so far, and what is counted: lines, edits, and listed pages.
-#[derive(Debug, Drop)]
+#[derive(Drop)]
 struct Begun {
     said: Script,
     lines: usize,
