@@ -122,10 +122,6 @@ all_below n places perm = All-permutation (λ p. p < n) (range_with_len 0 n) pla
 pub all_there : (n : ℕ) (places : List ℕ) → IsPermutation (range_with_len 0 n) places → length places ≡ n
 all_there n places perm = length_permutation (range_with_len 0 n) places perm ∙ length-range_with_len 0 n
 
-pub reversals_more : (levels : List ℕ) (least m n : ℕ) (places places' : List ℕ) → m + 1 ≡ n → places' ≡ reverse_runs (λ p. leb (least + m) (slice_index levels p)) [] places
-    → reversals levels least m places' ≡ reversals levels least n places
-reversals_more levels least m n places places' e f = rw (← e, add-one, f) refl
-
 -- ---- a part of one place at most
 
 short_reverse : (n : ℕ) (xs : List ℕ) → n ≤ 1 → reverse (take n xs) ≡ take n xs

@@ -49,7 +49,3 @@ and_then_assoc a b c =
 
 pub and_then_nothing : (a : Run) → and_then a no_run ≡ a
 and_then_nothing a = run_is _ _ _ _ _ _ (append-nil a.items) (join_none a.atoms) (and_true a.blank)
-
-pub nothing_and_then : (a : Run) → and_then no_run a ≡ a
-unfolding join
-nothing_and_then a = refl

@@ -22,7 +22,3 @@ listed_each mode dir list best are [] = refl
 listed_each mode dir list best are (row ∷ table) =
     ap (λ (b : Option Claim). cons_option (paired row.property (option_map (λ claim. claim.value) b)) (listed_of best table)) (are row.property)
     ∙ ap (cons_option (paired row.property (winner mode dir list row.property))) (listed_each mode dir list best are table)
-
-pub listed_are : (mode : WritingMode) (dir : Direction) (list : List Claim) (best : List (Option Claim)) → AreBest mode dir list best
-    → listed_of best rows ≡ winners_by mode dir list
-listed_are mode dir list best are = listed_each mode dir list best are rows

@@ -96,13 +96,6 @@ each_same one other (name ∷ names) same = rw (same name, each_same one other n
 
 -- ---- the set of a node of the line
 
-pub set_is_of : (sets : ClassSets) (height : ℕ) (found : Option (Bor ClassSet)) (what : What) (tag : Tag) (id : Option (List ℕ)) (classes : List (List ℕ)) (dir : Option Direction) (own : List Declaration)
-    → option_map (λ set. set.now) found ≡ set_at sets height → what ≡ element tag id classes dir own → AreClasses (set_at sets height) what
-    → IfSome found (λ set. (class : List ℕ) → is_in set.now class ≡ has_class classes class)
-set_is_of sets height None what tag id classes dir own is named are = tt
-set_is_of sets height (Some set) what tag id classes dir own is named are =
-    subst (λ (s : Option ClassSet). AreClasses s (element tag id classes dir own)) (sym is) (subst (λ (w : What). AreClasses (set_at sets height) w) named are)
-
 -- ---- the line that is kept
 
 pub further_are_of : (sets : ClassSets) (nodes : List (Bor Node)) (start : ℕ) → AreOf sets (drop start nodes) → AreOf sets (drop (start + 1) nodes)

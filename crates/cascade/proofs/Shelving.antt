@@ -152,10 +152,6 @@ heading_by_other of_ids of_classes part other ids classes ids_of_part no_id of_p
 
 -- ---- and of a selector
 
-pub heading_of_parts : (parts : List Part) (last : Part) → 1 ≤ length parts → last ≡ get_or parts (length parts - 1) last
-    → heading_from_right (compound_of last ∷ from_right (take (length parts - 1) parts)) ≡ heading (compounds_of parts)
-heading_of_parts parts last le is = sym (ap heading_from_right (ends_in parts last le is))
-
 pub heading_of_none : (parts : List Part) → length parts < 1 → of_any ≡ heading (compounds_of parts)
 heading_of_none parts lt = ap (λ (l : List Part). heading (compounds_of l)) (sym (no_parts parts lt))
 
@@ -175,9 +171,6 @@ is_there places place = Contains-from_any eqb-true place places
 
 pub is_found : (places : List ℕ) (place : ℕ) → Contains places place → list_any (nat_eq place) places ≡ true
 is_found places place = list_any-from_Contains nat_eq_equiv place places
-
-pub none_shelved : (shelves : Shelves) (rules : List Rule) → AreShelved shelves rules 0
-none_shelved shelves rules = record { each = λ place d lt. absurd (omega arith) }
 
 one_more : (old new : Shelves) (rules : List Rule) (rule : Rule) (count place : ℕ) (d : Rule) → count < length rules → rule ≡ get_or rules count rule → IsPut old new (heading (selector_of rule.selector)) count → AreShelved old rules count
     → (place < count) ⊎ (place ≡ count) → list_any (nat_eq place) (shelf new (heading (selector_of (get_or rules place d).selector))) ≡ true

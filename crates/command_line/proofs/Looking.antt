@@ -59,9 +59,6 @@ fault_as (named n v) h = option_fault rules false (rule (kind_of n)) v h
 fault_as bad h = kind.UnknownArgument ∷ []
 fault_as bare h = []
 
-abbrev pub Meets : Class → Text → Type 0
-Meets c w = (waiting : Waiting) (position : ℕ) (h : Held) → word_met rules [] false waiting position w h ≡ met_as c waiting position w h
-
 abbrev pub Fails : Class → Text → Type 0
 Fails c w = (waiting : Waiting) (rows : _) (pending : Pending) → word_fault top [] false waiting w (held rows pending) ≡ fault_as c (held rows pending)
 

@@ -20,11 +20,6 @@ pub refuses : (old : State) (edit : EditOf) (error : EditError) (answer : Result
 refuses old edit error (Ok change) is some = absurd is
 refuses old edit error (Err e) is some = (inr (ap (λ (r : Option EditError). unless r (after old edit) (concerned old edit)) (sym some) ∙ ap refused (sym is)), refl)
 
--- nor does one for which memory doesn't suffice
-pub runs_out : (old : State) (edit : EditOf) (answer : Result Change EditError) → IsErrAnd answer (λ e. e ≡ Memory) → Applies old old edit answer
-runs_out old edit (Ok change) is = absurd is
-runs_out old edit (Err e) is = (inl is, refl)
-
 -- the same, where a document was changed in memory alone
 pub runs_out_same : (old new : State) (edit : EditOf) (answer : Result Change EditError) → IsErrAnd answer (λ e. e ≡ Memory) → new ≡ old → Applies old new edit answer
 runs_out_same old new edit (Ok change) is same = absurd is

@@ -147,8 +147,3 @@ given_back old new first filled next = are_equal _ _ (record {
   ];
   next = next;
 })
-
--- the children but for one, where there is a node
-pub others_if : (state : State) (parent child : ℕ) (children others : List ℕ) → children ≡ children_at state parent → others ≡ without child children
-    → changed state parent (with_children (λ before. others)) ≡ changed state parent (with_children (without child))
-others_if state parent child children others are is = put_as_changed state parent others (without child) (is ∙ ap (without child) are)

@@ -65,16 +65,6 @@ module _ (above : ℕ) (nodes : List Node) (before : List ℕ) (shallow : All (�
   pub finds_none : depths_from before [] ≡ depths nodes → FindsTooDeep above nodes None
   finds_none same = subst (λ (known : List ℕ). All (λ depth. above + depth ≤ greatest_depth) known) (sym (all_known before) ∙ same) shallow
 
--- what is found is refused
-pub judges_found : (nodes : List Node) (place : ℕ) → FindsTooDeep 0 nodes (Some place) → JudgesDepths nodes (Err (TooDeep place))
-judges_found nodes place (depth, at, deep, earlier) = (
-  (depth, at, omega (arith, deep)),
-  λ other too. elim (cases_lt other place) [
-    | inl before ↦ absurd (let limit = earlier other too.0 before too.1 in let past = too.2 in omega (arith, limit, past))
-    | inr later ↦ later
-  ],
-)
-
 -- ---- the first of a list
 
 module _ {X : Type 0} (test : X → Bool) where

@@ -33,10 +33,6 @@ judged reason error (Ok value) is judges = absurd is
 judged reason error (Err e) is (inl memory) = inl (is ∙ memory)
 judged reason error (Err e) is (inr some) = inr (rw is some)
 
--- the index is above the count
-pub bad_first : (index : ℕ) (children : List ℕ) (after : List (Option EditError)) → length children < index → first_of (bad_index index children ∷ after) ≡ Some BadIndex
-bad_first index children after past = rw (lt-ltb (length children) index past) refl
-
 pub good_first : (index : ℕ) (children : List ℕ) (after : List (Option EditError)) → index ≤ length children → first_of (bad_index index children ∷ after) ≡ first_of after
 good_first index children after within = rw (le-ltb (length children) index within) refl
 

@@ -32,9 +32,3 @@ pub levels_at : (skipped levels : ℕ) (state : State) (number : ℕ) → 0 < le
     → below_levels skipped levels state number ≡ unless_skipped skipped number ++ flat_map (below_levels (skipped - 1) (levels - 1) state) (children_at state number)
 unfolding below_levels
 levels_at skipped levels state number some = ap (λ (l : ℕ). below_levels skipped l state number) (one_less levels some)
-
--- one list more
-pub flat_more : (f : ℕ → List ℕ) (numbers : List ℕ) (at number : ℕ) → at < length numbers → number ≡ get_or numbers at number → flat_map f (take (at + 1) numbers) ≡ flat_map f (take at numbers) ++ f number
-flat_more f numbers at number within is =
-    ap (flat_map f) (take_more numbers at number within ∙ ap (λ (n : ℕ). take at numbers ++ n ∷ []) (sym is))
-    ∙ (flat_map-append f (take at numbers) (number ∷ []) ∙ ap (λ (l : List ℕ). flat_map f (take at numbers) ++ l) (append-nil (f number)))

@@ -87,18 +87,6 @@ front_of_longer old new piece after written =
       },
     )
 
--- a whole piece, and then a front of the next one
-pub front_after_whole : (old mid new : Option (List ℕ)) (piece next : List ℕ) → Appends old mid piece → AppendsFront mid new next → AppendsFront old new (piece ++ next)
-front_after_whole old mid new piece next whole written =
-    let so_far = written.1 in (
-      written.0,
-      record {
-        front = piece ++ so_far.front;
-        appended = Appends-trans old mid new piece so_far.front whole so_far.appended;
-        whole = ap (λ l. piece ++ l) so_far.whole ∙ sym (append_assoc piece so_far.front written.0);
-      },
-    )
-
 -- ---- pieces that wait
 
 -- more is put behind what waits

@@ -93,11 +93,6 @@ pub record Seeks (available : ℤ) (items : List FillItem) (from q : ℕ) : Type
   pub on : q < length items → line_end available items from ≡ best (fits available items from) (ends items q)
   pub out : length items ≤ q → line_end available items from ≡ length items
 
-pub seeks_first : (available : ℤ) (items : List FillItem) (from : ℕ) → from < length items → Seeks available items from from
-seeks_first available items from inside = record { on = λ h. refl; out = λ h. absurd (past h inside) } where
-  past : length items ≤ from → from < length items → ⊥
-  past h k = omega arith
-
 -- what stands behind an item tells which ends follow
 break_with : (items : List FillItem) (q : ℕ) (d : FillItem) → q < length items → break_at items q ≡ break_before (drop (q + 1) items) (get_or items q d).end
 break_with items q d inside = let m = drop_more items q d inside in rw m refl

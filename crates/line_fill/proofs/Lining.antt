@@ -55,13 +55,3 @@ filled_on available items ends more from end d inside is later within pushed fil
           ∙ (ap (λ n. ends ++ n ∷ lines_by (line_end available items) n 0 (drop n items)) is ∙ (ap (λ rest. ends ++ rest) (sym m) ∙ filled.lines));
       divide = divide_more 0 from end ends filled.divide later;
     })
-
-pub filled_lines : (available : ℤ) (items : List FillItem) (ends : List ℕ) (from : ℕ) → length items ≤ from → Filled available items ends from → ends ≡ lines available items
-filled_lines available items ends from past filled =
-    let none = drop_all from items past in
-    sym (append-nil ends) ∙ (ap (λ rest. ends ++ lines_by (line_end available items) from 0 rest) (sym none) ∙ filled.lines)
-
-pub filled_divide : (available : ℤ) (items : List FillItem) (ends : List ℕ) (from : ℕ) → length items ≤ from → Filled available items ends from → Divide 0 (length items) ends
-filled_divide available items ends from past filled =
-    let within = filled.within in
-    subst (λ n. Divide 0 n ends) (omega arith) filled.divide

@@ -119,12 +119,6 @@ tells_more items q d ahead inside tells = λ v from order.
         ∙ behind_is next (advances (take (q + 1) items)) (place_before items from) (place_before items (max from (solid (take (q + 1) items)))) (place_before items (max from (solid (take q items)))) v
         (ap (λ n. advances (take n items)) m)
 
--- behind the last item there is nothing
-pub tells_nothing : (items : List FillItem) → Tells items (length items) nothing
-tells_nothing items = λ v from order.
-    let none = drop_all (length items) items (omega arith) in
-    rw none refl
-
 -- what holds of each element, and of one that is put behind them
 each_pushed : (P : ℕ → Ahead → Type 0) (aheads : List Ahead) (ahead : Ahead) → ((k : ℕ) (a : Ahead) → slice_get aheads k ≡ Some a → P k a) → P (length aheads) ahead
     → (k : ℕ) (a : Ahead) → slice_get (aheads ++ ahead ∷ []) k ≡ Some a → P k a
@@ -156,15 +150,6 @@ pub record Known (items : List FillItem) (aheads : List Ahead) (ahead : Ahead) (
   pub tells : Tells items place ahead
   pub near : IsNearAhead ahead
 
-pub known_first : (items : List FillItem) (ahead : Ahead) (aheads : List Ahead) → ahead ≡ nothing → aheads ≡ ahead ∷ [] → Known items aheads ahead (length items)
-known_first items ahead aheads e pushed = rw (pushed, e) (record {
-  inside = omega arith;
-  count = omega arith;
-  each = each_pushed (λ k a. Tells items (length items - k) a × IsNearAhead a) [] nothing (λ k a at. absurd (nowhere k (slice_get_within [] k a at))) (rw (less (length items)) (tells_nothing items), record { spaces = tt; content = tt });
-  tells = tells_nothing items;
-  near = record { spaces = tt; content = tt };
-})
-
 pub known_on : (items : List FillItem) (aheads more : List Ahead) (ahead middle next : Ahead) (place : ℕ) (d : FillItem) (end : Breaking) (e a : ℤ) → 0 < place
     → end ≡ break_at items (place - 1) → e ≡ edges (take place items) → a ≡ advances (take place items)
     → middle ≡ with_end ahead end e → next ≡ behind middle (get_or items (place - 1) d).space a → IsNearAhead next → more ≡ aheads ++ next ∷ []
@@ -188,9 +173,6 @@ known_on items aheads more ahead middle next place d end e a some ends_so edges_
       tells = told;
       near = near;
     })
-
-pub known_all : (items : List FillItem) (aheads : List Ahead) (ahead : Ahead) (place : ℕ) → place ≤ 0 → Known items aheads ahead place → AreAhead items aheads
-known_all items aheads ahead place none known = let c = known.count in record { count = omega arith; each = known.each }
 
 -- the last item ends a line
 pub break_last : (items : List FillItem) (place : ℕ) (d : FillItem) → place < length items → length items ≤ place + 1 → Must ≡ break_at items place

@@ -120,28 +120,6 @@ pub record Widens (cuts : Breaking → Bool) (items : List FillItem) (w : Widest
   pub same : run cuts w (drop i items) ≡ run cuts begun items
   pub near : span_of w + sum_by lengths_of (drop i items) ≤ spread items
 
-pub widens_first : (cuts : Breaking → Bool) (items : List FillItem) (w : Widest) → w ≡ begun → Widens cuts items w 0
-widens_first cuts items w e = rw e (record { same = refl; near = omega (arith, ints) })
-
-pub widens_room : (cuts : Breaking → Bool) (items : List FillItem) (w : Widest) (i : ℕ) (d : FillItem) → i < length items → spread items ≤ 2 ^ 60 → Widens cuts items w i
-    → span_of w + lengths_of (get_or items i d) ≤ 2 ^ 60
-widens_room cuts items w i d inside room widens =
-    let n = widens.near in
-    let m = sum_by-drop_more lengths_of items i d inside in
-    omega arith
-
-pub widens_on : (cuts : Breaking → Bool) (items : List FillItem) (w next : Widest) (i : ℕ) (d : FillItem) (ends : Bool) → i < length items
-    → ends ≡ cuts (get_or items i d).end → next ≡ after w (get_or items i d) ends → span_of next ≤ span_of w + lengths_of (get_or items i d)
-    → Widens cuts items w i → Widens cuts items next (i + 1)
-widens_on cuts items w next i d ends inside e stepped near widens =
-    let n = widens.near in
-    let m = sum_by-drop_more lengths_of items i d inside in
-    let more = drop_more items i d inside in
-    record {
-      same = ap (λ v. run cuts v (drop (i + 1) items)) (stepped ∙ ap (after w (get_or items i d)) e) ∙ (ap (run cuts w) (sym more) ∙ widens.same);
-      near = omega arith;
-    }
-
 pub widens_all : (cuts : Breaking → Bool) (items : List FillItem) (w : Widest) (i : ℕ) (z : ℤ) → length items ≤ i → z ≡ int_max w.most w.width → Widens cuts items w i → z ≡ widest (pieces cuts items)
 widens_all cuts items w i z past e widens =
     let none = drop_all i items past in

@@ -93,10 +93,6 @@ left_step marks k d lt =
     ap (leftmost (take k marks)) (drop_more marks k d lt)
     ∙ ap (λ (before : List Mark). at_left (take k marks) (get_or marks k d) ∷ leftmost before (drop (k + 1) marks)) (sym (take_more marks k d lt))
 
-pub right_step : (marks : List Mark) (k : ℕ) (d : Mark) → k < length marks
-    → rightmost (drop k marks) ≡ at_right (drop (k + 1) marks) (get_or marks k d) ∷ rightmost (drop (k + 1) marks)
-right_step marks k d lt = ap rightmost (drop_more marks k d lt)
-
 -- ---- the same for the code's marks
 
 pub mark_there : (marks : List code.Mark) (k : ℕ) (x : code.Mark) → k < length marks → x ≡ get_or marks k x → get_or (map mark_of marks) k (mark_of x) ≡ mark_of x

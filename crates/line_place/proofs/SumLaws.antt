@@ -39,11 +39,6 @@ pub width_back : (boxes : List LineBox) (marks : List code_mark.Mark) (from : �
     → width boxes (drop (from - 1) (map mark_of marks)) ≡ advance boxes (mark_of x) +ℤ width boxes (drop from (map mark_of marks))
 width_back boxes marks from x some le is = ap (width boxes) (back_of mark_of marks from x some le is)
 
--- one length more, as the code adds it
-pub more_is : (sum more whole all : ℤ) → all ≡ more +ℤ whole → sum ≡ whole → unsigned_abs sum ≤ 2 ^ 61 → unsigned_abs more ≤ 2 ^ 61
-    → to_z w64 (of_z w64 (to_z w64 (of_z w64 sum) +ℤ to_z w64 (of_z w64 more))) ≡ all
-more_is sum more whole all e is h k = omega (arith, ints, e, is)
-
 -- ---- the greatest of a list of lengths
 
 fold_append : (a : ℤ) (xs ys : List ℤ) → fold int_max a (xs ++ ys) ≡ fold int_max (fold int_max a xs) ys

@@ -251,20 +251,6 @@ pub record Ending (entries : List Entry) (place : ℕ) (marks : List BoxEnd) : T
   pub each : (box : ℕ) (d : BoxEnd) → box < length entries → get_or marks box d ≡ rest_from entries box place
   pub within : place ≤ length entries
 
-pub ending_first : (entries : List Entry) (mark : BoxEnd) (marks : List BoxEnd) → marks ≡ replicate (length entries) mark → mark ≡ record { place = length entries; closes = false }
-    → Ending entries (length entries) marks
-ending_first entries mark marks is open_ =
-    let n = count entries in
-    record {
-      count = ap length is ∙ length-replicate (length entries) mark;
-      each = λ box d lt.
-          ap (λ (ms : List BoxEnd). get_or ms box d) is
-          ∙ get_or-replicate (length entries) box mark d lt
-          ∙ open_
-          ∙ sym (ap (λ (es : List Entry). end_from box (length entries) es (drop (length entries) (chains entries))) (drop_all (length entries) entries (omega arith)));
-      within = omega arith;
-    }
-
 ended_there : (box place other : ℕ) (edges : Bool) (marks : List BoxEnd) (d later : BoxEnd) → other < length marks → get_or marks box d ≡ later
     → get_or (set marks other (record { place = place; closes = edges })) box d ≡ cond (other == box) (record { place = place; closes = edges }) later
 ended_there box place other edges marks d later lt is =

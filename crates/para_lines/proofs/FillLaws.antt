@@ -108,10 +108,6 @@ pub edging_stops : (inline : Option ℤ) (entries : List Entry) (side : BoxSide)
 edging_stops inline entries side chain other inside edges box at_ within in_ h =
     h.sum ∙ ap (edges_of inline entries side) (climbing_stops entries chain other inside h.places box at_ within in_ h.climbing)
 
-pub edging_ends : (inline : Option ℤ) (entries : List Entry) (side : BoxSide) (chain other : List ℕ) (inside : Option ℕ) (edges : ℤ) → inside ≡ None
-    → Edging inline entries side chain other inside edges → edges ≡ edges_of inline entries side (apart chain other)
-edging_ends inline entries side chain other inside edges at_ h = h.sum ∙ ap (edges_of inline entries side) (climbing_ends entries chain other inside h.places at_ h.climbing)
-
 -- ---- item by item
 
 first_is : (entries : List Entry) (items : List PreparedItem) → first_chain (map (λ item. chain_at entries item.source) items) ≡ chain_behind entries (first_source items)

@@ -39,55 +39,6 @@ pub record Seating (places seats old : List ℕ) (left : ℕ) : Type 0 where
   pub same : length seats ≡ length old
   pub told : (box : ℕ) → has (drop left places) box ≡ true → (box < length seats) × (get_or seats box 0 ≡ left + place_in (drop left places) box)
 
-pub seating_first : (places old : List ℕ) → Seating places old old (length places)
-seating_first places old =
-    let none : drop (length places) places ≡ [] = drop_all (length places) places (omega arith) in
-    record { within = omega arith; same = refl; told = λ box in_. absurd (let no : false ≡ true = ap (λ (ps : List ℕ). has ps box) (sym none) ∙ in_ in cc) }
-
-pub seating_on : (places seats more old : List ℕ) (left own : ℕ) → 0 < left → All (λ place. place < length old) places → own ≡ get_or places (left - 1) own → more ≡ set seats own (left - 1)
-    → Seating places seats old left → Seating places more old (left - 1)
-seating_on places seats more old left own some within read is h =
-    let w = h.within in
-    let same = h.same in
-    let e : left - 1 + 1 ≡ left = omega arith in
-    let here : drop (left - 1) places ≡ own ∷ drop left places =
-    drop_more places (left - 1) own (omega arith) ∙ ap (λ (p : ℕ). p ∷ drop (left - 1 + 1) places) (sym read) ∙ ap (λ j. own ∷ drop j places) e in
-    let l = length-set seats own (left - 1) in
-    let own_lt : own < length old = rw read (within (left - 1) own (omega arith)) in
-    let n = ap length is in
-    record {
-      within = omega arith;
-      same = n ∙ l ∙ h.same;
-      told = λ box in_.
-          let in2 : has (own ∷ drop left places) box ≡ true = ap (λ (ps : List ℕ). has ps box) (sym here) ∙ in_ in
-          elim (cases_eq box own) [
-            | inl b ↦ (
-              omega arith,
-              ap (λ (s : List ℕ). get_or s box 0) is
-                  ∙ ap (λ j. get_or (set seats own (left - 1)) j 0) b
-                  ∙ get_or-set_same seats own (left - 1) 0 (omega arith)
-                  ∙ sym (ap (λ (ps : List ℕ). left - 1 + place_in ps box) here ∙ rw (eq-eqb own box (sym b)) (let z : left - 1 + 0 ≡ left - 1 = omega arith in z)),
-            )
-            | inr b ↦
-                let no : (own == box) ≡ false = ne_eqb own box (λ x. b (sym x)) in
-                let rest = h.told box (or_false (own == box) (has (drop left places) box) no in2) in
-                let lt = rest.0 in
-                let v = rest.1 in (
-                  omega arith,
-                  ap (λ (s : List ℕ). get_or s box 0) is
-                      ∙ get_or-set_other seats own box (left - 1) 0 b
-                      ∙ rest.1
-                      ∙ sym (ap (λ (ps : List ℕ). left - 1 + place_in ps box) here ∙ rw no (let z : left - 1 + suc (place_in (drop left places) box) ≡ left + place_in (drop left places) box = omega arith in z)),
-                )
-          ];
-    } where
-      or_false : (a b : Bool) → a ≡ false → (a || b) ≡ true → b ≡ true
-      or_false false b e f = f
-      or_false true b e f = cc
-
-pub seating_all : (places seats old : List ℕ) → Seating places seats old 0 → AreSeats places seats
-seating_all places seats old h = λ box in_. let t = h.told box in_ in (t.0, t.1 ∙ (let z : 0 + place_in places box ≡ place_in places box = omega arith in z))
-
 -- the place in the list of the innermost box of a chain
 pub innermost_is : (boxes chain : List ℕ) → innermost_in boxes chain ≡ option_map (place_in boxes) (innermost chain)
 innermost_is boxes [] = refl

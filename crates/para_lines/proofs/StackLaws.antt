@@ -101,17 +101,6 @@ pub record Stacking (tables : List (Option Table)) (container : Container) (entr
   pub near : unsigned_abs stack.block ≤ k * 2 ^ 35 + 2 * total standing_reach (take stack.from all)
   pub lines : All IsNearLine stack.made.items
 
-pub stacking_first : (tables : List (Option Table)) (container : Container) (entries : List Entry) (all : List Standing) (ends : List ℕ) (stack : LineStack) → Divide 0 (length all) ends
-    → stack.made.items ≡ [] → stack.from ≡ 0 → stack.block ≡ pos 0 → Stacking tables container entries all ends stack 0
-stacking_first tables container entries all ends stack divide none_ zero_ low =
-    record {
-      done = rw (none_, zero_, low) refl;
-      divide = rw zero_ divide;
-      some = omega arith;
-      near = rw low (omega (arith, ints));
-      lines = rw none_ (λ k d lt. absurd (omega arith));
-    }
-
 -- the end of the next line, and room for it
 pub record CanAdd (all : List Standing) (stack : LineStack) (end_ : ℕ) : Type 0 where
   pub later : stack.from < end_

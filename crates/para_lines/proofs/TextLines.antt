@@ -36,9 +36,6 @@ pub no_chain : (chain : List ℕ) → innermost chain ≡ None → chain ≡ []
 no_chain [] is = refl
 no_chain (box ∷ chain) is = cc
 
-pub own_atoms : (count : ℕ) (standings : List code.Standing) → All (IsAble count) standings → All HasOwnAtom standings
-own_atoms count standings able = All-weaker (IsAble count) HasOwnAtom (λ s own. record { atom = own.atom; near = own.near }) standings able
-
 pub all_take : {X : Type 0} (P : X → Type 0) (xs : List X) (n : ℕ) → n ≤ length xs → All P xs → All P (take n xs)
 all_take P xs n le h = λ k d lt.
     let l = length-take-le n xs le in
@@ -49,11 +46,6 @@ all_take P xs n le h = λ k d lt.
 pub one_space : (standings : List code.Standing) (n : ℕ) (x : code.Standing) → 0 < n → n ≤ length standings → x ≡ get_or standings (n - 1) x → is_space x.item.now.what ≡ true
     → are_spaces (drop n (map bare standings)) ≡ true → are_spaces (drop (n - 1) (map bare standings)) ≡ true
 one_space standings n x some le read space after = ap are_spaces (back_of bare standings n x some le read) ∙ rw (space, after) refl
-
-pub no_space : (standings : List code.Standing) (n : ℕ) (x : code.Standing) → 0 < n → n ≤ length standings → x ≡ get_or standings (n - 1) x → is_space x.item.now.what ≡ false
-    → (d : place.Item) → (get_or (map bare standings) (n - 1) d).space ≡ false
-no_space standings n x some le read space d =
-    ap (λ (item : place.Item). item.space) (get_or-map bare standings (n - 1) x d (omega arith) ∙ ap bare (sym read)) ∙ space
 
 -- ---- the items
 

@@ -121,11 +121,6 @@ letters_more made more whole table source node style letters i none before lt m 
     ap (λ more. grown more rest) m ∙ grown_append made (letter_parts table source node style i (l ∷ [])) rest
     ∙ ap (λ left. grown made (letter_parts table source node style i left)) (sym (drop_more letters i none lt)) ∙ before
 
-pub letters_done : (made whole : Flat) (table : Table) (source node : ℕ) (style : Style) (letters left : List Letter) (i : ℕ)
-    → grown made (letter_parts table source node style i left) ≡ whole → left ≡ [] → made ≡ whole
-letters_done made whole table source node style letters left i all none =
-    sym (grown_none made) ∙ ap (λ left. grown made (letter_parts table source node style i left)) (sym none) ∙ all
-
 by_unit : (upright : Bool) (source node : ℕ) (l : Letter) (one : Option Unit) (made more : Flat) → more ≡ grown made (letter_part upright source node l one ∷ [])
     → length more.items ≤ length made.items + 1
 by_unit upright source node l None made more is =

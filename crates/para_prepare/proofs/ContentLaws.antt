@@ -187,13 +187,6 @@ all_cut faces left source from flat ends_left made whole a none =
 
 -- ---- a part that stands by itself
 
-pub lone_part : (flat : List Letter) (old more : List code.Part) (part : code.Part) → more ≡ old ++ part ∷ [] → parts_of flat more ≡ parts_of flat old ++ part_of flat part ∷ []
-lone_part flat old more part is = ap (parts_of flat) is ∙ map-append (part_of flat) old (part ∷ [])
-
-pub lone_sound : (many : ℕ) (old more : List code.Part) (part : code.Part) → more ≡ old ++ part ∷ [] → All (IsSound many) old → IsSound many part → All (IsSound many) more
-lone_sound many old more part is sound one =
-    subst (All (IsSound many)) (sym is) (All-append (IsSound many) old (part ∷ []) sound (All-cons (IsSound many) part [] one (λ k d lt. absurd (omega arith))))
-
 pub item_bytes : (items : List Item) (i from to : ℕ) (item : Item) (marks : List Bool) (flat : List Letter) → IsNext (entry_of item) marks from to flat → i < length items
     → item ≡ slice_index_or items i item → text_bytes (entries_of items) ≤ 1048576 → length (encode_utf8_all (chars_of (slice_range flat from to))) ≤ 1048576
 item_bytes items i from to item marks flat next lt is few =

@@ -63,11 +63,6 @@ closings_drop zero before kinds = refl
 closings_drop (suc k) before [] = refl
 closings_drop (suc k) before (kind ∷ kinds) = closings_drop k (kind ∷ before) kinds
 
-pub takes_drop : (k : ℕ) (before kinds : List Kind) → drop k (takes_from before kinds) ≡ takes_from (before_at k before kinds) (drop k kinds)
-takes_drop zero before kinds = refl
-takes_drop (suc k) before [] = refl
-takes_drop (suc k) before (kind ∷ kinds) = takes_drop k (kind ∷ before) kinds
-
 pub closings_length : (before kinds : List Kind) → length (closings_from before kinds) ≡ length kinds
 closings_length before [] = refl
 closings_length before (kind ∷ kinds) = ap suc (closings_length (kind ∷ before) kinds)
@@ -128,9 +123,6 @@ opens_start marks kinds e =
       within = omega arith;
       same = many;
     }
-
-pub opens_end : (marks : List Bool) (after : Option ℕ) (kinds : List Kind) → Opens marks after 0 kinds → marks ≡ takes_from [] kinds
-opens_end marks after kinds h = h.back
 
 head_of : {X : Type 0} (k : ℕ) (xs : List X) (x : X) (rest : List X) (d : X) → drop k xs ≡ x ∷ rest → get_or xs k d ≡ x
 head_of zero (y ∷ xs) x rest d e = search

@@ -203,10 +203,6 @@ pub bases_flat : (raws : List Raw) → map (λ s. s.base) (standing_so raws) ≡
 bases_flat [] = refl
 bases_flat (raw ∷ raws) = ap (λ later. 0 ∷ later) (bases_flat raws)
 
-pub bounds_flat : (raws : List Raw) → All IsStanding (standing_so raws)
-bounds_flat [] = λ k d lt. absurd (omega arith)
-bounds_flat (raw ∷ raws) = All-cons IsStanding flat_standing (standing_so raws) (record { level = omega arith; base = omega arith }) (bounds_flat raws)
-
 -- ---- part by part
 
 abbrev pub flat_with : List PreparedItem → List BidiClass → List (Option BreakClass) → (flat bare : Bool) → Flat

@@ -107,13 +107,6 @@ kept_rises (line_break node) marks = tt
 
 -- ---- a whole text
 
-pub text_grown : (faces : List (Option Table)) (letters : List Letter) (source node : ℕ) (style : Style) (cs : List ℕ) (units made : List Unit) (old more : Flat)
-    → cs ≡ chars_of letters → units ≡ units_of style (used_table faces style.face) cs → made ≡ units
-    → more ≡ grown old (parts_by (sets_upright style) (raw_of faces source node style) letters 0 made)
-    → more ≡ grown old (text_parts faces source node style letters)
-text_grown faces letters source node style cs units made old more t u m is =
-    is ∙ ap (λ units. grown old (parts_by (sets_upright style) (raw_of faces source node style) letters 0 units)) (m ∙ u ∙ ap (units_of style (used_table faces style.face)) t)
-
 units_count : (at end_ : ℕ) (units : List Unit) → at ≤ end_ → AreInOrder at end_ units → at + length units ≤ end_
 units_count at end_ [] within order = omega arith
 units_count at end_ (unit ∷ units) within order =
@@ -158,8 +151,3 @@ laid_more faces items i from own letters ends_ made more whole a lt lt_ends is m
       cut = cut_more faces items i from own letters ends_ a.laid (a.laid ++ added) whole a.cut lt lt_ends is refl;
       so = m ∙ ap (λ made. grown made added) a.so ∙ grown_append nothing a.laid added;
     }
-
-pub laid_all : (faces : List (Option Table)) (left : List Entry) (source from : ℕ) (letters : List Letter) (ends_left : List ℕ) (made : Flat) (whole : List Part)
-    → AreLaid faces left source from letters ends_left made whole → left ≡ [] → made ≡ grown nothing whole
-laid_all faces left source from letters ends_left made whole a none =
-    a.so ∙ ap (grown nothing) (all_cut faces left source from letters ends_left a.laid whole a.cut none)

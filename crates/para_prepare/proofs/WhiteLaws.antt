@@ -72,27 +72,9 @@ space_kept : (kept : Bool) (place : ℕ) (c : ℕ) → is_white c ≡ true → s
 space_kept true place c blank = rw blank refl
 space_kept false place c blank = refl
 
-pub white_kept : (place c : ℕ) (before lead : Bool) → is_white c ≡ true
-    → space_if (before && lead) place ≡ chosen place (c ∷ []) (is_kept_with (sign_of c) before lead ∷ [])
-white_kept place c before lead blank =
-    let sign : sign_of c ≡ white = rw blank refl in
-    space_kept (before && lead) place c blank ∙ ap (λ sign. chosen place (c ∷ []) (is_kept_with sign before lead ∷ [])) (sym sign)
-
-pub white_follows : (c : ℕ) (before : Bool) → is_white c ≡ true → false ≡ follows_at (sign_of c) before
-white_follows c before blank = let sign : sign_of c ≡ white = rw blank refl in ap (λ sign. follows_at sign before) (sym sign)
-
 other_sign : (c : ℕ) (control : Bool) → is_white c ≡ false → is_bidi_control c ≡ control → sign_of c ≡ cond control passed solid
 other_sign c true other control = let is : is_control c ≡ true = sym (controls_are c) ∙ control in rw (other, is) refl
 other_sign c false other control = let is : is_control c ≡ false = sym (controls_are c) ∙ control in rw (other, is) refl
-
-pub other_kept : (place c : ℕ) (before lead : Bool) → is_white c ≡ false
-    → (record { place = place; char = c }) ∷ [] ≡ chosen place (c ∷ []) (is_kept_with (sign_of c) before lead ∷ [])
-other_kept place c before lead other =
-    either (is_bidi_control c) ∙ ap (λ sign. chosen place (c ∷ []) (is_kept_with sign before lead ∷ [])) (sym (other_sign c (is_bidi_control c) other refl))
-  where
-    either : (control : Bool) → (record { place = place; char = c }) ∷ [] ≡ chosen place (c ∷ []) (is_kept_with (cond control passed solid) before lead ∷ [])
-    either true = rw other refl
-    either false = rw other refl
 
 pub other_follows : (c : ℕ) (before : Bool) → is_white c ≡ false → (before || not (is_bidi_control c)) ≡ follows_at (sign_of c) before
 other_follows c before other =

@@ -75,10 +75,6 @@ last_end (x ∷ z ∷ fs) y f ch is =
 pub no_more : (z : ℤ) → pos 0 +ℤ z ≡ z
 no_more z = omega (arith, ints)
 
-pub no_lines : (fs : List Fragment) → slice_get fs (length fs - 1) ≡ None → block_extent (pieces_of fs) ≡ pos 0
-no_lines [] is = refl
-no_lines (x ∷ fs) is = let there = slice_get-get_or (x ∷ fs) (length (x ∷ fs) - 1) x (omega arith) in absurd (cc)
-
 pub lines_there : (fs : List Fragment) (tables : List (Option Table)) (container : Container) (entries : List Entry) (text : Preparation) (atoms : List Atom)
     → pieces_of fs ≡ paragraph_lines tables container entries text atoms → AreStacked (pos 0) (pieces_of fs)
 lines_there fs tables container entries text atoms is = let P : Pieces → Type 0 = λ ps. AreStacked (pos 0) ps in subst P (sym is) (chained tables container entries text atoms)

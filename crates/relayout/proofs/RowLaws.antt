@@ -122,14 +122,6 @@ steady_kept outside old new key c result right is keeps = record {
 
 -- ---- texts
 
-pub text_is_there : (content : Content) (text : Option Preparation) → IsSome text → HasText content text
-text_is_there blocks text there = tt
-text_is_there (inline entries) text there = there
-
-pub no_text_is_there : (faces : List (Option Table)) (style : Style) (content : Content) (text : Option Preparation) → IsTextOf faces style content None → HasText content text
-no_text_is_there faces style blocks text is = tt
-no_text_is_there faces style (inline entries) text is = absurd (none-some (prepared faces style entries) is)
-
 ready_for : (content : Content) (text : Preparation) → IsReadyIn content (Some text) → IsReadyFor content text
 ready_for blocks text ready = tt
 ready_for (inline entries) text ready = ready.1

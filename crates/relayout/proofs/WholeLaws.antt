@@ -41,9 +41,6 @@ tree_node : (slots : Slots Preparation) (root : ℕ) (tree : Boxes) → Stands s
 tree_node slots root no_boxes stands = absurd stands
 tree_node slots root (box name style content inner next) stands = (record { name = name; style = style; content = content }, stands.0)
 
-pub root_lives : (boxes : Arena) (root : ℕ) → HasTree boxes.slots root → ContainsKey boxes root
-root_lives boxes root there = let node = tree_node boxes.slots root there.tree there.stands in lives_there boxes root node.0 node.1
-
 parallel_itself : (mode : WritingMode) → are_parallel mode mode ≡ true
 parallel_itself HorizontalTb = refl
 parallel_itself VerticalRl = refl
@@ -73,15 +70,6 @@ stands_alone slots root no_boxes alone stands = absurd stands
 stands_alone slots root (box name style content inner next) alone (node, within, last) =
     let P : Boxes → Type 0 = λ t. StandFrom slots (next_at slots root) t in
     (root, refl, node, within, subst P (sym last) alone)
-
-pub root_row : (slots : Slots Preparation) (root : ℕ) → IsLinked (links_at slots) → parent_at slots root ≡ None → HasTree slots root → HasRow slots (Some root) 130
-root_row slots root linked free there =
-    record { tree = there.tree; stand = stands_alone slots root there.tree (linked.alone root free).0 there.stands; low = there.low; few = there.few; light = there.light; fit = there.fit }
-
-pub root_inside : (slots : Slots Preparation) (root : ℕ) (own : Node) (containing : Containing) → parent_at slots root ≡ None → node_at slots root ≡ Some own → containing ≡ containing_of own.style → StandsIn slots (Some root) containing
-root_inside slots root own containing free there is node at =
-    ap (λ (p : Option ℕ). containing_by (option_and_then (node_at slots) p) node.style) free
-    ∙ ap (λ (n : Node). containing_of n.style) (same_Some node own (sym at ∙ there)) ∙ sym is
 
 module _ (faces : List (Option Table)) (view : View) (page : PageView) (slots : Slots Preparation) (root : ℕ) (own : Node) (there : node_at slots root ≡ Some own)
     (is : from_outside faces page ≡ on_page (is_horizontal own.style.mode) faces view.inline view.block) where

@@ -16,9 +16,6 @@ pub record IsSeeking (passed : Passed) (total : Option (List ℕ)) (depth : ℕ)
   pub enough : length rest < left
   pub same : seek left passed depth rest ≡ total
 
-pub seeking_starts : (passed : Passed) (depth : ℕ) (text : List ℕ) → IsSeeking passed (behind passed depth text) depth text
-seeking_starts passed depth text = record { left = suc (length text); enough = omega arith; same = refl }
-
 seek_once : (fuel : ℕ) (passed : Passed) (depth : ℕ) (rest : List ℕ) (r : Read Piece) → piece rest ≡ r → seek (suc fuel) passed depth rest ≡ at_piece (seek fuel passed) passed depth rest r
 unfolding seek
 seek_once fuel passed depth rest r e = rw e refl
@@ -69,25 +66,3 @@ never_before false e = absurd cc
 
 no_end : {e : End} → None ≡ Some e → ⊥
 no_end same = absurd cc
-
-pub before_is_behind : (passed : Passed) (depth : ℕ) (p : Piece) (rest text : List ℕ) → ends_at passed depth p ≡ Some ends.Before → length rest ≤ length text → IsBehind passed rest text
-before_is_behind (passing.Declaration in_rule) depth p rest text is le = le
-before_is_behind (passing.AtRule true) depth p rest text is le = le
-before_is_behind (passing.AtRule false) depth pieces.BlockEnd rest text is le = absurd (never_before _ is)
-before_is_behind (passing.AtRule false) depth pieces.Semicolon rest text is le = absurd (never_before _ is)
-before_is_behind (passing.AtRule false) depth pieces.Opening rest text is le = absurd (no_end is)
-before_is_behind (passing.AtRule false) depth pieces.Closing rest text is le = absurd (no_end is)
-before_is_behind (passing.AtRule false) depth pieces.BlockBegin rest text is le = absurd (no_end is)
-before_is_behind (passing.AtRule false) depth pieces.Other rest text is le = absurd (no_end is)
-before_is_behind passing.StyleRule depth pieces.BlockEnd rest text is le = absurd (never_before _ is)
-before_is_behind passing.StyleRule depth pieces.Semicolon rest text is le = absurd (no_end is)
-before_is_behind passing.StyleRule depth pieces.Opening rest text is le = absurd (no_end is)
-before_is_behind passing.StyleRule depth pieces.Closing rest text is le = absurd (no_end is)
-before_is_behind passing.StyleRule depth pieces.BlockBegin rest text is le = absurd (no_end is)
-before_is_behind passing.StyleRule depth pieces.Other rest text is le = absurd (no_end is)
-
-pub shorter_is_behind : (passed : Passed) (rest text : List ℕ) → length rest < length text → IsBehind passed rest text
-shorter_is_behind (passing.Declaration in_rule) rest text lt = omega (arith, lt)
-shorter_is_behind (passing.AtRule true) rest text lt = omega (arith, lt)
-shorter_is_behind (passing.AtRule false) rest text lt = lt
-shorter_is_behind passing.StyleRule rest text lt = lt
