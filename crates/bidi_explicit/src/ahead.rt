@@ -15,7 +15,8 @@ use wm_chars::BidiClass;
 pub(crate) struct Scan {
     // Whether they give 1 for the text up to the PDI that closes it.
     found: bool,
-    // The same for the text behind that PDI, behind the PDI that closes that one, and so on.
+    // For each PDI read so far that no isolate initiator has matched: whether P2 and P3 give 1 for the text after it.
+    // The last one read is on top.
     pending: Stack<bool>,
 }
 

@@ -81,7 +81,8 @@ fn step(links: &mut Links, levels: &Levels, i: usize) -> Result<(), AllocError>
     }
 }
 
-// The same for any character.
+// Links one place more with the next one in its sequence, whatever character stands there: a removed one is passed
+// over, and an isolate initiator may go on at its PDI (UAX 9, BD13).
 fn step_by_match(links: &mut Links, levels: &Levels, i: usize) -> Result<(), AllocError>
     requires aligned { AreAligned levels.now }
     requires inside { i < length levels.now.original.items }

@@ -29,7 +29,7 @@ pub fn runs(alloc: Global, levels: &Levels) -> Result<Runs, AllocError>
     Ok(runs)
 }
 
-// The same sequences with a list for each.
+// The isolating run sequences whose places stand in one flat list, each with a list of its own (UAX 9, BD13).
 fn copied(alloc: Global, flat: &FlatRuns) -> Result<Runs, AllocError>
     requires { AreSpans flat.now.places.items flat.now.spans.items }
     ensures { IfOk result (λ runs. map sequence_of runs.items ≡ map (sequence_at flat.now.places.items) flat.now.spans.items) }

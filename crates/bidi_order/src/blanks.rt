@@ -33,7 +33,8 @@ pub(crate) fn have_level(levels: &[u8], level: u8) -> bool
     )
 }
 
-// The same, whatever the levels are.
+// Gives the base level to separators, and to blanks before a separator or before the line's end (UAX 9, L1), whatever
+// the levels are.
 #[tactic(auto, unfolding(crate::specs::Blanks::reset))]
 fn reset_ends(levels: &mut [u8], classes: &[BidiClass], base: u8)
     requires { length levels.old ≡ length classes.now }

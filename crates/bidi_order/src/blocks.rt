@@ -67,7 +67,8 @@ fn reverse_block(
     reverse_each(places, levels, level, start, from, end)
 }
 
-// The same, place by place.
+// Goes on over one block place by place: reverses each run of this level or above that ends in it, and reports where
+// the run begins that is read after the block.
 fn reverse_each(
     places: &mut [usize],
     levels: &[u8],

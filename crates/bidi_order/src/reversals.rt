@@ -56,8 +56,8 @@ fn reverse_places(places: &mut Order, levels: &[u8])
     reverse_levels(places, levels);
 }
 
-// The same: the reversals from the greatest level down to 1. Those below the least odd level cancel each other, as two
-// do between levels that characters have, since the same places reach both.
+// The reversals from the greatest level down to 1, which come to those of L2. Those below the least odd level cancel
+// each other, as two do between levels that characters have, since the same places reach both.
 #[tactic(auto, using(crate::proofs::Levels::own_length, crate::proofs::Levels::own_places))]
 fn reverse_levels(places: &mut [usize], levels: &[u8])
     requires { places.old ≡ range_with_len 0 (length levels.now) }

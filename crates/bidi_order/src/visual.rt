@@ -72,7 +72,8 @@ fn parts_nothing(apart: Option<u8>) -> bool
     }
 }
 
-// The same by the list that L2 orders, whatever the levels.
+// The places of a line's items from left to right, whatever their levels: L2 orders the list of the items and of what
+// parts them, and what parts them is left out.
 #[tactic(auto, unfolding(crate::specs::Visual::visual_order))]
 fn seated_order(alloc: Global, levels: &[u8], aparts: &[Option<u8>]) -> Result<Order, AllocError>
     requires { length levels.now ≡ length aparts.now }

@@ -50,7 +50,7 @@ fn has_bracket_class(classes: &[BidiClass]) -> bool
     has
 }
 
-// The same for any classes.
+// Identifies the bracket pairs of a sequence and resolves each of them (UAX 9, BD16 and N0), whatever its classes are.
 fn pairs_become(
     pairing: &mut Pairing,
     classes: &mut [BidiClass],

@@ -13,7 +13,7 @@ pub enum Origin {
     Default,
     /// The author's rules and style attributes.
     Author,
-    /// The same, with `!important`.
+    /// What the author's rules and style attributes declare with `!important`.
     Important,
 }
 

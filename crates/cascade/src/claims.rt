@@ -139,7 +139,7 @@ pub(crate) fn put_rule(
     put_stated(all, standing, &rule.declarations)
 }
 
-/// The same if the rule matches the first of the line.
+/// The declarations of a rule that stands at this place, if the rule matches the first node of the line.
 pub(crate) fn put_rule_if_matching(
     all: &mut Vec<Claim>,
     sheet: Sheet,

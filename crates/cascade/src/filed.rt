@@ -236,7 +236,8 @@ impl Filed {
         left
     }
 
-    // The same for the names of one element.
+    // What is left of a count of rules when the weight of those that are found by the id and the classes of one
+    // element is taken from it.
     fn left_behind(&self, left: usize, kind: &NodeKind) -> usize {
         match kind {
             NodeKind::Element { id, classes, .. } => self.left_by(left, id, classes),
@@ -293,7 +294,8 @@ fn cost_of(line: &[&Node], most: usize) -> usize {
     cost
 }
 
-// The same with the names of one element, to the cost of others.
+// What it costs to look up the id and the classes of one element, added to the cost of others. No more are counted
+// once it is above `most`.
 fn cost_behind(cost: usize, most: usize, id: &Option<Letters>, classes: &[Letters]) -> usize {
     let mut cost = match id {
         Some(id) => with_name(cost, id),

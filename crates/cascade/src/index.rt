@@ -91,7 +91,8 @@ impl RuleIndex {
         Ok(RuleIndex { rules, defaults })
     }
 
-    /// The same as `winners` under the rules of the index.
+    /// The winner of each property for an element under the rules of the index; the default sheet and the `dir`
+    /// attribute count beside them.
     pub fn winners(
         &self,
         alloc: Global,
@@ -112,7 +113,8 @@ impl RuleIndex {
         Ok(winners)
     }
 
-    /// The same for a node in hand, whose line is kept for the next one.
+    /// The winner of each property for a node in hand under the rules of the index. The line of the node is kept for
+    /// the next one.
     pub fn winners_in<'a>(
         &self,
         alloc: Global,

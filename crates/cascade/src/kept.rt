@@ -69,7 +69,7 @@ impl<'a> KeptLine<'a> {
         self.climb(alloc, number, node, MOST)
     }
 
-    // The same, where no more than `most` nodes above it are looked up.
+    // Keeps the line of this node from now on, unless more than `most` nodes above it would have to be looked up.
     fn climb(&mut self, alloc: Global, number: u32, node: &'a Node, most: usize) -> bool
         requires kept { IsKept self.old }
         requires here { (kept_state self.old).node_at number ≡ Some (entry_of node.now) }

@@ -32,7 +32,7 @@ pub fn matches(s: &Selector, document: &Document, node: u32) -> bool
     }
 }
 
-/// The same for a line.
+/// Whether a selector of these parts matches the first node of a line, above which the others stand.
 pub(crate) fn matches_line(parts: &[Part], line: Seen<'_, '_>) -> bool
     ensures { result ≡ definitions.matches (compounds_of parts.now) (whats_of line.entry.nodes.now) }
 {
@@ -128,7 +128,8 @@ fn fits_type(name: &Option<Letters>, tag: Tag) -> bool
     }
 }
 
-// The same as `has_classes`, where there may be a set of the element's own.
+// Whether an element that has these classes of its own has each of those asked for. Where there is a set of its own
+// classes, that is looked into in place of the list.
 fn has_classes_in(set: Option<&ClassSet>, own: &[Letters], classes: &[Letters]) -> bool
     requires { IfSome set (λ set. (class : List ℕ) → is_in set.now class ≡ definitions.has_class (map (λ c. string_bytes c) own.now) class) }
     ensures { result ≡ definitions.each (definitions.has_class (map (λ c. string_bytes c) own.now)) (map (λ c. string_bytes c) classes.now) }

@@ -164,7 +164,7 @@ fn have_short_texts(items: &[Item]) -> bool
     are_short(items)
 }
 
-// The same of their sum.
+// Whether the bytes of the items' texts, summed up in order, are at most 1,048,576.
 #[tactic(auto, using(std::proofs::lemmas::List::Sums::sum_by_more))]
 fn are_short(items: &[Item]) -> bool
     ensures { result ≡ true → sum_by (λ item. bytes_in (entry_of item)) items.now ≤ 1048576 }

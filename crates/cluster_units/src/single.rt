@@ -176,7 +176,7 @@ fn vertical_kind(text_orientation: TextOrientation, c: char, class: Option<Break
     }
 }
 
-// The same where the character tells it.
+// How a unit stands in a vertical line where `text-orientation` is `mixed`: its character decides (UAX 50).
 #[inline(always)]
 fn mixed_kind(c: char, class: Option<BreakClass>) -> UnitKind
     requires { class ≡ break_class c }

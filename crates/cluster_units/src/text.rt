@@ -106,7 +106,7 @@ fn is_combined(kind: UnitKind) -> bool
     kind == UnitKind::Combined
 }
 
-// The same, of a combined run.
+// Adds a combined run: where the last unit is one too, the two become one (CSS Writing Modes 4, 9.1).
 fn add_combined(units: &mut Units, unit: Unit) -> Result<(), AllocError>
     requires units { AreWithin (2 ^ 50) units.old.items }
     requires unit { unsigned_abs unit.natural ≤ 655360 }

@@ -97,7 +97,7 @@ fn decimals(text: &str) -> (u32, &str)
     }
 }
 
-// The same behind the point.
+// The first two of the digits after a decimal point, in hundredths, and the text after all of them.
 fn fraction(text: &str) -> (u32, &str)
     ensures read { Counts readers.first_decimals (reading.run_of is_ascii_digit text.now) result.0 result.1.now }
     ensures below { result.0 < 100 }

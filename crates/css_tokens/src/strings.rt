@@ -32,7 +32,7 @@ pub(crate) fn string(text: &str) -> Result<(&str, &str), &[u8]>
     }
 }
 
-// The same behind its first quote.
+// A string after its first quote, as it is written up to the quote that ends it, and the text after that.
 fn string_in(quote: u8, text: &str) -> Result<(&str, &str), &[u8]>
     requires { characters.is_quote quote ≡ true }
     ensures read { Answers (λ s. (s.0.now, s.1.now)) result (readers.string (quote ∷ text.now)) }

@@ -100,7 +100,9 @@ impl Document {
         added
     }
 
-    /// The same, each with these children; where memory runs out, some may have been given numbers.
+    /// Gives the next numbers to these nodes, in order, each with these children. Those that stand in no other of them
+    /// stand in this parent, of which the children stay as they are. Where memory runs out, some may have been given
+    /// numbers.
     fn add_each(
         &mut self,
         alloc: Global,

@@ -45,7 +45,8 @@ impl Document {
         Document::answer(alloc, read, styled)
     }
 
-    // The same without what follows for the roots and the numbers.
+    // The state that a document begins with, or why it is refused. What follows from that for the roots, the numbers
+    // and the tree is left to `from_read`.
     fn answer(alloc: Global, read: &ReadDocument, styled: &Styled) -> Result<Document, EditError>
         requires shaped { IsShaped (nodes_of read.now.nodes.items) }
         requires each { length styled.now.styles.items ≡ length read.now.nodes.items }

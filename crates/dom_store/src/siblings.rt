@@ -45,7 +45,7 @@ fn place_of(numbers: &[u32], number: u32) -> Option<usize>
     Some(start + place)
 }
 
-/// The same, number by number.
+/// The first place of this number, looked for number by number.
 fn place_in(numbers: &[u32], number: u32) -> Option<usize>
     ensures { result ≡ position (λ other. nat_eq other number) numbers.now }
 {

@@ -8,8 +8,8 @@ pub fn a_fragment_is_what_its_box_comes_to()
     ensures { FragmentIsOfItsBox }
 {}
 
-/// The same box at two places of two documents, in containing blocks of one mode and used direction that give it the same constraint, has
-/// the same fragment with all that is inside it, wherever it stands.
+/// One box at two places of two documents, in containing blocks of one mode and used direction that give it the same
+/// constraint, has the same fragment with all that is inside it, wherever it stands.
 pub fn the_same_box_has_the_same_fragment()
     ensures { SameBoxSameFragment }
 {}

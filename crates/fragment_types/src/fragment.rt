@@ -80,7 +80,7 @@ pub struct LineFragment {
 }
 
 impl Fragment {
-    /// The same fragment at another place, with the same content.
+    /// A copy of the fragment at another place, which shares its content.
     pub fn moved_to(&self, rect: FlowRect) -> Result<Fragment, AllocError>
         ensures { IfOk result (λ own. piece_of own ≡ moved_to rect (piece_of self.now)) }
     {
@@ -94,7 +94,7 @@ impl Fragment {
 }
 
 impl FragmentKind {
-    // The same kind once more. The units of a run are shared.
+    // A copy of the kind of a fragment. The units of a run are shared.
     fn share(&self) -> Result<FragmentKind, AllocError>
         ensures { IfOk result (λ own. kind_of own ≡ kind_of self.now) }
     {
