@@ -78,7 +78,7 @@ pub fn documents_are_found_or_refused()
     ensures refused { (bytes : List ℕ) (fault : Fault) → judging.input bytes ≡ Err fault → HaveNoDocument bytes }
 {}
 
-/// The same of fragments.
+/// What the readers answer of fragments: the nodes that are there, or that the text is no fragment.
 pub fn fragments_are_found_or_refused()
     ensures found { (text rest : List ℕ) (nodes : List Node) → judging.fragment text ≡ Ok (nodes, rest) → IsTheFragment text nodes }
     ensures shaped { (text rest : List ℕ) (nodes : List Node) → judging.fragment text ≡ Ok (nodes, rest) → IsFragmentShaped nodes }
@@ -86,7 +86,8 @@ pub fn fragments_are_found_or_refused()
         → (nodes : List Node) → grammar.IsFragment text nodes → ⊥ }
 {}
 
-/// The same by what a call answered.
+/// What a call answers of a document or a fragment: what the grammar finds in the bytes, or an error where it finds
+/// nothing.
 pub fn calls_answer_by_the_grammar<X>()
     ensures documents { (view : X → Whole) (bytes : List ℕ) (answer : Result X HtmlError) → Told (length bytes) view answer (judging.input bytes)
         → IfOk answer (λ x. IsTheDocument bytes (view x) × IsShaped (view x).nodes) × IfErr answer (λ error. RefusesDocument bytes error) }

@@ -17,7 +17,7 @@ pub(crate) fn plain_count(bytes: &[u8]) -> usize
     start + plain_in(rest)
 }
 
-// The same, byte by byte.
+// How many of these bytes in front are plain, looked at byte by byte.
 fn plain_in(bytes: &[u8]) -> usize
     ensures within { result ≤ length bytes.now }
     ensures plain { list_all is_plain_letter (take result bytes.now) ≡ true }

@@ -53,7 +53,8 @@ impl Waiting {
         }
     }
 
-    // The same where there isn't room for all of them.
+    // Puts bytes after those that wait, where there isn't room for all of them: piece by piece, and what waits goes to
+    // the sink whenever there is no room for more.
     #[inline(never)]
     fn put_by_pieces<K: Sink>(&mut self, bytes: &[u8], sink: &mut K) -> Result<(), WriteError>
         ensures front { AppendsFront (K.held sink.old) (K.held sink.new) (self.old ++ bytes.now) }

@@ -61,7 +61,8 @@ pub fn fill<M: Ledger>(
     Ok(lines)
 }
 
-/// The same of items that are read one at a time. They are copied into a list only where some length is below 0.
+/// The lines of a paragraph in so much room, in units of 1/64 px (CSS Text 3, 5.1), from items that are read one at a
+/// time, and counts one step. The items are copied into a list only where some length is below 0.
 pub fn fill_from<S: FillSource, M: Ledger>(
     alloc: Global,
     source: &S,

@@ -182,7 +182,8 @@ fn with_leftmost<'a>(
     Ok(made)
 }
 
-// The same mark where these boxes have begun before.
+// A mark of a line that is gone through from line-left, where these boxes have begun before it: a fragment that begins
+// is the leftmost one of its box unless the box is among them.
 fn at_left<'a>(begun: &mut Flags, mark: Mark<'a>) -> Mark<'a>
     requires { IsOfBox (length begun.old.items) (mark_of mark) }
     ensures same { length begun.new.items ≡ length begun.old.items }
@@ -219,7 +220,8 @@ fn with_rightmost<'a>(
     Ok(made)
 }
 
-// The same mark where these boxes end behind it.
+// A mark of a line that is gone through from line-right, where these boxes end after it: a fragment that ends is the
+// rightmost one of its box unless the box is among them.
 fn at_right<'a>(ended: &mut Flags, mark: Mark<'a>) -> Mark<'a>
     requires { IsOfBox (length ended.old.items) (mark_of mark) }
     ensures same { length ended.new.items ≡ length ended.old.items }

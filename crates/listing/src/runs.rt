@@ -92,7 +92,7 @@ pub(crate) fn put_units<K: Sink>(
     Ok(())
 }
 
-// Those of an entry of a run. Most entries are one character.
+// The characters of an entry of a run, the first after this sign. Most entries are one character.
 #[inline(always)]
 #[tactic(auto, using(crate::proofs::Puts::one_character_put, crate::proofs::Puts::one_character_front))]
 fn put_unit<K: Sink>(
@@ -112,7 +112,8 @@ fn put_unit<K: Sink>(
     }
 }
 
-// Those of units side by side.
+// The characters of units side by side in one entry of a run, the first after this sign and each further unit after
+// `,`.
 #[inline(never)]
 fn put_glyphs<K: Sink>(
     first: u8,
@@ -133,7 +134,7 @@ fn put_glyphs<K: Sink>(
     Ok(())
 }
 
-// Those of one unit.
+// The characters of one unit, the first after this sign and each further one after `+`.
 fn put_characters<K: Sink>(
     first: u8,
     characters: &[char],

@@ -52,7 +52,7 @@ pub(crate) fn fill_items(
     }
 }
 
-// The same in a paragraph of one item, as most are, which stands in no inline box.
+// The items that lines are filled with in a paragraph of one item, as most are, which stands in no inline box.
 #[inline(never)]
 fn items_of_one(
     alloc: Global,
@@ -72,7 +72,7 @@ fn items_of_one(
     Ok(made)
 }
 
-// The same in any paragraph.
+// The items that lines are filled with in any paragraph, with the edges of the inline boxes round them.
 #[inline(never)]
 fn items_of_many(
     alloc: Global,
@@ -164,7 +164,8 @@ fn edges_apart(
     }
 }
 
-// The same, where both may come from different items.
+// The edges on one side of the boxes round an item that are not round another one, where both may come from different
+// items.
 #[inline(never)]
 fn edges_between(
     boxes: &Boxes,
@@ -231,7 +232,7 @@ pub(crate) fn advance_of(what: &PreparedContent, advances: &[i64]) -> i64
     }
 }
 
-// The same of what is no unit.
+// How far an item that is no unit advances, where these are the advances of the atoms from it on.
 #[inline(never)]
 fn other_advance(what: &PreparedContent, advances: &[i64]) -> i64
     ensures { result ≡ rule.advance_of what.now advances.now }

@@ -208,7 +208,7 @@ pub(crate) fn line_boxes(
     Ok(made)
 }
 
-// One of them.
+// An inline box as it stands on its line: its extents, its edges, and whether it begins and ends there.
 fn line_box(
     boxes: &Boxes,
     container: &Container,

@@ -73,7 +73,7 @@ pub fn paragraph_lines<L: Ledger>(
     Ok(made)
 }
 
-// The same where the boxes are known.
+// The lines of a paragraph whose inline boxes are known, one under the other (CSS 2, 9.4.2 and 10.8).
 fn lines_of<L: Ledger>(
     alloc: Global,
     boxes: &Boxes,
@@ -108,7 +108,7 @@ fn lines_of<L: Ledger>(
     }
 }
 
-// The same of a paragraph of one item, as most are: its lines are filled from what they are made of.
+// The lines of a paragraph of one item, as most are: they are filled straight from the items that stand on them.
 fn lines_of_one<L: Ledger>(
     alloc: Global,
     boxes: &Boxes,
@@ -151,7 +151,8 @@ fn lines_of_one<L: Ledger>(
     Ok(made)
 }
 
-// The same of any paragraph.
+// The lines of a paragraph of any number of items: they are filled from a list of these with the edges of the inline
+// boxes round them.
 fn lines_of_many<L: Ledger>(
     alloc: Global,
     boxes: &Boxes,

@@ -71,7 +71,8 @@ impl<'a> Setting<'a> {
         }
     }
 
-    // The same where it is no single run: units of one text, or any items.
+    // Places the line of the items from one place up to another where it is no single run: units of one text, or any
+    // items.
     fn other_line(
         &self,
         alloc: Global,
@@ -105,7 +106,7 @@ impl<'a> Setting<'a> {
         }
     }
 
-    // That line, before it is placed.
+    // The line of the items from one place up to another, before it is placed.
     fn input(
         &self,
         alloc: Global,

@@ -42,7 +42,7 @@ pub fn paragraph_sizes(
     Ok(sizes)
 }
 
-// The same where the boxes are known.
+// The min-content and the max-content size of a paragraph whose inline boxes are known (CSS 2, 10.3.5).
 fn sizes_of(
     alloc: Global,
     boxes: &Boxes,

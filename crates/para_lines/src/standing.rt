@@ -113,7 +113,7 @@ pub(crate) fn line_items<'a>(
     Ok(made)
 }
 
-// One of them.
+// An item on its line: what it is, its level and its extent, and in which box of the line it stands.
 fn line_item<'a>(boxes: &Boxes, seated: &Seated, standing: &Standing<'a>) -> LineItem<'a>
     requires boxes { AreBoxes boxes.now }
     requires seats { AreSeats seated.now.places.now seated.now.seats.now }
@@ -168,7 +168,7 @@ pub(crate) fn content<'a>(
     }
 }
 
-// The same of what is no unit.
+// What an item that is no unit is, inside boxes with these lengths of `vertical-align`.
 #[inline(never)]
 fn other_content<'a>(what: &'a PreparedContent, shifts: i64, atoms: &'a [Atom]) -> LineContent<'a>
     requires shifts { unsigned_abs shifts ≤ 2 ^ 53 }

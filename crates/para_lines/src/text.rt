@@ -222,7 +222,7 @@ fn unit_of(alloc: Global, standing: &Standing) -> Result<RunUnit, AllocError>
     }
 }
 
-// The same of any item.
+// What any item shows as a unit of a run.
 #[inline(never)]
 fn other_unit(alloc: Global, standing: &Standing) -> Result<RunUnit, AllocError>
     requires atom { HasOwnAtom standing.now }

@@ -147,7 +147,7 @@ fn own_classes(alloc: Global, standings: &[Standing]) -> Result<ClassList, Alloc
     Ok(made)
 }
 
-// The same items as units.
+// The items of a line, all of which are units, as units of its text.
 fn units_of<'a>(alloc: Global, standings: &[Standing<'a>]) -> Result<TextUnits<'a>, AllocError>
     requires { All (λ standing. IsUnitContent standing.item.now.what) standings.now }
     ensures { IfOk result (λ made. map unit_seen made.items ≡ map unit_in (map bare standings.now)) }

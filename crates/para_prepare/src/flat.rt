@@ -294,7 +294,7 @@ impl FlatLists<'_> {
         Ok(())
     }
 
-    // The same where each character is a unit by itself, but for the bidi controls.
+    // Adds the units of a text in which each character is a unit by itself, but for the bidi controls.
     fn add_letters(
         &mut self,
         text: Text,
@@ -316,7 +316,7 @@ impl FlatLists<'_> {
         Ok(())
     }
 
-    // The same of one character, which stands at this place of its text.
+    // Adds the unit of one character, which stands at this place of its text, or passes over a bidi control.
     #[inline(always)]
     fn add_letter(
         &mut self,
@@ -369,7 +369,7 @@ impl FlatLists<'_> {
         Ok(())
     }
 
-    // The same of any text.
+    // Adds the units and combined runs of a text that may have units of several characters.
     fn add_clusters(
         &mut self,
         alloc: Global,
@@ -393,7 +393,7 @@ impl FlatLists<'_> {
         Ok(())
     }
 
-    // The same where its units are these.
+    // Adds the units and combined runs of a text that has these kept characters and comes to these units.
     fn add_runs(
         &mut self,
         alloc: Global,
@@ -570,7 +570,7 @@ fn are_flat(upright: bool, letters: &[Letter], class: BidiClass) -> bool
     }
 }
 
-// The same of some characters.
+// Whether none of these characters asks for another level in a paragraph of base level 0.
 fn are_all_flat(upright: bool, letters: &[Letter]) -> bool
     ensures { result ≡ list_all (λ l. paragraph.is_left_to_right (parts.class_in upright l.char)) letters.now }
 {

@@ -100,7 +100,7 @@ impl Keeper<'_> {
         }
     }
 
-    // The same of a text.
+    // Adds the kept characters of a text that has these items after it.
     fn add_text(&mut self, text: &str, behind: &[Item]) -> Result<(), AllocError>
         requires few { length (chars text.now) < 2 ^ 32 }
         ensures letters { OnOk result (self.new.letters.items ≡ self.old.letters.items ++ chosen 0 (chars text.now) (marks_with (map sign_of (chars text.now) ++ signs (entries_of behind.now)) self.old.follows)) }

@@ -166,7 +166,7 @@ fn scratch(
     }
 }
 
-// The same with these kept characters, where nothing in the paragraph asks for a level but 0, or where each item is one
+// Prepares a paragraph with these kept characters, if nothing in it asks for a level but 0, or if each item is one
 // character of the one bidi paragraph that it is.
 fn by_lists(
     alloc: Global,
@@ -309,7 +309,7 @@ fn same_levels(alloc: Global, level: u8, count: usize) -> Result<LevelList, Allo
     Ok(levels)
 }
 
-// The same, by all rules of bidi.
+// Prepares a paragraph with these kept characters by all rules of the bidi algorithm (UAX 9).
 fn by_all_rules<'a>(
     alloc: Global,
     arena: &'a Bump,

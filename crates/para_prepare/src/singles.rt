@@ -56,7 +56,7 @@ fn set_levels(items: &mut [PreparedItem], levels: &[u8])
     }
 }
 
-// The same of one item.
+// One item, which stands as at level 0, with what is seen of it at this level: mirrored at an odd one (UAX 9, L4).
 #[inline(always)]
 fn set_level(item: &mut PreparedItem, level: u8)
     ensures { item.new ≡ at_level level item.old }

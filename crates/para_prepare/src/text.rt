@@ -65,7 +65,7 @@ pub(crate) fn add_text(
     Ok(())
 }
 
-// The same where each character is a unit by itself, but for the bidi controls.
+// Adds the parts of a text in which each character is a unit by itself, but for the bidi controls.
 fn add_letters(
     parts: &mut Parts,
     text: Text,
@@ -90,7 +90,7 @@ fn add_letters(
     Ok(())
 }
 
-// The same of one character, which stands at this place of its text.
+// Adds the part of one character, which stands at this place of its text: a unit by itself, or a bidi control.
 #[inline(always)]
 fn add_letter(
     parts: &mut Parts,
@@ -123,7 +123,7 @@ fn add_letter(
     Ok(())
 }
 
-// The same of any text.
+// Adds the parts of a text that may have units of several characters, and combined runs.
 fn add_clusters(
     alloc: Global,
     arena: &Bump,

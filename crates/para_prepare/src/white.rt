@@ -18,7 +18,8 @@ pub(crate) fn leads(rest: &str, behind: &[Item]) -> bool
     has_content(rest) || leads_in(behind)
 }
 
-// The same of items alone.
+// Whether content comes first in these items: white space, inline boxes' ends and bidi controls are passed over, a
+// line break is an end.
 fn leads_in(items: &[Item]) -> bool
     ensures { result ≡ leads (signs (entries_of items.now)) }
 {

@@ -45,7 +45,7 @@ fn placed_parts(
     Ok(made)
 }
 
-// One of them, with what stands inside it.
+// Carries a fragment that is measured in this frame to the page, with what stands inside it.
 #[cycle(placed)]
 #[tactic(auto, using(crate::proofs::Trees::near_part))]
 fn placed_part(alloc: Global, frame: Frame, fragment: &Fragment) -> Result<PlacedPart, AllocError>

@@ -170,7 +170,7 @@ pub fn joined_pieces_spell<R: TextRule, M: Behind>()
         → Spells (readers.joined test R.reads) (Joined R.spelled) M.ends }
 {}
 
-/// The same reader with another word for where it stops.
+/// With another word for where it stops, a reader reads what it did.
 pub fn tellings_spell<A, E, R: Rule<A>>()
     ensures { (told : List ℕ → E) → Spells (readers.telling told R.reads) R.spelled R.ends }
 {}
@@ -348,7 +348,8 @@ pub fn none_goes_further<A, R: PlacedRule<A>>()
         → R.spelled (text ++ next ∷ more) x → R.ends rest → ⊥ }
 {}
 
-/// The same of readers that may look further where they read on.
+/// No text of the grammar begins with what was read and the byte where the reader stopped, for readers that may look
+/// further where they read on.
 pub fn none_goes_further_where_it_stops<A, R: StoppingRule<A>>()
     ensures { (text later more rest : List ℕ) (next : ℕ) (x : A) → R.reads (text ++ next ∷ later) ≡ Err (next ∷ later)
         → R.spelled (text ++ next ∷ more) x → R.ends rest → ⊥ }

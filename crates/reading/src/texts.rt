@@ -30,7 +30,7 @@ pub fn strip<'a>(word: &str, text: &'a str) -> Result<&'a str, &'a [u8]>
     Ok(&text[word.len()..])
 }
 
-// The same over bytes.
+// The bytes after `word`, or those that are left where they differ from it.
 fn strip_bytes<'a>(word: &[u8], bytes: &'a [u8]) -> Result<&'a [u8], &'a [u8]>
     ensures { Answers (λ rest. (tt, rest.now)) result (readers.strip word.now bytes.now) }
 {
@@ -57,7 +57,8 @@ pub fn strip_either_case<'a>(word: &str, text: &'a str) -> Result<&'a str, &'a [
     Ok(&text[word.len()..])
 }
 
-// The same over bytes.
+// The bytes after `word`, in which ASCII letters may stand in either case, or those that are left where they differ
+// from it.
 fn strip_cased_bytes<'a>(word: &[u8], bytes: &'a [u8]) -> Result<&'a [u8], &'a [u8]>
     ensures { Answers (λ rest. (tt, rest.now)) result (readers.strip_either_case word.now bytes.now) }
 {
