@@ -35,7 +35,7 @@ pub(crate) struct LastLine {
 }
 
 impl LastLine {
-    // The same line in the box round its own, in which this stands so far from the block-start edge.
+    // The line in the box round its own, from whose block-start edge the content area of its own stands so far.
     fn further(self, distance: i64) -> LastLine
         ensures { unsigned_abs distance + unsigned_abs self.from ≤ 2 ^ 61 → Some result ≡ rule.further distance (Some self) }
     {
@@ -134,7 +134,7 @@ fn from_over(over_at_start: bool, content: FlowRect, found: LastLine) -> i64
     }
 }
 
-// The same from the line-over edge of the border box of a box of this mode.
+// The distance of a line from the line-over edge of the border box of a box of this mode.
 fn from_edge(own: WritingMode, content: FlowRect, found: LastLine) -> i64
     requires b { unsigned_abs content.b ≤ 2 ^ 36 }
     requires block { unsigned_abs content.block ≤ 2 ^ 36 }
@@ -227,7 +227,7 @@ fn held_distance(distance: i64) -> i64
     distance.clamp(-FURTHEST, FURTHEST)
 }
 
-// The same fragment with its border box at 0.
+// A copy of the fragment with its border box at 0.
 fn at_zero(fragment: &Fragment) -> Result<Fragment, AllocError>
     ensures { IfOk result (λ made. piece_of made ≡ at (pos 0) (pos 0) (part_of fragment.now) none) }
 {

@@ -24,7 +24,8 @@ pub(crate) fn margin(style: &Style, inline: Option<i64>, side: Side) -> Option<i
     resolved_margin(margin, inline)
 }
 
-/// The same, where an auto margin counts as 0.
+/// The margin of a box on a side of the page, where an auto margin counts as 0. `inline` is the inline size of its
+/// containing block, where that is known.
 pub(crate) fn margin_or_zero(style: &Style, inline: Option<i64>, side: Side) -> i64
     requires style { IsBounded style.now }
     requires inline { IsBase inline }

@@ -36,7 +36,7 @@ use std::alloc::{AllocError, Global};
 use std::sync::ledger::Ledger;
 use wm_units::Steps;
 
-// The same fragment, with what is below it shared.
+// A copy of the fragment, which shares what is below it.
 fn shared(fragment: &Fragment) -> Result<Fragment, AllocError>
     ensures { IfOk result (λ own. piece_of own ≡ piece_of fragment.now) }
 {

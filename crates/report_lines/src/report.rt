@@ -16,7 +16,7 @@ pub trait Report {
     /// All that is written for an input.
     ghost due: { Self → List ℕ → List ℕ };
 
-    /// The same, as a text. Only for want of memory there is none.
+    /// The text that is written for an input of these bytes. Only for want of memory there is none.
     fn lines(&self, alloc: Global, bytes: &[u8]) -> Result<Vec<u8>, AllocError>
         ensures { IfOk result (λ lines. lines.items ≡ due self.now bytes.now) };
 }

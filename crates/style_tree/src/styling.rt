@@ -125,7 +125,7 @@ impl<'a> Styling<'a> {
         }
     }
 
-    // The same for a node in hand, where the line of the one before is kept.
+    // The style of a node in hand, of which the parent has this style, by the line that is kept from the node before.
     fn style_in(
         &self,
         alloc: Global,

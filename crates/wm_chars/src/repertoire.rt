@@ -168,7 +168,8 @@ fn rows_before(c: char) -> usize
     rows_before_past_blocks(c)
 }
 
-// The same past the blocks.
+// How many rows end before a character from U+0800 on. In Kana, Han and Hangul the search begins with the rows of
+// their scripts.
 #[inline(always)]
 fn rows_before_past_blocks(c: char) -> usize
     ensures { repertoire.DividesAt c result }
@@ -182,7 +183,7 @@ fn rows_before_past_blocks(c: char) -> usize
     rows_before_by_halves(c)
 }
 
-// The same by a search row by row, where it is known that these many rows end before the character.
+// How many rows end before the character, by a search row by row, where it is known that these many do.
 #[inline(always)]
 fn rows_before_from(known: usize, c: char) -> usize
     requires { AllWithin (λ row. row.last < c) ROWS 0 known }
@@ -196,7 +197,7 @@ fn rows_before_from(known: usize, c: char) -> usize
     ROWS.len()
 }
 
-// The same by a search by halves.
+// How many rows end before the character, by a search by halves.
 #[inline(never)]
 fn rows_before_by_halves(c: char) -> usize
     ensures { repertoire.DividesAt c result }
