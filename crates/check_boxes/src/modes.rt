@@ -5,8 +5,8 @@ ghost use Rattle.std.specs.Prelude.{IfOk};
 ghost use Rattle.wm_modes.specs.Near.{IsNear, IsNearFlow};
 
 use crate::words::{CaseError, Words};
-use std::alloc::Global;
 use css_types::{PROPERTIES, Property, PropertyRow, page_property};
+use std::alloc::Global;
 use style_types::{Style, TextOrientation};
 use wm_modes::{
     Direction, FlowRect, FlowSide, Rect, Side, WritingMode, side_of, to_flow, to_physical,

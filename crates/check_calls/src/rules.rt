@@ -1,8 +1,8 @@
 //! Rules of style sheets: their copies.
 
+use css_types::{Declaration, Joint, Part, Property, Rule, Selector, Value, copy_of_rules};
 use std::rc::Rc;
 use std::test::*;
-use css_types::{Declaration, Joint, Part, Property, Rule, Selector, Value, copy_of_rules};
 
 #[test]
 fn copies_are_made(rt: HostRuntime) -> Result<(), Fail> {

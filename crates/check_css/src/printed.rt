@@ -1,9 +1,9 @@
 //! How answers are printed.
 
+use css_types::Declaration;
 use css_values::CssError;
 use std::io;
 use std::io::Write;
-use css_types::Declaration;
 
 /// Prints a refusal.
 pub(crate) fn print_refusal<W: Write>(output: &mut W, error: CssError) -> io::Result<()> {

@@ -4,9 +4,9 @@ ghost use Rattle.std.specs.Prelude.{◌≡◌, codes};
 ghost use Rattle.css_types.specs.declared.rule.Joint.TheVariants.{Child, Descendant};
 
 use crate::printed::print_declarations;
+use css_types::{Joint, Part, Rule};
 use std::io;
 use std::io::Write;
-use css_types::{Joint, Part, Rule};
 
 /// Prints rules in order.
 pub(crate) fn print_rules<W: Write>(output: &mut W, rules: &[Rule]) -> io::Result<()> {

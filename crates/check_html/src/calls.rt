@@ -2,10 +2,10 @@
 
 use cascade::winners;
 use css_sheet::read_styled;
+use css_types::{Keyword, Property, Value};
 use dom_store::Document;
 use html_read::read_document;
 use std::test::Fail;
-use css_types::{Keyword, Property, Value};
 use style_types::Style;
 
 const SOURCE: &[u8] =

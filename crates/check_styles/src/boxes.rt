@@ -3,9 +3,9 @@
 ghost use Rattle.std.specs.Prelude.{◌≡◌, true, false, codes};
 
 use box_gen::{BoxTree, Content};
+use fragment_types::{BoxName, Item};
 use std::io;
 use std::io::Write;
-use fragment_types::{BoxName, Item};
 
 /// Prints the boxes of a tree, each before those inside it.
 pub(crate) fn print_boxes<W: Write>(output: &mut W, root: &BoxTree) -> io::Result<()> {

@@ -15,11 +15,11 @@ use box_gen::boxes;
 use cascade::RuleIndex;
 use cascade::laws::what_is_read_is_said;
 use css_sheet::read_styled;
+use css_types::Styled;
 use dom_store::Document;
 use html_read::{ReadDocument, ReadNode, read_document};
 use std::alloc::Global;
 use style_tree::styled;
-use css_types::Styled;
 
 /// How many nodes the document of these bytes has, which is taken so far.
 pub(crate) fn count(alloc: Global, bytes: &[u8], stage: Stage) -> Result<usize, CountError>

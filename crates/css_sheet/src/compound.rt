@@ -9,10 +9,10 @@ ghost use Rattle.css_sheet.specs.Selector as readers;
 use crate::halt::Halt;
 use crate::names::{class, class_or_id_ahead, id, type_name};
 use css_tokens::comment;
-use reading::starts;
-use std::alloc::Global;
 use css_types::{Joint, Part};
 use letters::{LetterList, Letters};
+use reading::starts;
+use std::alloc::Global;
 
 /// A compound: it begins with a class or an id, or with a type or `*`. Comments may stand between its parts.
 #[tactic(auto, unfolding(crate::specs::Selector::compound))]

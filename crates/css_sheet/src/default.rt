@@ -5,8 +5,8 @@ ghost use Rattle.css_sheet.specs.Default.{IsDefault, default_rules};
 ghost use Rattle.css_types.specs.Rule.{rulings_of};
 
 use crate::sheet::{empty, read_into};
-use std::alloc::{AllocError, Global};
 use css_types::Rules;
+use std::alloc::{AllocError, Global};
 
 /// What elements look like before an author's sheet says otherwise.
 pub static DEFAULT_SHEET: &str = "\

@@ -11,10 +11,10 @@ ghost use Rattle.css_sheet.specs.Views.{heads_of, TellsCannot};
 use crate::halt::Halt;
 use crate::selector::next_selector;
 use css_tokens::gap;
+use css_types::Selector;
 use css_values::{Refusal, Stop};
 use reading::{starts, strip};
 use std::alloc::Global;
-use css_types::Selector;
 
 /// The greatest count of rules in the sheets of a document.
 const MOST_RULES: usize = 4_096;

@@ -9,9 +9,9 @@ ghost use Rattle.css_sheet.specs.Selector as readers;
 use crate::compound::next_compound;
 use crate::halt::{Halt, Stuck};
 use css_tokens::gap;
+use css_types::{Joint, Parts, Selector};
 use reading::{first, starts, strip};
 use std::alloc::Global;
-use css_types::{Joint, Parts, Selector};
 
 /// A selector, and the text from its `,` or `{` on.
 #[tactic(auto, unfolding(crate::specs::Selector::selector))]

@@ -13,11 +13,11 @@ ghost use Rattle.css_sheet.specs.Views.{sheet_of, PutsRule, PutsRules};
 
 use crate::heads::rule_heads;
 use css_tokens::gap;
+use css_types::{Declarations, Rule, Rules, Selector};
 use css_values::{CssError, Stop, Within, declarations_within, told};
 use reading::strip;
 use std::alloc::Global;
 use std::rc::Rc;
-use css_types::{Declarations, Rule, Rules, Selector};
 
 /// What is read of the sheets so far: their rules, and the count of their declarations, each counted for each
 /// selector of its rule.

@@ -12,10 +12,10 @@ ghost use Rattle.css_sheet.specs.Styled.{Placing};
 ghost use Rattle.css_sheet.specs.Views.{sheet_of};
 
 use crate::sheet::{Sheet, empty, read_into};
+use css_types::{Declaration, Declarations, Styled, Styles};
 use css_values::{CssError, Stop, Within, declarations_within, told};
 use html_read::{PlacedText, ReadDocument, ReadKind, ReadNode};
 use std::alloc::Global;
-use css_types::{Declaration, Declarations, Styled, Styles};
 
 /// Reads all sheets of a document in order, then the style attributes of its nodes. The limits on rules and
 /// declarations count over all sheets together. In a style attribute the place of a refusal, and of each declaration,

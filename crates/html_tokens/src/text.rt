@@ -15,9 +15,9 @@ use crate::error::Refusal;
 use crate::lexing::comment;
 use crate::plain::plain_count;
 use crate::references::reference;
+use letters::Letters;
 use reading::{Stop, front_of, starts};
 use std::alloc::Global;
-use letters::Letters;
 
 /// The letters up to the next tag.
 #[tactic(auto, unfolding(crate::specs::Text::gap))]

@@ -15,9 +15,9 @@ ghost use Rattle.html_tokens.specs.Written.{attribute_of};
 use crate::error::Refusal;
 use crate::lexing::name;
 use crate::references::reference;
+use letters::Letters;
 use reading::{Stop, first, front_of, spaces, starts, strip, white};
 use std::alloc::Global;
-use letters::Letters;
 
 /// An attribute: its name as it is written, its value with references replaced, and the bytes from its name on.
 #[derive(Debug, Drop)]

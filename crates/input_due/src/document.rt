@@ -19,6 +19,7 @@ ghost use Rattle.input_due.specs.Input.{IsDueOfDocument, IsDueOfOpened, IsDueOfS
 use crate::due::Due;
 use cascade::laws::what_is_read_is_said;
 use css_sheet::read_styled;
+use css_types::Styled;
 use css_values::CssError;
 use edit_script::{Script, ScriptError, ScriptLine, ScriptStep, read_script};
 use face_api::{Face, Faces};
@@ -28,7 +29,6 @@ use session::Session;
 use session::laws::one_answer;
 use std::alloc::{AllocError, Global};
 use std::str;
-use css_types::Styled;
 use wm_units::View;
 
 /// The text of a script, and the place of its first byte in the input.
