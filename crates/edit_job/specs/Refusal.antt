@@ -1,7 +1,6 @@
 -- The lines that tell what is refused (docs/PROFILE/commands.md).
 use Rattle.std.specs.Prelude.{ℕ, List, ◌++◌, codes, decimal, ⊤}
-use Rattle.dom_store.specs.declared.error.EditError.{EditError}
-use Rattle.dom_store.specs.declared.error.EditError.TheVariants as document
+use Rattle.dom_store.specs.Error.{error_word}
 use Rattle.session.specs.declared.error.ApplyError.{ApplyError}
 use Rattle.session.specs.declared.error.ApplyError.TheVariants.{Document, TooManyOrthogonal, BlockInInline, Memory}
 
@@ -9,21 +8,9 @@ use Rattle.session.specs.declared.error.ApplyError.TheVariants.{Document, TooMan
 unfoldable pub refusal : (kind : List ℕ) → (place : ℕ) → List ℕ
 refusal kind place = codes "refused " ++ kind ++ codes " " ++ decimal place ++ codes "\n"
 
--- the word of why a document refuses an edit
-unfoldable pub document_word : EditError → List ℕ
-document_word document.NoNode = codes "NoNode"
-document_word document.IsRoot = codes "IsRoot"
-document_word document.NotText = codes "NotText"
-document_word document.NotElement = codes "NotElement"
-document_word document.Inside = codes "Inside"
-document_word document.BadIndex = codes "BadIndex"
-document_word (document.TooManyNodes number) = codes "TooManyNodes"
-document_word (document.TooDeep number) = codes "TooDeep"
-document_word document.Memory = codes "Memory"
-
 -- the word of why an edit is refused
 unfoldable pub word_of : ApplyError → List ℕ
-word_of (Document error) = document_word error
+word_of (Document error) = error_word error
 word_of (TooManyOrthogonal number) = codes "TooManyOrthogonal"
 word_of (BlockInInline number) = codes "BlockInInline"
 word_of Memory = codes "Memory"

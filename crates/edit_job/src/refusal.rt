@@ -1,10 +1,9 @@
 //! The lines that tell what is refused.
 
 ghost use Rattle.std.specs.Prelude.{◌≡◌, ◌≤◌, length};
-ghost use Rattle.edit_job.specs.Refusal.{document_word, refusal, word_of};
+ghost use Rattle.edit_job.specs.Refusal.{refusal, word_of};
 
 use arrayvec::ArrayString;
-use dom_store::EditError;
 use itoa::Buffer;
 use session::ApplyError;
 
@@ -30,27 +29,9 @@ pub(crate) fn word_of(error: ApplyError) -> &'static str
     ensures short { length result.now ≤ 17 }
 {
     match error {
-        ApplyError::Document(error) => document_word(error),
+        ApplyError::Document(error) => error.word(),
         ApplyError::TooManyOrthogonal(_) => "TooManyOrthogonal",
         ApplyError::BlockInInline(_) => "BlockInInline",
         ApplyError::Memory => "Memory",
-    }
-}
-
-#[tactic(auto, unfolding(crate::specs::Refusal::document_word))]
-fn document_word(error: EditError) -> &'static str
-    ensures word { result.now ≡ document_word error }
-    ensures short { length result.now ≤ 17 }
-{
-    match error {
-        EditError::NoNode => "NoNode",
-        EditError::IsRoot => "IsRoot",
-        EditError::NotText => "NotText",
-        EditError::NotElement => "NotElement",
-        EditError::Inside => "Inside",
-        EditError::BadIndex => "BadIndex",
-        EditError::TooManyNodes(_) => "TooManyNodes",
-        EditError::TooDeep(_) => "TooDeep",
-        EditError::Memory => "Memory",
     }
 }

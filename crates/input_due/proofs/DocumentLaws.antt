@@ -8,6 +8,7 @@ use Rattle.face_api.specs.Table.{Table}
 use Rattle.face_api.specs.declared.face.Face.{Ghosts}
 use Rattle.wm_units.specs.declared.view.View.{View}
 use Rattle.css_values.specs.declared.error.Refusal as css
+use Rattle.css_values.specs.Error.{kind_word as style_word}
 use Rattle.css_sheet.specs.Styled.{Placed, styling}
 use Rattle.css_types.specs.Rule.{Ruling, Styling}
 use Rattle.reading.specs.Readers.{Read, ReadOr}
@@ -25,6 +26,7 @@ use Rattle.dom_store.specs.Opening.{opened}
 use Rattle.dom_store.specs.State.{State, state_of}
 use Rattle.cascade.specs.Index.{index_rules}
 use Rattle.std.specs.Global.{Vec}
+use Rattle.edit_script.specs.Error.{kind_word as script_word}
 use Rattle.edit_script.specs.declared.error.Refusal as script
 use Rattle.edit_script.specs.declared.step.ScriptLine.{ScriptLine}
 use Rattle.edit_script.specs.Script as scripts
@@ -36,7 +38,7 @@ use Rattle.session.specs.declared.error.OpenError.TheVariants as open_errors
 use Rattle.session.specs.declared.session.Session.{Session}
 use Rattle.edit_job.specs.Refusal.{refusal}
 use Rattle.edit_job.specs.Steps.{AreSteps, AreStepsIn}
-use Rattle.input_due.specs.Due.{End, Done, Refused, IsDueBy, IsOf, cause_word, node_of, not_opened, open_word, script_word, style_word}
+use Rattle.input_due.specs.Due.{End, Done, Refused, IsDueBy, IsOf, cause_word, node_of, not_opened, open_word}
 use Rattle.input_due.specs.Input.{IsDueOfDocument, IsDueOfInput, IsDueOfOpened, IsDueOfRead, IsDueOfSteps, IsDueOfStyling, IsDueOfTail, IsDueOfWhole, longest_input, placed_from, steps_behind}
 use Rattle.input_due.specs.Document.{read_at}
 use Rattle.input_due.specs.declared.due.Due.{Due}

@@ -3,13 +3,11 @@ use Rattle.std.specs.Prelude.{◌≡◌, ◌↔◌, ◌+◌, ◌≤◌, ℕ, Lis
 use Rattle.face_api.specs.Faces.{faces_of}
 use Rattle.face_api.specs.Table.{Table}
 use Rattle.face_api.specs.declared.face.Face.{Ghosts}
-use Rattle.css_values.specs.declared.error.Refusal.{Refusal}
-use Rattle.css_values.specs.declared.error.Refusal.TheVariants.{CssSyntax, TooManyRules, Unsupported}
+use Rattle.css_values.specs.Error.{kind_word as style_word}
 use Rattle.html_tokens.specs.Error.{kind_word}
 use Rattle.dom_store.specs.State.{State, state_of}
 use Rattle.tree_laws.specs.Weight.{bytes, total}
-use Rattle.edit_script.specs.declared.error.Refusal as script
-use Rattle.edit_script.specs.declared.error.Refusal.TheVariants as script_kinds
+use Rattle.edit_script.specs.Error.{kind_word as script_word}
 use Rattle.edit_script.specs.Fitting.{AllFit, bytes_of}
 use Rattle.edit_script.specs.Script.{StepAt}
 use Rattle.edit_script.specs.Views.{steps_of}
@@ -28,20 +26,6 @@ use Rattle.input_due.specs.declared.due.Cause.TheVariants as causes
 pub data End : Type 0 where
   Done : End
   Refused : End
-
--- the word of what is wrong with a style sheet or a style attribute
-unfoldable pub style_word : Refusal → List ℕ
-style_word CssSyntax = codes "CssSyntax"
-style_word Unsupported = codes "Unsupported"
-style_word TooManyRules = codes "TooManyRules"
-
--- the word of what is wrong with a script
-unfoldable pub script_word : script.Refusal → List ℕ
-script_word script_kinds.ScriptSyntax = codes "ScriptSyntax"
-script_word script_kinds.TooManyEdits = codes "TooManyEdits"
-script_word script_kinds.TooManyShows = codes "TooManyShows"
-script_word (script_kinds.Html kind) = kind_word kind
-script_word (script_kinds.Css kind) = style_word kind
 
 -- the word of why a document can't be opened, and the number of the node that it tells
 unfoldable pub open_word : OpenError → List ℕ

@@ -6,11 +6,13 @@ use Rattle.html_tokens.specs.Error.{Fault, kind_word, syntax}
 use Rattle.html_read.specs.Error.{place_in}
 use Rattle.html_read.specs.Reading as reading
 use Rattle.html_read.specs.Values.{Node, Whole}
+use Rattle.css_values.specs.Error.{kind_word as style_word}
 use Rattle.css_sheet.specs.Styled.{Placed, styling}
 use Rattle.css_types.specs.Rule.{Styling}
 use Rattle.dom_store.specs.Opening.{opened}
 use Rattle.dom_store.specs.State.{State}
 use Rattle.edit_script.specs.declared.error.Refusal as script_faults
+use Rattle.edit_script.specs.Error.{kind_word as script_word}
 use Rattle.edit_script.specs.Answered.{place_from}
 use Rattle.edit_script.specs.Meaning.{show}
 use Rattle.edit_script.specs.Script as scripts
@@ -20,7 +22,7 @@ use Rattle.session.specs.Opening.{CanOpen, IsRefused}
 use Rattle.session.specs.declared.error.OpenError.{OpenError}
 use Rattle.edit_job.specs.Refusal.{refusal}
 use Rattle.edit_job.specs.Steps.{AreSteps}
-use Rattle.input_due.specs.Due.{End, Done, Refused, node_of, open_word, script_word, style_word}
+use Rattle.input_due.specs.Due.{End, Done, Refused, node_of, open_word}
 
 -- the greatest length of an input, in bytes
 abbrev pub longest_input : ℕ

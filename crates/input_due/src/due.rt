@@ -1,7 +1,7 @@
 //! What is due for an input: the steps over its document, or its refusal.
 
 ghost use Rattle.std.specs.Prelude.{◌≡◌, ◌≤◌, length};
-ghost use Rattle.input_due.specs.Due.{cause_word, not_opened, open_word, script_word, style_word, told_node};
+ghost use Rattle.input_due.specs.Due.{cause_word, not_opened, open_word, told_node};
 ghost use Rattle.input_due.specs.declared.due.Cause.TheVariants as Causes;
 ghost use Rattle.input_due.specs.declared.due.Due.TheVariants as Dues;
 
@@ -86,36 +86,10 @@ impl Cause {
         match self {
             Cause::TooLong => "TooLong",
             Cause::Document(kind) => kind.word(),
-            Cause::Style(kind) => style_word(kind),
-            Cause::Script(kind) => script_word(kind),
+            Cause::Style(kind) => kind.word(),
+            Cause::Script(kind) => kind.word(),
             Cause::Opening(error) => open_word(error),
         }
-    }
-}
-
-#[tactic(auto, unfolding(crate::specs::Due::style_word))]
-fn style_word(kind: css_values::Refusal) -> &'static str
-    ensures word { result.now ≡ style_word kind }
-    ensures short { length result.now ≤ 17 }
-{
-    match kind {
-        css_values::Refusal::CssSyntax => "CssSyntax",
-        css_values::Refusal::Unsupported => "Unsupported",
-        css_values::Refusal::TooManyRules => "TooManyRules",
-    }
-}
-
-#[tactic(auto, unfolding(crate::specs::Due::script_word))]
-fn script_word(kind: edit_script::Refusal) -> &'static str
-    ensures word { result.now ≡ script_word kind }
-    ensures short { length result.now ≤ 17 }
-{
-    match kind {
-        edit_script::Refusal::ScriptSyntax => "ScriptSyntax",
-        edit_script::Refusal::TooManyEdits => "TooManyEdits",
-        edit_script::Refusal::TooManyShows => "TooManyShows",
-        edit_script::Refusal::Html(kind) => kind.word(),
-        edit_script::Refusal::Css(kind) => style_word(kind),
     }
 }
 
