@@ -54,10 +54,10 @@ module _ (faces : List (Option Table)) (view : View) (rules : List Ruling) where
     pub step_end : (state : State) (what : Step) (line : ℕ) (next other : State) (due more : List ℕ) → IsStep faces view rules state what line next due → IsStep faces view rules state what line other more → (other ≡ next) × (more ≡ due)
     step_end state show line next other due more (is, d) (is', d') = (is' ∙ sym is, d' ∙ sym d)
     step_end state (edit change) line next other due more (inl (can, is, d)) (inl (can', is', d')) = (is' ∙ sym is, d' ∙ sym d)
-    step_end state (edit change) line next other due more (inl (can, is, d)) (inr (error, refused, is', d')) = absurd ((one rules state change error refused).0 can)
-    step_end state (edit change) line next other due more (inr (error, refused, is, d)) (inl (can', is', d')) = absurd ((one rules state change error refused).0 can')
+    step_end state (edit change) line next other due more (inl (can, is, d)) (inr (error, refused, is', d')) = absurd ((one.only rules state change error refused).0 can)
+    step_end state (edit change) line next other due more (inr (error, refused, is, d)) (inl (can', is', d')) = absurd ((one.only rules state change error refused).0 can')
     step_end state (edit change) line next other due more (inr (error, refused, is, d)) (inr (error', refused', is', d')) =
-        (is' ∙ sym is, d' ∙ ap (λ (e : ApplyError). refusal (word_of e) line) ((one rules state change error refused).1 error' refused') ∙ sym d)
+        (is' ∙ sym is, d' ∙ ap (λ (e : ApplyError). refusal (word_of e) line) ((one.only rules state change error refused).1 error' refused') ∙ sym d)
 
     pub steps_end : (state : State) (steps : List StepAt) (last other : State) (due more : List ℕ) → AreSteps faces view rules state steps last due → AreSteps faces view rules state steps other more → (other ≡ last) × (more ≡ due)
     steps_end state [] last other due more (is, d) (is', d') = (is' ∙ sym is, d' ∙ sym d)
@@ -149,9 +149,9 @@ module _ (faces : List (Option Table)) (view : View) (rules : List Ruling) (stat
   pub refused_front : HasOneOutcome → (error : ApplyError) (old new : Option (List ℕ)) → (error ≡ applying.Memory) ⊎ IsRefusedEdit rules state change error → (error ≡ applying.Memory → new ≡ old) → AppendsFront old new (refusal (word_of error) line)
       → (next : State) (due : List ℕ) → IsStep faces view rules state (edit change) line next due → AppendsFront old new due
   refused_front one error old new (inl is) none front next due step = subst (λ (sink : Option (List ℕ)). AppendsFront old sink due) (sym (none is)) (nothing_yet old due)
-  refused_front one error old new (inr refused) none front next due (inl (can, is, d)) = absurd ((one rules state change error refused).0 can)
+  refused_front one error old new (inr refused) none front next due (inl (can, is, d)) = absurd ((one.only rules state change error refused).0 can)
   refused_front one error old new (inr refused) none front next due (inr (other, also, is, d)) =
-      let same : due ≡ refusal (word_of error) line = d ∙ ap (λ (e : ApplyError). refusal (word_of e) line) ((one rules state change error refused).1 other also) in
+      let same : due ≡ refusal (word_of error) line = d ∙ ap (λ (e : ApplyError). refusal (word_of e) line) ((one.only rules state change error refused).1 other also) in
       subst (λ (bytes : List ℕ). AppendsFront old new bytes) (sym same) front
 
 -- ---- lines

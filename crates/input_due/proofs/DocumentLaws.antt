@@ -72,7 +72,7 @@ module _ {I : Type 0} {D : I → Type 0} (members : (x : I) → Ghosts (D x)) (f
 
     there : (end_ : End) (due : List ℕ) → IsDueOfOpened faces view nodes styles (steps_of script.items) end_ due → IsOf members (dues.Steps session script) end_ due
     there Done due q = (refl, q.1, subst (λ (X : Type 0). X) (sym (same q.1 due)) q.2)
-    there Refused due q = absurd ((one nodes styles.own styles.rules q.0 q.1).0 can)
+    there Refused due q = absurd ((one.only nodes styles.own styles.rules q.0 q.1).0 can)
 
     back : (end_ : End) (due : List ℕ) → IsOf members (dues.Steps session script) end_ due → IsDueOfOpened faces view nodes styles (steps_of script.items) end_ due
     back end_ due q = subst (λ (s : End). IsDueOfOpened faces view nodes styles (steps_of script.items) s due) (sym q.0) (can, q.1, subst (λ (X : Type 0). X) (same q.1 due) q.2)
@@ -85,8 +85,8 @@ module _ {I : Type 0} {D : I → Type 0} (members : (x : I) → Ghosts (D x)) (f
   unfolding cause_word
   told_not_opened nodes styles steps error refused one = both where
     there : (end_ : End) (due : List ℕ) → IsDueOfOpened faces view nodes styles steps end_ due → (end_ ≡ Refused) × (due ≡ refusal (open_word error) (node_of error))
-    there Done due q = absurd ((one nodes styles.own styles.rules error refused).0 q.0)
-    there Refused due q = (refl, q.2 ∙ ap (λ (e : OpenError). refusal (open_word e) (node_of e)) ((one nodes styles.own styles.rules error refused).1 q.0 q.1))
+    there Done due q = absurd ((one.only nodes styles.own styles.rules error refused).0 q.0)
+    there Refused due q = (refl, q.2 ∙ ap (λ (e : OpenError). refusal (open_word e) (node_of e)) ((one.only nodes styles.own styles.rules error refused).1 q.0 q.1))
 
     back : (end_ : End) (due : List ℕ) → (end_ ≡ Refused) × (due ≡ refusal (open_word error) (node_of error)) → IsDueOfOpened faces view nodes styles steps end_ due
     back end_ due q = subst (λ (s : End). IsDueOfOpened faces view nodes styles steps s due) (sym q.0) (error, refused, q.1)

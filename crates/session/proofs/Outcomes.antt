@@ -22,8 +22,8 @@ use Rattle.box_limits.specs.declared.error.LimitError.TheVariants as limits
 use Rattle.box_limits.specs.Limits.{Answers, AreWithin, IsEditedFrom}
 use Rattle.session.specs.declared.error.ApplyError.{ApplyError}
 use Rattle.session.specs.declared.error.ApplyError.TheVariants as applying
-use Rattle.session.specs.Editing.{CanApply, HasOneOutcome, IsRefusedEdit, of_limit_error, of_refusal}
-use Rattle.session.proofs.Answering.{least_one, none_there}
+use Rattle.session.specs.Editing.{CanApply, HasOneOutcome, IsRefusedEdit, of_limit_error, of_refusal, styled_after}
+use Rattle.session.proofs.Answering.{IsEmptyOrHasLeast, least_one, least_or_none, none_there}
 
 -- ---- one outcome
 
@@ -55,8 +55,27 @@ module _ (rules : List Ruling) (state : State) (edit : EditOf) where
   same (applying.TooManyOrthogonal number) applying.Memory is is' = absurd is'
   same (applying.BlockInInline number) applying.Memory is is' = absurd is'
 
+  -- by what the document, then orthogonal boxes, then block-level boxes in inline ones are refused for
+  abbrev HasOutcome : Type 0
+  HasOutcome = CanApply rules state edit ⊎ ((error : ApplyError) × IsRefusedEdit rules state edit error)
+
+  by_blocks : refusal state edit ≡ None → root_past (styled_after rules state edit) ≡ [] → IsEmptyOrHasLeast (root_caught (styled_after rules state edit)) → HasOutcome
+  by_blocks none turns (inl blocks) = inl (record { taken = none; turns = turns; blocks = blocks })
+  by_blocks none turns (inr (number, least)) = inr (applying.BlockInInline number, (none, turns, least))
+
+  by_turns : refusal state edit ≡ None → IsEmptyOrHasLeast (root_past (styled_after rules state edit)) → HasOutcome
+  by_turns none (inl turns) = by_blocks none turns (least_or_none (root_caught (styled_after rules state edit)))
+  by_turns none (inr (number, least)) = inr (applying.TooManyOrthogonal number, (none, least))
+
+  by_document : (reason : Option EditError) → refusal state edit ≡ reason → HasOutcome
+  by_document None is = by_turns is (least_or_none (root_past (styled_after rules state edit)))
+  by_document (Some error) is = inr (applying.Document error, is)
+
 pub one_outcome : HasOneOutcome
-one_outcome rules state edit error is = (not_applied rules state edit error is, λ other also. same rules state edit error other is also)
+one_outcome = record {
+  some = λ rules state edit. by_document rules state edit (refusal state edit) refl;
+  only = λ rules state edit error is. (not_applied rules state edit error is, λ other also. same rules state edit error other is also);
+}
 
 -- ---- what the document refuses
 

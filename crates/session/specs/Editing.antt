@@ -51,9 +51,10 @@ IsRefusedEdit rules state edit (BlockInInline number) =
 IsRefusedEdit rules state edit Memory = ⊥
 
 -- an edit can be applied, or is refused, and for one reason alone
-abbrev pub HasOneOutcome : Type 0
-HasOneOutcome = (rules : List Ruling) (state : State) (edit : EditOf) (error : ApplyError) → IsRefusedEdit rules state edit error
-    → (CanApply rules state edit → ⊥) × ((other : ApplyError) → IsRefusedEdit rules state edit other → other ≡ error)
+pub record HasOneOutcome : Type 0 where
+  pub some : (rules : List Ruling) (state : State) (edit : EditOf) → CanApply rules state edit ⊎ ((error : ApplyError) × IsRefusedEdit rules state edit error)
+  pub only : (rules : List Ruling) (state : State) (edit : EditOf) (error : ApplyError) → IsRefusedEdit rules state edit error
+      → (CanApply rules state edit → ⊥) × ((other : ApplyError) → IsRefusedEdit rules state edit other → other ≡ error)
 
 module _ {I : Type 0} {D : I → Type 0} where
   -- it is done whole, or refused; then the document has the state that it had, and nothing else is changed

@@ -1,5 +1,5 @@
 -- How a document is opened: which are refused, and what the others are.
-use Rattle.std.specs.Prelude.{◌≡◌, ℕ, ◌≤◌, ◌<◌, ⊤, List, [], length, Some, Result, Ok, Err}
+use Rattle.std.specs.Prelude.{◌≡◌, ◌⊎◌, ℕ, ◌≤◌, ◌<◌, ⊤, List, [], length, Some, Result, Ok, Err}
 use Rattle.std.specs.List.{All}
 use Rattle.css_types.specs.declared.value.Declaration.{Declaration}
 use Rattle.css_types.specs.Rule.{Ruling}
@@ -75,6 +75,7 @@ IsRefused nodes own rules (BlockInInline number) = AreFew nodes × (root_past (s
 IsRefused nodes own rules Memory = ⊥
 
 -- a document can be opened, or is refused, and for one reason alone
-abbrev pub HasOneAnswer : Type 0
-HasOneAnswer = (nodes : List Node) (own : List (List Declaration)) (rules : List Ruling) (error : OpenError) → IsRefused nodes own rules error
-    → (CanOpen nodes own rules → ⊥) × ((other : OpenError) → IsRefused nodes own rules other → other ≡ error)
+pub record HasOneAnswer : Type 0 where
+  pub some : (nodes : List Node) (own : List (List Declaration)) (rules : List Ruling) → CanOpen nodes own rules ⊎ ((error : OpenError) × IsRefused nodes own rules error)
+  pub only : (nodes : List Node) (own : List (List Declaration)) (rules : List Ruling) (error : OpenError) → IsRefused nodes own rules error
+      → (CanOpen nodes own rules → ⊥) × ((other : OpenError) → IsRefused nodes own rules other → other ≡ error)

@@ -25,12 +25,12 @@ pub fn what_does_not_spread_is_near()
     ensures { SpreadIsNear }
 {}
 
-/// A document is refused for one reason alone, and not where it can be opened.
+/// A document can be opened, or is refused, and for one reason alone.
 pub fn one_answer()
     ensures { HasOneAnswer }
 {}
 
-/// An edit is refused for one reason alone, and not where it can be applied.
+/// An edit can be applied, or is refused, and for one reason alone.
 pub fn one_outcome()
     ensures { HasOneOutcome }
 {}
