@@ -10,6 +10,7 @@ ghost use Rattle.html_read.specs.Values.{nodes_of};
 ghost use Rattle.dom_store.specs.State.{AreSaid, state_of};
 ghost use Rattle.tree_laws.specs.Weight.{bytes, total};
 ghost use Rattle.cascade.specs.Winners.{AreSaidRules};
+ghost use Rattle.place_map.specs.Near.{AreNearParts};
 ghost use Rattle.place_map.specs.Placed.{placed_of};
 ghost use Rattle.session.specs.State.{AreReady, IsSound, Opens, boxes_of, page_in};
 
@@ -94,7 +95,7 @@ impl Session {
     }
 
     /// The page: the flow of the document as it is now, carried to the page. Boxes are made where there are none; what is kept of
-    /// them is used, and all that is laid out is kept. Where memory runs out they are dropped, and the page can be asked for again.
+    /// them is used, and all that is laid out is kept. No coordinate of the page is further than 2^60 from 0. Where memory runs out they are dropped, and the page can be asked for again.
     pub fn show<L: Ledger, M: Ledger>(
         &mut self,
         prepared: &mut Steps<L>,
@@ -102,6 +103,7 @@ impl Session {
     ) -> Result<Placed, AllocError>
         requires sound { IsSound (faces_of ⟦<dyn Face as Face>⟧ self.old.faces) self.old }
         ensures page { IfOk result (λ placed. placed_of placed ≡ page_in (faces_of ⟦<dyn Face as Face>⟧ self.old.faces) self.old) }
+        ensures near { IfOk result (λ placed. AreNearParts (placed_of placed).parts) }
         ensures rest { self.new ≡ record self.old { boxes = self.new.boxes } }
         ensures sound { IsSound (faces_of ⟦<dyn Face as Face>⟧ self.new.faces) self.new }
         ensures dropped { IfErr result (λ _. self.new.boxes ≡ None) }
