@@ -26,6 +26,7 @@ use listing::write_listing;
 use session::laws::one_outcome;
 use session::{ApplyError, Session};
 use std::sync::ledger::Ledger;
+use tree_laws::laws::accepted_edits_weigh;
 use wm_units::Steps;
 
 /// Goes through the steps of a script: writes the listing of each page that is shown, and the line of each refusal. Whole at Ok, else
@@ -129,6 +130,7 @@ fn tell_edit<K: Sink>(
     ensures fault { IsErrOf result WriteError.WriteFault → Rose (K.faults sink.old) (K.faults sink.new) }
 {
     one_outcome();
+    accepted_edits_weigh();
     match session.apply(edit) {
         Ok(()) => Ok(()),
         Err(error) => tell_refusal(error, line, sink),

@@ -1,9 +1,19 @@
+use Rattle.std.proofs.Common.{◌≤◌, arith}
 use Rattle.face_api.specs.Faces.{faces_of}
 use Rattle.dom_store.specs.Edited.{edit_of}
+use Rattle.dom_store.specs.Edits.{after}
 use Rattle.dom_store.specs.State.{state_of}
+use Rattle.tree_laws.specs.Weight.{bytes, total}
 use Rattle.cascade.specs.Index.{index_rules}
 use Rattle.edit_job.proofs.StepLaws.{edit_done, edit_front, edit_refused, on_ok, refused_front}
 use Rattle.edit_job.proofs.steps.tell_edit.Goals as goal
+
+pub apply-requires-clause-room : goal.apply-requires-clause-room
+apply-requires-clause-room g c = λ can.
+    let state = state_of c.args.session.now.document in
+    let more = (c.accepted_edits_weigh.ensures state (edit_of c.args.edit.now) can.taken).1 in
+    let room = c.requires.room in
+    omega (arith, more, room)
 
 pub returns-in-Ok-clause-whole : goal.returns-in-Ok-clause-whole
 returns-in-Ok-clause-whole g c =

@@ -1,7 +1,8 @@
-use Rattle.std.proofs.Common.{◌≡◌, ◌∙◌, refl, ap, arith}
+use Rattle.std.proofs.Common.{◌≡◌, ◌∙◌, ◌≤◌, refl, sym, ap, subst, arith}
 use Rattle.std.proofs.lemmas.Result.{err_from_is_err_and}
 use Rattle.face_api.specs.Faces.{faces_of}
 use Rattle.dom_store.specs.Edited.{edit_of}
+use Rattle.dom_store.specs.Edits.{after}
 use Rattle.dom_store.specs.State.{State, state_of}
 use Rattle.dom_store.specs.Taking.{before_of}
 use Rattle.tree_laws.specs.Weight.{bytes, total}
@@ -65,15 +66,14 @@ returns-in-Ok-clause-sound g c =
     let done = done_by c.accepted_edits_are_done.ensures old next edit c.in_ok-change.change.elements.items c.in_ok-change.ensures.applies in
     let sound = c.requires.sound in
     let weigh = c.accepted_edits_weigh.ensures in
-    let room = c.requires.room in
-    let more = bytes_after rules old next edit done weigh in
+    let room : total bytes (after old edit) ≤ 1048576 = c.requires.room (can_apply rules old next edit done c.in-Ok.ensures.answers) in
     record {
       rooted = rooted_after rules old next edit done c.accepted_edits_keep_roots.ensures c.children_have_parents.ensures sound.whole sound.rooted;
       said = said_after rules old next edit done c.accepted_edits_stay_said.ensures c.requires.said sound.said;
       whole = whole_after rules old next edit done c.accepted_edits_keep_documents_whole.ensures sound.whole;
       reached = reached_after rules old next edit done c.accepted_edits_keep_documents_reached.ensures c.requires.fitting sound.rooted sound.whole sound.reached;
       few = few_after rules old next edit done weigh sound.few;
-      short = omega (arith, room, more);
+      short = subst (λ (state : State). total bytes state ≤ 1048576) (sym done.1) room;
       rules = sound.rules;
       turns = c.in-Ok.ensures.answers.turns;
       blocks = c.in-Ok.ensures.answers.blocks;
