@@ -95,7 +95,8 @@ impl Session {
     }
 
     /// The page: the flow of the document as it is now, carried to the page. Boxes are made where there are none; what is kept of
-    /// them is used, and all that is laid out is kept. No coordinate of the page is further than 2^60 from 0. Where memory runs out they are dropped, and the page can be asked for again.
+    /// them is used, and all that is laid out is kept. No coordinate of the page is further than 2^60 from 0. Where memory runs
+    /// out they are dropped, and the page can be asked for again.
     pub fn show<L: Ledger, M: Ledger>(
         &mut self,
         prepared: &mut Steps<L>,
