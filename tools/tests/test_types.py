@@ -6,8 +6,8 @@ import subprocess
 from tools.tests import support
 from tools.tests.support import TOOLS, TOP
 
-# Scripts of the gate that say no types. The name of `json` is that of a module of Python, so it is read by itself.
-WITHOUT_TYPES = frozenset(("gate-times", "names", "wrong-bodies"))
+# The name of `json` is that of a module of Python, so it is read by itself; `names`, of the gate, says no types.
+WITHOUT_TYPES = frozenset(("names",))
 ALONE = "json"
 
 
