@@ -72,7 +72,7 @@ extent_held outside containing node c ms step view content is known seen inside 
 
 -- what a child asks that has been laid out
 abbrev pub ask : WritingMode → LaidBox → Intrinsic
-ask mode own = contributed mode own.style (part_of own.fragment).rect (part_of own.fragment).kind
+ask mode own = contributed mode own.style (part_of own.fragment).kind
 
 pub asks_are : (mode : WritingMode) (handed : Option ℤ) (boxes : List LaidBox) (ms : List Member) → AreUnder (under None handed) boxes ms → map (ask mode) boxes ≡ map (contribution mode handed) ms
 unfolding contribution
@@ -81,7 +81,7 @@ asks_are mode handed [] (m ∷ ms) are = absurd are
 asks_are mode handed (b ∷ boxes) [] are = absurd are
 asks_are mode handed (b ∷ boxes) (m ∷ ms) are =
     let one : ask mode b ≡ contribution mode handed m =
-    ap (λ (s : Style). contributed mode s (part_of b.fragment).rect (part_of b.fragment).kind) are.0.style ∙ ap (λ (p : Part). contributed mode m.style p.rect p.kind) are.0.part in
+    ap (λ (s : Style). contributed mode s (part_of b.fragment).kind) are.0.style ∙ ap (λ (p : Part). contributed mode m.style p.kind) are.0.part in
     ap (λ (a : Intrinsic). a ∷ map (ask mode) boxes) one ∙ ap (λ (others : List Intrinsic). contribution mode handed m ∷ others) (asks_are mode handed boxes ms are.1)
 
 pub content_is : (faces : List (Option Table)) (style : Style) (content : Content) (handed : Option ℤ) (ms : List Member) (sizes : Intrinsic) (asks : List Intrinsic)

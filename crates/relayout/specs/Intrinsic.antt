@@ -1,6 +1,6 @@
 -- Intrinsic sizes: what a box asks of its containing block's inline axis, and what its content comes to at least and at most.
 -- CSS 2, 10.3.5; CSS Writing Modes 4, 7.3.
-use Rattle.std.specs.Prelude.{◌≡◌, ℕ, ⊤, List, map, fold, Option, Some, None, ℤ, pos, ◌+ℤ◌}
+use Rattle.std.specs.Prelude.{◌≡◌, ℕ, ⊤, List, map, fold, Option, Some, None, ℤ, pos}
 use Rattle.std.specs.Int.{int_max}
 use Rattle.wm_units.specs.Numbers.{cap_size}
 use Rattle.wm_modes.specs.declared.mode.Direction.{Direction}
@@ -11,31 +11,36 @@ use Rattle.face_api.specs.Table.{Table}
 use Rattle.style_types.specs.declared.style.Style.{Style}
 use Rattle.style_types.specs.declared.style.UnicodeBidi.{UnicodeBidi}
 use Rattle.style_types.specs.declared.style.UnicodeBidi.TheVariants as bidis
-use Rattle.fragment_types.specs.Fragment.{Kind, measure}
+use Rattle.fragment_types.specs.Fragment.{Kind, block, line, measure, run, span}
 use Rattle.fragment_types.specs.Item.{Entry}
 use Rattle.box_gen.specs.Tree.{Content, blocks, inline}
 use Rattle.line_fill.specs.declared.item.Intrinsic.{Intrinsic}
+use Rattle.ortho_flow.specs.Orthogonal as orthogonal
 use Rattle.para_prepare.specs.Parts.{used_direction}
 use Rattle.para_prepare.specs.Preparation.{Preparation, preparation}
 use Rattle.para_lines.specs.Filling.{paragraph_sizes}
-use Rattle.relayout.specs.Edges.{margins_along}
+use Rattle.relayout.specs.Edges.{inner_edges_across, margins_along}
 use Rattle.relayout.specs.Flowed.{Member}
 
--- the margin box of a child on the inline axis of its containing block
-abbrev pub whole : WritingMode → Style → FlowRect → Intrinsic
-whole mode style rect =
-    record { min = rect.inline +ℤ margins_along style None mode; max = rect.inline +ℤ margins_along style None mode }
+-- what an orthogonal child with this content area asks in a containing block of this mode: its margin box, which its block size makes
+abbrev pub orthogonal_asks : WritingMode → Style → (content : FlowRect) → Intrinsic
+orthogonal_asks mode style content =
+    let extent = orthogonal.contribution content.inline (inner_edges_across style None style.mode) (margins_along style None mode) in
+    record { min = extent; max = extent }
 
--- as it was measured, or as it is laid out
-abbrev pub contributed : WritingMode → Style → FlowRect → Kind → Intrinsic
-contributed mode style rect (measure min max) = record { min = min; max = max }
-contributed mode style rect _ = whole mode style rect
+-- a parallel child asks as it was measured, an orthogonal one as it is laid out; there are no other children
+abbrev pub contributed : WritingMode → Style → Kind → Intrinsic
+contributed mode style (measure min max) = record { min = min; max = max }
+contributed mode style (block own dir content definite start end_ through) = orthogonal_asks mode style content
+contributed mode style (line index base own baseline) = record { min = pos 0; max = pos 0 }
+contributed mode style span = record { min = pos 0; max = pos 0 }
+contributed mode style (run form level natural units) = record { min = pos 0; max = pos 0 }
 
 -- what a child asks in a containing block of this mode, whose inline size isn't known
 unfoldable pub contribution : WritingMode → (handed : Option ℤ) → Member → Intrinsic
 contribution mode handed member =
     let part = (member.flow (record { inline = None; block = handed })).part in
-    contributed mode member.style part.rect part.kind
+    contributed mode member.style part.kind
 
 abbrev pub level_of : Direction → ℕ
 level_of Ltr = 0

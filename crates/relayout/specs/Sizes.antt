@@ -5,34 +5,37 @@ use Rattle.wm_modes.specs.declared.mode.WritingMode.{WritingMode}
 use Rattle.wm_modes.specs.Mode.{are_parallel, is_horizontal}
 use Rattle.line_fill.specs.declared.item.Intrinsic.{Intrinsic}
 use Rattle.para_prepare.specs.Parts.{used_direction}
+use Rattle.size_rules.specs.Definite.{definite_block}
 use Rattle.size_rules.specs.Limits.{used_size}
 use Rattle.size_rules.specs.Resolving.{resolved, resolved_or_zero}
 use Rattle.fragment_types.specs.declared.constraint.Constraint.{Constraint}
 use Rattle.style_types.specs.declared.style.Display.{Display}
 use Rattle.style_types.specs.declared.style.Display.TheVariants as displays
-use Rattle.style_types.specs.declared.style.Size.{Size}
 use Rattle.style_types.specs.declared.style.Style.{Style}
 use Rattle.relayout.specs.declared.sizes.Containing.{Containing}
+use Rattle.relayout.specs.declared.sizes.DeclaredSizes.{DeclaredSizes}
 use Rattle.relayout.specs.declared.sizes.Sizes.{Sizes}
 
 -- what a box is to the boxes in it
 abbrev pub containing_of : Style → Containing
 containing_of style = record { mode = style.mode; dir = used_direction style }
 
--- a size, a minimum and a maximum, where percentages refer to `base`
-abbrev pub resolved_sizes : (size min max : Size) → (base : Option ℤ) → Sizes
-resolved_sizes size min max base = record { size = resolved size base; min = resolved_or_zero min base; max = resolved max base }
+-- a size, a minimum and a maximum across the page or down the page, as a style declares them
+abbrev pub declared_on : (across : Bool) → Style → DeclaredSizes
+declared_on true style = record { size = style.width; min = style.min_width; max = style.max_width }
+declared_on false style = record { size = style.height; min = style.min_height; max = style.max_height }
 
--- what a style asks for across the page or down the page
-abbrev pub sizes_on : (across : Bool) → Style → (base : Option ℤ) → Sizes
-sizes_on true style base = resolved_sizes style.width style.min_width style.max_width base
-sizes_on false style base = resolved_sizes style.height style.min_height style.max_height base
-
+-- what a style asks for along the lines of a mode, where percentages refer to `base`
 abbrev pub sizes_along : WritingMode → Style → (base : Option ℤ) → Sizes
-sizes_along mode style base = sizes_on (is_horizontal mode) style base
+sizes_along mode style base =
+    let declared = declared_on (is_horizontal mode) style in
+    record { size = resolved declared.size base; min = resolved_or_zero declared.min base; max = resolved declared.max base }
 
+-- what it asks for across the lines of a mode: the size, where it is definite
 abbrev pub sizes_across : WritingMode → Style → (base : Option ℤ) → Sizes
-sizes_across mode style base = sizes_on (not (is_horizontal mode)) style base
+sizes_across mode style base =
+    let declared = declared_on (not (is_horizontal mode)) style in
+    record { size = definite_block declared.size base; min = resolved_or_zero declared.min base; max = resolved declared.max base }
 
 abbrev pub hold : Sizes → ℤ → ℤ
 hold sizes size = used_size size sizes.min sizes.max

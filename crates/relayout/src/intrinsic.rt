@@ -18,12 +18,13 @@ ghost use Rattle.relayout.specs.Near.{IsNearPart};
 ghost use Rattle.relayout.specs.Paragraph.{IsParagraph, IsReady, IsReadyIn};
 ghost use Rattle.relayout.specs.Reach.{IsAsked, IsContent};
 
-use crate::edges::margins_along;
+use crate::edges::{inner_edges_across, margins_along};
 use box_gen::Content;
 use bumpalo::Bump;
 use face_api::{Face, Faces};
 use fragment_types::{Fragment, FragmentKind, Item, Items};
 use line_fill::Intrinsic;
+use ortho_flow::contribution;
 use para_lines::paragraph_sizes;
 use para_prepare::{Paragraph, Prepared, prepare};
 use std::alloc::{AllocError, Global};
@@ -35,11 +36,12 @@ use wm_units::{Steps, cap_size};
 /// Lengths in units of 1/64 px.
 type Lengths = Vec<i64>;
 
-/// What a child asks in a containing block of this mode: as it was measured, or its margin box as it was laid out.
+/// What a child asks in a containing block of this mode: as it was measured where it is parallel, as it was laid out where it is
+/// orthogonal.
 pub(crate) fn contributed(mode: WritingMode, style: &Style, child: &Fragment) -> Intrinsic
     requires style { IsBounded style.now }
     requires near { IsNearPart (part_of child.now) }
-    ensures value { result ≡ rule.contributed mode style.now (out-Fragment child.now).rect (kind_of (out-Fragment child.now).kind) }
+    ensures value { result ≡ rule.contributed mode style.now (kind_of (out-Fragment child.now).kind) }
     ensures near { IsAsked result }
 {
     match &child.kind {
@@ -47,21 +49,22 @@ pub(crate) fn contributed(mode: WritingMode, style: &Style, child: &Fragment) ->
             min: *min,
             max: *max,
         },
-        FragmentKind::Box(_)
-        | FragmentKind::Line { .. }
-        | FragmentKind::Span
-        | FragmentKind::Run { .. } => whole(mode, style, child.rect),
+        FragmentKind::Box(part) => orthogonal_asks(mode, style, part.content),
+        FragmentKind::Line { .. } | FragmentKind::Span | FragmentKind::Run { .. } => {
+            Intrinsic { min: 0, max: 0 }
+        }
     }
 }
 
-// The margin box of what has this border box.
-fn whole(mode: WritingMode, style: &Style, rect: FlowRect) -> Intrinsic
+// The margin box of an orthogonal child with this content area, which its block size makes (CSS Writing Modes 4, 7.3.2).
+fn orthogonal_asks(mode: WritingMode, style: &Style, content: FlowRect) -> Intrinsic
     requires style { IsBounded style.now }
-    requires near { unsigned_abs rect.inline ≤ 2 ^ 36 }
-    ensures value { result ≡ rule.whole mode style.now rect }
+    requires near { unsigned_abs content.inline ≤ 2 ^ 36 }
+    ensures value { result ≡ rule.orthogonal_asks mode style.now content }
     ensures near { IsAsked result }
 {
-    let extent = rect.inline + margins_along(style, None, mode);
+    let edges = inner_edges_across(style, None, style.mode);
+    let extent = contribution(content.inline, edges, margins_along(style, None, mode));
     Intrinsic {
         min: extent,
         max: extent,

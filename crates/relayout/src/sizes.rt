@@ -9,7 +9,7 @@ ghost use Rattle.relayout.specs.Sizes as rule;
 
 use fragment_types::Constraint;
 use line_fill::Intrinsic;
-use size_rules::{resolved, resolved_or_zero, used_size};
+use size_rules::{definite_block, resolved, resolved_or_zero, used_size};
 use style_types::{Display, Size, Style};
 use wm_modes::{Direction, WritingMode};
 
@@ -78,49 +78,63 @@ impl Sizes {
     }
 }
 
-// What a style asks for across the page or down the page, where percentages refer to `base`.
-fn sizes_on(across: bool, style: &Style, base: Option<i64>) -> Sizes
+/// A size, a minimum and a maximum, as a style declares them.
+#[derive(Clone, Copy, Debug, PartialEq, Eq)]
+struct DeclaredSizes {
+    size: Size,
+    min: Size,
+    max: Size,
+}
+
+// What a style declares across the page or down the page.
+fn declared_on(across: bool, style: &Style) -> DeclaredSizes
     requires style { IsBounded style.now }
-    requires base { IsBase base }
-    ensures { result ≡ rule.sizes_on across style.now base }
+    ensures value { result ≡ rule.declared_on across style.now }
+    ensures size { IsSize result.size }
+    ensures min { IsSize result.min }
+    ensures max { IsSize result.max }
 {
     if across {
-        resolved_sizes(style.width, style.min_width, style.max_width, base)
+        DeclaredSizes {
+            size: style.width,
+            min: style.min_width,
+            max: style.max_width,
+        }
     } else {
-        resolved_sizes(style.height, style.min_height, style.max_height, base)
+        DeclaredSizes {
+            size: style.height,
+            min: style.min_height,
+            max: style.max_height,
+        }
     }
 }
 
-fn resolved_sizes(size: Size, min: Size, max: Size, base: Option<i64>) -> Sizes
-    requires size { IsSize size }
-    requires min { IsSize min }
-    requires max { IsSize max }
-    requires base { IsBase base }
-    ensures { result ≡ rule.resolved_sizes size min max base }
-{
-    Sizes {
-        size: resolved(size, base),
-        min: resolved_or_zero(min, base),
-        max: resolved(max, base),
-    }
-}
-
-/// What a style asks for along the lines of a mode.
+/// What a style asks for along the lines of a mode, where percentages refer to `base`.
 pub(crate) fn sizes_along(mode: WritingMode, style: &Style, base: Option<i64>) -> Sizes
     requires style { IsBounded style.now }
     requires base { IsBase base }
     ensures { result ≡ rule.sizes_along mode style.now base }
 {
-    sizes_on(mode.is_horizontal(), style, base)
+    let declared = declared_on(mode.is_horizontal(), style);
+    Sizes {
+        size: resolved(declared.size, base),
+        min: resolved_or_zero(declared.min, base),
+        max: resolved(declared.max, base),
+    }
 }
 
-/// What a style asks for across the lines of a mode.
+/// What a style asks for across the lines of a mode, where percentages refer to `base`: the size, where it is definite.
 pub(crate) fn sizes_across(mode: WritingMode, style: &Style, base: Option<i64>) -> Sizes
     requires style { IsBounded style.now }
     requires base { IsBase base }
     ensures { result ≡ rule.sizes_across mode style.now base }
 {
-    sizes_on(!mode.is_horizontal(), style, base)
+    let declared = declared_on(!mode.is_horizontal(), style);
+    Sizes {
+        size: definite_block(declared.size, base),
+        min: resolved_or_zero(declared.min, base),
+        max: resolved(declared.max, base),
+    }
 }
 
 /// The size of the containing block on a box's own inline axis.
