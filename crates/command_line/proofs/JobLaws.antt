@@ -4,6 +4,8 @@ use Rattle.std.proofs.lemmas.Int.{ints}
 use Rattle.wm_units.specs.View.{IsView}
 use Rattle.std.specs.Prelude.{pos, ◌≤ℤ◌, ◌^◌, ⊤, bytes_eq, filter, find, option_and_then, slice_get}
 use Rattle.std.specs.Option.{option_map_or}
+use Rattle.std.proofs.lemmas.Option.{same_Some}
+use Rattle.basic_laws.proofs.Booleans.{cond_same}
 use Rattle.clap.specs.Facts.{explicit_source}
 use Rattle.clap.specs.Kinds.{Kinds, check_kinds, or_else}
 use Rattle.clap.specs.Faults.{check_fault, default_fault, defaults_fault, entered_fault, fault_of, level_fault, settle_fault, walk_fault}
@@ -18,7 +20,7 @@ use Rattle.command_line.proofs.Walking.{Once, given_other, given_own, has_some, 
 use Rattle.command_line.proofs.Looking.{Looks, bare}
 use Rattle.command_line.proofs.Turns.{at, fault_from, or_both, or_parts, rows_from}
 use Rattle.command_line.proofs.Lines.{AllBare, Found, complete, sound}
-use Rattle.command_line.proofs.ValueLaws.{name_again, name_bare, name_takes, number_again, number_bare, number_takes, same_some, size_again, size_takes, value_again, value_once, value_takes}
+use Rattle.command_line.proofs.ValueLaws.{name_again, name_bare, name_takes, number_again, number_bare, number_takes, size_again, size_takes, value_again, value_once, value_takes}
 
 -- ---- `clap`'s whole reading is its walk
 
@@ -26,16 +28,12 @@ either : (b : Bool) (faults : Kinds) → cond (b || true) [] faults ≡ []
 either true faults = refl
 either false faults = refl
 
-stays : (b : Bool) (rows : List Row) → cond b rows rows ≡ rows
-stays true rows = refl
-stays false rows = refl
-
 -- no argument has a value of its own
 one_default : (k : Kind) (rows : List Row) → (default_fault rows (rule k) ≡ []) × (with_default rows (rule k) ≡ rows)
-one_default the_command rows = (either (has_row (id_of the_command) rows) _, stays (has_row (id_of the_command) rows) rows)
-one_default view_inline rows = (either (has_row (id_of view_inline) rows) _, stays (has_row (id_of view_inline) rows) rows)
-one_default view_block rows = (either (has_row (id_of view_block) rows) _, stays (has_row (id_of view_block) rows) rows)
-one_default count rows = (either (has_row (id_of count) rows) _, stays (has_row (id_of count) rows) rows)
+one_default the_command rows = (either (has_row (id_of the_command) rows) _, cond_same (has_row (id_of the_command) rows) rows)
+one_default view_inline rows = (either (has_row (id_of view_inline) rows) _, cond_same (has_row (id_of view_inline) rows) rows)
+one_default view_block rows = (either (has_row (id_of view_block) rows) _, cond_same (has_row (id_of view_block) rows) rows)
+one_default count rows = (either (has_row (id_of count) rows) _, cond_same (has_row (id_of count) rows) rows)
 
 next_default : (k : Kind) (rest : List Rule) (rows : List Row) → defaults_fault rows (rule k ∷ rest) ≡ defaults_fault rows rest
 unfolding defaults_fault
@@ -186,7 +184,7 @@ values_of (Some c) None block number job e = absurd (cc)
 values_of (Some c) (Some i) None number job e = absurd (cc)
 values_of (Some c) (Some i) (Some b) None job e = absurd (cc)
 values_of (Some c) (Some i) (Some b) (Some n) job e =
-    let same = same_some _ _ e in
+    let same = same_Some _ _ e in
     record {
       command_is = ap (λ (j : Job). Some j.command) same;
       inline_is = ap (λ (j : Job). Some j.view.inline) same;
@@ -249,7 +247,7 @@ job_is_none words job none nothing is =
 
 -- words give one job
 pub one_job : (words : List (List ℕ)) (job other : Job) → IsJob words job → IsJob words other → other ≡ job
-one_job words job other is also = same_some other job (sym (read_again words other also) ∙ read_again words job is)
+one_job words job other is also = same_Some other job (sym (read_again words other also) ∙ read_again words job is)
 
 size_fits : (text : Text) (size : ℤ) → IsViewSize text size → (pos 0 ≤ℤ size) × (size ≤ℤ pos (2 ^ 32))
 size_fits text size is =

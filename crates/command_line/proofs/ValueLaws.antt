@@ -1,8 +1,9 @@
 -- Texts are read as the values that they spell.
-use Rattle.std.proofs.Common.{◌≡◌, refl, sym, ap, ◌∙◌, subst, arith, ℕ, ◌≤◌, Bool, true, false, cond, ◌&&◌, nat_le, List, [], ◌∷◌, length, append-nil, ne_eqb, ℤ, Option, Some, None, option_map, Ok, Err, codes}
+use Rattle.std.proofs.Common.{◌≡◌, refl, sym, ap, ◌∙◌, subst, arith, ℕ, ◌≤◌, Bool, true, false, cond, ◌&&◌, nat_le, List, [], ◌∷◌, length, append-nil, ne_eqb, ℤ, Option, Some, None, option_map, Ok, Err}
 use Rattle.std.specs.Prelude.{bytes_eq, find, slice_get, ⊤}
 use Rattle.std.specs.Char.{IsAsciiDigit}
 use Rattle.std.proofs.lemmas.Slice.Eq.{bytes_eq-Decides}
+use Rattle.std.proofs.lemmas.Option.{same_Some}
 use Rattle.clap.specs.Walk.{Text}
 use Rattle.reading.specs.Readers.{Read}
 use Rattle.reading.specs.Decimals.{number, IsDecimal}
@@ -13,9 +14,6 @@ use Rattle.command_line.specs.declared.values.TheConstants.{COMMANDS}
 use Rattle.command_line.specs.Command.{IsNumberTo, IsValue, IsViewSize, command_name, px}
 use Rattle.command_line.specs.Reading.{command_of, number_read, number_to, size_of, value_or, within}
 use Rattle.command_line.proofs.Looking.{Looks, bare, no_hyphen}
-
-pub same_some : {A : Type 0} (x y : A) → Some x ≡ Some y → x ≡ y
-same_some x y e = cc
 
 -- ---- numbers
 
@@ -41,7 +39,7 @@ number_takes most text n e = go (number 5 text) refl where
   within_takes m [] is some = ranged (nat_le 1 m && nat_le m most) refl some where
     ranged : (b : Bool) → nat_le 1 m && nat_le m most ≡ b → cond (nat_le 1 m && nat_le m most) (Some m) None ≡ Some n → IsNumberTo most text n
     ranged true h value =
-        let same : m ≡ n = same_some _ _ (sym (ap (λ (b : Bool). cond b (Some m) None) h) ∙ value) in
+        let same : m ≡ n = same_Some _ _ (sym (ap (λ (b : Bool). cond b (Some m) None) h) ∙ value) in
         subst (IsNumberTo most text) same (decimal_takes text m is, grind arith, grind arith)
     ranged false h value =
         let bad : None ≡ Some n = sym (ap (λ (b : Bool). cond b (Some m) None) h) ∙ value in
@@ -58,7 +56,7 @@ pub size_takes : (text : Text) (size : ℤ) → size_of text ≡ Some size → I
 size_takes text size e = go (number_to 16384 text) refl where
   go : (o : Option ℕ) → number_to 16384 text ≡ o → IsViewSize text size
   go None is = let bad : None ≡ Some size = sym (ap (option_map px) is) ∙ e in absurd (cc)
-  go (Some n) is = (n, number_takes 16384 text n is, sym (same_some _ _ (sym (ap (option_map px) is) ∙ e)))
+  go (Some n) is = (n, number_takes 16384 text n is, sym (same_Some _ _ (sym (ap (option_map px) is) ∙ e)))
 
 -- a number doesn't begin with a hyphen
 pub number_bare : (most : ℕ) (text : Text) (n : ℕ) → IsNumberTo most text n → Looks bare text
@@ -93,7 +91,7 @@ module _ {Row : Type 0} (word : Row → Text) (command : Row → Command) where
     by_test b is = sym (ap (λ (b : Bool). option_map command (cond b (Some row) (find (λ r. bytes_eq (word r) text) rows))) is) ∙ e
 
     go : (b : Bool) → bytes_eq (word row) text ≡ b → (option_map command (find (λ r. bytes_eq (word r) text) rows) ≡ Some c → text ≡ command_name c) → text ≡ command_name c
-    go true is others = sym ((bytes_eq-Decides (word row) text).0 is) ∙ named.0 ∙ ap command_name (same_some _ _ (by_test true is))
+    go true is others = sym ((bytes_eq-Decides (word row) text).0 is) ∙ named.0 ∙ ap command_name (same_Some _ _ (by_test true is))
     go false is others = others (by_test false is)
 
 pub name_takes : (text : Text) (c : Command) → command_of text ≡ Some c → text ≡ command_name c
@@ -108,7 +106,7 @@ module _ {X : Type 0} (Means : Text → X → Type 0) (read : Text → Option X)
   value_again again (t ∷ u ∷ more) x is = absurd is
 
   pub value_takes : ((t : Text) (x : X) → read t ≡ Some x → Means t x) → (ts : List Text) (x : X) → length ts ≤ 1 → value_or read default (slice_get ts 0) ≡ Some x → IsValue Means default ts x
-  value_takes takes [] x few e = sym (same_some default x e)
+  value_takes takes [] x few e = sym (same_Some default x e)
   value_takes takes (t ∷ []) x few e = takes t x e
   value_takes takes (t ∷ u ∷ more) x few e = absurd (omega (arith, few))
 

@@ -1,7 +1,7 @@
 -- Names and hashes: what is read is spelled so, and what is spelled so is read.
 use Rattle.std.proofs.Common.{◌≡◌, ℕ, ◌<◌, Bool, true, false, not, cond, List, [], ◌∷◌, ◌++◌, length, codes, Err, is_ok, refl, sym, ap, ◌∙◌, arith}
 use Rattle.std.specs.Prelude.{⊤}
-use Rattle.std.proofs.lemmas.Bool.{and_parts, and_from, not_from_false}
+use Rattle.std.proofs.lemmas.Bool.{and_parts, and_from, not_from_false, not-true}
 use Rattle.reading.specs.Readers.{Reader, refuse, choice, strip, one_of, next_is, can_read}
 use Rattle.reading.specs.Grammars.{AllPass}
 use Rattle.reading.specs.Placed.{SpellsPlaced}
@@ -49,17 +49,13 @@ first_passes test (byte ∷ run) some pass = pass.0
 start_is_name : (byte : ℕ) → is_name_start byte ≡ true → is_name_byte byte ≡ true
 start_is_name byte e = rw e refl
 
-not_true : (t : Bool) → not t ≡ true → t ≡ false
-not_true true e = absurd cc
-not_true false e = refl
-
 pub name_takes : (bytes run rest : List ℕ) → name_ahead bytes ≡ true → name bytes ≡ ok (run, rest) → IsName run rest run × (bytes ≡ run ++ rest)
 unfolding name_ahead name
 name_takes bytes run rest ahead e =
     let r = run_is is_name_byte bytes run rest e in
     let both = and_parts (next_is is_name_start bytes) (not (number_ahead bytes)) ahead in
     let start : next_is is_name_start (run ++ rest) ≡ true = ap (next_is is_name_start) (sym r.parts) ∙ both.0 in
-    let none : number_ahead (run ++ rest) ≡ false = ap number_ahead (sym r.parts) ∙ not_true (number_ahead bytes) both.1 in
+    let none : number_ahead (run ++ rest) ≡ false = ap number_ahead (sym r.parts) ∙ not-true (number_ahead bytes) both.1 in
     ((refl, run_first is_name_byte is_name_start run rest start_is_name start r.ends, r.pass, r.ends, none), r.parts)
 
 pub name_is_ahead : (text behind n : List ℕ) → IsName text behind n → name_ahead (text ++ behind) ≡ true

@@ -2,6 +2,7 @@
 use Rattle.std.proofs.Common.{◌≡◌, ℕ, ◌<◌, ◌≤◌, Bool, true, false, List, [], ◌∷◌, ◌++◌, length, Ok, refl, sym, ap, ◌∙◌, arith, length-append}
 use Rattle.std.proofs.lemmas.List.{append_cancel_right}
 use Rattle.std.specs.Prelude.{◌&&◌, not}
+use Rattle.std.proofs.lemmas.Bool.{and_parts}
 use Rattle.reading.specs.Readers.{run_of, next_is}
 use Rattle.reading.specs.Cuts.{ReadsFront}
 use Rattle.reading.proofs.RunLaws.{run_is}
@@ -34,18 +35,14 @@ run_strict test text run rest some e =
     let r = run_is test text run rest e in
     strict_by test text run rest some r.parts r.ends
 
-first_of_two : (a b : Bool) → (a && b) ≡ true → a ≡ true
-first_of_two true b e = refl
-first_of_two false b e = absurd cc
-
-starts_name : (text : List ℕ) → next_is is_name_start text ≡ true → next_is is_name_byte text ≡ true
+pub starts_name : (text : List ℕ) → next_is is_name_start text ≡ true → next_is is_name_byte text ≡ true
 starts_name [] e = absurd cc
 starts_name (byte ∷ after) e = rw e refl
 
 pub name_strict : (text run rest : List ℕ) → name_ahead text ≡ true → name text ≡ Ok (run, rest) → length rest < length text
 unfolding name name_ahead
 name_strict text run rest ahead e =
-    let start : next_is is_name_start text ≡ true = first_of_two (next_is is_name_start text) (not (number_ahead text)) ahead in
+    let start : next_is is_name_start text ≡ true = (and_parts (next_is is_name_start text) (not (number_ahead text)) ahead).0 in
     run_strict is_name_byte text run rest (starts_name text start) e
 
 first_is_not : (a b : Bool) → b ≡ false → (a && not b) ≡ false → a ≡ false

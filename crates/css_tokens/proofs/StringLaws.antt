@@ -1,5 +1,6 @@
 -- Strings: what is read is spelled so, and what is spelled so is read.
 use Rattle.std.proofs.Common.{◌≡◌, inl, inr, ℕ, ◌<◌, Bool, true, false, not, cond, eqb, List, [], ◌∷◌, ◌++◌, length, codes, refl, sym, ap, ◌∙◌, arith}
+use Rattle.std.proofs.lemmas.Bool.{not-true}
 use Rattle.reading.specs.Readers.{Reader, ReaderOr, follow, mapped, refuse, choice, strip, starts, one_of, joined}
 use Rattle.reading.specs.Grammars.{Grammar, Joined, OneOf, Mapped}
 use Rattle.reading.specs.Spelling.{Anything, Spells, IsTestOf}
@@ -33,10 +34,6 @@ escaped_spells = follow_spells (strip_spells (codes "\\")) (λ u. mapped_spells 
 plain_spells : Spells plain (Mapped (λ byte. byte ∷ []) (OneOf (λ byte. not (is_line_break byte)))) Anything
 plain_spells = mapped_spells (λ (byte : ℕ). byte ∷ []) (one_of_spells (λ byte. not (is_line_break byte)))
 
-not_true : (t : Bool) → not t ≡ true → t ≡ false
-not_true true e = absurd cc
-not_true false e = refl
-
 backslash_by : (byte : ℕ) (rest : List ℕ) (t : Bool) → eqb byte 92 ≡ t → starts (codes "\\") (byte ∷ rest) ≡ t
 unfolding starts strip
 backslash_by byte rest true e = rw e refl
@@ -55,9 +52,9 @@ piece_by quote bytes x rest false is inside e =
     let t = plain_spells.takes bytes x rest e in
     let byte = t.1.0 in
     let first : bytes ≡ byte ∷ rest = t.2 ∙ ap (λ (s : List ℕ). s ++ rest) t.1.1.0 in
-    let no_quote : eqb byte quote ≡ false = not_true (eqb byte quote) (ap (in_string quote) (sym first) ∙ inside) in
+    let no_quote : eqb byte quote ≡ false = not-true (eqb byte quote) (ap (in_string quote) (sym first) ∙ inside) in
     let no_backslash : eqb byte 92 ≡ false = sym (backslash byte rest) ∙ ap (starts (codes "\\")) (sym first) ∙ is in
-    let no_break : is_line_break byte ≡ false = not_true (is_line_break byte) t.1.1.1 in
+    let no_break : is_line_break byte ≡ false = not-true (is_line_break byte) t.1.1.1 in
     let own : stands_for_itself quote byte ≡ true = rw (no_quote, no_backslash, no_break) refl in
     (t.0, inr (byte, (t.1.1.0, own), t.1.2), t.2)
 

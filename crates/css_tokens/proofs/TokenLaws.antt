@@ -2,11 +2,11 @@
 use Rattle.std.proofs.Common.{◌≡◌, ℕ, Bool, true, false, not, cond, eqb, ℤ, List, [], ◌∷◌, ◌++◌, codes, refl, sym, ap, subst, ◌∙◌, append_assoc, arith}
 use Rattle.std.specs.Prelude.{⊤}
 use Rattle.std.specs.Char.{is_ascii_digit}
-use Rattle.std.proofs.lemmas.Bool.{and_parts}
+use Rattle.std.proofs.lemmas.Bool.{and_parts, not-true}
 use Rattle.reading.specs.Readers.{give, mapped, choice, strip, starts, one_of, next_is}
 use Rattle.reading.specs.Placed.{SpellsPlaced}
 use Rattle.reading.specs.Spelling.{Anything}
-use Rattle.reading.proofs.SpellLaws.{ok, bind_ok, same_answer, strip_takes, strip_again, starts_so, one_of_spells, one_again}
+use Rattle.reading.proofs.SpellLaws.{ok, bind_ok, same_answer, strip_takes, strip_again, starts_so, one_of_spells, one_again, starts_not}
 use Rattle.css_tokens.specs.Characters.{is_name_start, is_plus_or_minus, is_quote, is_reserved}
 use Rattle.css_tokens.specs.Lexing.{name_ahead, name, hash_ahead, hash, string, numeric, named, sign_token, opening_or_sign, token}
 use Rattle.css_tokens.specs.Numbers.{sign, point, number_ahead, number}
@@ -109,10 +109,6 @@ pub record IsOther (bytes : List ℕ) : Type 0 where
   pub no_quote : next_is is_quote bytes ≡ false
   pub no_hash : hash_ahead bytes ≡ false
 
-not_true : (t : Bool) → not t ≡ true → t ≡ false
-not_true true e = absurd cc
-not_true false e = refl
-
 sign_takes : (bytes rest : List ℕ) (x : Lexeme) → IsOther bytes → sign_token bytes ≡ ok (x, rest) → IsRead bytes x rest
 unfolding sign_token
 sign_takes bytes rest x is e =
@@ -120,7 +116,7 @@ sign_takes bytes rest x is e =
     let t = (one_of_spells (λ byte. not (is_reserved byte))).takes bytes a.0.0 a.0.1 a.1 in
     let first : bytes ≡ a.0.0 ∷ a.0.1 = t.2 ∙ ap (λ (s : List ℕ). s ++ a.0.1) t.1.0 in
     let no_quote : is_quote a.0.0 ≡ false = ap (next_is is_quote) (sym first) ∙ is.no_quote in
-    let own : is_sign a.0.0 ≡ true = rw (not_true (is_reserved a.0.0) t.1.1, no_quote) refl in
+    let own : is_sign a.0.0 ≡ true = rw (not-true (is_reserved a.0.0) t.1.1, no_quote) refl in
     answered_so bytes a.0.1 rest (tokens.sign a.0.0) x (same_answer {E = List ℕ} (tokens.sign a.0.0) x a.0.1 rest a.2) (
       t.0,
       ((t.1.0, own), ap number_ahead (sym t.2) ∙ is.no_number, ap name_ahead (sym t.2) ∙ is.no_name, ap hash_ahead (sym t.2) ∙ is.no_hash),
@@ -159,10 +155,6 @@ token_takes bytes rest x e = token_by bytes rest x (number_ahead bytes) (name_ah
 
 -- ---- what is a token is read
 
-no_start : (byte wanted : ℕ) (rest : List ℕ) → eqb byte wanted ≡ false → starts (wanted ∷ []) (byte ∷ rest) ≡ false
-unfolding starts strip
-no_start byte wanted rest e = rw e refl
-
 numeric_at : (text rest : List ℕ) (n : ℤ) (y : Lexeme) (left : List ℕ) → IsNumber text rest n
     → choice (starts (codes "%")) (mapped (λ (u : ⊤). tokens.percentage n) (strip (codes "%"))) (choice name_ahead (mapped (λ unit. tokens.dimension n unit) name) (give (tokens.number n))) rest ≡ ok (y, left)
     → token (text ++ rest) ≡ ok (y, left)
@@ -182,7 +174,7 @@ start_no_percent byte e = grind arith
 
 unit_no_percent : (unit rest : List ℕ) → next_is is_name_start unit ≡ true → starts (codes "%") (unit ++ rest) ≡ false
 unit_no_percent [] rest e = absurd cc
-unit_no_percent (byte ∷ unit) rest e = no_start byte 37 (unit ++ rest) (start_no_percent byte e)
+unit_no_percent (byte ∷ unit) rest e = starts_not 37 byte (unit ++ rest) (start_no_percent byte e)
 
 dimension_token : (text rest : List ℕ) (n : ℤ) (unit : List ℕ) → IsToken text rest (tokens.dimension n unit) → token (text ++ rest) ≡ ok (tokens.dimension n unit, rest)
 dimension_token text rest n unit r =
@@ -262,16 +254,16 @@ not_square byte e = grind arith
 sign_at : (byte : ℕ) (rest : List ℕ) → is_reserved byte ≡ false → IsOther (byte ∷ rest) → token (byte ∷ rest) ≡ ok (tokens.sign byte, rest)
 unfolding token sign_token
 sign_at byte rest free is =
-    rw (is.no_number, is.no_name, is.no_quote, is.no_hash, no_start byte 40 rest (not_round byte free), no_start byte 91 rest (not_square byte free), one_again (λ b. not (is_reserved b)) byte rest (ap not free)) refl
+    rw (is.no_number, is.no_name, is.no_quote, is.no_hash, starts_not 40 byte rest (not_round byte free), starts_not 91 byte rest (not_square byte free), one_again (λ b. not (is_reserved b)) byte rest (ap not free)) refl
 
 sign_token_again : (text rest : List ℕ) (byte : ℕ) → IsToken text rest (tokens.sign byte) → token (text ++ rest) ≡ ok (tokens.sign byte, rest)
 sign_token_again text rest byte r =
     let own = and_parts (not (is_reserved byte)) (not (is_quote byte)) r.0.1 in
     let first : text ++ rest ≡ byte ∷ rest = ap (λ (t : List ℕ). t ++ rest) r.0.0 in
-    ap token first ∙ sign_at byte rest (not_true (is_reserved byte) own.0) (record {
+    ap token first ∙ sign_at byte rest (not-true (is_reserved byte) own.0) (record {
       no_number = ap number_ahead (sym first) ∙ r.1;
       no_name = ap name_ahead (sym first) ∙ r.2;
-      no_quote = not_true (is_quote byte) own.1;
+      no_quote = not-true (is_quote byte) own.1;
       no_hash = ap hash_ahead (sym first) ∙ r.3;
     })
 

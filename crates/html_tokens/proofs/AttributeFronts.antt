@@ -4,6 +4,7 @@ use Rattle.std.specs.Prelude.{⊤}
 use Rattle.std.specs.Char.{encode_utf8}
 use Rattle.std.proofs.lemmas.Bool.{eq-eqb}
 use Rattle.std.proofs.lemmas.List.{append-nil}
+use Rattle.reading.proofs.ClosingPlaces.{fixed_some}
 use Rattle.reading.specs.Readers.{mapped, starts, one_of, next_is, can_read, repeat}
 use Rattle.reading.specs.Grammars.{Grammar, AllPass, OneOf, Joined, Mapped, Seq}
 use Rattle.reading.specs.Places.{GoesOnFrom, IsViable}
@@ -21,7 +22,7 @@ use Rattle.html_tokens.specs.Grammar.{IsName, IsValuePiece, IsQuoted, IsEquals, 
 use Rattle.html_tokens.proofs.MiscLaws.{NoWhite, spaces_spells, name_spells}
 use Rattle.html_tokens.proofs.ValueLaws.{value_piece_spells, value_test, equals_spells}
 use Rattle.html_tokens.proofs.AttributeLaws.{attribute_from, attribute_of, name_named, attribute_named, goes, white_next, blank_some, IsNext, next_makes}
-use Rattle.html_tokens.proofs.PlaceLaws.{seq_some, fixed_some, spaces_some, spaces_viable, reference_viable}
+use Rattle.html_tokens.proofs.PlaceLaws.{seq_some, spaces_some, spaces_viable, reference_viable}
 use Rattle.html_tokens.proofs.AttributePlaces.{skip_ends, letter_there, name_never, view_back, last_never, moved}
 
 -- ---- values

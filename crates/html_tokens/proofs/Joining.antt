@@ -4,7 +4,7 @@ use Rattle.std.specs.Prelude.{Bool, zero, suc, not, ◌&&◌, ◌==◌, is_ok, I
 use denote.Bor.{Bor}
 use Rattle.std.specs.Char.{encode_utf8}
 use Rattle.std.specs.Str.{IsCharBoundary}
-use Rattle.std.proofs.lemmas.Bool.{eqb-true, eq-eqb}
+use Rattle.std.proofs.lemmas.Bool.{eqb-true, eq-eqb, and_parts, not-true}
 use Rattle.std.proofs.lemmas.Str.{IsCharBoundary-before_ascii}
 use Rattle.std.proofs.lemmas.List.{drop_all, append_cancel_right, drop_more}
 use Rattle.reading.specs.Readers.{Read, ReadOr, Reader, ◌>>=◌, give, follow, mapped, joined, repeat, turns, one_of, starts, strip, read_or}
@@ -55,15 +55,6 @@ run_goes_on test f text rest piece after run parts some t e =
 
 -- ---- plain bytes of a value
 
-not_second : (a b : Bool) → (not a && not b) ≡ true → b ≡ false
-not_second true b e = absurd cc
-not_second false true e = absurd cc
-not_second false false e = refl
-
-not_first : (a b : Bool) → (not a && not b) ≡ true → a ≡ false
-not_first true b e = absurd cc
-not_first false b e = refl
-
 plain_by : (quote byte : ℕ) (after : List ℕ) → eqb byte quote ≡ false → eqb byte 38 ≡ false → spelled (value_piece quote) (byte ∷ after) ≡ Ok (byte ∷ [], after)
 unfolding value_piece starts strip one_of
 plain_by quote byte after e amp = rw (e, amp) refl
@@ -83,9 +74,9 @@ pub plain_goes_on : (quote : ℕ) (text : List ℕ) (at : ℕ) → IsPlainTo quo
 plain_goes_on quote text at now lt e =
     let byte = get_or text at 0 in
     let piece : drop at text ≡ (byte ∷ []) ++ drop (at + 1) text = drop_more text at 0 lt in
-    let goes : in_value quote (drop at text) ≡ true = rw (drop_more text at 0 lt) (plain_goes quote byte (drop (at + 1) text) (not_first (eqb byte quote) (eqb byte 38) e)) in
+    let goes : in_value quote (drop at text) ≡ true = rw (drop_more text at 0 lt) (plain_goes quote byte (drop (at + 1) text) (not-true (eqb byte quote) (and_parts (not (eqb byte quote)) (not (eqb byte 38)) e).0)) in
     let read : spelled (value_piece quote) (drop at text) ≡ Ok (byte ∷ [], drop (at + 1) text) =
-    rw (drop_more text at 0 lt) (plain_by quote byte (drop (at + 1) text) (not_first (eqb byte quote) (eqb byte 38) e) (not_second (eqb byte quote) (eqb byte 38) e)) in
+    rw (drop_more text at 0 lt) (plain_by quote byte (drop (at + 1) text) (not-true (eqb byte quote) (and_parts (not (eqb byte quote)) (not (eqb byte 38)) e).0) (not-true (eqb byte 38) (and_parts (not (eqb byte quote)) (not (eqb byte 38)) e).1)) in
     record {
       within = omega arith;
       run = run_goes_on (in_value quote) (spelled (value_piece quote)) text (drop at text) (byte ∷ []) (drop (at + 1) text) now.run piece (omega arith) goes read;

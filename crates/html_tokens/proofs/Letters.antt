@@ -1,12 +1,13 @@
 -- Texts, piece by piece.
 use Rattle.std.proofs.Common.{◌≡◌, ◌⊎◌, inl, inr, ℕ, ◌<◌, true, false, cond, eqb, List, [], ◌∷◌, ◌++◌, length, Ok, Err, refl, sym, ap, subst, ◌∙◌, length-append, arith}
-use Rattle.std.specs.Prelude.{Bool, not, ◌&&◌, is_ok, IfOk, Result, ⊤}
+use Rattle.std.specs.Prelude.{Bool, not, is_ok, IfOk, Result, ⊤}
 use denote.Bor.{Bor}
 use Rattle.std.specs.Char.{IsScalar, encode_utf8}
 use Rattle.std.proofs.lemmas.List.{append-nil}
 use Rattle.reading.specs.Readers.{ReadOr, mapped, joined, starts, strip}
 use Rattle.reading.proofs.SpellLaws.{ok, stop, strip_again}
 use Rattle.std.proofs.lemmas.Str.{length-encode, len_utf8_bounds}
+use Rattle.std.proofs.lemmas.Bool.{and_parts, not-true}
 use Rattle.html_tokens.specs.Error.{Stop}
 use Rattle.reading.specs.declared.stop.Stop.TheVariants as stops
 use Rattle.html_tokens.specs.declared.error.Refusal.TheVariants.{Character}
@@ -65,24 +66,15 @@ pub letter_next : (text : List ℕ) → in_text text ≡ true → starts (60 ∷
 letter_next [] goes m n = absurd cc
 letter_next (byte ∷ after) goes m n = rw (other byte 60 after (eqb byte 60) refl m, other byte 38 after (eqb byte 38) refl n) refl
 
-first_no : (a b : Bool) → (not a && not b) ≡ true → a ≡ false
-first_no true b e = absurd cc
-first_no false b e = refl
-
-second_no : (a b : Bool) → (not a && not b) ≡ true → b ≡ false
-second_no true b e = absurd cc
-second_no false true e = absurd cc
-second_no false false e = refl
-
 letter_goes : (text : List ℕ) → is_letter_next text ≡ true → in_text text ≡ true
 letter_goes [] e = absurd cc
-letter_goes (byte ∷ after) e = rw (first_no (eqb byte 60) (eqb byte 38) e) refl
+letter_goes (byte ∷ after) e = rw (not-true (eqb byte 60) (and_parts (not (eqb byte 60)) (not (eqb byte 38)) e).0) refl
 
 letter_piece : (text : List ℕ) → is_letter_next text ≡ true → text_piece text ≡ checked character text
 unfolding text_piece
 letter_piece [] e = absurd cc
 letter_piece (byte ∷ after) e =
-    rw (no_byte byte 60 after (eqb byte 60) refl (first_no (eqb byte 60) (eqb byte 38) e), no_byte byte 38 after (eqb byte 38) refl (second_no (eqb byte 60) (eqb byte 38) e)) refl
+    rw (no_byte byte 60 after (eqb byte 60) refl (not-true (eqb byte 60) (and_parts (not (eqb byte 60)) (not (eqb byte 38)) e).0), no_byte byte 38 after (eqb byte 38) refl (not-true (eqb byte 38) (and_parts (not (eqb byte 60)) (not (eqb byte 38)) e).1)) refl
 
 read_char : (c : ℕ) (rest : List ℕ) → IsScalar c → character (encode_utf8 c ++ rest) ≡ Ok (c, rest)
 unfolding character

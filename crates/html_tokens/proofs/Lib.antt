@@ -4,7 +4,6 @@ mod Letters
 mod Miscellany
 mod Numbers
 mod Runs
-mod Tables
 pub mod MiscLaws
 mod CharacterLaws
 mod ReferenceLaws

@@ -26,7 +26,7 @@ pub cased_first : (text word : List ℕ) (wanted : ℕ) → map to_ascii_lowerca
 cased_first [] word wanted e = absurd cc
 cased_first (byte ∷ more) word wanted e = (byte, more, refl, cc, cc)
 
-lower_mark : (byte : ℕ) → to_ascii_lowercase byte ≡ 60 → byte ≡ 60
+pub lower_mark : (byte : ℕ) → to_ascii_lowercase byte ≡ 60 → byte ≡ 60
 lower_mark byte e = grind arith
 
 lower_not_white : (byte : ℕ) → to_ascii_lowercase byte ≡ 104 → is_white byte ≡ false

@@ -2,7 +2,7 @@
 use Rattle.std.proofs.Common.{◌≡◌, ◌⊎◌, inl, inr, ℕ, Bool, true, false, cond, ◌||◌, List, [], ◌∷◌, ◌++◌, length, codes, Ok, Err, is_ok, refl, sym, ap, subst, ◌∙◌, append_assoc, length-append, arith}
 use Rattle.std.specs.Prelude.{⊤}
 use Rattle.std.proofs.lemmas.Bool.{eq-eqb, or_right}
-use Rattle.std.proofs.lemmas.List.{append_cancel_right, append-nil}
+use Rattle.std.proofs.lemmas.List.{append_cancel_right, append-nil, append_cancel_left}
 use Rattle.reading.specs.Readers.{Read, Reader, ◌>>=◌, give, mapped, strip, starts, one_of, next_is, after, joined}
 use Rattle.reading.specs.Grammars.{Mapped}
 use Rattle.reading.specs.Spelling.{Anything}
@@ -57,10 +57,6 @@ pub starts_parts : (sign bytes : List ℕ) (r : Read ⊤) → strip sign bytes �
 starts_parts sign bytes (Ok x) e is = (x.1, strip_takes sign bytes x.1 x.0 e)
 starts_parts sign bytes (Err left) e is = absurd cc
 
-cancel_front : (a b c : List ℕ) → a ++ b ≡ a ++ c → b ≡ c
-cancel_front [] b c e = e
-cancel_front (x ∷ a) b c e = cancel_front a b c cc
-
 starts_within : (sign text other more : List ℕ) → text ≡ sign ++ more → starts sign (text ++ other) ≡ true
 starts_within sign text other more e = ap (λ (t : List ℕ). starts sign (t ++ other)) e ∙ ap (starts sign) (append_assoc sign more other) ∙ starts_so sign (more ++ other)
 
@@ -70,7 +66,7 @@ starts_longer sign text rest other p [] m e parts stopped =
     starts_within sign text other [] same
 starts_longer sign text rest other p (c ∷ w) m e parts stopped =
     let whole : text ++ rest ≡ text ++ c ∷ (w ++ p) = parts ∙ ap (λ (s : List ℕ). s ++ p) e ∙ append_assoc text (c ∷ w) p in
-    let tail : rest ≡ c ∷ (w ++ p) = cancel_front text rest (c ∷ (w ++ p)) whole in
+    let tail : rest ≡ c ∷ (w ++ p) = append_cancel_left text rest (c ∷ (w ++ p)) whole in
     let word : codes "<!--" ≡ text ++ c ∷ (w ++ m.0) = m.1 ∙ ap (λ (s : List ℕ). s ++ m.0) e ∙ append_assoc text (c ∷ w) m.0 in
     let here : comment (text ++ c ∷ (w ++ p)) ≡ stop (c ∷ (w ++ p)) = ap (λ (r : List ℕ). comment (text ++ r)) (sym tail) ∙ stopped ∙ ap (λ (r : List ℕ). stop {A = ⊤} r) tail in
     absurd (goes_on_here text (w ++ m.0) (w ++ p) c word here)

@@ -5,6 +5,7 @@ use Rattle.std.specs.Char.{IsScalar, digit_value, to_ascii_lowercase}
 use Rattle.std.proofs.lemmas.Bool.{and_parts, ltb-true, leb-true}
 use Rattle.std.proofs.lemmas.List.{append_cancel_right, append-nil}
 use Rattle.std.proofs.Math.Utf8.{scalar, low_scalar}
+use Rattle.reading.proofs.ClosingPlaces.{fixed_some}
 use Rattle.reading.specs.Readers.{◌>>=◌, give, refuse, mapped, strip, starts, one_of, next_is, one_word}
 use Rattle.reading.specs.Grammars.{Grammar, Fixed, EitherCase, Seq, Mapped, Either, OneWord}
 use Rattle.reading.specs.Words.{all_differ}
@@ -28,9 +29,6 @@ use Rattle.html_tokens.proofs.ReferenceLaws.{IsRest, is_digit, more_digits, to_n
 
 pub seq_some : {A B : Type 0} {R : Grammar A} {S : A → Grammar B} → GoesOnFrom R [] → ((x : A) → GoesOnFrom (S x) []) → GoesOnFrom (Seq R S) []
 seq_some r s = record { more = r.more ++ (s r.value).more; value = (s r.value).value; is = (r.value, r.more, (s r.value).more, r.is, (s r.value).is, refl) }
-
-pub fixed_some : (word : List ℕ) → GoesOnFrom (Fixed word) []
-fixed_some word = record { more = word; value = tt; is = refl }
 
 pub cased_some : (word : List ℕ) → map to_ascii_lowercase word ≡ word → GoesOnFrom (EitherCase word) []
 cased_some word small = record { more = word; value = tt; is = small }

@@ -7,7 +7,7 @@ use Rattle.std.proofs.lemmas.Bool.{ne_eqb, eqb-true, eq-eqb}
 use Rattle.reading.specs.Readers.{ReadOr, Reader, ◌>>=◌, mapped, strip, starts}
 use Rattle.reading.specs.Grammars.{Grammar, Mapped}
 use Rattle.reading.specs.Spelling.{Anything, Spells, IsTestOf}
-use Rattle.reading.proofs.SpellLaws.{bind_ok, mapped_spells, telling_spells}
+use Rattle.reading.proofs.SpellLaws.{bind_ok, mapped_spells, telling_spells, starts_not}
 use Rattle.reading.proofs.ManyLaws.{joined_spells}
 use Rattle.html_tokens.specs.declared.error.Refusal.TheVariants.{Character}
 use Rattle.html_tokens.specs.Characters.{in_repertoire}
@@ -62,10 +62,6 @@ led_other c wanted text small other l = ne_eqb l.byte wanted (λ same.
     let clash : true ≡ false = sym (eq-eqb c wanted e) ∙ other in
     absurd cc)
 
-not_starts : (wanted byte : ℕ) (more : List ℕ) → eqb byte wanted ≡ false → starts (wanted ∷ []) (byte ∷ more) ≡ false
-unfolding starts strip
-not_starts wanted byte more e = rw e refl
-
 starts_here : (wanted : ℕ) (more : List ℕ) → eqb wanted wanted ≡ true → starts (wanted ∷ []) (wanted ∷ more) ≡ true
 unfolding starts strip
 starts_here wanted more e = rw e refl
@@ -74,7 +70,7 @@ character_not : (c wanted : ℕ) (text rest : List ℕ) → wanted < 128 → eqb
 character_not c wanted text rest small other is =
     let l = led c is.1 in
     let first : text ++ rest ≡ l.byte ∷ (l.more ++ rest) = rw (is.0, l.parts) refl in
-    ap (starts (wanted ∷ [])) first ∙ not_starts wanted l.byte (l.more ++ rest) (led_other c wanted (encode_utf8 c) small other l)
+    ap (starts (wanted ∷ [])) first ∙ starts_not wanted l.byte (l.more ++ rest) (led_other c wanted (encode_utf8 c) small other l)
 
 -- what was read as a character isn't one that begins something else
 mark_alone : (c : ℕ) (text rest : List ℕ) → c ≡ 60 → text ≡ encode_utf8 c → text ++ rest ≡ 60 ∷ rest
@@ -134,7 +130,7 @@ piece_again text letters rest (inl r) =
     rw begins (comment_piece.again text letters rest r tt)
 piece_again text letters rest (inr (c, inl r, known, made)) =
     let b = reference_begins text rest c r in
-    let mark : starts (codes "<") (text ++ rest) ≡ false = ap (starts (codes "<")) b.1 ∙ not_starts 60 38 b.0 refl in
+    let mark : starts (codes "<") (text ++ rest) ≡ false = ap (starts (codes "<")) b.1 ∙ starts_not 60 38 b.0 refl in
     let and_ : starts (codes "&") (text ++ rest) ≡ true = ap (starts (codes "&")) b.1 ∙ starts_here 38 b.0 refl in
     rw (mark, and_) ((checked_spells reference_spells).again text letters rest (c, r, known, made) tt)
 piece_again text letters rest (inr (c, inr r, known, made)) =

@@ -1,8 +1,8 @@
 -- Values of attributes: what is read is spelled so, and what is spelled so is read.
-use Rattle.std.proofs.Common.{◌≡◌, inl, inr, ℕ, ◌<◌, Bool, true, false, not, eqb, List, [], ◌∷◌, ◌++◌, length, codes, is_ok, refl, sym, ap, subst, ◌∙◌, append_assoc, arith}
+use Rattle.std.proofs.Common.{◌≡◌, inl, inr, ℕ, ◌<◌, true, false, not, eqb, List, [], ◌∷◌, ◌++◌, length, codes, is_ok, refl, sym, ap, subst, ◌∙◌, append_assoc, arith}
 use Rattle.std.specs.Prelude.{⊤}
 use Rattle.std.specs.Char.{encode_utf8}
-use Rattle.std.proofs.lemmas.Bool.{and_parts}
+use Rattle.std.proofs.lemmas.Bool.{and_parts, not-true}
 use Rattle.reading.specs.Readers.{Read, strip, starts, can_read}
 use Rattle.reading.specs.Grammars.{AllPass, OneOf, Seq}
 use Rattle.reading.specs.Spelling.{Anything, Spells, IsTestOf}
@@ -20,14 +20,10 @@ use Rattle.html_tokens.proofs.ReferenceLaws.{reference_spells}
 pub reference_begins : (text rest : List ℕ) (c : ℕ) → IsReference text c → (more : List ℕ) × (text ++ rest ≡ 38 ∷ more)
 reference_begins text rest c r = (r.2 ++ rest, rw (r.5, r.3) refl)
 
-not_true : (t : Bool) → not t ≡ true → t ≡ false
-not_true true e = absurd cc
-not_true false e = refl
-
 plain_parts : (quote byte : ℕ) → is_plain quote byte ≡ true → (eqb byte quote ≡ false) × (eqb byte 38 ≡ false)
 plain_parts quote byte is =
     let both = and_parts (not (eqb byte quote)) (not (eqb byte 38)) is in
-    (not_true (eqb byte quote) both.0, not_true (eqb byte 38) both.1)
+    (not-true (eqb byte quote) both.0, not-true (eqb byte 38) both.1)
 
 pub value_piece_spells : (quote : ℕ) → Spells (value_piece quote) (IsValuePiece quote) Anything
 unfolding value_piece starts strip

@@ -5,13 +5,12 @@ ghost use Rattle.std.specs.Char.{digit_value};
 ghost use lib.Utf8.{scalar};
 ghost use Rattle.reading.specs.Readers as reading;
 ghost use Rattle.reading.specs.Readers.{Answers};
-ghost use Rattle.reading.specs.Names.{words_of};
 ghost use Rattle.html_tokens.specs.Characters.{entities};
 ghost use Rattle.html_tokens.specs.Lexing as readers;
 ghost use Rattle.html_tokens.specs.Pieces.{GoesOnWith};
 
 use crate::entity::ENTITIES;
-use reading::{first, starts, strip};
+use reading::{first, one_word, starts, strip};
 
 /// A reference, as the character that it means.
 #[tactic(auto, unfolding(crate::specs::Lexing::reference), using(crate::proofs::Runs::amp_shorter))]
@@ -34,28 +33,6 @@ fn entity(text: &str) -> Result<(char, &str), &[u8]>
     ensures shorter { IfOk result (λ c. length c.1.now ≤ length text.now) }
 {
     one_word(&ENTITIES, text)
-}
-
-// One of the names of the table. Where it is none, what is left behind the longest front of one.
-#[tactic(auto, using(crate::proofs::Tables::words_start, crate::proofs::Tables::words_end))]
-fn one_word<'a>(table: &[(&str, char)], text: &'a str) -> Result<(char, &'a str), &'a [u8]>
-    ensures read { Answers (λ c. (c.0, c.1.now)) result (reading.one_word (words_of table.now) text.now) }
-    ensures shorter { IfOk result (λ c. length c.1.now ≤ length text.now) }
-{
-    let mut best = text.as_bytes();
-    for (name, meaning) in table {
-        match strip(name, text) {
-            Ok(rest) => return Ok((*meaning, rest)),
-            Err(left) => best = shorter_of(best, left),
-        }
-    }
-    Err(best)
-}
-
-fn shorter_of<'a>(best: &'a [u8], left: &'a [u8]) -> &'a [u8]
-    ensures { result.now ≡ reading.shorter_of best.now left.now }
-{
-    if left.len() < best.len() { left } else { best }
 }
 
 // A number behind `#`.

@@ -14,8 +14,8 @@ closing_local opening word test last =
     follow_local (strip_local opening) (λ u. follow_local (either_case_local word) (λ v. follow_local (run_of_local test) (λ run. strip_local last)))
 
 -- the text that is left of a closing where nothing of a part was read
-last_some : (last : List ℕ) → GoesOnFrom (Fixed last) []
-last_some last = record { more = last; value = tt; is = refl }
+pub fixed_some : (word : List ℕ) → GoesOnFrom (Fixed word) []
+fixed_some word = record { more = word; value = tt; is = refl }
 
 run_some : (test : ℕ → Bool) (last : List ℕ) → GoesOnFrom (Seq (RunOf test) (λ _. Fixed last)) []
 run_some test last = record { more = last; value = tt; is = ([], [], last, (refl, tt), refl, refl) }
@@ -28,6 +28,6 @@ pub closing_viable : (opening word : List ℕ) (test : ℕ → Bool) (last : Lis
 closing_viable opening word test last small =
     follow_viable (strip_spells opening) (strip_viable opening)
     (λ u. follow_viable (either_case_spells word) (either_case_viable word small)
-    (λ v. follow_viable (run_of_spells test) (run_of_viable test) (λ run. strip_viable last) (λ run. last_some last))
+    (λ v. follow_viable (run_of_spells test) (run_of_viable test) (λ run. strip_viable last) (λ run. fixed_some last))
     (λ v. run_some test last))
     (λ u. word_some word test last small)

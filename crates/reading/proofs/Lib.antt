@@ -18,6 +18,7 @@ pub mod ClosingPlaces
 pub mod StopPlaces
 pub mod Running
 pub mod Names
+mod Tables
 pub mod Shorter
 pub mod Chains
 pub mod TurnLaws

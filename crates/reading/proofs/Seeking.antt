@@ -5,6 +5,7 @@ use Rattle.std.specs.Prelude.{Some, None, ⊤, ◌≢◌}
 use Rattle.std.proofs.lemmas.Bool.{ne_eqb}
 use Rattle.std.proofs.lemmas.List.{drop_all, take_more, drop_more}
 use Rattle.std.proofs.Common.{slice_index_or}
+use Rattle.reading.proofs.UpToLaws.{until_here}
 use Rattle.reading.specs.Readers.{Reader, until, with_byte, can_read, up_to}
 use Rattle.reading.specs.Endings.{EndsHere}
 use Rattle.reading.proofs.Running.{with_front, no_front, longer_front}
@@ -23,11 +24,6 @@ seeking_goes_on test text front after byte now e = record {
   parts = now.parts ∙ sym (append_assoc front (byte ∷ []) after);
   same = now.same ∙ ap (with_front front) (until_step test byte after e) ∙ longer_front front byte (until test after);
 }
-
-until_here : (test : List ℕ → Bool) (rest : List ℕ) → test rest ≡ true → until test rest ≡ Ok ([], rest)
-unfolding until
-until_here test [] e = rw e refl
-until_here test (byte ∷ after) e = rw e refl
 
 front_ok : (front run rest : List ℕ) → with_front front (Ok (run, rest)) ≡ Ok (front ++ run, rest)
 unfolding with_front

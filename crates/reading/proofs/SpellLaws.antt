@@ -14,6 +14,9 @@ ok x = Ok x
 abbrev pub stop : {E A : Type 0} → E → ReadOr E A
 stop told = Err told
 
+pub same_stop : {E A : Type 0} (one other : E) → stop {A = A} one ≡ stop other → one ≡ other
+same_stop one other e = cc
+
 -- the value of a step that did not stop
 pub bind_ok : {E A B : Type 0} (r : ReadOr E A) (f : A × List ℕ → ReadOr E B) (y : B × List ℕ) → (r >>= f) ≡ Ok y → (x : A × List ℕ) × (r ≡ Ok x) × (f x ≡ Ok y)
 bind_ok (Ok x) f y e = (x, refl, e)
@@ -73,6 +76,11 @@ strip_spells word = record {
 pub starts_so : (text rest : List ℕ) → starts text (text ++ rest) ≡ true
 unfolding starts
 starts_so text rest = rw (strip_again text rest) refl
+
+-- bytes that begin with another byte
+pub starts_not : (wanted byte : ℕ) (rest : List ℕ) → eqb byte wanted ≡ false → starts (wanted ∷ []) (byte ∷ rest) ≡ false
+unfolding starts strip
+starts_not wanted byte rest e = rw e refl
 
 one_by : (test : ℕ → Bool) (b byte : ℕ) (bytes rest : List ℕ) (t : Bool) → test b ≡ t → cond t (ok (b, bytes)) (stop (b ∷ bytes)) ≡ ok (byte, rest)
     → (text : List ℕ) × ((text ≡ byte ∷ []) × (test byte ≡ true)) × (b ∷ bytes ≡ text ++ rest)

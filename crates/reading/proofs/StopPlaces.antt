@@ -1,6 +1,7 @@
 -- Readers that look further than the next byte where they read on: the laws of `StopsInPlace`.
 use Rattle.std.proofs.Common.{◌≡◌, ℕ, zero, suc, ◌<◌, Bool, true, false, cond, List, [], ◌∷◌, ◌++◌, length, Ok, Err, refl, sym, ap, ◌∙◌, append_assoc, arith}
 use Rattle.std.proofs.lemmas.List.{append_cancel_right}
+use Rattle.reading.proofs.TurnPlaces.{stops_by}
 use Rattle.reading.specs.Readers.{Read, Reader, ◌>>=◌, give, follow, mapped, choice, turns, repeat}
 use Rattle.reading.specs.Grammars.{Grammar}
 use Rattle.reading.specs.Spelling.{Spells}
@@ -129,11 +130,6 @@ turns_stopped {S = S} goes turn p fuel s bytes left e =
     (one.0 ++ there.0, one.1 ∙ ap (λ (b : List ℕ). one.0 ++ b) there.1 ∙ sym (append_assoc one.0 there.0 left)))
     fuel s bytes e
 
-stop_now : {S : Type 0} (goes : S → List ℕ → Bool) (turn : S → Reader S) (fuel : ℕ) (s : S) (bytes left : List ℕ) → goes s bytes ≡ true → length bytes < fuel → turn s bytes ≡ stop left → turns goes turn fuel s bytes ≡ stop left
-stop_now goes turn zero s bytes left g enough e = absurd (omega (arith, enough))
-stop_now {S = S} goes turn (suc fuel) s bytes left g enough e =
-    turn_once goes turn fuel s bytes g ∙ ap (λ (x : Read S). x >>= λ (v : S × List ℕ). turns goes turn fuel v.0 v.1) e
-
 stop_later : {S : Type 0} (goes : S → List ℕ → Bool) (turn : S → Reader S) (fuel : ℕ) (s later : S) (bytes after_ : List ℕ) (r : Read S) → goes s bytes ≡ true → length bytes < fuel → TurnsStop goes turn
     → turn s bytes ≡ ok (later, after_) → ((fuel : ℕ) → length after_ < fuel → turns goes turn fuel later after_ ≡ r) → turns goes turn fuel s bytes ≡ r
 stop_later goes turn zero s later bytes after_ r g enough p e rest = absurd (omega (arith, enough))
@@ -145,7 +141,7 @@ again_stopped : {S : Type 0} (goes : S → List ℕ → Bool) (turn : S → Read
     → ((s : S) (text : List ℕ) → turns goes turn fuel s (text ++ rest) ≡ stop rest → (again : ℕ) → length (text ++ other) < again → turns goes turn again s (text ++ other) ≡ stop other)
     → length (text ++ other) < again → Stopped (turn s (text ++ rest)) (λ (x : S × List ℕ). turns goes turn fuel x.0 x.1) rest → turns goes turn again s (text ++ other) ≡ stop other
 again_stopped goes turn fuel again s text rest other g p n later much (at_first e) =
-    stop_now goes turn again s (text ++ other) other (p.here s text rest other n g e) much ((p.stops s).err text rest other n e)
+    stops_by goes turn again s (text ++ other) other (p.here s text rest other n g e) much ((p.stops s).err text rest other n e)
 again_stopped {S = S} goes turn fuel again s text rest other g p n later much (at_second x e h) =
     let one = (p.stops s).front (text ++ rest) x.0 x.1 e in
     let two = turns_stopped goes turn p fuel x.0 x.1 rest h in

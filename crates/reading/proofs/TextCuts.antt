@@ -1,7 +1,7 @@
 -- Where a text may be cut: behind a text that it begins with, in either case.
 use Rattle.std.proofs.Common.{◌≡◌, inl, inr, ℕ, suc, ◌<◌, ◌≤◌, Bool, true, false, ◌&&◌, List, [], ◌∷◌, ◌++◌, map, length, get_or, take, drop, IsUtf8, IsCharBoundary, refl, sym, ap, subst, ◌∙◌, arith, length-append}
 use Rattle.std.specs.Char.{is_ascii, is_ascii_digit, to_ascii_lowercase}
-use Rattle.std.proofs.lemmas.Bool.{cases_lt}
+use Rattle.std.proofs.lemmas.Bool.{cases_lt, and_parts}
 use Rattle.std.proofs.lemmas.Bool.Decides.{nat_tests}
 use Rattle.std.proofs.lemmas.List.{append-nil, length-map, map-append, get_or-map}
 use Rattle.std.proofs.lemmas.Str.{encode_ascii, inside_one, IsCharBoundary-from_take, IsCharBoundary-after_ascii, IsUtf8-drop}
@@ -46,14 +46,10 @@ lower_codes : (cs : List ℕ) → encodes (map to_ascii_lowercase cs) ≡ map to
 lower_codes [] = refl
 lower_codes (c ∷ cs) = rw (lower_code c, lower_codes cs) (sym (map-append to_ascii_lowercase (encode c) (encodes cs)))
 
-both_are : (a b : Bool) → (a && b) ≡ true → (a ≡ true) × (b ≡ true)
-both_are true b e = (refl, e)
-both_are false b e = absurd cc
-
 lower_scalars : (cs : List ℕ) → scalars cs ≡ true → scalars (map to_ascii_lowercase cs) ≡ true
 lower_scalars [] is = refl
 lower_scalars (c ∷ cs) is =
-    let each = both_are (scalar c) (scalars cs) is in
+    let each = and_parts (scalar c) (scalars cs) is in
     rw (lower_scalar c each.0) (lower_scalars cs each.1)
 
 lower_utf8 : (bytes : List ℕ) → IsUtf8 bytes → IsUtf8 (map to_ascii_lowercase bytes)

@@ -67,7 +67,7 @@ goes_by {S = S} goes turn (suc fuel) s later bytes after r g enough p e rest =
     let less = p.shorter s later bytes after e in
     turn_once goes turn fuel s bytes g ∙ ap (λ (x : Read S). x >>= λ (v : S × List ℕ). turns goes turn fuel v.0 v.1) e ∙ rest fuel (omega (arith, less, enough))
 
-stops_by : {S : Type 0} (goes : S → List ℕ → Bool) (turn : S → Reader S) (fuel : ℕ) (s : S) (bytes left : List ℕ) → goes s bytes ≡ true → length bytes < fuel → turn s bytes ≡ stop left → turns goes turn fuel s bytes ≡ stop left
+pub stops_by : {S : Type 0} (goes : S → List ℕ → Bool) (turn : S → Reader S) (fuel : ℕ) (s : S) (bytes left : List ℕ) → goes s bytes ≡ true → length bytes < fuel → turn s bytes ≡ stop left → turns goes turn fuel s bytes ≡ stop left
 stops_by goes turn zero s bytes left g enough e = absurd (omega (arith, enough))
 stops_by {S = S} goes turn (suc fuel) s bytes left g enough e =
     turn_once goes turn fuel s bytes g ∙ ap (λ (x : Read S). x >>= λ (v : S × List ℕ). turns goes turn fuel v.0 v.1) e

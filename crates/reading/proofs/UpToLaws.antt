@@ -36,7 +36,7 @@ unfolding until
 until_is test [] run rest e = until_none test run rest (test []) e
 until_is test (byte ∷ bytes) run rest e = until_by test byte bytes run rest (test (byte ∷ bytes)) refl (λ inside. until_is test bytes inside rest) e
 
-until_here : (test : List ℕ → Bool) (rest : List ℕ) → test rest ≡ true → until test rest ≡ Ok ([], rest)
+pub until_here : (test : List ℕ → Bool) (rest : List ℕ) → test rest ≡ true → until test rest ≡ Ok ([], rest)
 unfolding until
 until_here test [] here = rw here refl
 until_here test (byte ∷ rest) here = rw here refl

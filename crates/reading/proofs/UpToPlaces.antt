@@ -2,6 +2,7 @@
 use Rattle.std.proofs.Common.{◌≡◌, ◌⊎◌, inl, inr, ℕ, Bool, true, false, cond, List, [], ◌∷◌, ◌++◌, Ok, Err, is_ok, refl, sym, ap, subst, ◌∙◌, append_assoc}
 use Rattle.std.specs.Prelude.{⊤}
 use Rattle.std.proofs.lemmas.List.{append-nil, append_cancel_right}
+use Rattle.basic_laws.proofs.Lists.{none_behind}
 use Rattle.reading.specs.Readers.{Read, Reader, ◌>>=◌, give, mapped, with_byte, run_of, skip, until, can_read, up_to}
 use Rattle.reading.specs.Grammars.{Grammar, AllPass, NowhereIn, UpTo}
 use Rattle.reading.specs.Spelling.{Anything, Spells, SeesWithin}
@@ -94,15 +95,11 @@ until_stops_by test byte bytes left false is later e =
     let n = later (with_byte_err byte (until test bytes) left e) in
     record { none = n.none; nowhere = λ run at parts. no_place test byte bytes run at is n.nowhere parts }
 
-empty_at : (run at : List ℕ) → [] ≡ run ++ at → at ≡ []
-empty_at [] at e = sym e
-empty_at (b ∷ run) at e = absurd cc
-
 until_stops_none : (test : List ℕ → Bool) (left : List ℕ) (t : Bool) → test [] ≡ t → cond t (ok {E = List ℕ} {A = List ℕ} ([], [])) (stop []) ≡ stop left → IsNowhere test [] left
 until_stops_none test left true is e = absurd cc
 until_stops_none test left false is e =
     let same : [] ≡ left = cc in
-    record { none = sym same; nowhere = λ run at parts. ap test (empty_at run at parts) ∙ is }
+    record { none = sym same; nowhere = λ run at parts. ap test (none_behind run at parts) ∙ is }
 
 until_stops : (test : List ℕ → Bool) (bytes left : List ℕ) → until test bytes ≡ stop left → IsNowhere test bytes left
 unfolding until

@@ -2,7 +2,7 @@
 use Rattle.std.proofs.Common.{◌≡◌, inl, inr, ℕ, Bool, true, false, cond, eqb, ◌&&◌, List, [], ◌∷◌, ◌++◌, Ok, Err, is_ok, refl, sym, ap, ◌∙◌}
 use Rattle.std.specs.Prelude.{⊤}
 use Rattle.std.specs.List.{list_all}
-use Rattle.std.proofs.lemmas.Bool.{ne_eqb}
+use Rattle.std.proofs.lemmas.Bool.{ne_eqb, and_parts}
 use Rattle.reading.specs.Readers.{Read, strip, starts, next_is, shorter_of, word_or, word_from, one_word}
 use Rattle.reading.specs.Grammars.{OneWord}
 use Rattle.reading.specs.Spelling.{Anything, Spells}
@@ -89,10 +89,6 @@ one_word_spells words d = words_spell words Anything (differ_wait words d)
 
 -- ---- words that end where no byte of a word comes next
 
-both_pass : (a b : Bool) → (a && b) ≡ true → (a ≡ true) × (b ≡ true)
-both_pass true b e = (refl, e)
-both_pass false b e = absurd cc
-
 -- at a byte of the word: the text's byte is the same, or it stops
 longer_by : (byte next : ℕ) (word text rest : List ℕ) (t : Bool) → is_ok (cond t (strip word text) (stop {A = ⊤} (next ∷ text))) ≡ false
     → (is_ok (strip word text) ≡ false → is_ok (strip word (text ++ rest)) ≡ false) → is_ok (cond t (strip word (text ++ rest)) (stop {A = ⊤} (next ∷ (text ++ rest)))) ≡ false
@@ -112,9 +108,9 @@ ended test byte word (next ∷ rest) is ends = rw (other_byte test byte next is 
 longer_stops : (test : ℕ → Bool) (word text rest : List ℕ) → list_all test word ≡ true → is_ok (strip word text) ≡ false → next_is test rest ≡ false → is_ok (strip word (text ++ rest)) ≡ false
 unfolding strip
 longer_stops test [] text rest is stops ends = absurd cc
-longer_stops test (byte ∷ word) [] rest is stops ends = ended test byte word rest (both_pass (test byte) (list_all test word) is).0 ends
+longer_stops test (byte ∷ word) [] rest is stops ends = ended test byte word rest (and_parts (test byte) (list_all test word) is).0 ends
 longer_stops test (byte ∷ word) (next ∷ text) rest is stops ends =
-    longer_by byte next word text rest (eqb next byte) stops (λ n. longer_stops test word text rest (both_pass (test byte) (list_all test word) is).1 n ends)
+    longer_by byte next word text rest (eqb next byte) stops (λ n. longer_stops test word text rest (and_parts (test byte) (list_all test word) is).1 n ends)
 
 -- the first alternative is false
 neither : (a b : Bool) → cond a false b ≡ true → (a ≡ false) × (b ≡ true)

@@ -1,7 +1,7 @@
 -- Where texts of a table stop: behind the longest front that the bytes share with one.
 use Rattle.std.proofs.Common.{◌≡◌, ◌⊎◌, inl, inr, ℕ, ◌≤◌, Bool, true, false, cond, ltb, List, [], ◌∷◌, ◌++◌, length, Ok, Err, refl, sym, ap, subst, ◌∙◌, append_assoc, length-append, arith}
 use Rattle.std.specs.Prelude.{⊤}
-use Rattle.std.proofs.lemmas.List.{append-nil, append_cancel_right}
+use Rattle.std.proofs.lemmas.List.{append-nil, append_cancel_right, append_cancel_left}
 use Rattle.std.proofs.lemmas.Bool.{ltb-true, ltb-false, lt-ltb, le-ltb}
 use Rattle.reading.specs.Readers.{Read, strip, shorter_of, word_or, word_from, one_word}
 use Rattle.reading.specs.Grammars.{OneWord}
@@ -85,10 +85,6 @@ record EndsIn (text rest left : List ℕ) : Type 0 where
   parts : text ≡ front ++ back
   is : left ≡ back ++ rest
 
-cancel_front : (a b c : List ℕ) → a ++ b ≡ a ++ c → b ≡ c
-cancel_front [] b c e = e
-cancel_front (x ∷ a) b c e = cancel_front a b c cc
-
 nothing : (a : List ℕ) → length a ≤ 0 → a ≡ []
 nothing [] le = refl
 nothing (x ∷ a) le = absurd (omega (arith, le))
@@ -96,10 +92,10 @@ nothing (x ∷ a) le = absurd (omega (arith, le))
 ends_in_by : (text rest front left : List ℕ) → text ++ rest ≡ front ++ left → length rest ≤ length left → ((w : List ℕ) × (text ≡ front ++ w)) ⊎ ((m : List ℕ) × (front ≡ text ++ m)) → EndsIn text rest left
 ends_in_by text rest front left whole le (inl r) =
     let same : front ++ (r.0 ++ rest) ≡ front ++ left = sym (append_assoc front r.0 rest) ∙ ap (λ (t : List ℕ). t ++ rest) (sym r.1) ∙ whole in
-    record { front = front; back = r.0; parts = r.1; is = sym (cancel_front front (r.0 ++ rest) left same) }
+    record { front = front; back = r.0; parts = r.1; is = sym (append_cancel_left front (r.0 ++ rest) left same) }
 ends_in_by text rest front left whole le (inr r) =
     let same : text ++ rest ≡ text ++ (r.0 ++ left) = whole ∙ ap (λ (t : List ℕ). t ++ left) r.1 ∙ append_assoc text r.0 left in
-    let tail : rest ≡ r.0 ++ left = cancel_front text rest (r.0 ++ left) same in
+    let tail : rest ≡ r.0 ++ left = append_cancel_left text rest (r.0 ++ left) same in
     let none : r.0 ≡ [] = nothing r.0 (omega (arith, ap (λ (t : List ℕ). length t) tail, length-append r.0 left, le)) in
     record { front = text; back = []; parts = sym (append-nil text); is = sym (tail ∙ ap (λ (t : List ℕ). t ++ left) none) }
 

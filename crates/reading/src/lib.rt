@@ -14,6 +14,6 @@ pub use cuts::front_of;
 pub use decimals::decimal;
 pub use endings::{Ending, up_to_end};
 pub use stop::{Kind, Stop};
-pub use table::{named, same_name};
+pub use table::{named, one_word, same_name};
 pub use texts::{digit, first, starts, strip, strip_either_case};
 pub use white_space::{spaces, white, white_ahead};

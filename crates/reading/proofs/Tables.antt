@@ -1,4 +1,4 @@
--- Tables, row by row.
+-- Tables of words, row by row.
 use Rattle.std.proofs.Common.{◌≡◌, ℕ, ◌<◌, ◌≤◌, ◌+◌, List, [], ◌∷◌, length, drop, get_or, Ok, Err, refl, sym, ◌∙◌}
 use denote.Bor.{Bor}
 use Rattle.std.proofs.lemmas.List.{drop_all, drop_more}
@@ -26,11 +26,11 @@ words_go_on table i d best text left new total lt e made so_far =
     rw (drop_more table i d lt) (word_step (get_or table i d).0.now (get_or table i d).1 (words_of (drop (i + 1) table)) best text left e) in
     rw made (sym here ∙ so_far)
 
-pub words_here : {A : Type 0} (table : List (Bor (List ℕ) × A)) (i : ℕ) (d : Bor (List ℕ) × A) (best text rest : List ℕ) (total : Read A) → i < length table
-    → strip (get_or table i d).0.now text ≡ Ok (tt, rest) → word_from (words_of (drop i table)) best text ≡ total → total ≡ Ok ((get_or table i d).1, rest)
-words_here table i d best text rest total lt e so_far =
-    let here : word_from (words_of (drop i table)) best text ≡ Ok ((get_or table i d).1, rest) =
-    rw (drop_more table i d lt) (word_here (get_or table i d).0.now (get_or table i d).1 (words_of (drop (i + 1) table)) best text rest e) in
+pub words_here : {A : Type 0} (table : List (Bor (List ℕ) × A)) (i : ℕ) (row : Bor (List ℕ) × A) (best text rest : List ℕ) (total : Read A) → i < length table
+    → row ≡ get_or table i row → strip row.0.now text ≡ Ok (tt, rest) → word_from (words_of (drop i table)) best text ≡ total → total ≡ Ok (row.1, rest)
+words_here table i row best text rest total lt at e so_far =
+    let here : word_from (words_of (drop i table)) best text ≡ Ok (row.1, rest) =
+    rw (drop_more table i row lt, ← at) (word_here row.0.now row.1 (words_of (drop (i + 1) table)) best text rest e) in
     sym so_far ∙ here
 
 no_words : {A : Type 0} (best text : List ℕ) → word_from {A = A} [] best text ≡ Err best
