@@ -1,8 +1,9 @@
 -- The selectors of a rule: what is spelled so is read, and what is read is spelled so.
 use Rattle.std.proofs.Common.{◌≡◌, inl, inr, ℕ, ◌<◌, ◌+◌, Bool, true, false, not, cond, List, [], ◌∷◌, ◌++◌, length, codes, Ok, Err, refl, sym, ap, subst, ◌∙◌, append_assoc, length-append, arith}
 use Rattle.std.specs.Prelude.{⊤, nat_lt}
-use Rattle.std.proofs.lemmas.Bool.{ltb-false, le-ltb}
+use Rattle.std.proofs.lemmas.Bool.{ltb-false, le-ltb, not-false}
 use Rattle.std.proofs.lemmas.List.{append-nil}
+use Rattle.basic_laws.proofs.Lists.{append_grouped}
 use Rattle.reading.specs.Readers.{ReadOr, ◌>>=◌, strip, starts, telling}
 use Rattle.reading.specs.Grammars.{Grammar, Either, Fixed, Mapped}
 use Rattle.reading.specs.Placed.{PlacedGrammar, Anywhere, PlacedMapped, PlacedSeq, SpellsPlaced}
@@ -178,9 +179,6 @@ before_others : (s : List Compound) (list : List (List Compound)) (gap_ here mor
 before_others s [] gap_ here more text behind white is_gap is are whole = absurd are
 before_others s (t ∷ others) gap_ here more text behind white is_gap is are whole = (gap_, here, more, white, is_gap, is, are, whole)
 
-sign_grouped : (gap_ here sign more : List ℕ) → (gap_ ++ (here ++ sign)) ++ more ≡ gap_ ++ (here ++ (sign ++ more))
-sign_grouped gap_ here sign more = append_assoc gap_ (here ++ sign) more ∙ ap (λ (t : List ℕ). gap_ ++ t) (append_assoc here sign more)
-
 to_heads : (rules : ℕ) (states : List Heads) (h : Heads) (text behind : List ℕ) (end_ : Heads) → h.opened ≡ false → end_.opened ≡ true → HeadChain rules states h text behind end_ → AreHeaded rules h.selectors text behind end_
 to_heads rules [] h text behind end_ o p r =
     let clash : true ≡ false = sym p ∙ ap (λ (z : Heads). z.opened) r.1 ∙ o in
@@ -196,7 +194,7 @@ to_heads rules (later ∷ states) h text behind end_ o p (front, more, g, (s, ga
         white,
         subst (λ (t : List ℕ). IsGap gap_ (here ++ (123 ∷ (t ++ behind))) white) l.0 is_gap,
         subst (λ (t : List ℕ). IsSelector here (123 ∷ (t ++ behind)) s) l.0 is,
-        whole ∙ ap (λ (t : List ℕ). t ++ more) all ∙ sign_grouped gap_ here (123 ∷ []) more ∙ ap (λ (t : List ℕ). gap_ ++ (here ++ (123 ∷ t))) l.0,
+        whole ∙ ap (λ (t : List ℕ). t ++ more) all ∙ append_grouped gap_ here (123 ∷ []) more ∙ ap (λ (t : List ℕ). gap_ ++ (here ++ (123 ∷ t))) l.0,
       );
       says = last;
       few = subst (λ (z : List (List Compound)). AreFew rules z) (sym last) few;
@@ -205,7 +203,7 @@ to_heads rules (later ∷ states) h text behind end_ o p (front, more, g, (s, ga
     let l = to_heads rules states later more behind end_ (ap (λ (z : Heads). z.opened) same) p others in
     record {
       list = s ∷ l.list;
-      are = before_others s l.list gap_ here more text behind white is_gap is l.are (whole ∙ ap (λ (t : List ℕ). t ++ more) all ∙ sign_grouped gap_ here (44 ∷ []) more);
+      are = before_others s l.list gap_ here more text behind white is_gap is l.are (whole ∙ ap (λ (t : List ℕ). t ++ more) all ∙ append_grouped gap_ here (44 ∷ []) more);
       says = l.says ∙ ap (λ (z : Heads). z.selectors ++ l.list) same ∙ append_assoc h.selectors (s ∷ []) l.list;
       few = l.few;
     }
@@ -238,7 +236,7 @@ from_heads rules (s ∷ t ∷ others) selectors text behind few (gap_, here, mor
         refl,
         (s, gap_, here, white, false, is_gap, is, fewer rules now (t ∷ others) few_now, refl, refl),
         subst (λ (z : List (List Compound)). HeadChain rules l.states (heads_with now false) more behind (heads_with z true)) all l.chain,
-        whole ∙ sym (sign_grouped gap_ here (44 ∷ []) more),
+        whole ∙ sym (append_grouped gap_ here (44 ∷ []) more),
       );
     }
 
@@ -249,13 +247,9 @@ AreHeads rules text behind s = AreSelectors text behind s × (nat_lt 4096 (rules
 abbrev AreRead : (rules : ℕ) → PlacedGrammar (List (List Compound))
 AreRead rules = PlacedMapped (λ h. h.selectors) (AreTurns heads_go_on (IsHead rules) no_heads)
 
-opened_by : (o : Bool) → not o ≡ false → o ≡ true
-opened_by true e = refl
-opened_by false e = absurd cc
-
 all_heads : (rules : ℕ) (text behind : List ℕ) (x : List (List Compound)) → AreRead rules text behind x → AreHeads rules text behind x
 all_heads rules text behind x (end_, (states, chain, ends), says) =
-    let l = to_heads rules states no_heads text behind end_ refl (opened_by end_.opened ends) chain in
+    let l = to_heads rules states no_heads text behind end_ refl (not-false end_.opened ends) chain in
     let list : x ≡ l.list = says ∙ l.says in
     (subst (λ (z : List (List Compound)). AreSelectors text behind z) (sym list) l.are, subst (λ (z : List (List Compound)). AreFew rules z) (sym says) l.few)
 

@@ -1,7 +1,9 @@
 -- Selectors: what is spelled so is read, and what is read is spelled so.
-use Rattle.std.proofs.Common.{◌≡◌, inl, inr, ℕ, ◌<◌, ◌≤◌, Bool, true, false, not, cond, eqb, ◌&&◌, ◌||◌, List, [], ◌∷◌, ◌++◌, length, codes, Option, Some, None, Ok, Err, refl, sym, ap, subst, ◌∙◌, append_assoc, length-append, arith}
+use Rattle.std.proofs.Common.{◌≡◌, inl, inr, ℕ, ◌<◌, ◌≤◌, Bool, true, false, not, cond, eqb, ◌||◌, List, [], ◌∷◌, ◌++◌, length, codes, Option, Some, None, Ok, Err, refl, sym, ap, subst, ◌∙◌, append_assoc, length-append, arith}
 use Rattle.std.specs.Prelude.{⊤}
 use Rattle.std.proofs.lemmas.List.{append-nil}
+use Rattle.std.proofs.lemmas.Bool.{not-false, and_parts, or_left, or_right}
+use Rattle.css_tokens.proofs.Running.{starts_name}
 use Rattle.reading.specs.Readers.{Read, Reader, refuse, follow, mapped, choice, strip, starts, next_is, repeat}
 use Rattle.reading.specs.Names.{lowered}
 use Rattle.reading.specs.Grammars.{Each, Fixed}
@@ -90,17 +92,9 @@ record IsNamed (bytes rest : List ℕ) : Type 0 where
   start : next_is is_name_start bytes ≡ true
   less : length rest < length bytes
 
-both_first : (a b : Bool) → (a && b) ≡ true → a ≡ true
-both_first true b e = refl
-both_first false b e = absurd cc
-
 ahead_start : (bytes : List ℕ) → name_ahead bytes ≡ true → next_is is_name_start bytes ≡ true
 unfolding name_ahead
-ahead_start bytes e = both_first (next_is is_name_start bytes) (not (number_ahead bytes)) e
-
-start_byte : (bytes : List ℕ) → next_is is_name_start bytes ≡ true → next_is is_name_byte bytes ≡ true
-start_byte [] e = absurd cc
-start_byte (byte ∷ bytes) e = rw e refl
+ahead_start bytes e = (and_parts (next_is is_name_start bytes) (not (number_ahead bytes)) e).0
 
 name_is : (bytes run rest : List ℕ) → name bytes ≡ good (run, rest) → IsRun is_name_byte bytes run rest
 unfolding name
@@ -113,7 +107,7 @@ run_less bytes [] rest some r =
 run_less bytes (byte ∷ run) rest some r = omega (arith, ap length r.parts, length-append (byte ∷ run) rest)
 
 name_less : (bytes run rest : List ℕ) → name_ahead bytes ≡ true → name bytes ≡ good (run, rest) → length rest < length bytes
-name_less bytes run rest ahead e = run_less bytes run rest (start_byte bytes (ahead_start bytes ahead)) (name_is bytes run rest e)
+name_less bytes run rest ahead e = run_less bytes run rest (starts_name bytes (ahead_start bytes ahead)) (name_is bytes run rest e)
 
 name_no_more : (bytes run rest : List ℕ) → name bytes ≡ good (run, rest) → length rest ≤ length bytes
 name_no_more bytes run rest e = omega (arith, ap length (name_is bytes run rest e).parts, length-append run rest)
@@ -329,13 +323,9 @@ record IsBegun (test : ℕ → Bool) (bytes rest : List ℕ) : Type 0 where
   is : bytes ≡ byte ∷ more
   less : length rest < length bytes
 
-second_true : (a b : Bool) → b ≡ true → (a || b) ≡ true
-second_true true b e = refl
-second_true false b e = e
-
 named_begun : (bytes rest : List ℕ) → IsNamed bytes rest → IsBegun begins_type bytes rest
 named_begun [] rest n = absurd (cc n.start)
-named_begun (byte ∷ more) rest n = record { byte = byte; more = more; begins = second_true (eqb byte 42) (is_name_start byte) n.start; is = refl; less = n.less }
+named_begun (byte ∷ more) rest n = record { byte = byte; more = more; begins = or_right (eqb byte 42) (is_name_start byte) n.start; is = refl; less = n.less }
 
 type_begun : (text behind : List ℕ) (tag : Option (List ℕ)) → IsType text behind tag → IsBegun begins_type (text ++ behind) behind
 type_begun text behind None r =
@@ -406,17 +396,13 @@ compound_spells joint =
 abbrev begins_compound : ℕ → Bool
 begins_compound byte = is_dot_or_hash byte || begins_type byte
 
-first_true : (a b : Bool) → a ≡ true → (a || b) ≡ true
-first_true true b e = refl
-first_true false b e = absurd cc
-
 first_begun : (joint : Joint) (text behind : List ℕ) (c : Compound) → IsFirst joint text behind c → IsBegun begins_compound (text ++ behind) behind
 first_begun joint text behind c (inl r) =
     let g = simple_signed (bare joint None) text behind c r in
-    record { byte = g.byte; more = g.more; begins = first_true (is_dot_or_hash g.byte) (begins_type g.byte) g.sign; is = g.is; less = g.less }
+    record { byte = g.byte; more = g.more; begins = or_left (is_dot_or_hash g.byte) (begins_type g.byte) g.sign; is = g.is; less = g.less }
 first_begun joint text behind c (inr r) =
     let g = typed_begun joint text behind c r in
-    record { byte = g.byte; more = g.more; begins = second_true (is_dot_or_hash g.byte) (begins_type g.byte) g.begins; is = g.is; less = g.less }
+    record { byte = g.byte; more = g.more; begins = or_right (is_dot_or_hash g.byte) (begins_type g.byte) g.begins; is = g.is; less = g.less }
 
 compound_begun : (joint : Joint) (text behind : List ℕ) (c : Compound) → IsCompound joint text behind c → IsBegun begins_compound (text ++ behind) behind
 compound_begun joint text behind c r =
@@ -535,7 +521,7 @@ either_begun b text behind later (inl (u, sign, back, is_sign, r, whole)) =
     record { byte = 62; more = back ++ behind; begins = refl; is = all; less = omega (arith, ap length all, length-append back behind) }
 either_begun b text behind later (inr (w, r)) =
     let g = with_begun Descendant b.compounds text behind later r in
-    record { byte = g.byte; more = g.more; begins = second_true (eqb g.byte 62) (begins_compound g.byte) g.begins; is = g.is; less = g.less }
+    record { byte = g.byte; more = g.more; begins = or_right (eqb g.byte 62) (begins_compound g.byte) g.begins; is = g.is; less = g.less }
 
 next_begun : (b : Begun) (text behind : List ℕ) (later : Begun) → IsNext b text behind later → IsBegun begins_next (text ++ behind) behind
 next_begun b text behind later r = either_begun b text behind later (from_next b text behind later r)
@@ -621,10 +607,6 @@ all_spell : SpellsPlaced (follow (with_compound Descendant []) (λ b. mapped (λ
 all_spell =
     placed_follow (with_spells Descendant []) (λ b. placed_mapped (λ (end_ : Begun). end_.compounds) (turns_spell b next_turn)) (λ x y back rest r any. tt)
 
-ends_by : (t : Bool) → not t ≡ false → t ≡ true
-ends_by true e = refl
-ends_by false e = absurd cc
-
 to_selector : (text behind : List ℕ) (x : List Compound) → AreAll text behind x → IsSelector text behind x
 to_selector text behind x (b, front, more, (c, here, gap_, is, (white, is_gap, same), all), (end_, (states, chain, ends), says), whole) =
     let o = to_compounds states b more behind end_ chain in
@@ -637,7 +619,7 @@ to_selector text behind x (b, front, more, (c, here, gap_, is, (white, is_gap, s
       is,
       is_gap,
       subst (λ (z : Begun). AreCompounds z.white more behind o.list) same o.are,
-      ends_by (selector_ends behind) ends,
+      not-false (selector_ends behind) ends,
       whole ∙ ap (λ (t : List ℕ). t ++ more) all ∙ append_assoc here gap_ more,
     ) in
     subst (λ (z : List Compound). IsSelector text behind z) (sym list) one

@@ -1,7 +1,7 @@
 -- The rows of the table: where each property has its row, and that it has no other.
-use Rattle.std.specs.Prelude.{◌≡◌, ℕ, ◌+◌, List, [], ◌∷◌, map, Some, unwrap_or, slice_get}
+use Rattle.std.specs.Prelude.{◌≡◌, ℕ, ◌+◌, List, [], ◌∷◌, map, Some, slice_get}
 use Rattle.std.proofs.Common.{zero, suc, get_or, drop, refl, sym, ap, ◌∙◌, arith}
-use Rattle.std.proofs.lemmas.Option.{none-some}
+use Rattle.std.proofs.lemmas.Option.{none-some, same_Some}
 use Rattle.css_types.specs.declared.property.Property.{Property}
 use Rattle.css_types.specs.declared.property.Property.TheVariants as properties
 use Rattle.css_types.specs.declared.table.PropertyRow.{PropertyRow}
@@ -70,14 +70,11 @@ stands properties.BorderInlineEndStyle = (_, refl, refl)
 pub all_listed : AllListed
 all_listed property = let row = stands property in (row.0, (place_of property, row.1, row.2))
 
-some_is : (a b : PropertyRow) → Some a ≡ Some b → a ≡ b
-some_is a b is = ap (λ row. unwrap_or row a) is
-
 -- what stands at its place is its row
 pub is_row : (property : Property) (place : ℕ) (row : PropertyRow) → place ≡ place_of property → slice_get rows place ≡ Some row → IsRowOf property row
 is_row property place row at is =
     let due = stands property in
-    let same = some_is due.0 row (sym due.1 ∙ (ap (slice_get rows) (sym at) ∙ is)) in
+    let same = same_Some due.0 row (sym due.1 ∙ (ap (slice_get rows) (sym at) ∙ is)) in
     (place, is, ap (λ r. r.property) (sym same) ∙ due.2)
 
 numbers : ℕ → List PropertyRow → List ℕ
@@ -94,7 +91,7 @@ place_is : (first : ℕ) (others : List PropertyRow) (place : ℕ) (row : Proper
 unfolding numbers
 place_is first [] place row all is = absurd (none-some _ is)
 place_is first (x ∷ others) zero row all is =
-    let same : x ≡ row = some_is _ _ is in
+    let same : x ≡ row = same_Some _ _ is in
     let number : place_of x.property ≡ first = ap (λ numbers. get_or numbers 0 0) all in
     ap (λ r. place_of r.property) (sym same) ∙ (number ∙ omega arith)
 place_is first (x ∷ others) (suc place) row all is =
@@ -105,4 +102,4 @@ pub only_rows : OnlyRows
 only_rows property a b (i, at_i, of_a) (j, at_j, of_b) =
     let number_a : place_of property ≡ i = ap place_of (sym of_a) ∙ (place_is 0 rows i a numbered at_i ∙ omega arith) in
     let number_b : place_of property ≡ j = ap place_of (sym of_b) ∙ (place_is 0 rows j b numbered at_j ∙ omega arith) in
-    some_is _ _ (sym at_i ∙ (ap (slice_get rows) (sym number_a ∙ number_b) ∙ at_j))
+    same_Some _ _ (sym at_i ∙ (ap (slice_get rows) (sym number_a ∙ number_b) ∙ at_j))

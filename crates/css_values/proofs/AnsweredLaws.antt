@@ -2,7 +2,7 @@
 use Rattle.std.proofs.Common.{◌≡◌, ℕ, suc, Bool, true, false, cond, List, [], ◌∷◌, ◌++◌, length, codes, Ok, Err, sym, ap, subst, ◌∙◌, append-nil, refl}
 use Rattle.std.specs.Prelude.{⊤}
 use Rattle.reading.specs.Readers.{Read, Reader, ReadOr, give, mapped, read_or, strip, starts, turns, repeat}
-use Rattle.reading.proofs.SpellLaws.{stop, Stopped, at_first, at_second, bind_err}
+use Rattle.reading.proofs.SpellLaws.{stop, Stopped, at_first, at_second, bind_err, same_stop}
 use Rattle.reading.proofs.Turns.{turns_stop_back}
 use Rattle.css_types.specs.declared.value.Declaration.{Declaration}
 use Rattle.css_tokens.specs.Lexing.{gap}
@@ -58,12 +58,9 @@ syntax_few left e = absurd cc
 unsupported_few : (left : List ℕ) → Few (Unsupported, left)
 unsupported_few left e = absurd cc
 
-same_fault : {A : Type 0} (one other : Fault) → stop {A = A} one ≡ stop other → one ≡ other
-same_fault one other e = cc
-
 told_few : {A : Type 0} (read : Read A) (told : Fault) → read_or syntax read ≡ stop told → Few told
 told_few (Ok x) told e = absurd cc
-told_few {A = A} (Err left) told e = subst Few (same_fault {A = A} (syntax left) told e) (syntax_few left)
+told_few {A = A} (Err left) told e = subst Few (same_stop {A = A} (syntax left) told e) (syntax_few left)
 
 spelled_few : {A : Type 0} (f : Reader A) (bytes : List ℕ) (told : Fault) → spelled f bytes ≡ stop told → Few told
 spelled_few f bytes told e = told_few (f bytes) told e
@@ -76,7 +73,7 @@ spelled_mapped_few : {A B : Type 0} (view : A → B) (f : Reader A) (bytes : Lis
 spelled_mapped_few {A = A} view f bytes told e = mapped_few view f bytes told (bind_err (spelled f bytes) (λ (x : A × List ℕ). give (view x.0) x.1) told e)
 
 judged_few_by : (left rest : List ℕ) (all : List Declaration) (told : Fault) (t : Bool) → before_rest rest (cond t (Err (Unsupported, left)) (Ok all)) ≡ stop told → Few told
-judged_few_by left rest all told true e = subst Few (same_fault {A = List Declaration} (Unsupported, left) told e) (unsupported_few left)
+judged_few_by left rest all told true e = subst Few (same_stop {A = List Declaration} (Unsupported, left) told e) (unsupported_few left)
 judged_few_by left rest all told false e = absurd cc
 
 judged_few : (end_ : ℕ) (kept : List Declaration) (s : Stated) (rest : List ℕ) (told : Fault) → judged Attribute end_ kept s rest ≡ stop told → Few told

@@ -1,6 +1,8 @@
 -- Values, read by a list of the brackets that are open: what is spelled so is read, and what is read is spelled so.
 use Rattle.std.proofs.Common.{◌≡◌, ◌⊎◌, inl, inr, ℕ, suc, ◌<◌, Bool, true, false, not, cond, ◌&&◌, ◌||◌, List, [], ◌∷◌, ◌++◌, length, Option, Some, None, refl, sym, ap, subst, ◌∙◌, append_assoc, append-nil, length-append, arith}
 use Rattle.std.proofs.lemmas.Bool.{eq-eqb, eqb-true}
+use Rattle.basic_laws.proofs.Lists.{append_grouped}
+use Rattle.basic_laws.proofs.Booleans.{or_false}
 use Rattle.reading.specs.Readers.{Read, ◌>>=◌, give, mapped, one_of, turns, repeat}
 use Rattle.reading.specs.Placed.{SpellsPlaced}
 use Rattle.reading.specs.Spelling.{Anything}
@@ -40,10 +42,6 @@ kept_none (closer ∷ closers) lexemes = refl
 kept_on : (closers : List ℕ) (lexemes more : List Lexeme) (lexeme : Lexeme) → kept closers (kept closers lexemes (lexeme ∷ [])) more ≡ kept closers lexemes (lexeme ∷ more)
 kept_on [] lexemes more lexeme = append_assoc lexemes (lexeme ∷ []) more
 kept_on (closer ∷ closers) lexemes more lexeme = refl
-
-or_none : (a : Bool) → (a || false) ≡ a
-or_none true = refl
-or_none false = refl
 
 or_grouped : (a b c : Bool) → ((a || b) || c) ≡ (a || (b || c))
 or_grouped true b c = refl
@@ -89,7 +87,7 @@ no_at (tokens.sign byte) closer e = absurd cc
 
 added_none : (b : Begun) → added b none ≡ b
 added_none b = same_state b.closers b.closers (kept b.closers b.lexemes []) b.lexemes (b.has_var || false) b.has_var (or_else b.at_sign None) b.at_sign
-    refl (kept_none b.closers b.lexemes) (or_none b.has_var) (else_none b.at_sign)
+    refl (kept_none b.closers b.lexemes) (or_false b.has_var) (else_none b.at_sign)
 
 added_preserved : (b : Begun) (lexeme : Lexeme) (left : List ℕ) (next : Components) → closers_of lexeme ≡ [] → added (with_lexeme left b lexeme) next ≡ added b (preserved lexeme left next)
 added_preserved b lexeme left next e =
@@ -100,7 +98,7 @@ added_preserved b lexeme left next e =
     (or_else (or_first b.at_sign (is_at lexeme) left) (first_at next)) (or_else b.at_sign (cond (is_at lexeme) (Some left) (first_at next)))
     at_closers
     (ap (λ (c : List ℕ). kept c (kept b.closers b.lexemes (lexeme ∷ [])) (lexemes_in next)) at_closers ∙ kept_on b.closers b.lexemes (lexemes_in next) lexeme)
-    (ap (λ (v : Bool). (b.has_var || v) || have_var next) (no_var lexeme e) ∙ ap (λ (v : Bool). v || have_var next) (or_none b.has_var))
+    (ap (λ (v : Bool). (b.has_var || v) || have_var next) (no_var lexeme e) ∙ ap (λ (v : Bool). v || have_var next) (or_false b.has_var))
     (first_kept b.at_sign (is_at lexeme) left (first_at next))
 
 -- what opens a block, what stands in it, and its closing
@@ -184,9 +182,6 @@ close_leads within b closer closers gap_ rest white e is_gap =
     (goes_open within b closer closers (closer ∷ (gap_ ++ rest)) e) (close_turn b closer closers gap_ rest white e is_gap)
     (omega (arith, length-append gap_ rest))
 
-preserved_grouped : (here gap_ more behind : List ℕ) → (here ++ (gap_ ++ more)) ++ behind ≡ here ++ (gap_ ++ (more ++ behind))
-preserved_grouped here gap_ more behind = simp append_assoc
-
 block_grouped : (here gap_ middle later more behind : List ℕ) (closer : ℕ)
     → (here ++ (gap_ ++ (middle ++ (closer ∷ (later ++ more))))) ++ behind ≡ here ++ (gap_ ++ (middle ++ (closer ∷ (later ++ (more ++ behind)))))
 block_grouped here gap_ middle later more behind closer = simp append_assoc
@@ -210,7 +205,7 @@ components_read none within in_block text behind b inside shut r =
     rw r (subst (λ (s : Begun). LeadsTo within b behind s behind) (sym (added_none b)) (leads_nowhere (goes_on within) turn b behind))
 components_read (preserved lexeme left next) within in_block text behind b inside shut (here, gap_, more, white, is, plain, stands, is_gap, next_is, left_is, whole) =
     let bytes = here ++ (gap_ ++ (more ++ behind)) in
-    let all : text ++ behind ≡ bytes = ap (λ (s : List ℕ). s ++ behind) whole ∙ preserved_grouped here gap_ more behind in
+    let all : text ++ behind ≡ bytes = ap (λ (s : List ℕ). s ++ behind) whole ∙ append_grouped here gap_ more behind in
     let at_closers : closers_of lexeme ++ b.closers ≡ b.closers = ap (λ (c : List ℕ). c ++ b.closers) plain in
     let later = with_lexeme bytes b lexeme in
     let a = token_leads within b here gap_ (more ++ behind) lexeme white shut (subst (λ (t : Bool). may_stand t lexeme ≡ true) inside stands) is is_gap in
@@ -358,7 +353,7 @@ plain_are in_block here gap_ y more behind lexeme white next is plain stands is_
   stands,
   subst (λ (b : List ℕ). IsGap gap_ b white) last is_gap,
   next_is,
-  ap (λ (b : List ℕ). here ++ (gap_ ++ b)) last ∙ sym (preserved_grouped here gap_ more behind),
+  ap (λ (b : List ℕ). here ++ (gap_ ++ b)) last ∙ sym (append_grouped here gap_ more behind),
   refl,
 )
 
@@ -369,7 +364,7 @@ closes_plain [] b here gap_ y lexeme white end_ rest is plain stands is_gap (nex
   here ++ (gap_ ++ more),
   plain_are false here gap_ y more rest lexeme white next is plain stands is_gap last next_is,
   same ∙ added_preserved b lexeme (here ++ (gap_ ++ y)) next plain,
-  ap (λ (s : List ℕ). here ++ (gap_ ++ s)) last ∙ sym (preserved_grouped here gap_ more rest),
+  ap (λ (s : List ℕ). here ++ (gap_ ++ s)) last ∙ sym (append_grouped here gap_ more rest),
 )
 closes_plain (closer ∷ closers) b here gap_ y lexeme white end_ rest is plain stands is_gap (next, more, later, back, white_later, next_is, is_later, closes_, last) = (
   preserved lexeme (here ++ (gap_ ++ y)) next,
@@ -380,7 +375,7 @@ closes_plain (closer ∷ closers) b here gap_ y lexeme white end_ rest is plain 
   plain_are true here gap_ y more (closer ∷ (later ++ back)) lexeme white next is plain stands is_gap last next_is,
   is_later,
   subst (λ (s : Begun). Closes closers (closed s) back end_ rest) (added_preserved b lexeme (here ++ (gap_ ++ y)) next plain) closes_,
-  ap (λ (s : List ℕ). here ++ (gap_ ++ s)) last ∙ sym (preserved_grouped here gap_ more (closer ∷ (later ++ back))),
+  ap (λ (s : List ℕ). here ++ (gap_ ++ s)) last ∙ sym (append_grouped here gap_ more (closer ∷ (later ++ back))),
 )
 
 block_are : (in_block : Bool) (here gap_ y inside later back more behind : List ℕ) (opening : Lexeme) (closer : ℕ) (white white_later : Bool) (inner next : Components) → IsToken here (gap_ ++ y) opening → closers_of opening ≡ closer ∷ []

@@ -1,12 +1,13 @@
 -- Declarations: what is spelled so is read, and what is read is spelled so.
 use Rattle.std.proofs.Common.{◌≡◌, ℕ, suc, ◌<◌, Bool, true, false, not, cond, eqb, List, [], ◌∷◌, ◌++◌, length, codes, Option, Some, None, Result, Ok, Err, refl, sym, ap, subst, ◌∙◌, append_assoc, length-append, arith}
 use Rattle.std.specs.Prelude.{⊤}
-use Rattle.std.proofs.lemmas.Bool.{eqb-true}
+use Rattle.std.proofs.lemmas.Bool.{eqb-true, not-false}
+use Rattle.basic_laws.proofs.Lists.{append_grouped}
 use Rattle.reading.specs.Readers.{Read, ReadOr, Reader, ◌>>=◌, give, refuse, follow, mapped, choice, strip, starts, turns, repeat}
 use Rattle.reading.specs.Grammars.{Fixed}
 use Rattle.reading.specs.Placed.{PlacedGrammar, Anywhere, PlacedSeq, PlacedMapped, SpellsPlaced}
 use Rattle.reading.specs.Spelling.{Anything}
-use Rattle.reading.proofs.SpellLaws.{ok, stop, bind_ok, same_answer, strip_spells, mapped_spells, telling_spells}
+use Rattle.reading.proofs.SpellLaws.{ok, stop, bind_ok, same_answer, strip_spells, mapped_spells, telling_spells, starts_not}
 use Rattle.reading.proofs.PlacedLaws.{anywhere_spells, placed_follow, placed_mapped, placed_telling}
 use Rattle.reading.proofs.Turns.{Leads, leads_nowhere, leads_on, one_turn, leads_to_end, turns_back}
 use Rattle.css_types.specs.declared.value.Declaration.{Declaration}
@@ -170,17 +171,13 @@ stated_begins within text behind s r =
 stated_some : (within : Within) (text behind : List ℕ) (s : Stated) → IsStated within text behind s → 0 < length text
 stated_some within text behind s r = omega (arith, ap length r.whole, length-append r.name (r.gap ++ (58 ∷ r.value)), length-append r.gap (58 ∷ r.value))
 
-starts_not : (byte wanted : ℕ) (more : List ℕ) → eqb byte wanted ≡ false → starts (wanted ∷ []) (byte ∷ more) ≡ false
-unfolding starts strip
-starts_not byte wanted more e = rw e refl
-
 goes_by : (within : Within) (byte : ℕ) (more : List ℕ) → eqb byte 125 ≡ false → list_ends within (byte ∷ more) ≡ false
 goes_by within_.Attribute byte more e = refl
-goes_by (within_.Rule selectors before) byte more e = starts_not byte 125 more e
+goes_by (within_.Rule selectors before) byte more e = starts_not 125 byte more e
 
 no_at_rule : (within : Within) (byte : ℕ) (more : List ℕ) → eqb byte 64 ≡ false → at_rule_ahead within (byte ∷ more) ≡ false
 no_at_rule within_.Attribute byte more e = refl
-no_at_rule (within_.Rule selectors before) byte more e = starts_not byte 64 more e
+no_at_rule (within_.Rule selectors before) byte more e = starts_not 64 byte more e
 
 -- ---- what is spelled so is read
 
@@ -220,7 +217,7 @@ spelled_stated within = placed_telling syntax (stated_spells within)
 stated_item : (within : Within) (end_ : ℕ) (kept all : List Declaration) (text rest : List ℕ) (s : Stated) → IsStated within text rest s → with_stated within end_ kept s ≡ Ok all → item within end_ kept (text ++ rest) ≡ good (all, rest)
 stated_item within end_ kept all text rest s r is =
     let b = stated_begins within text rest s r in
-    item_so within end_ kept (text ++ rest) (good (all, rest)) (ap (starts (codes ";")) b.parts ∙ starts_not b.byte 59 b.more b.no_semicolon)
+    item_so within end_ kept (text ++ rest) (good (all, rest)) (ap (starts (codes ";")) b.parts ∙ starts_not 59 b.byte b.more b.no_semicolon)
     (declaration_so within end_ kept all (text ++ rest) rest s (ap (at_rule_ahead within) b.parts ∙ no_at_rule within b.byte b.more b.no_at) ((spelled_stated within).again text s rest r tt) is)
 
 kept_ok : (now : Result (List Declaration) Fault) (others : List Declaration → Result (List Declaration) Fault) (all : List Declaration) → with_kept now others ≡ Ok all → (kept : List Declaration) × (now ≡ Ok kept) × (others kept ≡ Ok all)
@@ -232,16 +229,13 @@ kept_same kept all now e f =
     let both : good (kept, []) ≡ good (all, []) = ap (before_rest []) (sym e ∙ f) in
     (same_answer {E = Fault} kept all [] [] both).0
 
-items_grouped : (here gap_ more behind : List ℕ) → (here ++ (gap_ ++ more)) ++ behind ≡ here ++ (gap_ ++ (more ++ behind))
-items_grouped here gap_ more behind = simp append_assoc
-
 items_read : (items : List (Option Stated)) (within : Within) (end_ : ℕ) (text behind : List ℕ) (kept all : List Declaration) → AreItems within text behind items → then_judged within end_ items kept ≡ Ok all
     → LeadsTo within end_ kept (text ++ behind) all behind
 items_read [] within end_ text behind kept all r judged_ =
     rw r (subst (λ (l : List Declaration). LeadsTo within end_ kept behind l behind) (kept_same kept all (Ok kept) refl judged_) (leads_nowhere (goes_on within) (turn within end_) kept behind))
 items_read (None ∷ others) within end_ text behind kept all (here, gap_, more, white, is, is_gap, next_is, whole) judged_ =
     let whole_here : text ++ behind ≡ 59 ∷ (gap_ ++ (more ++ behind)) =
-    ap (λ (s : List ℕ). s ++ behind) whole ∙ items_grouped here gap_ more behind ∙ ap (λ (s : List ℕ). s ++ (gap_ ++ (more ++ behind))) is in
+    ap (λ (s : List ℕ). s ++ behind) whole ∙ append_grouped here gap_ more behind ∙ ap (λ (s : List ℕ). s ++ (gap_ ++ (more ++ behind))) is in
     let a = one_turn (goes_on within) (turn within end_) kept kept (59 ∷ (gap_ ++ (more ++ behind))) (more ++ behind)
     (ap not (goes_by within 59 (gap_ ++ (more ++ behind)) refl))
     (turn_by_item within end_ kept kept (59 ∷ (gap_ ++ (more ++ behind))) gap_ (more ++ behind) white (semicolon_item within end_ kept (gap_ ++ (more ++ behind))) is_gap)
@@ -249,7 +243,7 @@ items_read (None ∷ others) within end_ text behind kept all (here, gap_, more,
     subst (λ (s : List ℕ). LeadsTo within end_ kept s all behind) (sym whole_here) (leads_on a (items_read others within end_ more behind kept all next_is judged_))
 items_read (Some s ∷ others) within end_ text behind kept all (here, gap_, more, white, is, is_gap, next_is, whole) judged_ =
     let tail = gap_ ++ (more ++ behind) in
-    let whole_here : text ++ behind ≡ here ++ tail = ap (λ (s : List ℕ). s ++ behind) whole ∙ items_grouped here gap_ more behind in
+    let whole_here : text ++ behind ≡ here ++ tail = ap (λ (s : List ℕ). s ++ behind) whole ∙ append_grouped here gap_ more behind in
     let j = kept_ok (with_stated within end_ kept s) (then_judged within end_ others) all judged_ in
     let b = stated_begins within here tail s is in
     let a = one_turn (goes_on within) (turn within end_) kept j.0 (here ++ tail) (more ++ behind)
@@ -365,12 +359,8 @@ turn_back within end_ kept later x y all rest r (items, more, are, judged_, last
     refl,
   ),
   r.then_ items ∙ judged_,
-  r.parts ∙ ap (λ (b : List ℕ). r.here ++ (r.gap_text ++ b)) last ∙ sym (items_grouped r.here r.gap_text more rest),
+  r.parts ∙ ap (λ (b : List ℕ). r.here ++ (r.gap_text ++ b)) last ∙ sym (append_grouped r.here r.gap_text more rest),
 )
-
-ended : (v : Bool) → not v ≡ false → v ≡ true
-ended true e = refl
-ended false e = absurd cc
 
 declarations_of : (within : Within) (end_ : ℕ) (bytes gap_ mid : List ℕ) (white : Bool) (all : List Declaration) (rest : List ℕ) → IsGap gap_ mid white → bytes ≡ gap_ ++ mid → Rests within end_ [] mid all rest → list_ends within rest ≡ true
     → (text : List ℕ) × AreDeclarations within end_ text rest all × (bytes ≡ text ++ rest)
@@ -386,7 +376,7 @@ declarations_takes within end_ bytes all rest e =
     let a = bind_ok (spelled gap bytes) (λ (v : Bool × List ℕ). turns (goes_on within) (turn within end_) (suc (length v.1)) [] v.1) (all, rest) e in
     let p = spelled_gap.takes bytes a.0.0 a.0.1 a.1 in
     let c = turns_back (goes_on within) (turn within end_) (λ (kept : List Declaration) (x : List ℕ). Rests within end_ kept x all rest × (list_ends within rest ≡ true)) all rest
-    (λ g. (([], [], refl, refl, refl), ended (list_ends within rest) g))
+    (λ g. (([], [], refl, refl, refl), not-false (list_ends within rest) g))
     (λ kept later x y g turned r. (turn_back within end_ kept later x y all rest (turn_makes within end_ kept later x y turned) r.0, r.1))
     (λ kept later x y g turned. shorter_by within end_ kept later x y (turn_makes within end_ kept later x y turned))
     (suc (length a.0.1)) [] a.0.1 (omega arith) a.2 in

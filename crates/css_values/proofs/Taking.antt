@@ -1,11 +1,12 @@
 -- Values: what is read for a property is a value of it.
-use Rattle.std.proofs.Common.{◌≡◌, inl, inr, ℕ, suc, ◌≤◌, ◌-◌, Bool, true, false, cond, ℤ, pos, List, [], ◌∷◌, codes, Some, None, refl, sym, ap, subst, ◌∙◌, arith}
+use Rattle.std.proofs.Common.{◌≡◌, inl, inr, ℕ, ◌≤◌, ◌-◌, Bool, true, false, cond, ℤ, pos, List, [], ◌∷◌, codes, Some, None, refl, sym, ap, subst, ◌∙◌, arith}
 use Rattle.std.specs.Prelude.{⊤, T, ◌&&◌, ◌||◌, ◌≤ℤ◌, int_le, nat_le, find, bytes_eq, Option, option_map, Ok, Err}
 use Rattle.std.specs.Int.Signed.{le_z_yes}
 use Rattle.std.specs.List.{All, Contains, list_all}
 use Rattle.std.proofs.lemmas.Bool.{and_parts}
 use Rattle.std.proofs.lemmas.List.Elements.{All-from_recursion, All-head, All-tail}
 use Rattle.std.proofs.lemmas.Slice.Eq.{bytes_eq-Decides}
+use Rattle.basic_laws.proofs.Lists.{contains_first, contains_other}
 use Rattle.reading.specs.Readers.{Read, strip_either_case}
 use Rattle.reading.specs.Names.{lowered, named}
 use Rattle.css_types.specs.Keywords.{words_of}
@@ -34,12 +35,6 @@ IsTaken v value = IsAmong v value × HasSayable value
 
 -- ---- elements of lists
 
-contains_first : {X : Type 0} (x : X) (xs : List X) → Contains (x ∷ xs) x
-contains_first x xs = (0, omega arith, refl)
-
-contains_behind : {X : Type 0} (y x : X) (xs : List X) → Contains xs x → Contains (y ∷ xs) x
-contains_behind y x xs (k, lt, is) = (suc k, omega (arith, lt), is)
-
 -- ---- rows of tables
 
 is_small : List ℕ → Bool
@@ -65,7 +60,7 @@ row_by {T = T} word y x others name true is small later e =
     }
 row_by word y x others name false is small later e =
     let r = later e in
-    record { word = r.word; stands = contains_behind (word, y) (r.word, x) others r.stands; same = r.same; small = r.small }
+    record { word = r.word; stands = contains_other (word, y) (r.word, x) others r.stands; same = r.same; small = r.small }
 
 row_of : {T : Type 0} (table : List (List ℕ × T)) (name : List ℕ) (x : T) → list_all (λ (row : List ℕ × T). is_small row.0) table ≡ true → named table name ≡ Some x → IsRow table name x
 row_of [] name x small e = absurd cc
@@ -103,7 +98,7 @@ word_by word others name true is small later e =
     record { word = word; stands = contains_first word others; same = (bytes_eq-Decides (lowered word) (lowered name)).0 is; small = small }
 word_by word others name false is small later e =
     let r = later e in
-    record { word = r.word; stands = contains_behind word r.word others r.stands; same = r.same; small = r.small }
+    record { word = r.word; stands = contains_other word r.word others r.stands; same = r.same; small = r.small }
 
 word_of : (words : List (List ℕ)) (name : List ℕ) → list_all is_small words ≡ true → is_one_of words name ≡ true → IsNameOf words name
 word_of [] name small e = absurd cc

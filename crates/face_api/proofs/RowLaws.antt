@@ -4,10 +4,10 @@ use Rattle.std.specs.Prelude.{find, filter, insert, is_some, unwrap_or, All}
 use Rattle.std.specs.List.{AllWithin}
 use Rattle.std.specs.List.Sorted.{IsNonDecreasingBy}
 use Rattle.std.specs.Prelude.{slice_get}
-use Rattle.std.proofs.lemmas.Bool.{cases_lt, cases_Bool, cond_both, ne_eqb, eqb-false, eqb-true, eq-eqb, ltb-true, lt-ltb, le-ltb}
+use Rattle.std.proofs.lemmas.Bool.{cases_lt, cases_Bool, ne_eqb, eqb-false, eqb-true, eq-eqb, ltb-true, lt-ltb, le-ltb}
 use Rattle.std.proofs.lemmas.Option.{slice_get_within, slice_get_cases, get_or_from_slice_get, none-some}
 use Rattle.std.proofs.lemmas.List.{take-append-drop, get_or-take, get_or-drop, set_split, drop_all, append-nil, length-take-le, length-take, length-set}
-use Rattle.std.proofs.lemmas.List.Elements.{filter-append, All-nil, All-cons, All-append, All-filter}
+use Rattle.std.proofs.lemmas.List.Elements.{filter-append, All-nil, All-cons, All-append, All-filter, filter_passes}
 use Rattle.std.proofs.lemmas.List.Kept.{AllPairs-cons, AllPairs-filter}
 use Rattle.face_api.specs.Rows.{DividesAt}
 use Rattle.face_api.specs.Table.{Ascend, AreRows, rank, rank_of, row_for, rows_with}
@@ -38,12 +38,6 @@ find_none p [] all = refl
 find_none p (x ∷ xs) all =
     let head : p x ≡ false = all 0 x (omega arith) in
     rw head (find_none p xs (λ k d lt. all (suc k) d (omega arith)))
-
-filter_passes : {X : Type 0} (p : X → Bool) (xs : List X) → All (λ x. p x ≡ true) (filter p xs)
-filter_passes p [] = All-nil _
-filter_passes p (x ∷ xs) =
-    cond_both (p x) (x ∷ filter p xs) (filter p xs) (All (λ y. p y ≡ true))
-    (λ passes. All-cons (λ y. p y ≡ true) x (filter p xs) passes (filter_passes p xs)) (λ _. filter_passes p xs)
 
 -- ---- the rows before a place and those from there on
 

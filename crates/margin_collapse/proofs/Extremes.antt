@@ -1,9 +1,10 @@
 -- The extremes of lists that are joined, and of each list.
-use Rattle.std.proofs.Common.{◌≡◌, sym, arith, suc, ◌⊎◌, inl, inr, List, [], ◌∷◌, ◌++◌, ℤ, pos, ◌≤ℤ◌}
+use Rattle.std.proofs.Common.{◌≡◌, arith, ◌⊎◌, inl, inr, List, [], ◌∷◌, ◌++◌, ℤ, pos, ◌≤ℤ◌}
 use Rattle.std.specs.Int.{int_max, int_min}
-use Rattle.std.specs.List.{All, Contains}
+use Rattle.std.specs.List.{All}
 use Rattle.std.proofs.lemmas.Int.{ints, clamps, by_lt_z}
 use Rattle.std.proofs.lemmas.List.Elements.{All-nil, All-cons}
+use Rattle.basic_laws.proofs.Lists.{contains_equal, contains_other}
 use Rattle.margin_collapse.specs.Margins.{greatest, least}
 use Rattle.margin_collapse.specs.Pairs.{IsPairOf}
 use Rattle.margin_collapse.specs.declared.margins.Margins.{Margins}
@@ -32,12 +33,6 @@ max_is x y = by_lt_z y x (λ h. inl (omega (arith, ints, clamps))) (λ h. inr ((
 pub min_is : (x y : ℤ) → (int_min x y ≡ x) ⊎ ((int_min x y ≡ y) × (y ≤ℤ x))
 min_is x y = by_lt_z x y (λ h. inl (omega (arith, ints, clamps))) (λ h. inr ((omega (arith, ints, clamps)), h))
 
-Contains-head : (x y : ℤ) (xs : List ℤ) → y ≡ x → Contains (x ∷ xs) y
-Contains-head x y xs e = (0, omega arith, sym e)
-
-Contains-tail : (x y : ℤ) (xs : List ℤ) → Contains xs y → Contains (x ∷ xs) y
-Contains-tail x y xs c = let h = c.1 in (suc c.0, omega arith, c.2)
-
 none_above_more : (xs : List ℤ) (y z : ℤ) → All (λ m. m ≤ℤ y) xs → y ≤ℤ z → All (λ m. m ≤ℤ z) xs
 none_above_more xs y z a h = λ k d i. let at = a k d i in omega (arith, ints)
 
@@ -57,8 +52,8 @@ greatest_is (x ∷ xs) =
       from_zero = omega (arith, ints, clamps);
       none_above = All-cons (λ m. m ≤ℤ int_max x (greatest xs)) x xs (omega (arith, ints, clamps)) (none_above_more xs _ _ rest.none_above (omega (arith, ints, clamps)));
       member = λ h. elim (max_is x (greatest xs)) [
-        | inl e ↦ Contains-head x _ xs e
-        | inr p ↦ rw p.0 (Contains-tail x _ xs (rest.member (let e = p.0 in omega (arith, ints))))
+        | inl e ↦ contains_equal x _ xs e
+        | inr p ↦ rw p.0 (contains_other x _ xs (rest.member (let e = p.0 in omega (arith, ints))))
       ];
     }
 
@@ -75,8 +70,8 @@ least_is (x ∷ xs) =
       to_zero = omega (arith, ints, clamps);
       none_below = All-cons (λ m. int_min x (least xs) ≤ℤ m) x xs (omega (arith, ints, clamps)) (none_below_more xs _ _ rest.none_below (omega (arith, ints, clamps)));
       member = λ h. elim (min_is x (least xs)) [
-        | inl e ↦ Contains-head x _ xs e
-        | inr p ↦ rw p.0 (Contains-tail x _ xs (rest.member (let e = p.0 in omega (arith, ints))))
+        | inl e ↦ contains_equal x _ xs e
+        | inr p ↦ rw p.0 (contains_other x _ xs (rest.member (let e = p.0 in omega (arith, ints))))
       ];
     }
 

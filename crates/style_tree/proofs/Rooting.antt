@@ -1,7 +1,8 @@
 -- `html` and `body` in the tree of a document.
 use Rattle.std.proofs.Common.{◌≡◌, ◌∙◌, ℕ, List, [], ◌∷◌, ◌++◌, sym, ap, subst, Option, Some}
-use Rattle.std.specs.Prelude.{unwrap_or, option_map}
+use Rattle.std.specs.Prelude.{option_map}
 use Rattle.std.specs.Borrow.{Bor}
+use Rattle.std.proofs.lemmas.Option.{same_Some}
 use Rattle.dom_store.specs.declared.node.Node.{Node}
 use Rattle.style_types.specs.declared.style.Style.{Style}
 use Rattle.style_types.specs.declared.tree.StyledNode.{StyledNode}
@@ -51,12 +52,9 @@ pub node_is : (f : StyledNode-F StyledNode) (kind : styled.NodeKind) → styled.
     → nodes_of (roll-StyledNode f) ≡ styled.node f.node kind f.style (all_nodes_of f.children.items) styled.none
 node_is f kind is = rolled f styled.none ∙ ap (λ (k : styled.NodeKind). styled.node f.node k f.style (all_nodes_of f.children.items) styled.none) is
 
-same_entry : (entry other : Entry) → Some entry ≡ Some other → entry ≡ other
-same_entry entry other is = ap (λ (o : Option Entry). unwrap_or o entry) is
-
 module _ (state : State) (style : Style) (found : Option (Bor Node)) (node : Bor Node) (is : found ≡ Some node) where
   entry_is : (number : ℕ) (entry : Entry) → option_map (λ n. entry_of n.now) found ≡ state.node_at number → state.node_at number ≡ Some entry → entry_of node.now ≡ entry
-  entry_is number entry at here = same_entry (entry_of node.now) entry (sym (ap (option_map (λ (n : Bor Node). entry_of n.now)) is) ∙ at ∙ here)
+  entry_is number entry at here = same_Some (entry_of node.now) entry (sym (ap (option_map (λ (n : Bor Node). entry_of n.now)) is) ∙ at ∙ here)
 
   pub as_body : (rules : List Ruling) (inner made : Nodes) → option_map (λ n. entry_of n.now) found ≡ state.node_at 1
       → inner ≡ styled_in rules state style (tree_to 62 state node.now.children.items)

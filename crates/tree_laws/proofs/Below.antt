@@ -20,7 +20,7 @@ above_first : (parent : Option ℕ) (number : ℕ) (others : List ℕ) → times
 above_first None number others = omega arith
 above_first (Some parent) number others = omega (arith, hit_turned number parent)
 
-no_level : (state : State) (numbers : List ℕ) → flat_map (below_levels 0 0 state) numbers ≡ []
+pub no_level : (state : State) (numbers : List ℕ) → flat_map (below_levels 0 0 state) numbers ≡ []
 unfolding below_levels
 no_level state [] = refl
 no_level state (number ∷ numbers) = no_level state numbers

@@ -1,12 +1,13 @@
 -- Documents that are opened or edited are whole.
 use Rattle.std.proofs.Common.{◌≡◌, ◌∙◌, ℕ, Bool, true, false, List, length, refl, ap, sym, subst, Option, Some, None}
 use Rattle.std.proofs.lemmas.Bool.{false≢true}
+use Rattle.dom_store.proofs.SameLaws.{are_equal}
 use Rattle.css_types.specs.declared.value.Declaration.{Declaration}
 use Rattle.html_read.specs.Shape.{IsShaped, kind_bytes, text_bytes}
 use Rattle.html_read.specs.Values.{Node}
 use Rattle.dom_store.specs.declared.error.EditError.{EditError}
 use Rattle.dom_store.specs.State.{State, text}
-use Rattle.dom_store.specs.Opening.{AreSame, opened}
+use Rattle.dom_store.specs.Opening.{opened}
 use Rattle.dom_store.specs.Edits.{set_text, set_style, set_class, insert, remove, move_to, after, concerned, with_classes, with_own}
 use Rattle.dom_store.specs.Edited.{Outcome, accepted, refused, unless}
 use Rattle.dom_store.specs.Refusals.{refusal}
@@ -29,10 +30,6 @@ edits_keep_whole state (remove number) whole unrefused = removed_whole state who
 edits_keep_whole state (move_to number parent index) whole unrefused =
     let passes = move_passes state number parent index unrefused in
     moved_whole state whole number parent index passes.0 passes.1
-
--- functions that agree at each number are equal, so the states are
-are_equal : (one other : State) → AreSame one other → one ≡ other
-are_equal one other same = λ i. record { node_at = λ number. same.nodes number i; next = same.next i }
 
 of_opened : (nodes : List Node) (own : List (List Declaration)) → IsShaped nodes → IsWhole (opened nodes own) × (total one (opened nodes own) ≡ length nodes) × (total bytes (opened nodes own) ≡ text_bytes nodes)
 of_opened nodes own shaped = (

@@ -4,6 +4,7 @@ use Rattle.std.specs.Prelude.{nat_eq, is_some}
 use Rattle.std.specs.List.{All, Contains, slice_get}
 use Rattle.std.proofs.lemmas.Bool.{cases_eq, cases_lt, eq-eqb, false≢true, le-ltb, lt-ltb}
 use Rattle.std.proofs.lemmas.Option.{none-some, slice_get-get_or, slice_get-map, slice_get_within}
+use Rattle.basic_laws.proofs.Lists.{contains_none}
 use Rattle.css_types.specs.declared.value.Declaration.{Declaration}
 use Rattle.html_read.specs.Shape.{IsShaped}
 use Rattle.html_read.specs.Values.{Node}
@@ -17,7 +18,7 @@ use Rattle.tree_laws.specs.Reached.{IsAtLevel, IsReached}
 use Rattle.tree_laws.specs.Wholeness.{IsWhole, times}
 use Rattle.tree_laws.proofs.Depths.{all_deep, child_from, stands_at}
 use Rattle.tree_laws.proofs.Keeping.{children_of, lives_changed}
-use Rattle.tree_laws.proofs.Levels.{contained_times, level_depth, none_contained, times_contained}
+use Rattle.tree_laws.proofs.Levels.{contained_times, level_depth, times_contained}
 use Rattle.tree_laws.proofs.Places.{parent_in}
 use Rattle.tree_laws.proofs.Refusing.{lives_below}
 use Rattle.tree_laws.proofs.Staying.{level_kept}
@@ -71,7 +72,7 @@ module _ (state : State) (whole : IsWhole state) (reached : IsReached state) (pa
   given : (number child : ℕ) → Contains (children_at state number) child → number < state.next
   given number child there = elim (cases_lt number state.next) [
     | inl early ↦ early
-    | inr past ↦ absurd (none_contained child (subst (λ (children : List ℕ). Contains children child) (ap children_of (whole.below number past)) there))
+    | inr past ↦ absurd (contains_none child (subst (λ (children : List ℕ). Contains children child) (ap children_of (whole.below number past)) there))
   ]
 
   old_kept : (number child : ℕ) → Contains (children_at state number) child → Contains (children_at more number) child

@@ -2,11 +2,9 @@
 use Rattle.std.proofs.Common.{◌≡◌, ◌∙◌, ℕ, zero, suc, ◌+◌, ◌-◌, ◌<◌, ◌≤◌, Bool, true, false, List, [], ◌∷◌, length, refl, ap, sym, subst, arith, Option, Some, inl, inr}
 use Rattle.std.specs.Prelude.{nat_eq, flat_map, unwrap_or}
 use Rattle.std.specs.List.{Contains, list_any}
-use Rattle.std.proofs.lemmas.Bool.{eqb-true}
-use Rattle.std.proofs.lemmas.Cmp.{nat_eq_equiv}
-use Rattle.std.proofs.lemmas.List.Elements.{Contains-append_cases, Contains-append_left, Contains-append_right, Contains-push, Contains-push_cases}
-use Rattle.std.proofs.lemmas.Map.Views.{Contains-from_any, list_any-from_Contains}
+use Rattle.std.proofs.lemmas.List.Elements.{Contains-append_cases, Contains-append_left, Contains-append_right}
 use Rattle.std.proofs.lemmas.Option.{none-some}
+use Rattle.basic_laws.proofs.Lists.{any_contained, contained_any, contains_equal, contains_none, contains_only, contains_other}
 use Rattle.dom_store.specs.State.{State, greatest_depth}
 use Rattle.dom_store.specs.Standing.{ancestors_to, below_levels, children_at, depth_at, parent_at, unless_skipped}
 use Rattle.dom_store.proofs.StandLaws.{up_none}
@@ -16,12 +14,6 @@ use Rattle.tree_laws.proofs.Parents.{children_have_parents}
 use Rattle.tree_laws.proofs.Times.{none_where, times_there}
 
 -- ---- members of a list
-
-pub any_contained : (numbers : List ℕ) (number : ℕ) → Contains numbers number → list_any (nat_eq number) numbers ≡ true
-any_contained numbers number there = list_any-from_Contains nat_eq_equiv number numbers there
-
-pub contained_any : (numbers : List ℕ) (number : ℕ) → list_any (nat_eq number) numbers ≡ true → Contains numbers number
-contained_any numbers number there = Contains-from_any eqb-true number numbers there
 
 pub times_contained : (numbers : List ℕ) (number : ℕ) → Contains numbers number → 1 ≤ times number numbers
 times_contained numbers number there = times_there number numbers (any_contained numbers number there)
@@ -33,34 +25,19 @@ contained_times numbers number some = by (list_any (nat_eq number) numbers) refl
     by true there = contained_any numbers number there
     by false away = absurd (omega (arith, some, none_where number numbers away))
 
-pub none_contained : (number : ℕ) → Contains [] number → ⊥
-none_contained number (place, within, is) = omega (arith, within)
-
-contained_first : (number other : ℕ) (others : List ℕ) → number ≡ other → Contains (other ∷ others) number
-contained_first number other others same = subst (λ (n : ℕ). Contains (other ∷ others) n) (sym same) (Contains-append_left (other ∷ []) others other (Contains-push [] other))
-
-contained_later : (number other : ℕ) (others : List ℕ) → Contains others number → Contains (other ∷ others) number
-contained_later number other others there = Contains-append_right (other ∷ []) others number there
-
-the_only : (number other : ℕ) → Contains (other ∷ []) number → number ≡ other
-the_only number other there = elim (Contains-push_cases [] other number there) [
-  | inl none ↦ absurd (none_contained number none)
-  | inr same ↦ sym same
-]
-
 module _ (f : ℕ → List ℕ) where
   contained_flat : (numbers : List ℕ) (among number : ℕ) → Contains numbers among → Contains (f among) number → Contains (flat_map f numbers) number
-  contained_flat [] among number there inner = absurd (none_contained among there)
+  contained_flat [] among number there inner = absurd (contains_none among there)
   contained_flat (first ∷ numbers) among number there inner = elim (Contains-append_cases (first ∷ []) numbers among there) [
-    | inl here ↦ Contains-append_left (f first) (flat_map f numbers) number (subst (λ (n : ℕ). Contains (f n) number) (the_only among first here) inner)
+    | inl here ↦ Contains-append_left (f first) (flat_map f numbers) number (subst (λ (n : ℕ). Contains (f n) number) (sym (contains_only first among here)) inner)
     | inr later ↦ Contains-append_right (f first) (flat_map f numbers) number (contained_flat numbers among number later inner)
   ]
 
   flat_contained : (numbers : List ℕ) (number : ℕ) → Contains (flat_map f numbers) number → (among : ℕ) × Contains numbers among × Contains (f among) number
-  flat_contained [] number there = absurd (none_contained number there)
+  flat_contained [] number there = absurd (contains_none number there)
   flat_contained (first ∷ numbers) number there = elim (Contains-append_cases (f first) (flat_map f numbers) number there) [
-    | inl here ↦ (first, contained_first first first numbers refl, here)
-    | inr later ↦ let (among, within, inner) = flat_contained numbers number later in (among, contained_later among first numbers within, inner)
+    | inl here ↦ (first, contains_equal first first numbers refl, here)
+    | inr later ↦ let (among, within, inner) = flat_contained numbers number later in (among, contains_other first among numbers within, inner)
   ]
 
 -- ---- how far below another node
@@ -101,7 +78,7 @@ module _ (state : State) where
   unfolding below_levels
   descendant_of_chain levels skipped zero top number low high below = absurd (omega (arith, high))
   descendant_of_chain zero zero (suc most) top number low high same =
-      Contains-append_left (top ∷ []) (flat_map (below_levels (0 - 1) most state) (children_at state top)) number (contained_first number top [] same)
+      Contains-append_left (top ∷ []) (flat_map (below_levels (0 - 1) most state) (children_at state top)) number (contains_equal top number [] same)
   descendant_of_chain zero (suc skipped) (suc most) top number low high same = absurd (omega (arith, low))
   descendant_of_chain (suc levels) skipped (suc most) top number low high below =
       let (child, first, rest) = below_first levels top number below in
@@ -110,13 +87,13 @@ module _ (state : State) where
       (contained_flat (below_levels (skipped - 1) most state) (children_at state top) child number first deeper)
 
   unskipped : (skipped top number : ℕ) → Contains (unless_skipped skipped top) number → (skipped ≡ 0) × (number ≡ top)
-  unskipped zero top number there = (refl, the_only number top there)
-  unskipped (suc skipped) top number there = absurd (none_contained number there)
+  unskipped zero top number there = (refl, sym (contains_only top number there))
+  unskipped (suc skipped) top number there = absurd (contains_none number there)
 
   -- and each of these descendants is so far below it
   pub chain_of_descendant : (most skipped top number : ℕ) → Contains (below_levels skipped most state top) number → (levels : ℕ) × (skipped ≤ levels) × (levels < most) × IsBelow state top levels number
   unfolding below_levels
-  chain_of_descendant zero skipped top number there = absurd (none_contained number there)
+  chain_of_descendant zero skipped top number there = absurd (contains_none number there)
   chain_of_descendant (suc most) skipped top number there =
       elim (Contains-append_cases (unless_skipped skipped top) (flat_map (below_levels (skipped - 1) most state) (children_at state top)) number there) [
         | inl here ↦ let (none, same) = unskipped skipped top number here in (0, omega (arith, none), omega arith, same)
@@ -152,10 +129,10 @@ module _ (state : State) (whole : IsWhole state) where
   pub ancestor_of_chain : (levels most top number : ℕ) → levels < most → IsBelow state top levels number → Contains (ancestors_to most state (Some number)) top
   unfolding ancestors_to
   ancestor_of_chain levels zero top number within below = absurd (omega (arith, within))
-  ancestor_of_chain zero (suc most) top number within same = contained_first top number (ancestors_to most state (parent_at state number)) (sym same)
+  ancestor_of_chain zero (suc most) top number within same = contains_equal number top (ancestors_to most state (parent_at state number)) (sym same)
   ancestor_of_chain (suc levels) (suc most) top number within (parent, below, there) =
       let higher : Contains (ancestors_to most state (Some parent)) top = ancestor_of_chain levels most top parent (omega (arith, within)) below in
-      contained_later top number (ancestors_to most state (parent_at state number)) (subst (λ (o : Option ℕ). Contains (ancestors_to most state o) top) (sym (parent_of_child parent number there)) higher)
+      contains_other number top (ancestors_to most state (parent_at state number)) (subst (λ (o : Option ℕ). Contains (ancestors_to most state o) top) (sym (parent_of_child parent number there)) higher)
 
   -- it is at a level as much higher
   pub level_above : (levels level top number : ℕ) → IsAtLevel state level number → IsBelow state top levels number → (above : ℕ) × (level ≡ above + levels) × IsAtLevel state above top

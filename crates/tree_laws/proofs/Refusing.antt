@@ -1,9 +1,12 @@
 -- What holds where an edit isn't refused.
-use Rattle.std.proofs.Common.{◌≡◌, ◌∙◌, ℕ, zero, suc, ◌+◌, ◌-◌, ◌<◌, ◌≤◌, Bool, true, false, List, [], ◌∷◌, length, get_or, refl, ap, sym, arith, Option, Some, None, option_map, if◌then◌else◌, inl, inr}
+use Rattle.std.proofs.Common.{◌≡◌, ◌∙◌, ℕ, zero, suc, ◌+◌, ◌-◌, ◌<◌, ◌≤◌, Bool, true, false, List, [], ◌∷◌, length, get_or, refl, ap, sym, arith, Option, Some, None, if◌then◌else◌, inl, inr}
 use Rattle.std.specs.Prelude.{nat_eq, nat_lt, not, ◌≢◌, ◌||◌, ◌&&◌, ⊤, is_some, fold, min, position}
 use Rattle.std.specs.List.{Contains, list_all, list_any, position_or_len}
 use Rattle.std.proofs.lemmas.Bool.{and_parts, cases_lt, eqb-false, ltb-false, not-false, or_parts, false≢true}
 use Rattle.std.proofs.lemmas.Option.{none-some}
+use Rattle.basic_laws.proofs.Lists.{contains_none}
+use Rattle.dom_store.proofs.JudgeLaws.{not_refused}
+use Rattle.basic_laws.proofs.Options.{none_unmapped}
 use Rattle.html_read.specs.Values.{Node}
 use Rattle.css_types.specs.declared.value.Declaration.{Declaration}
 use Rattle.dom_store.specs.declared.error.EditError.{EditError}
@@ -12,9 +15,8 @@ use Rattle.dom_store.specs.State.{Entry, State, greatest_depth}
 use Rattle.dom_store.specs.Opening.{depths}
 use Rattle.dom_store.specs.Standing.{below_levels, depth_at, inclusive_ancestors, lives}
 use Rattle.dom_store.specs.Edits.{insert, move_to}
-use Rattle.dom_store.specs.Refusals.{first_of, least, lesser, no_node, reasons, refusal, refused_if, room_left}
+use Rattle.dom_store.specs.Refusals.{first_of, least, lesser, no_node, reasons, refusal, room_left}
 use Rattle.tree_laws.specs.Wholeness.{IsWhole}
-use Rattle.tree_laws.proofs.Levels.{none_contained}
 
 -- none of the reasons is there
 abbrev AllNone : List (Option EditError) → Type 0
@@ -25,10 +27,6 @@ all_none : (reasons : List (Option EditError)) → first_of reasons ≡ None →
 all_none [] accepted = tt
 all_none (None ∷ others) accepted = (refl, all_none others accepted)
 all_none (Some error ∷ others) accepted = absurd (none-some error (sym accepted))
-
-not_refused : (test : Bool) (error : EditError) → refused_if test error ≡ None → test ≡ false
-not_refused true error accepted = absurd (none-some error (sym accepted))
-not_refused false error accepted = refl
 
 lives_named : (state : State) (number : ℕ) (others : List ℕ) → no_node state (number ∷ others) ≡ None → lives state number ≡ true
 lives_named state number others accepted =
@@ -50,10 +48,6 @@ insert_passes state parent index nodes own accepted =
 
 -- ---- none too deep
 
-unmapped : {A B : Type 0} (f : A → B) (o : Option A) → option_map f o ≡ None → o ≡ None
-unmapped f None is = refl
-unmapped f (Some value) is = absurd (none-some (f value) (sym is))
-
 unchosen : {A : Type 0} (b : Bool) (value : A) → (if b then Some value else None) ≡ None → b ≡ false
 unchosen true value is = absurd (none-some value (sym is))
 unchosen false value is = refl
@@ -74,7 +68,7 @@ pub insert_shallow : (state : State) (parent index : ℕ) (nodes : List Node) (o
 insert_shallow state parent index nodes own accepted place within =
     let test : ℕ → Bool = λ depth. nat_lt greatest_depth (depth_at state parent + depth) in
     let none = all_none (reasons state (insert parent index nodes own)) accepted in
-    let no_place : position test (depths nodes) ≡ None = unmapped (λ place. TooDeep (state.next + place)) (position test (depths nodes)) none.1.1.1.1.1.0 in
+    let no_place : position test (depths nodes) ≡ None = none_unmapped (λ place. TooDeep (state.next + place)) (position test (depths nodes)) none.1.1.1.1.1.0 in
     let all : length (depths nodes) ≤ position_or_len test (depths nodes) =
     ltb-false (position_or_len test (depths nodes)) (length (depths nodes)) (unchosen (nat_lt (position_or_len test (depths nodes)) (length (depths nodes))) (position_or_len test (depths nodes)) no_place) in
     ltb-false greatest_depth (depth_at state parent + get_or (depths nodes) place 0) (none_passes test (depths nodes) all place within)
@@ -84,7 +78,7 @@ some_least number [] is = none-some number (sym is)
 some_least number (other ∷ numbers) is = some_least (min number other) numbers is
 
 no_least : (numbers : List ℕ) → least numbers ≡ None → (number : ℕ) → Contains numbers number → ⊥
-no_least [] is number there = none_contained number there
+no_least [] is number there = contains_none number there
 no_least (first ∷ numbers) is number there = some_least first numbers is
 
 -- what holds where a node is moved: it isn't above its new parent, and nothing below it comes to stand too deep
@@ -101,7 +95,7 @@ moves state number parent index accepted =
       parent_lives = (and_parts (lives state parent) true both.1).0;
       apart = not_refused (list_any (nat_eq number) (inclusive_ancestors state parent)) Inside none.1.1.1.1.0;
       shallow = no_least (below_levels (greatest_depth - depth_at state parent) greatest_depth state number)
-          (unmapped TooDeep (least (below_levels (greatest_depth - depth_at state parent) greatest_depth state number)) none.1.1.1.1.1.1.0);
+          (none_unmapped TooDeep (least (below_levels (greatest_depth - depth_at state parent) greatest_depth state number)) none.1.1.1.1.1.1.0);
     }
 
 -- a node that lives has a number that was given

@@ -3,13 +3,14 @@ use Rattle.std.proofs.Common.{◌≡◌, ◌∙◌, ◌⊎◌, ℕ, zero, suc, �
 use Rattle.std.specs.Prelude.{nat_eq, is_some, ◌≢◌}
 use Rattle.std.specs.List.{Contains, list_any}
 use Rattle.std.proofs.lemmas.Bool.{cases_eq, cases_lt, eq-eqb, false≢true}
+use Rattle.basic_laws.proofs.Lists.{any_contained, contained_any}
 use Rattle.dom_store.specs.State.{What, Entry, State, greatest_depth}
 use Rattle.dom_store.specs.Standing.{children_at, depth_at, inclusive_ancestors, inclusive_descendants, lives, parent_at}
 use Rattle.dom_store.specs.Edits.{changed, moved, removed, with_children, with_moved, with_parent, with_what, without}
 use Rattle.tree_laws.specs.Reached.{IsAtLevel, IsReached}
 use Rattle.tree_laws.specs.Wholeness.{IsWhole, times}
 use Rattle.tree_laws.proofs.Keeping.{children_of, left, left_lives, lives_changed, parent_children, what_children}
-use Rattle.tree_laws.proofs.Levels.{IsBelow, ancestor_of_chain, any_contained, chain_of_descendant, contained_any, contained_times, descendant_of_chain, level_above, level_below, level_depth, times_contained}
+use Rattle.tree_laws.proofs.Levels.{IsBelow, ancestor_of_chain, chain_of_descendant, contained_times, descendant_of_chain, level_above, level_below, level_depth, times_contained}
 use Rattle.tree_laws.proofs.Refusing.{Moves}
 use Rattle.tree_laws.proofs.Times.{others_without, times-put, times_moved}
 
