@@ -1,9 +1,10 @@
 -- One step of the code's pairs is one step of the definition's lists.
 use Rattle.std.proofs.Common.{◌≡◌, ◌∙◌, refl, arith, true, false, ◌++◌, ◌+◌, ◌≤◌, ◌^◌, to_z, of_z, w64, ℤ, pos, ◌+ℤ◌, unsigned_abs}
 use Rattle.std.specs.Int.{int_max, int_min}
+use Rattle.basic_laws.proofs.Numbers.{abs_add, number_held}
 use Rattle.margin_collapse.specs.Margins.{collapsed}
 use Rattle.margin_collapse.specs.declared.margins.Margins.{Margins}
-use Rattle.block_flow.proofs.Lengths.{held, abs_add, abs_max, abs_min}
+use Rattle.block_flow.proofs.Lengths.{abs_max, abs_min}
 use Rattle.block_flow.specs.Children.{Child, margin_lengths}
 use Rattle.block_flow.specs.Reached.{IsReached}
 use Rattle.block_flow.specs.declared.reached.Reached.{Reached}
@@ -30,7 +31,7 @@ joined_span a b r v p n e =
 pub gap_span : (a b r : Margins) (v : ℤ) → r.positive ≡ int_max a.positive b.positive → r.negative ≡ int_min a.negative b.negative → v ≡ r.positive +ℤ r.negative
     → unsigned_abs a.positive + unsigned_abs a.negative + (unsigned_abs b.positive + unsigned_abs b.negative) ≤ 2 ^ 61
     → unsigned_abs (to_z w64 (of_z w64 v)) ≤ margin_lengths a + margin_lengths b
-gap_span a b r v p n e room = let s = joined_span a b r v p n e in let same = held v (omega arith) in rw same s
+gap_span a b r v p n e room = let s = joined_span a b r v p n e in let same = number_held v (omega arith) in rw same s
 
 -- so much for the value of one pair
 pub pair_span : (a : Margins) (v : ℤ) → v ≡ a.positive +ℤ a.negative → unsigned_abs v ≤ unsigned_abs a.positive + unsigned_abs a.negative

@@ -9,8 +9,8 @@ use Rattle.block_flow.specs.Children.{Child, StandsFor, AreChildren, lengths_of,
 use Rattle.block_flow.specs.Stacking.{Progress, after, place_in, places_from, places_of, stacked, handed, extent}
 use Rattle.block_flow.specs.Stacked.{Stacked, IsStackOf}
 use Rattle.margin_collapse.specs.Pairs.{IsPairOf}
-use Rattle.block_flow.proofs.Lengths.{held}
 use Rattle.std.proofs.Math.Bool.{and_assoc, and-true}
+use Rattle.basic_laws.proofs.Numbers.{number_held}
 use Rattle.block_flow.specs.Reached.{IsReached, span_of}
 use Rattle.block_flow.specs.declared.boxes.ChildBox.{ChildBox}
 use Rattle.block_flow.specs.declared.boxes.ParentEdges.{ParentEdges}
@@ -69,7 +69,7 @@ along_on start_joins boxes places more reached next i d place inside placed step
     let left = sum_by-drop_more lengths_of boxes i d inside in
     let before = along.span in
     let before_start = along.start in
-    let same = held place (omega arith) in
+    let same = number_held place (omega arith) in
     rw (pushed, same) (record {
       span = omega arith;
       start = omega arith;

@@ -1,7 +1,8 @@
 -- Outside every row nothing is found, and what isn't found is outside every row.
-use Rattle.std.proofs.Common.{◌≡◌, ℕ, zero, suc, ◌<◌, false, ◌⊎◌, inl, inr, ◌↔◌, leb, List, [], ◌∷◌, Option, Some, None, refl, ap, arith}
+use Rattle.std.proofs.Common.{◌≡◌, ℕ, zero, suc, ◌<◌, false, ◌⊎◌, inl, inr, ◌↔◌, leb, List, [], ◌∷◌, Some, None, refl, ap, arith}
 use Rattle.std.specs.Prelude.{find, option_map, All}
 use Rattle.std.proofs.lemmas.Bool.{and_left, and_right, and_cases, cases_Bool, lt-leb, leb-false}
+use Rattle.basic_laws.proofs.Options.{none_unmapped}
 use Rattle.wm_chars.specs.Laws.{AreNoneOutside, IsOutside}
 use Rattle.wm_chars.specs.Repertoire.{has, row_of, bidi_class, orientation, break_class}
 use Rattle.wm_chars.specs.declared.rows.Row.{Row}
@@ -33,14 +34,9 @@ all_outside c [] none k d lt = absurd (omega arith)
 all_outside c (row ∷ rows) none zero d lt = let parts = not_the_first c row rows none in out_of c row parts.0
 all_outside c (row ∷ rows) none (suc k) d lt = let parts = not_the_first c row rows none in all_outside c rows parts.1 k d (omega arith)
 
--- what a row says is missing where the row is
-unmapped : {A B : Type 0} (f : A → B) (o : Option A) → option_map f o ≡ None → o ≡ None
-unmapped f None none = refl
-unmapped f (Some x) none = absurd (cc)
-
 told_outside : {B : Type 0} (f : Row → B) (c : ℕ) → (option_map f (row_of c) ≡ None) ↔ IsOutside c
 unfolding row_of
-told_outside f c = ((λ none. all_outside c ROWS (unmapped f (find (has c) ROWS) none)), (λ outside. ap (option_map f) (none_found c ROWS outside)))
+told_outside f c = ((λ none. all_outside c ROWS (none_unmapped f (find (has c) ROWS) none)), (λ outside. ap (option_map f) (none_found c ROWS outside)))
 
 pub none_outside : AreNoneOutside
 unfolding bidi_class orientation break_class

@@ -1,6 +1,6 @@
 use Rattle.std.proofs.Common.{◌≡◌, ◌∙◌, refl, arith, drop, to_z, of_z, w64, drop_of_length-le}
 use Rattle.std.proofs.lemmas.Int.{ints}
-use Rattle.block_flow.proofs.Lengths.{held}
+use Rattle.basic_laws.proofs.Numbers.{number_held}
 use Rattle.block_flow.proofs.Walk.{along_on, walk_ends}
 use Rattle.block_flow.proofs.stacking.stack.Goals as goal
 
@@ -14,7 +14,7 @@ returns-clause-stack g c = λ list are.
     let near = c.extent.ensures.near in
     let room = c.requires in
     let span = c.loop-child.invariant.span in
-    let extent : to_z w64 (of_z w64 c.extent.result) ≡ c.extent.result = held c.extent.result (omega arith) in
+    let extent : to_z w64 (of_z w64 c.extent.result) ≡ c.extent.result = number_held c.extent.result (omega arith) in
     walk_ends c.args.parent list c.loop-child.places.items c.loop-child.reached (drop c.loop-child.child-index c.args.children.now) _
     (drop_of_length-le c.args.children.now c.loop-child-test.false) refl
     (λ progress at. extent ∙ c.extent.ensures.extent progress at)
@@ -28,7 +28,7 @@ returns-clause-within g c =
     let span = c.loop-child.invariant.span in
     let start = c.loop-child.invariant.start in
     let handed = c.handed.ensures.near in
-    let extent : to_z w64 (of_z w64 c.extent.result) ≡ c.extent.result = held c.extent.result (omega arith) in
+    let extent : to_z w64 (of_z w64 c.extent.result) ≡ c.extent.result = number_held c.extent.result (omega arith) in
     record {
       places = c.loop-child.invariant.within;
       extent_low = rw extent c.extent.ensures.low;

@@ -1,6 +1,6 @@
 use Rattle.std.proofs.Common.{◌∙◌, refl, sym, arith, ◌++◌}
-use Rattle.block_flow.proofs.Lengths.{held, sum_held, sum_fits}
 use Rattle.std.proofs.Math.Bool.{and-true}
+use Rattle.basic_laws.proofs.Numbers.{number_held, sum_held, sum_fits}
 use Rattle.block_flow.proofs.Steps.{moved_on, passed_over, both_span, pair_join}
 use Rattle.block_flow.proofs.reached.Reached.after.Goals as goal
 
@@ -14,7 +14,7 @@ pub returns-then-child-clause-reached : goal.returns-then-child-clause-reached
 returns-then-child-clause-reached c = λ progress next at is.
     let room = c.requires in
     passed_over progress next _ (sym is.through ∙ c.if-child.true)
-    (held c.args.self.y (omega arith) ∙ at.y)
+    (number_held c.args.self.y (omega arith) ∙ at.y)
     (c.join.ensures.lists progress.pending (next.start_margins ++ next.end_margins) at.pending (c.join-margins.ensures.lists next.start_margins next.end_margins is.start is.end_))
     at.joined
     (c.start_with.ensures.list progress (next.start_margins ++ next.end_margins) at (c.join-margins.ensures.lists next.start_margins next.end_margins is.start is.end_))
@@ -22,7 +22,7 @@ returns-then-child-clause-reached c = λ progress next at is.
 pub returns-then-child-clause-span : goal.returns-then-child-clause-span
 returns-then-child-clause-span c =
     let room = c.requires in
-    let y = held c.args.self.y (omega arith) in
+    let y = number_held c.args.self.y (omega arith) in
     let s = both_span c.args.self.pending c.args.child.start c.args.child.end c.join-margins.result c.join.result
     c.join-margins.ensures.positive c.join-margins.ensures.negative c.join.ensures.positive c.join.ensures.negative in
     rw y (omega arith)

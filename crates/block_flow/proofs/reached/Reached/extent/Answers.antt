@@ -1,6 +1,6 @@
 use Rattle.std.proofs.Common.{◌∙◌, sym, arith}
 use Rattle.std.proofs.lemmas.Int.{ints, clamps}
-use Rattle.block_flow.proofs.Lengths.{abs_add, sum_held}
+use Rattle.basic_laws.proofs.Numbers.{abs_add, sum_held}
 use Rattle.block_flow.proofs.Steps.{extent_apart, pair_span}
 use Rattle.block_flow.proofs.reached.Reached.extent.Goals as goal
 

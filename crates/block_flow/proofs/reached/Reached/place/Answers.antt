@@ -1,5 +1,5 @@
 use Rattle.std.proofs.Common.{◌∙◌, sym, arith}
-use Rattle.block_flow.proofs.Lengths.{abs_add, sum_held, sum_fits}
+use Rattle.basic_laws.proofs.Numbers.{abs_add, sum_held, sum_fits}
 use Rattle.block_flow.proofs.Steps.{placed_apart}
 use Rattle.block_flow.proofs.reached.Reached.place.Goals as goal
 
