@@ -3,6 +3,8 @@ use Rattle.std.proofs.Common.{◌≡◌, ◌⊎◌, inl, inr, ℕ, suc, ◌<◌,
 use Rattle.std.specs.Prelude.{⊤}
 use Rattle.std.proofs.lemmas.Slice.Eq.{bytes_eq-Decides}
 use Rattle.std.proofs.Math.Dec.{eqb-suc-zero}
+use Rattle.html_read.proofs.HeadLaws.{slash_here}
+use Rattle.basic_laws.proofs.Lists.{append_grouped}
 use Rattle.reading.specs.Readers.{Read, ReadOr, ◌>>=◌, give, refuse, mapped, read_or, strip, starts, after, turns, repeat}
 use Rattle.reading.specs.Placed.{SpellsPlaced}
 use Rattle.reading.proofs.SpellLaws.{bind_ok, same_answer, mapped_spells}
@@ -53,10 +55,6 @@ tag_not_text : (byte : ℕ) (more : List ℕ) → is_letter byte ≡ true → No
 unfolding starts strip
 tag_not_text byte more is = rw (letter_not_bang byte is) refl
 
-pub end_here : (more : List ℕ) → starts (codes "</") (60 ∷ 47 ∷ more) ≡ true
-unfolding starts strip
-end_here more = refl
-
 end_not_text : (more : List ℕ) → NoText (60 ∷ 47 ∷ more)
 unfolding starts strip
 end_not_text more = refl
@@ -83,9 +81,6 @@ pair_grouped : (start gap_ inside ending_ later more behind : List ℕ)
     → (start ++ (gap_ ++ (inside ++ (ending_ ++ (later ++ more))))) ++ behind ≡ start ++ (gap_ ++ (inside ++ (ending_ ++ (later ++ (more ++ behind)))))
 pair_grouped start gap_ inside ending_ later more behind = simp append_assoc
 
-break_grouped : (start gap_ more behind : List ℕ) → (start ++ (gap_ ++ more)) ++ behind ≡ start ++ (gap_ ++ (more ++ behind))
-break_grouped start gap_ more behind = simp append_assoc
-
 items_no_text : (items : Items) (size : ℕ) (text behind : List ℕ) → AreItems size text behind items → NoText behind → NoText (text ++ behind)
 items_no_text none size text behind r ends = rw r ends
 items_no_text (pair tag acting first inner after_ next) size text behind (name, start, gap_, inside, ending_, later, more, is, open_, is_gap, inner_is, end_is, is_later, next_is, whole) ends =
@@ -93,7 +88,7 @@ items_no_text (pair tag acting first inner after_ next) size text behind (name, 
     ap (λ (s : List ℕ). s ++ behind) whole ∙ pair_grouped start gap_ inside ending_ later more behind in
     ap in_text all ∙ start_no_text size start (gap_ ++ (inside ++ (ending_ ++ (later ++ (more ++ behind))))) (gap_ ++ (inside ++ (ending_ ++ (later ++ (more ++ behind))))) (record { name = name; tag = tag; acting = acting }) is
 items_no_text (line_break acting after_ next) size text behind (name, start, gap_, more, is, void_, is_gap, next_is, whole) ends =
-    let all : text ++ behind ≡ start ++ (gap_ ++ (more ++ behind)) = ap (λ (s : List ℕ). s ++ behind) whole ∙ break_grouped start gap_ more behind in
+    let all : text ++ behind ≡ start ++ (gap_ ++ (more ++ behind)) = ap (λ (s : List ℕ). s ++ behind) whole ∙ append_grouped start gap_ more behind in
     ap in_text all ∙ start_no_text size start (gap_ ++ (more ++ behind)) (gap_ ++ (more ++ behind)) (record { name = name; tag = Br; acting = acting }) is
 
 -- ---- there is more to read
@@ -159,7 +154,7 @@ end_read : (size : ℕ) (base : Base) (o : Open) (opened : List Open) (nodes : L
 unfolding markup
 end_read size base o opened nodes text rest r =
     let f = end_first text o.name rest r in
-    rw (ap (starts (codes "</")) f.1 ∙ end_here f.0)
+    rw (ap (starts (codes "</")) f.1 ∙ slash_here f.0)
     (ap (λ (s : ReadOr Fault ⊤). s >>= λ (v : ⊤ × List ℕ). give (content_of opened nodes) v.1) ((end_tag_spells o.name).again text tt rest r tt))
 
 end_turn : (size : ℕ) (base : Base) (o : Open) (opened : List Open) (nodes : List Node) (text gap_ letters rest : List ℕ) → IsEndName text o.name → IsGap gap_ letters → NoText rest
@@ -237,7 +232,7 @@ items_read (line_break acting after_ next) size base text behind opened nodes (n
     ap (λ (s : Content). with_letters base s after_) (begun_void base opened nodes (record { name = name; tag = Br; acting = acting }) void_) in
     let a = start_leads size base (content_of opened nodes) (content_of opened broken) start gap_ after_ (more ++ behind) (record { name = name; tag = Br; acting = acting }) is is_gap no_next breaks in
     let d = items_read next size base more behind opened broken next_is ends in
-    let all : text ++ behind ≡ start ++ (gap_ ++ (more ++ behind)) = ap (λ (s : List ℕ). s ++ behind) whole ∙ break_grouped start gap_ more behind in
+    let all : text ++ behind ≡ start ++ (gap_ ++ (more ++ behind)) = ap (λ (s : List ℕ). s ++ behind) whole ∙ append_grouped start gap_ more behind in
     subst (λ (s : List ℕ). LeadsTo size base (content_of opened nodes) s (content_of opened (listed (line_break acting after_ next) parent nodes)) behind) (sym all) (leads_on a d)
 
 -- where content may end
@@ -446,7 +441,7 @@ closes_break size base [] nodes start tag gap_ letters y result rest is void_ br
   tag ++ (gap_ ++ more),
   break_are size start tag gap_ letters y more rest next is void_ br is_gap last next_is,
   same,
-  ap (λ (s : List ℕ). tag ++ (gap_ ++ s)) last ∙ sym (break_grouped tag gap_ more rest),
+  ap (λ (s : List ℕ). tag ++ (gap_ ++ s)) last ∙ sym (append_grouped tag gap_ more rest),
 )
 closes_break size base (p ∷ opened) nodes start tag gap_ letters y result rest is void_ br is_gap (next, more, ending2, later2, back2, letters2, next_is, end2, is_later2, closes2, last) = (
   line_break start.acting letters next,
@@ -459,7 +454,7 @@ closes_break size base (p ∷ opened) nodes start tag gap_ letters y result rest
   end2,
   is_later2,
   closes2,
-  ap (λ (s : List ℕ). tag ++ (gap_ ++ s)) last ∙ sym (break_grouped tag gap_ more (ending2 ++ (later2 ++ back2))),
+  ap (λ (s : List ℕ). tag ++ (gap_ ++ s)) last ∙ sym (append_grouped tag gap_ more (ending2 ++ (later2 ++ back2))),
 )
 
 -- `br` is the tag of that name

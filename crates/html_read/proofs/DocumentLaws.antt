@@ -23,18 +23,18 @@ use Rattle.html_read.specs.Reading.{content, end_tag, mark, maybe_mark, maybe_do
 use Rattle.html_read.specs.Values.{TextAt, Acting, Node, Whole}
 use Rattle.html_tokens.specs.Grammar.{IsMiscPiece, IsMisc, IsDoctype, IsEndOf, IsEndName}
 use Rattle.html_read.specs.Grammar.{IsContent, IsMaybeHead, IsBody, IsHtml, IsMark, IsProlog, IsDocument, IsFragment}
-use Rattle.html_tokens.proofs.MiscLaws.{IsOpening, cased_first, NoMisc, misc_spells, doctype_spells, end_of_spells}
+use Rattle.html_tokens.proofs.MiscLaws.{IsOpening, cased_first, NoMisc, misc_spells, doctype_spells, end_of_spells, lower_mark}
 use Rattle.html_tokens.proofs.TextLaws.{good}
 use Rattle.html_read.proofs.TagLaws.{start_of_spells, end_tag_spells}
-use Rattle.html_read.proofs.ContentLaws.{EndsContent, content_spells, content_takes, end_no_text, end_first, end_here}
-use Rattle.html_read.proofs.HeadLaws.{opening_start, opening_front, opening_not_ahead, opening_no_misc, end_no_misc, misc_here, EndsHead, head_opening, maybe_head_spells}
+use Rattle.html_read.proofs.ContentLaws.{EndsContent, content_spells, content_takes, end_no_text, end_first}
+use Rattle.html_read.proofs.HeadLaws.{opening_start, opening_front, opening_not_ahead, opening_no_misc, end_no_misc, misc_here, EndsHead, head_opening, maybe_head_spells, slash_here}
 
 -- ---- body
 
 end_content : (text : List ℕ) (rest : List ℕ) → IsEndName text (codes "body") → EndsContent bases.Body (text ++ rest)
 end_content text rest r =
     let f = end_first text (codes "body") rest r in
-    record { no_text = end_no_text text (codes "body") rest r; ends = ap (starts (codes "</")) f.1 ∙ end_here f.0 }
+    record { no_text = end_no_text text (codes "body") rest r; ends = ap (starts (codes "</")) f.1 ∙ slash_here f.0 }
 
 body_end : (nodes : List Node) → Spells (mapped (λ u. nodes) (end_tag (codes "body"))) (λ text all. IsEndName text (codes "body") × (all ≡ nodes)) Anything
 body_end nodes =
@@ -138,9 +138,6 @@ record IsDoctypeFirst (text : List ℕ) : Type 0 where
   other : eqb byte 45 ≡ false
   is : text ≡ 60 ∷ 33 ∷ byte ∷ more
 
-mark_only : (byte : ℕ) → to_ascii_lowercase byte ≡ 60 → byte ≡ 60
-mark_only byte e = grind arith
-
 word_first : (text : List ℕ) → map to_ascii_lowercase text ≡ codes "<!doctype" → IsDoctypeFirst text
 word_first text e =
     let one = cased_first text (codes "!doctype") 60 e in
@@ -150,7 +147,7 @@ word_first text e =
       byte = three.0;
       more = three.1;
       other = not_dash three.0 three.3;
-      is = one.2 ∙ ap (λ (b : ℕ). b ∷ one.1) (mark_only one.0 one.3) ∙ ap (λ (m : List ℕ). 60 ∷ m) (two.2 ∙ ap (λ (b : ℕ). b ∷ two.1) (bang_only two.0 two.3) ∙ ap (λ (m : List ℕ). 33 ∷ m) three.2);
+      is = one.2 ∙ ap (λ (b : ℕ). b ∷ one.1) (lower_mark one.0 one.3) ∙ ap (λ (m : List ℕ). 60 ∷ m) (two.2 ∙ ap (λ (b : ℕ). b ∷ two.1) (bang_only two.0 two.3) ∙ ap (λ (m : List ℕ). 33 ∷ m) three.2);
     }
 
 doctype_first : (text : List ℕ) (u : ⊤) → Seq IsDoctype (λ u. IsMisc) text u → IsDoctypeFirst text

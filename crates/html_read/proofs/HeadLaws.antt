@@ -338,7 +338,7 @@ items_spells size = record {
 end_begins : (text rest word : List ℕ) (u : ⊤) → IsEndOf word text u → (more : List ℕ) × (text ++ rest ≡ 60 ∷ 47 ∷ more)
 end_begins text rest word u r = (r.2 ++ rest, rw (r.5, r.3) refl)
 
-slash_here : (more : List ℕ) → starts (codes "</") (60 ∷ 47 ∷ more) ≡ true
+pub slash_here : (more : List ℕ) → starts (codes "</") (60 ∷ 47 ∷ more) ≡ true
 unfolding starts strip
 slash_here more = refl
 

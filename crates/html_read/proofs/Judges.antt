@@ -86,7 +86,3 @@ judging_stops size all left others a count old new said is (stops.Refused kind r
     let none = is_new (has_name (attribute_of a).name now.names) is (told now.names now.are).0 e in
     sym (next_here size all left others a count old said (Err (kind, rest.now)) now first (not_seen size now.names (attribute_of a) said none ∙ with_it))
 judging_stops size all left others a count old new said is stops.Memory now first told e with_it = tt
-
-none_left : (left : List WrittenAttribute) → length left ≡ 0 → left ≡ []
-none_left [] e = refl
-none_left (a ∷ left) e = absurd (omega (arith, e))

@@ -1,5 +1,5 @@
 -- The places of nodes: with them the bytes are read as without them, and at each place its node is read.
-use Rattle.std.proofs.Common.{◌≡◌, ◌⊎◌, inl, inr, ℕ, zero, suc, ◌-◌, ◌<◌, ◌≤◌, Bool, true, false, cond, eqb, List, [], ◌∷◌, ◌++◌, length, drop, codes, All, AllPairs, Some, None, Ok, Err, IfOk, refl, sym, ap, subst, ◌∙◌, append_assoc, length-append, arith}
+use Rattle.std.proofs.Common.{◌≡◌, ◌⊎◌, inl, inr, ℕ, ◌-◌, ◌<◌, ◌≤◌, Bool, true, false, cond, eqb, List, [], ◌∷◌, ◌++◌, length, drop, codes, All, AllPairs, Some, None, Ok, Err, IfOk, refl, sym, ap, subst, ◌∙◌, append_assoc, length-append, arith}
 use Rattle.std.specs.Prelude.{⊤, Option, Result}
 use Rattle.std.specs.List.{AllZip}
 use Rattle.std.proofs.Math.Seq.{drop-append_seam}
@@ -7,6 +7,8 @@ use Rattle.std.proofs.lemmas.Bool.{lt-ltb, le-ltb}
 use Rattle.std.proofs.lemmas.List.Elements.{All-append}
 use Rattle.std.proofs.lemmas.List.Quantifiers.{all_pairs_push}
 use Rattle.std.specs.Str.Lossy.{utf8_valid_len}
+use Rattle.std.proofs.lemmas.Slice.Zip.{AllZip-long}
+use Rattle.basic_laws.proofs.Lists.{all_alone}
 use Rattle.reading.specs.Readers.{ReadOr, ReaderOr, ◌>>=◌, give, follow, mapped, strip, starts, after, repeat}
 use Rattle.reading.proofs.SpellLaws.{bind_ok, same_answer, mapped_spells, telling_spells}
 use Rattle.html_tokens.specs.declared.error.Refusal.TheVariants.{Utf8}
@@ -40,24 +42,14 @@ record Stand (bytes : List ℕ) (nodes : List Node) (places rest : List ℕ) : T
   order : AllPairs (λ earlier later. earlier < later) places
   before : All (λ place. place < length front) places
 
+all_before : (places : List ℕ) (n m : ℕ) → n ≤ m → All (λ place. place < n) places → All (λ place. place < m) places
+all_before places n m le is = λ k d within. omega (arith, le, is k d within)
+
 zip_push : {A B : Type 0} (R : A → B → Type 0) (xs : List A) (ys : List B) (x : A) (y : B) → AllZip R xs ys → R x y → AllZip R (xs ++ x ∷ []) (ys ++ y ∷ [])
 zip_push R [] [] x y h r = (r, tt)
 zip_push R [] (b ∷ ys) x y h r = absurd h
 zip_push R (a ∷ xs) [] x y h r = absurd h
 zip_push R (a ∷ xs) (b ∷ ys) x y h r = (h.0, zip_push R xs ys x y h.1 r)
-
-zip_length : {A B : Type 0} (R : A → B → Type 0) (xs : List A) (ys : List B) → AllZip R xs ys → length ys ≡ length xs
-zip_length R [] [] h = refl
-zip_length R [] (b ∷ ys) h = absurd h
-zip_length R (a ∷ xs) [] h = absurd h
-zip_length R (a ∷ xs) (b ∷ ys) h = ap suc (zip_length R xs ys h.1)
-
-all_before : (places : List ℕ) (n m : ℕ) → n ≤ m → All (λ place. place < n) places → All (λ place. place < m) places
-all_before places n m le is = λ k d within. omega (arith, le, is k d within)
-
-one_before : (place n : ℕ) → place < n → All (λ place. place < n) (place ∷ [])
-one_before place n lt zero d within = lt
-one_before place n lt (suc k) d within = absurd (omega (arith, within))
 
 place_left : (bytes front here : List ℕ) → bytes ≡ front ++ here → length bytes - length here ≡ length front
 place_left bytes front here parts = omega (arith, ap length parts, length-append front here)
@@ -84,7 +76,7 @@ stand_more bytes nodes places here more rest node is parts some kind =
       parts = is.parts ∙ ap (λ (s : List ℕ). is.front ++ s) parts ∙ sym (append_assoc is.front more rest);
       read = zip_push (λ (n : Node) (p : ℕ). IsKindAt (length bytes) n.kind (drop p bytes)) nodes places node at is.read (subst (λ (s : List ℕ). IsKindAt (length bytes) node.kind s) (sym there) kind);
       order = all_pairs_push (λ (x y : ℕ). x < y) places at is.order is.before;
-      before = All-append (λ (p : ℕ). p < length (is.front ++ more)) places (at ∷ []) (all_before places at (length (is.front ++ more)) (omega (arith, long)) is.before) (one_before at (length (is.front ++ more)) long);
+      before = All-append (λ (p : ℕ). p < length (is.front ++ more)) places (at ∷ []) (all_before places at (length (is.front ++ more)) (omega (arith, long)) is.before) (all_alone (λ (p : ℕ). p < (length (is.front ++ more))) at long);
     } in
     subst (λ (n : ℕ). Stand bytes (nodes ++ node ∷ []) (places ++ n ∷ []) rest) (sym (place_left bytes is.front here is.parts)) made
 
@@ -349,7 +341,7 @@ places_agree bytes =
 pub read_alike : (bytes : List ℕ) → mapped (λ places. length places) placed_input bytes ≡ mapped (λ whole. length whole.nodes) input bytes
 read_alike bytes =
     agree_mapped (AreOfWhole bytes) (λ (places : List ℕ). length places) (λ (whole : Whole). length whole.nodes) (placed_input bytes) (input bytes) (places_agree bytes)
-    (λ places whole rest is. zip_length (λ (n : Node) (p : ℕ). IsKindAt (length bytes) n.kind (drop p bytes)) whole.nodes places is.0)
+    (λ places whole rest is. AllZip-long (λ (n : Node) (p : ℕ). IsKindAt (length bytes) n.kind (drop p bytes)) whole.nodes places is.0)
 
 found_by : (bytes rest places : List ℕ) (q : ReadOr Fault Whole) → input bytes ≡ q → Agree (AreOfWhole bytes) (Ok (places, rest)) q → ArePlaces bytes places
 found_by bytes rest places (Ok w) e is = record {

@@ -1,6 +1,8 @@
 -- What the texts among nodes are: not empty, of the repertoire, apart from one another, and no longer than the input.
 use Rattle.std.proofs.Common.{◌≡◌, ◌≢◌, ℕ, zero, suc, ◌+◌, ◌<◌, ◌≤◌, Bool, true, false, List, [], ◌∷◌, ◌++◌, length, length-append, Some, None, refl, sym, ap, subst, ◌∙◌, arith}
 use Rattle.std.specs.Prelude.{⊤, Option}
+use Rattle.std.proofs.lemmas.List.Prefix.{front_fits}
+use Rattle.basic_laws.proofs.Lists.{back_fits}
 use Rattle.html_tokens.specs.declared.tag.Tag.{Tag}
 use Rattle.html_tokens.specs.declared.tag.Tag.TheVariants.{Br}
 use Rattle.html_tokens.specs.Text.{IsOfRepertoire}
@@ -204,12 +206,6 @@ content_bytes size parent nodes text_ behind all is =
 
 -- ---- documents and fragments
 
-back_shorter : (text_ front back : List ℕ) → text_ ≡ front ++ back → length back ≤ length text_
-back_shorter text_ front back e = omega (arith, ap length e, length-append front back)
-
-front_shorter : (text_ front back : List ℕ) → text_ ≡ front ++ back → length front ≤ length text_
-front_shorter text_ front back e = omega (arith, ap length e, length-append front back)
-
 -- the texts of nodes that were read from a text of this length
 record AreReadFrom (size : ℕ) (nodes : List Node) : Type 0 where
   repertoire : AreOfRepertoire nodes
@@ -224,7 +220,7 @@ body_texts size html text_ behind nodes r =
     let few = content_bytes size (Some 1) (roots html r.0) inner.1 (inner.2 ++ behind) inner.0 inner.3 in
     let whole : AreReadFrom (length text_) inner.0 = record {
       repertoire = content_of_repertoire size (Some 1) (roots html r.0) inner.1 (inner.2 ++ behind) inner.0 inner.3 (tt, (tt, tt));
-      short = omega (arith, few, front_shorter r.2 inner.1 inner.2 inner.5, back_shorter text_ r.1 r.2 r.5);
+      short = omega (arith, few, front_fits r.2 inner.1 inner.2 inner.5, back_fits r.1 r.2 text_ r.5);
     } in
     subst (λ (l : List Node). AreReadFrom (length text_) l) (sym inner.4.1) whole
 
@@ -235,15 +231,15 @@ html_texts size text_ behind all r =
     let from_body = from_head.4 in
     let last = from_body.4 in
     let made = body_texts size r.0 from_body.1 (from_body.2 ++ behind) from_body.0 from_body.3 in
-    let s1 = front_shorter from_head.2 from_body.1 from_body.2 from_body.5 in
-    let s2 = back_shorter from_misc.2 from_head.1 from_head.2 from_head.5 in
-    let s3 = back_shorter r.2 from_misc.1 from_misc.2 from_misc.5 in
-    let s4 = back_shorter text_ r.1 r.2 r.5 in
+    let s1 = front_fits from_head.2 from_body.1 from_body.2 from_body.5 in
+    let s2 = back_fits from_head.1 from_head.2 from_misc.2 from_head.5 in
+    let s3 = back_fits from_misc.1 from_misc.2 r.2 from_misc.5 in
+    let s4 = back_fits r.1 r.2 text_ r.5 in
     subst (λ (p : List Node × List TextAt). AreReadFrom (length text_) p.0) (sym last.4.2) (longer (length from_body.1) (length text_) from_body.0 (omega (arith, s1, s2, s3, s4)) made)
 
 document_read : (text_ behind : List ℕ) (whole : Whole) → IsDocument text_ behind whole → AreReadFrom (length text_) whole.nodes
 document_read text_ behind whole is =
-    longer (length is.parts.2) (length text_) whole.nodes (back_shorter text_ is.parts.1 is.parts.2 is.parts.5)
+    longer (length is.parts.2) (length text_) whole.nodes (back_fits is.parts.1 is.parts.2 text_ is.parts.5)
     (html_texts (length (text_ ++ behind)) is.parts.2 behind (whole.nodes, whole.sheets) is.parts.4)
 
 pub document_texts : (text_ behind : List ℕ) (whole : Whole) → IsDocument text_ behind whole → AreTexts whole.nodes

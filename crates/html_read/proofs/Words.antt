@@ -1,9 +1,9 @@
 -- The words of a text, byte by byte.
-use Rattle.std.proofs.Common.{◌≡◌, ℕ, ◌<◌, ◌≤◌, ◌+◌, true, false, List, [], ◌∷◌, ◌++◌, length, drop, take, get_or, Ok, refl, sym, ap, ◌∙◌, length-append, length-drop, add-one, arith}
+use Rattle.std.proofs.Common.{◌≡◌, ℕ, ◌<◌, ◌≤◌, ◌+◌, true, false, List, [], ◌∷◌, ◌++◌, length, drop, take, get_or, Ok, refl, sym, ap, ◌∙◌, length-append, length-drop, arith}
 use Rattle.std.specs.Prelude.{zero, suc, Bool, cond, ◌==◌, ⊤}
 use Rattle.std.proofs.lemmas.Str.{IsCharBoundary-before_ascii}
 use Rattle.std.specs.Str.{IsCharBoundary}
-use Rattle.std.proofs.lemmas.List.{drop_all, append_cancel_right, take-append-drop, drop_more}
+use Rattle.std.proofs.lemmas.List.{drop_all, append_cancel_right, take-append-drop, drop_more, take_more}
 use Rattle.std.proofs.lemmas.Bool.{eqb-true}
 use Rattle.reading.specs.Readers.{next_is, skip}
 use Rattle.reading.proofs.SpellLaws.{ok}
@@ -13,7 +13,7 @@ use Rattle.html_read.specs.Judging.{word_before, words_behind, words}
 
 -- ---- white space before a word
 
-white_goes : (byte : ℕ) (bytes : List ℕ) → is_white byte ≡ true → words (byte ∷ bytes) ≡ words bytes
+pub white_goes : (byte : ℕ) (bytes : List ℕ) → is_white byte ≡ true → words (byte ∷ bytes) ≡ words bytes
 unfolding words
 white_goes byte bytes e = rw e refl
 
@@ -87,15 +87,7 @@ pub word_begins : (text : List ℕ) → IsWordTo text 0
 unfolding words
 word_begins text = record { within = omega arith; same = refl }
 
-longer : (text : List ℕ) (at : ℕ) → at < length text → take (suc at) text ≡ take at text ++ get_or text at 0 ∷ []
-longer [] at lt = absurd (omega arith)
-longer (byte ∷ text) zero lt = refl
-longer (byte ∷ text) (suc at) lt = ap (λ (t : List ℕ). byte ∷ t) (longer text at (omega arith))
-
-one_more : (text : List ℕ) (at : ℕ) → at < length text → take (at + 1) text ≡ take at text ++ get_or text at 0 ∷ []
-one_more text at lt = rw add-one (longer text at lt)
-
-in_word : (word : List ℕ) (byte : ℕ) (bytes : List ℕ) → is_white byte ≡ false → words_behind word (byte ∷ bytes) ≡ words_behind (word ++ byte ∷ []) bytes
+pub in_word : (word : List ℕ) (byte : ℕ) (bytes : List ℕ) → is_white byte ≡ false → words_behind word (byte ∷ bytes) ≡ words_behind (word ++ byte ∷ []) bytes
 in_word word byte bytes e = rw e refl
 
 behind_word : (word : List ℕ) (byte : ℕ) (bytes : List ℕ) → is_white byte ≡ true → words_behind word (byte ∷ bytes) ≡ word_before word (words (byte ∷ bytes))
@@ -108,7 +100,7 @@ word_goes_on text bytes at same now lt e =
     record {
       within = omega arith;
       same = now.same ∙ ap (words_behind (take at text)) (drop_more text at 0 lt) ∙ in_word (take at text) (get_or text at 0) (drop (at + 1) text) none
-          ∙ ap (λ (t : List ℕ). words_behind t (drop (at + 1) text)) (sym (one_more text at lt));
+          ∙ ap (λ (t : List ℕ). words_behind t (drop (at + 1) text)) (sym (take_more text at 0 lt));
     }
 
 pub word_stops : (text bytes : List ℕ) (at : ℕ) → bytes ≡ text → IsWordTo text at → at < length text → is_white (get_or bytes at 0) ≡ true → EndsWord text (drop at text)
@@ -132,7 +124,7 @@ word_ends text at now le =
       now.same ∙ ap (words_behind (take at text)) none ∙ at_end (take at text) ∙ ap (λ (t : List ℕ). word_before (take at text) (words t)) (sym none),
     )
 
-white_low : (byte : ℕ) → is_white byte ≡ true → byte < 128
+pub white_low : (byte : ℕ) → is_white byte ≡ true → byte < 128
 white_low byte e = grind arith
 
 pub word_cut : (text bytes : List ℕ) (at : ℕ) → bytes ≡ text → at < length text → is_white (get_or bytes at 0) ≡ true → IsCharBoundary text at
@@ -151,7 +143,7 @@ pub word_to_end : (text : List ℕ) (at : ℕ) → IsWordNext text → length te
 word_to_end [] at next le = absurd next
 word_to_end (byte ∷ after) at next le = rw (drop_all at (byte ∷ after) le) (omega arith)
 
-some_word : (front : List ℕ) (words_ : List (List ℕ)) → 0 < length front → word_before front words_ ≡ front ∷ words_
+pub some_word : (front : List ℕ) (words_ : List (List ℕ)) → 0 < length front → word_before front words_ ≡ front ∷ words_
 some_word [] words_ lt = absurd (omega arith)
 some_word (byte ∷ front) words_ lt = refl
 
