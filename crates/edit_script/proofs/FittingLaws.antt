@@ -1,11 +1,12 @@
 -- What a script brings to a document.
-use Rattle.std.proofs.Common.{◌≡◌, ◌∙◌, ℕ, suc, ◌+◌, ◌-◌, ◌≤◌, ◌==◌, min, Bool, true, false, cond, take, slice_index, List, [], ◌∷◌, ◌++◌, length, Option, Some, None, Ok, Err, refl, ap, sym, subst, inl, inr, arith}
+use Rattle.std.proofs.Common.{◌≡◌, ℕ, suc, ◌+◌, ◌-◌, ◌≤◌, ◌==◌, min, Bool, true, false, cond, take, slice_index, List, [], ◌∷◌, length, Option, Some, None, Ok, Err, refl, ap, sym, subst, inl, inr, arith}
 use Rattle.std.specs.Prelude.{IfOk, Result, ⊤}
 use Rattle.std.specs.List.{All, onto_first, slice_split}
 use Rattle.std.specs.Str.Lines.{strip_carriage_return}
-use Rattle.std.proofs.lemmas.List.{length-append, length-take}
+use Rattle.std.proofs.lemmas.List.{length-take}
 use Rattle.std.proofs.lemmas.List.Elements.{All-cons}
 use Rattle.std.proofs.lemmas.List.Splits.{slice_split-cons_no, slice_split-cons_yes}
+use Rattle.basic_laws.proofs.Lists.{back_fits}
 use Rattle.css_types.specs.declared.value.Declaration.{Declaration}
 use Rattle.html_tokens.specs.Grammar.{IsGap}
 use Rattle.html_read.specs.Grammar.{IsFragment}
@@ -35,11 +36,6 @@ rest_of (commands.remove node) = []
 rest_of (commands.move node parent index) = []
 rest_of commands.show = []
 
-behind : (front back text : List ℕ) → text ≡ front ++ back → length back ≤ length text
-behind front back text cut =
-    let both : length text ≡ length front + length back = ap (λ (t : List ℕ). length t) cut ∙ length-append front back in
-    omega (arith, both)
-
 rest_within : (text rest : List ℕ) → IsRest text rest → length rest ≤ length text
 rest_within text rest (inl is) = let long : length text ≡ suc (length rest) = ap (λ (t : List ℕ). length t) is in omega (arith, long)
 rest_within text rest (inr (none, is)) = let long : length rest ≡ 0 = ap (λ (t : List ℕ). length t) is in omega (arith, long)
@@ -47,7 +43,7 @@ rest_within text rest (inr (none, is)) = let long : length rest ≡ 0 = ap (λ (
 pair_within : (text : List ℕ) (r : ℕ × List ℕ) → IsNodeAndRest text r → length r.1 ≤ length text
 pair_within text r (node, front, back, number, (rest, is, same), cut) =
     let within = rest_within back rest is in
-    let most = behind front back text cut in
+    let most = back_fits front back text cut in
     let long : length r.1 ≡ length rest = ap (λ (q : ℕ × List ℕ). length q.1) same in
     omega (arith, within, most, long)
 
@@ -61,8 +57,8 @@ arguments_within words_.Style text c (r, is, same) = let within = pair_within te
 arguments_within words_.Class text c (r, is, same) = let within = pair_within text r is in let long = same_rest c (commands.class r.0 r.1) same in omega (arith, within, long)
 arguments_within words_.Insert text c (parent, front, back, number, (index, between, last, other, (rest, is, same), cut), whole) =
     let within = rest_within last rest is in
-    let most = behind between last back cut in
-    let all = behind front back text whole in
+    let most = back_fits between last back cut in
+    let all = back_fits front back text whole in
     let long = same_rest c (commands.insert parent index rest) same in
     omega (arith, within, most, all, long)
 arguments_within words_.Remove text c (node, is, same) = let long = same_rest c (commands.remove node) same in omega (arith, long)
@@ -73,7 +69,7 @@ arguments_within words_.Show text c (none, same) = let long = same_rest c comman
 command_within : (line : List ℕ) (c : Command) → IsCommand line c → length (rest_of c) ≤ length line
 command_within line c (word, front, back, is, arguments, cut) =
     let within = arguments_within word back c arguments in
-    let most = behind front back line cut in
+    let most = back_fits front back line cut in
     omega (arith, within, most)
 
 -- ---- lines

@@ -9,4 +9,3 @@ mod MeaningLaws
 mod Reading
 mod ScriptLaws
 mod TableRows
-mod Tables

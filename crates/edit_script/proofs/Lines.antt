@@ -1,11 +1,12 @@
 -- The first line of a text, and its end.
-use Rattle.std.proofs.Common.{◌≡◌, inl, inr, ℕ, ◌+◌, ◌-◌, ◌<◌, suc, zero, Bool, true, false, cond, List, [], ◌∷◌, ◌++◌, length, take, drop, get_or, refl, sym, ap, subst, ◌∙◌, arith}
+use Rattle.std.proofs.Common.{◌≡◌, inl, inr, ℕ, ◌+◌, ◌-◌, ◌<◌, suc, Bool, true, false, cond, List, [], ◌∷◌, ◌++◌, length, take, drop, get_or, refl, sym, ap, subst, ◌∙◌, arith}
 use Rattle.std.specs.Prelude.{not}
 use Rattle.std.specs.List.{All, after_first, before_first, position_or_len}
 use Rattle.std.specs.Str.Lines.{strip_carriage_return}
 use Rattle.std.proofs.lemmas.Bool.{eqb-true, ne_eqb}
 use Rattle.std.proofs.lemmas.List.{take_all}
 use Rattle.std.proofs.lemmas.List.Elements.{All-cons, All-nil}
+use Rattle.std.proofs.Math.Seq.{take-suc}
 use Rattle.edit_script.specs.Script.{is_lf}
 use Rattle.edit_script.specs.Views.{IsFirstLine}
 
@@ -45,14 +46,9 @@ line_ends bytes none = (subst NoLf (take_all (position_or_len is_lf bytes) bytes
 
 -- ---- the CR at the end
 
-last : (bytes : List ℕ) (at : ℕ) → at < length bytes → take (suc at) bytes ≡ take at bytes ++ get_or bytes at 0 ∷ []
-last [] at lt = absurd (omega arith)
-last (byte ∷ bytes) zero lt = refl
-last (byte ∷ bytes) (suc at) lt = ap (λ (t : List ℕ). byte ∷ t) (last bytes at (omega arith))
-
 whole : (byte : ℕ) (bytes : List ℕ) → byte ∷ bytes ≡ take (length (byte ∷ bytes) - 1) (byte ∷ bytes) ++ get_or (byte ∷ bytes) (length (byte ∷ bytes) - 1) 0 ∷ []
 whole byte bytes =
-    sym (take_all (suc (length (byte ∷ bytes) - 1)) (byte ∷ bytes) (omega arith)) ∙ last (byte ∷ bytes) (length (byte ∷ bytes) - 1) (omega arith)
+    sym (take_all (suc (length (byte ∷ bytes) - 1)) (byte ∷ bytes) (omega arith)) ∙ take-suc (byte ∷ bytes) (length (byte ∷ bytes) - 1) 0 (omega arith)
 
 pub no_cr : (line : List ℕ) → ((front : List ℕ) → line ≡ front ++ 13 ∷ [] → ⊥) → line ≡ strip_carriage_return line
 no_cr [] none = refl

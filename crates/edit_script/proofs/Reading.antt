@@ -4,6 +4,7 @@ use Rattle.std.specs.Prelude.{◌==◌}
 use Rattle.std.proofs.lemmas.Bool.{eqb-true}
 use Rattle.std.specs.List.{slice_split}
 use Rattle.std.proofs.lemmas.List.Splits.{slice_split_at, slice_split_none}
+use Rattle.std.proofs.lemmas.List.{nil_from_length}
 use Rattle.edit_script.specs.declared.error.Halt.{Halt}
 use Rattle.edit_script.specs.declared.error.Halt.TheVariants as halts
 use Rattle.edit_script.specs.Answered.{IsRefused}
@@ -92,13 +93,9 @@ reading_stops start text rest line after b (halts.Refused kind) place now first 
     (length text - length rest, sym now.same ∙ ap (lines_from (length text - length rest) b) c.lines ∙ one_line (length text - length rest) b line c.others (Err kind) e, at)
 reading_stops start text rest line after b halts.Memory place now first e at = tt
 
-nothing_left : (rest : List ℕ) → length rest ≡ 0 → rest ≡ []
-nothing_left [] e = refl
-nothing_left (byte ∷ rest) e = absurd (omega arith)
-
 pub reading_ends : (text rest : List ℕ) (b : Begun) → IsReading text rest b → length rest ≡ 0 → script text ≡ read b.said
 reading_ends text rest b now none =
-    sym now.same ∙ ap (λ (l : List ℕ). lines_from (length text - length rest) b (slice_split is_lf l)) (nothing_left rest none) ∙ last_line (length text - length rest) b
+    sym now.same ∙ ap (λ (l : List ℕ). lines_from (length text - length rest) b (slice_split is_lf l)) (nil_from_length rest none) ∙ last_line (length text - length rest) b
 
 pub some_left : (rest : List ℕ) (t : Bool) → t ≡ (length rest == 0) → t ≡ false → 0 < length rest
 some_left [] t is e = absurd (cc (sym is ∙ e))

@@ -3,11 +3,10 @@
 ghost use Rattle.std.specs.Prelude.{◌≡◌, []};
 ghost use Rattle.reading.specs.Readers as reading;
 ghost use Rattle.reading.specs.Readers.{Answers};
-ghost use Rattle.reading.specs.Names as names;
 ghost use Rattle.edit_script.specs.Command as readers;
 ghost use Rattle.edit_script.specs.Views.{command_of};
 
-use reading::{decimal, strip};
+use reading::{decimal, one_word, strip};
 
 /// The word with which a line begins.
 #[derive(Clone, Copy, PartialEq, Eq)]
@@ -79,27 +78,6 @@ fn first_word(text: &str) -> Result<(Word, &str), &[u8]>
     ensures { Answers (λ w. (w.0, w.1.now)) result (reading.one_word readers.words text.now) }
 {
     one_word(&WORDS, text)
-}
-
-// One of the words of the table. Where it is none, what is left behind the longest front of one.
-#[tactic(auto, using(crate::proofs::Tables::words_start, crate::proofs::Tables::words_end))]
-fn one_word<'a>(table: &[(&str, Word)], text: &'a str) -> Result<(Word, &'a str), &'a [u8]>
-    ensures { Answers (λ w. (w.0, w.1.now)) result (reading.one_word (names.words_of table.now) text.now) }
-{
-    let mut best = text.as_bytes();
-    for (name, word) in table {
-        match strip(name, text) {
-            Ok(rest) => return Ok((*word, rest)),
-            Err(left) => best = shorter_of(best, left),
-        }
-    }
-    Err(best)
-}
-
-fn shorter_of<'a>(best: &'a [u8], left: &'a [u8]) -> &'a [u8]
-    ensures { result.now ≡ reading.shorter_of best.now left.now }
-{
-    if left.len() < best.len() { left } else { best }
 }
 
 // What stands behind the word.
