@@ -10,6 +10,7 @@ use Rattle.std.proofs.lemmas.Bool.{cases_lt, le-ltb, lt-ltb}
 use Rattle.std.proofs.lemmas.Bool.Decides.{eqb_tells}
 use Rattle.std.proofs.lemmas.List.{append_assoc, length-take-le, take-append-drop}
 use Rattle.std.proofs.Math.Seq.{drop-append-add, drop-append_seam, take-append_seam}
+use Rattle.std.proofs.lemmas.Option.{same_Some}
 use Rattle.css_types.specs.declared.value.Declaration.{Declaration}
 use Rattle.html_read.specs.Values.{Node}
 use Rattle.dom_store.specs.declared.node.Node as code_node
@@ -73,9 +74,6 @@ unchanged state number = are_equal _ _ (record {
     as_it_was None = refl
     as_it_was (Some entry) = refl
 
-some_is : (one other : Entry) → Some one ≡ Some other → one ≡ other
-some_is one other is = ap (λ (o : Option Entry). unwrap_or o one) is
-
 -- what is put under a key, and put back
 pub put_back : (nodes : Slab code_node.Node) (keys : BTreeMap ℕ ℕ) (next number key : ℕ) (was is : code_node.Node) (change back : Entry → Entry) → IsKeyed (keyed.get nat_cmp keys) (slots.get nodes) next
     → keyed.get nat_cmp keys number ≡ Some key → slots.get nodes key ≡ Some was → entry_of is ≡ change (entry_of was) → back (change (entry_of was)) ≡ entry_of was
@@ -84,7 +82,7 @@ put_back nodes keys next number key was is change back sound here before changes
     let state = state_with (keyed.get nat_cmp keys) (slots.get nodes) next in
     let stood : state.node_at number ≡ Some (entry_of was) = rw (here, before) refl in
     ap (λ (s : State). changed s number back) (put_under nodes keys next number key was is change sound here before changes)
-    ∙ changed_back state number change back (λ entry at. ap (λ (e : Entry). back (change e)) (some_is _ _ (sym at ∙ stood)) ∙ (same ∙ some_is _ _ (sym stood ∙ at)))
+    ∙ changed_back state number change back (λ entry at. ap (λ (e : Entry). back (change e)) (same_Some _ _ (sym at ∙ stood)) ∙ (same ∙ same_Some _ _ (sym stood ∙ at)))
 
 -- a node stands in the parent in which it stood
 pub parent_under : (nodes : Slab code_node.Node) (keys : BTreeMap ℕ ℕ) (next number key : ℕ) (was : code_node.Node) → keyed.get nat_cmp keys number ≡ Some key → slots.get nodes key ≡ Some was

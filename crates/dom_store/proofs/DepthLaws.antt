@@ -9,13 +9,14 @@ use Rattle.css_types.specs.declared.value.Declaration.{Declaration}
 use Rattle.dom_store.specs.declared.error.EditError.{EditError}
 use Rattle.dom_store.specs.declared.error.EditError.TheVariants.{NoNode, IsRoot, NotText, NotElement, Inside, BadIndex, TooManyNodes, TooDeep, Memory}
 use Rattle.std.specs.Result.{IsErrAnd}
+use Rattle.basic_laws.proofs.Lists.{slice_get_last}
 use Rattle.dom_store.specs.declared.document.Document.{Document}
 use Rattle.dom_store.specs.Building.{FindsTooDeep, JudgesDepths}
 use Rattle.dom_store.specs.Opening.{Opens, greatest_count, depth_in, depths, depths_from}
 use Rattle.dom_store.specs.Refusals.{too_deep_under}
 use Rattle.dom_store.specs.Standing.{depth_at}
 use Rattle.dom_store.specs.State.{State, greatest_depth}
-use Rattle.dom_store.proofs.Places.{drop_at, slice_get_left, slice_get_last}
+use Rattle.dom_store.proofs.Places.{drop_at, slice_get_left}
 
 -- depths that are known stay
 pub known_stay : (before : List ℕ) (nodes : List Node) (place : ℕ) → place < length before → slice_get (depths_from before nodes) place ≡ slice_get before place

@@ -1,6 +1,6 @@
 -- Documents into which nodes are inserted.
 use Rattle.std.proofs.Common.{◌≡◌, ◌≢◌, ◌∙◌, ℕ, ◌+◌, ◌-◌, ◌<◌, ◌≤◌, Bool, true, false, List, [], ◌∷◌, ◌++◌, length, map, get_or, drop, refl, ap, sym, subst, arith, Option, Some, None, option_map, if◌then◌else◌, inl, inr}
-use Rattle.std.specs.Prelude.{◌^◌, nat_eq, nat_lt, is_none, is_some, not, unwrap_or, IfSome, OnErr, OnOk, Result, Ok, Err}
+use Rattle.std.specs.Prelude.{◌^◌, nat_eq, nat_lt, is_none, is_some, not, unwrap_or, IfSome, OnErr, Result, Ok, Err}
 use Rattle.std.specs.List.{slice_get}
 use Rattle.std.specs.Global.{Vec}
 use Rattle.std.proofs.lemmas.Bool.{cases_eq, cases_lt, eq-eqb, le-ltb, lt-ltb, ne_eqb}
@@ -230,16 +230,8 @@ pub on_err : {X E P : Type 0} (answer : Result X E) → P → OnErr answer P
 on_err (Ok value) holds = tt
 on_err (Err error) holds = holds
 
-pub on_err_so : {X E P Q : Type 0} (answer : Result X E) → OnErr answer P → (P → Q) → OnErr answer Q
-on_err_so (Ok value) holds so = tt
-on_err_so (Err error) holds so = so holds
-
 -- a node that is given another parent
 pub stands_under : (node : code_node.Node) (entry : Entry) (number parent : ℕ) → entry_of node ≡ entry → number ≡ parent
     → Some (with_parent number entry) ≡ Some (with_parent parent (entry_of node))
 stands_under node entry number parent is same =
     ap (λ (e : Entry). Some (with_parent number e)) (sym is) ∙ ap (λ (n : ℕ). Some (with_parent n (entry_of node))) same
-
-pub on_ok_so : {X E P Q : Type 0} (answer : Result X E) → OnOk answer P → (P → Q) → OnOk answer Q
-on_ok_so (Ok value) holds so = so holds
-on_ok_so (Err error) holds so = tt

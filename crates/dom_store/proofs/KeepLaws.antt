@@ -5,7 +5,7 @@ use Rattle.std.specs.List.{All, list_any, slice_get}
 use Rattle.std.proofs.lemmas.Bool.{true≢false, cases_eq, cases_lt, eq-eqb, le-ltb, lt-ltb, ne_eqb}
 use Rattle.std.proofs.lemmas.Bool.Decides.{eqb_tells}
 use Rattle.std.proofs.lemmas.List.Folds.{list_any-append}
-use Rattle.std.proofs.lemmas.Option.{none-some}
+use Rattle.std.proofs.lemmas.Option.{none-some, same_Some}
 use Rattle.html_read.specs.Values.{Node}
 use Rattle.css_types.specs.declared.value.Declaration.{Declaration}
 use Rattle.dom_store.specs.declared.error.EditError.TheVariants.{IsRoot, NotText}
@@ -16,7 +16,7 @@ use Rattle.dom_store.specs.Refusals.{in_html, is_element, is_of, is_root, no_nod
 use Rattle.dom_store.specs.Standing.{below_levels, children_at, inclusive_descendants, parent_at, unless_skipped}
 use Rattle.dom_store.specs.State.{AreSaid, Entry, IsElement, IsEntryAt, IsRooted, IsSaid, IsSaidState, State, What, element, text}
 use Rattle.dom_store.proofs.JudgeLaws.{first_none, not_refused}
-use Rattle.dom_store.proofs.RootLaws.{said_at, said_what, some_entry}
+use Rattle.dom_store.proofs.RootLaws.{said_at, said_what}
 
 -- ---- declarations
 
@@ -28,7 +28,7 @@ said_changed state number change said keeps other entry is = elim (eqb_tells oth
   where
     at : (o : Option Entry) → state.node_at other ≡ o → option_map change o ≡ Some entry → IsSaid entry.what
     at None before after = absurd (none-some entry after)
-    at (Some was) before after = subst (λ (e : Entry). IsSaid e.what) (some_entry (change was) entry after) (keeps was (said other was before))
+    at (Some was) before after = subst (λ (e : Entry). IsSaid e.what) (same_Some (change was) entry after) (keeps was (said other was before))
 
 said_changed_if : (state : State) (number : Option ℕ) (change : Entry → Entry) → IsSaidState state → ((entry : Entry) → IsSaid entry.what → IsSaid (change entry).what) → IsSaidState (changed_if state number change)
 said_changed_if state None change said keeps = said
@@ -237,7 +237,7 @@ said_inserted nodes own next place entry said is = at (slice_get nodes place) is
   where
     at : (o : Option Node) → option_map (λ node. record { parent = node.parent; children = children_from next (next + place) nodes; what = what_of node.kind (get_or own place []) }) o ≡ Some entry → IsSaid entry.what
     at None is = absurd (none-some entry is)
-    at (Some node) is = subst (λ (e : Entry). IsSaid e.what) (some_entry _ entry is) (said_what node.kind (get_or own place []) (said_at own place said))
+    at (Some node) is = subst (λ (e : Entry). IsSaid e.what) (same_Some _ entry is) (said_what node.kind (get_or own place []) (said_at own place said))
 
 said_under : (state : State) (parent index : ℕ) (nodes : List Node) (own : List (List Declaration)) → IsSaidState state → All AreSaid own → IsSaidState (after state (insert parent index nodes own))
 said_under state parent index nodes own said edit number entry is = elim (cases_lt number state.next) [

@@ -1,8 +1,8 @@
 -- Nodes by their places.
-use Rattle.std.proofs.Common.{◌≡◌, ◌∙◌, ◌⊎◌, ℕ, ◌+◌, ◌<◌, ◌≤◌, List, [], ◌∷◌, ◌++◌, length, length-append, get_or, drop, refl, ap, sym, subst, arith, Option, Some, None, option_map, IfSome, inl, inr, ◌^◌}
+use Rattle.std.proofs.Common.{◌≡◌, ◌∙◌, ◌⊎◌, ℕ, ◌+◌, ◌<◌, ◌≤◌, List, ◌∷◌, ◌++◌, length, length-append, get_or, drop, refl, ap, sym, subst, arith, Option, Some, None, option_map, IfSome, inl, inr, ◌^◌}
 use Rattle.std.proofs.Math.Nat.{lt_of_lt_of_le}
 use Rattle.std.specs.List.{slice_get}
-use Rattle.std.proofs.lemmas.List.{drop_all, drop_more, get_or_append_left, get_or_push}
+use Rattle.std.proofs.lemmas.List.{drop_all, drop_more, get_or_append_left}
 use Rattle.std.proofs.lemmas.Bool.{cases_lt}
 use Rattle.std.proofs.lemmas.Option.{slice_get-map, slice_get_read, slice_get_within, slice_get-get_or, get_or_from_slice_get}
 use Rattle.html_read.specs.Shape.{IsShaped}
@@ -24,12 +24,6 @@ pub slice_get_left : {X : Type 0} (xs ys : List X) (place : ℕ) (d : X) → pla
 slice_get_left xs ys place d within =
     let longer : place < length (xs ++ ys) = omega (arith, length-append xs ys) in
     slice_get-get_or (xs ++ ys) place d longer ∙ (ap Some (get_or_append_left xs ys d place within) ∙ sym (slice_get-get_or xs place d within))
-
--- the last element
-pub slice_get_last : {X : Type 0} (xs : List X) (x : X) → slice_get (xs ++ x ∷ []) (length xs) ≡ Some x
-slice_get_last xs x =
-    let within : length xs < length (xs ++ x ∷ []) = omega (arith, length-append xs (x ∷ [])) in
-    slice_get-get_or (xs ++ x ∷ []) (length xs) x within ∙ ap Some (get_or_push xs x x (length xs) refl)
 
 -- a node's parent is one of those before it
 pub parent_known : (reads : List ReadNode) (place known : ℕ) (d : ReadNode) → FollowParents (nodes_of reads) → place < length reads → place ≤ known → IfSome (get_or reads place d).parent (λ parent. parent < known)

@@ -1,13 +1,13 @@
 -- What holds of the state that a document begins with: where `html` and `body` stand, and which numbers its declarations have.
 use Rattle.std.proofs.Common.{◌≡◌, ◌∙◌, ℕ, suc, ◌+◌, ◌≤◌, Bool, false, List, [], ◌∷◌, length, map, get_or, refl, ap, sym, subst, arith, Option, Some, None, Ok, Err, IfOk, inl, inr}
-use Rattle.std.specs.Prelude.{Result, unwrap_or}
+use Rattle.std.specs.Prelude.{Result}
 use Rattle.std.specs.List.{All, slice_get}
 use Rattle.std.specs.Global.{Vec}
 use Rattle.std.proofs.lemmas.Bool.{cases_lt, ne_eqb}
 use Rattle.std.proofs.lemmas.List.{get_or_past}
 use Rattle.std.proofs.lemmas.List.Elements.{All-map, All-nil}
 use Rattle.css_types.specs.Value.{HasSayable}
-use Rattle.std.proofs.lemmas.Option.{none-some, slice_get_within}
+use Rattle.std.proofs.lemmas.Option.{none-some, slice_get_within, same_Some}
 use Rattle.html_read.specs.Shape.{IsShaped}
 use Rattle.html_read.specs.Values as html
 use Rattle.html_read.specs.Values.{Node}
@@ -28,17 +28,14 @@ no_more (node ∷ rest) at above =
     let apart : stands_in 0 node.parent ≡ false = ap (stands_in 0) first.1 ∙ ne_eqb 0 first.0 (λ is. omega (arith, first.2, is)) in
     ap (λ (b : Bool). put_if b at (children_from (at + 1) 0 rest)) apart ∙ no_more rest (at + 1) (λ k other is. above (suc k) other is)
 
-some_is : (node other : Node) → Some node ≡ Some other → node ≡ other
-some_is node other is = ap (λ (o : Option Node). unwrap_or o node) is
-
 -- `body` alone stands in `html`
 body_alone : (nodes : List Node) → IsShaped nodes → children_from 0 0 nodes ≡ 1 ∷ []
 unfolding children_from
 body_alone [] shaped = absurd (none-some _ shaped.html.1)
 body_alone (first ∷ []) shaped = absurd (none-some _ shaped.body.1)
 body_alone (first ∷ second ∷ rest) shaped =
-    let one : first.parent ≡ None = ap (λ (n : Node). n.parent) (some_is first _ shaped.html.1) in
-    let two : second.parent ≡ Some 0 = ap (λ (n : Node). n.parent) (some_is second _ shaped.body.1) in
+    let one : first.parent ≡ None = ap (λ (n : Node). n.parent) (same_Some first _ shaped.html.1) in
+    let two : second.parent ≡ Some 0 = ap (λ (n : Node). n.parent) (same_Some second _ shaped.body.1) in
     ap (λ (p : Option ℕ). put_if (stands_in 0 p) 0 (put_if (stands_in 0 second.parent) 1 (children_from 2 0 rest))) one
     ∙ ap (λ (p : Option ℕ). put_if (stands_in 0 p) 1 (children_from 2 0 rest)) two
     ∙ ap (λ (l : List ℕ). 1 ∷ l) (no_more rest 2 (λ k node is. let stands = shaped.others (suc (suc k)) node (omega arith) is in (stands.0, stands.1, stands.2)))
@@ -73,13 +70,10 @@ pub said_what : (kind : html.Kind) (own : List Declaration) → AreSaid own → 
 said_what (html.element tag acting) own said = said
 said_what (html.text letters) own said = tt
 
-pub some_entry : (entry other : Entry) → Some entry ≡ Some other → entry ≡ other
-some_entry entry other is = ap (λ (o : Option Entry). unwrap_or o entry) is
-
 said_entry : (nodes : List Node) (own : List (List Declaration)) (number : ℕ) (node : Option Node) (entry : Entry) → All AreSaid own → entry_at nodes own number node ≡ Some entry → IsSaid entry.what
 said_entry nodes own number None entry said is = absurd (none-some entry is)
 said_entry nodes own number (Some node) entry said is =
-    subst (λ (e : Entry). IsSaid e.what) (some_entry _ entry is) (said_what node.kind (get_or own number []) (said_at own number said))
+    subst (λ (e : Entry). IsSaid e.what) (same_Some _ entry is) (said_what node.kind (get_or own number []) (said_at own number said))
 
 said_of : (lists : List (Vec Declaration)) → All (λ own. AreSaid own.items) lists → All AreSaid (map (λ own. own.items) lists)
 said_of lists said = All-map AreSaid (λ (own : Vec Declaration). own.items) lists said

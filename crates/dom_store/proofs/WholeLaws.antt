@@ -1,9 +1,10 @@
 -- The tree of a document that was opened is whole.
 use Rattle.std.proofs.Common.{◌≡◌, ◌∙◌, ℕ, zero, suc, ◌+◌, ◌<◌, ◌≤◌, Bool, false, List, [], ◌∷◌, ◌++◌, length, length-append, get_or, drop, refl, ap, sym, subst, arith, Option, Some, None, Ok, Err, IfOk}
-use Rattle.std.specs.Prelude.{Result, unwrap_or}
+use Rattle.std.specs.Prelude.{Result}
 use Rattle.std.specs.List.{All, slice_get}
 use Rattle.std.proofs.lemmas.Bool.{ne_eqb}
-use Rattle.std.proofs.lemmas.Option.{none-some, slice_get_read, slice_get_within, get_or_from_slice_get}
+use Rattle.std.proofs.lemmas.Option.{none-some, slice_get_read, slice_get_within, get_or_from_slice_get, same_Some}
+use Rattle.basic_laws.proofs.Lists.{none_behind, slice_get_last}
 use Rattle.html_read.specs.Values.{Node, is_text}
 use Rattle.html_read.specs.Shape.{AreInOrder, IsInDocumentOrder, IsShaped, with_opened}
 use Rattle.css_types.specs.declared.value.Declaration.{Declaration}
@@ -16,7 +17,7 @@ use Rattle.dom_store.specs.Opening.{Opens, children_from, depth_in, depths, dept
 use Rattle.dom_store.specs.Whole.{listed, numbered}
 use Rattle.dom_store.proofs.DepthLaws.{known_stay}
 use Rattle.dom_store.proofs.OpenElements.{AreBelow, AreDeep, below_opened, below_still, deep_opened, deep_still}
-use Rattle.dom_store.proofs.Places.{begins_at, shape_follows, slice_get_last}
+use Rattle.dom_store.proofs.Places.{begins_at, shape_follows}
 use Rattle.dom_store.proofs.SameLaws.{are_equal}
 use Rattle.dom_store.proofs.TreeLaws.{Live, Stands, first_listed}
 
@@ -76,16 +77,9 @@ stand (read ∷ nodes) opened after known place have (closed, parent ∷ above, 
 
 -- ---- a document
 
-some_is : (read other : Node) → Some read ≡ Some other → read ≡ other
-some_is read other is = ap (λ (o : Option Node). unwrap_or o read) is
-
-none_still : (closed still : List ℕ) → [] ≡ closed ++ still → still ≡ []
-none_still [] still is = sym is
-none_still (number ∷ closed) still is = absurd cc
-
 -- only the first has no parent
 have_parents : (first : Node) (nodes : List Node) → IsShaped (first ∷ nodes) → HaveParents nodes
-have_parents first nodes shaped zero read here = (0, ap (λ (n : Node). n.parent) (some_is read _ (sym here ∙ shaped.body.1)))
+have_parents first nodes shaped zero read here = (0, ap (λ (n : Node). n.parent) (same_Some read _ (sym here ∙ shaped.body.1)))
 have_parents first nodes shaped (suc place) read here = let stands = shaped.others (suc (suc place)) read (omega arith) here in (stands.0, stands.1)
 
 whole : (nodes : List Node) (own : List (List Declaration)) → IsShaped nodes → IsInDocumentOrder nodes → All (λ depth. depth ≤ greatest_depth) (depths nodes)
@@ -93,9 +87,9 @@ whole : (nodes : List Node) (own : List (List Declaration)) → IsShaped nodes �
 unfolding depths_from
 whole [] own shaped order shallow = absurd (none-some _ shaped.html.1)
 whole (first ∷ nodes) own shaped (closed, still, parts, is, may, order) shallow =
-    let html = some_is first _ shaped.html.1 in
+    let html = same_Some first _ shaped.html.1 in
     let alone : first.parent ≡ None = ap (λ (n : Node). n.parent) html in
-    let begun : with_opened first.kind 0 still ≡ 0 ∷ [] = ap (λ (n : Node). with_opened n.kind 0 still) html ∙ ap (λ (l : List ℕ). 0 ∷ l) (none_still closed still parts) in
+    let begun : with_opened first.kind 0 still ≡ 0 ∷ [] = ap (λ (n : Node). with_opened n.kind 0 still) html ∙ ap (λ (l : List ℕ). 0 ∷ l) (none_behind closed still parts) in
     let behind : AreInOrder (0 ∷ []) (is_text first.kind) 1 nodes = subst (λ (l : List ℕ). AreInOrder l (is_text first.kind) 1 nodes) begun order in
     let deep : AreDeep (depth_in [] first.parent ∷ []) (0 ∷ []) = (ap (depth_in []) alone, tt) in
     let stands = stand nodes (0 ∷ []) (is_text first.kind) (depth_in [] first.parent ∷ []) 1 (have_parents first nodes shaped) behind refl (omega arith, tt) deep shallow in
