@@ -3,7 +3,7 @@ use Rattle.std.proofs.Common.{◌≡◌, ◌≢◌, ◌∙◌, refl, sym, ap, ar
 use Rattle.std.specs.Prelude.{slice_index}
 use Rattle.std.specs.List.{range_with_len}
 use Rattle.std.proofs.lemmas.List.{map-append}
-use Rattle.std.proofs.lemmas.Bool.{cases_Bool, cases_lt, le-leb, lt-leb, lt-ltb, le-ltb, eqb-true, eqb-false, ne_eqb}
+use Rattle.std.proofs.lemmas.Bool.{cases_Bool, cases_lt, le-leb, lt-leb, lt-ltb, le-ltb, eqb-true, eqb-false, ne_eqb, eq-eqb}
 use Rattle.bidi_order.specs.Reversals.{reverse_runs, greatest, lesser, least_odd, reversals, from_least_odd, order}
 use Rattle.bidi_order.specs.Laws.{without, past, MayBeLeftOut, LesserStandsForTwo}
 use Rattle.bidi_order.proofs.LeavingOut.{Gone, twice, agreeing, unmoved, down, down_renamed, behind_down, before_down}
@@ -148,14 +148,8 @@ order_down levels n le = by_all levels (least_odd levels) n (range_with_len 0 (l
 
 -- ---- places
 
-eqb-same : (n : ℕ) → eqb n n ≡ true
-eqb-same n = elim (cases_Bool (eqb n n)) [
-  | inl same ↦ same
-  | inr other ↦ absurd (eqb-false n n other refl)
-]
-
 without_there : (n : ℕ) (xs ys : List ℕ) → without n (xs ++ n ∷ ys) ≡ without n (xs ++ ys)
-without_there n [] ys = rw (eqb-same n) refl
+without_there n [] ys = rw (eq-eqb n n refl) refl
 without_there n (x ∷ xs) ys = elim (cases_Bool (eqb x n)) [
   | inl same ↦ rw same (without_there n xs ys)
   | inr other ↦ rw other (ap (λ l. x ∷ l) (without_there n xs ys))
@@ -295,7 +289,7 @@ behind_past n p = elim (cases_lt p n) [
 ] where
   shifted : (p : ℕ) → eqb (p + 1) (n + 1) ≡ eqb p n
   shifted p = elim (cases_Bool (eqb p n)) [
-    | inl same ↦ let e : p ≡ n = eqb-true p n same in rw (e, eqb-same n) (eqb-same (n + 1))
+    | inl same ↦ let e : p ≡ n = eqb-true p n same in rw (e, eq-eqb n n refl) (eq-eqb (n + 1) (n + 1) refl)
     | inr other ↦ rw other (ne_eqb (p + 1) (n + 1) (λ e. eqb-false p n other (omega arith)))
   ]
 

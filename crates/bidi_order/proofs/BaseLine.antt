@@ -5,6 +5,7 @@ use Rattle.std.specs.List.{list_all, range_with_len, slice_range}
 use Rattle.std.proofs.lemmas.List.{length-map, map-append, reverse-append}
 use Rattle.std.proofs.lemmas.List.Sorted.{IsPermutation-refl, IsPermutation-reverse}
 use Rattle.std.proofs.lemmas.Bool.{and_parts, cases_Bool, eqb-true, le-leb}
+use Rattle.basic_laws.proofs.Lists.{range_empty}
 use Rattle.wm_chars.specs.Classes.{is_removed}
 use Rattle.wm_chars.specs.declared.classes.BidiClass.{BidiClass}
 use Rattle.wm_chars.specs.declared.classes.BidiClass.TheVariants.{L}
@@ -101,9 +102,6 @@ map_reverse f (x ∷ xs) =
     ap (map f) (reverse-append (x ∷ []) xs) ∙ map-append f (reverse xs) (x ∷ [])
     ∙ ap (λ (l : List ℕ). l ++ f x ∷ []) (map_reverse f xs) ∙ sym (reverse-append (f x ∷ []) (map f xs))
 
-none_at : {X : Type 0} (xs : List X) (at : ℕ) → slice_range xs at at ≡ []
-none_at xs at = let e : at - at ≡ 0 = omega arith in rw e refl
-
 kept_level : (base : ℕ) (levels places : List ℕ) (at : ℕ) (b : Bool) → get_or levels at 0 ≡ base → AreLevel base (gathered 0 levels places) → AreLevel base (gathered 0 levels (cond b [] (at ∷ []) ++ places))
 kept_level base levels places at true e all = all
 kept_level base levels places at false e all = (e, all)
@@ -112,7 +110,7 @@ line_level : (base : ℕ) (levels : List ℕ) (classes : List BidiClass) (n at s
     → list_all (λ l. l == base) (slice_range levels at stop) ≡ true → AreLevel base (gathered 0 levels (line_places classes at stop))
 line_level base levels classes zero at stop e in_ in' all =
     let e' : stop ≡ at = omega arith in
-    rw (e', none_at classes at) tt
+    rw (e', range_empty classes at) tt
 line_level base levels classes (suc n) at stop e in_ in' all =
     let parts = and_parts (get_or levels at 0 == base) (list_all (λ l. l == base) (slice_range levels (at + 1) stop)) (rw (slice_more levels at stop 0 (omega arith) (omega arith)) at all) in
     rw (kept_more classes at stop L (omega arith) in')

@@ -2,7 +2,6 @@ pub mod AllLevels
 pub mod BaseLine
 pub mod BlockLaws
 pub mod Examples
-pub mod FilterMap
 pub mod LeavingOut
 pub mod LevelZero
 pub mod Levels

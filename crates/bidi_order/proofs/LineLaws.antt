@@ -8,6 +8,7 @@ use Rattle.wm_chars.specs.declared.classes.BidiClass.{BidiClass}
 use Rattle.wm_chars.specs.Classes.{is_removed}
 use Rattle.bidi_explicit.specs.Explicit.{removed_marks}
 use Rattle.std.proofs.lemmas.List.Sorted.{IsPermutation-map}
+use Rattle.basic_laws.proofs.Lists.{all_alone}
 use Rattle.bidi_explicit.specs.Sequences.{kept_from}
 use Rattle.bidi_order.specs.Line.{line_places}
 use Rattle.bidi_resolve.specs.Places.{gathered}
@@ -43,10 +44,6 @@ kept_more classes at stop d lt le = rw (slice_more classes at stop d lt (omega a
     go true = refl
     go false = refl
 
-one_within : (at n : ℕ) → at < n → All (λ p. p < n) (at ∷ [])
-one_within at n lt zero d l = lt
-one_within at n lt (suc k) d l = absurd (omega arith)
-
 pub within_more : (places : List ℕ) (b : Bool) (at n : ℕ) → at < n → All (λ p. p < n) places → All (λ p. p < n) (places ++ cond b [] (at ∷ []))
 within_more places true at n lt all = rw append-nil all
-within_more places false at n lt all = All-append (λ p. p < n) places (at ∷ []) all (one_within at n lt)
+within_more places false at n lt all = All-append (λ p. p < n) places (at ∷ []) all (all_alone (λ p. p < n) at lt)

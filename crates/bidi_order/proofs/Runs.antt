@@ -3,8 +3,9 @@ use Rattle.std.proofs.Common.{◌≡◌, ◌∙◌, sym, refl, ap, ℕ, zero, su
 use Rattle.std.specs.List.{All, range_with_len}
 use Rattle.std.specs.List.Sorted.{IsPermutation}
 use Rattle.std.proofs.lemmas.List.{drop_more, drop_all, take_more, take_at, drop_at, length-take-le, length-drop, length-append, length-reverse, reverse-append, take-append-drop, drop-drop, get_or-drop, map-id}
-use Rattle.std.proofs.lemmas.List.FromFn.{length-range_with_len, get_or-range_with_len, map-range_with_len_more}
+use Rattle.std.proofs.lemmas.List.FromFn.{length-range_with_len, map-range_with_len_more}
 use Rattle.std.proofs.lemmas.List.Sorted.{All-permutation, IsPermutation-refl, length_permutation, IsPermutation-trans, IsPermutation-reverse, IsPermutation-append_left, IsPermutation-append_right}
+use Rattle.basic_laws.proofs.Lists.{range_below}
 use Rattle.std.specs.Prelude.{leb, slice_index}
 use Rattle.std.proofs.Math.Numerals.{add-one}
 use Rattle.bidi_order.specs.Reversals.{IsReversing, reverse_runs, reversals}
@@ -111,9 +112,6 @@ module _ {X : Type 0} (passes : X → Bool) (old now : List X) (start i : ℕ) (
 
 pub range_more : (a n b : ℕ) → a + n ≡ b → range_with_len a (n + 1) ≡ range_with_len a n ++ b ∷ []
 range_more a n b e = sym (map-id (range_with_len a (n + 1))) ∙ map-range_with_len_more (λ k. k) a n b e ∙ ap (λ l. l ++ b ∷ []) (map-id (range_with_len a n))
-
-pub range_below : (n : ℕ) → All (λ p. p < n) (range_with_len 0 n)
-range_below n = λ k d l. let h : length (range_with_len 0 n) ≡ n = length-range_with_len 0 n in let g : get_or (range_with_len 0 n) k d ≡ 0 + k = get_or-range_with_len 0 n k d (omega arith) in omega arith
 
 -- what is a rearrangement of the first n numbers has none behind them, and n of them
 pub all_below : (n : ℕ) (places : List ℕ) → IsPermutation (range_with_len 0 n) places → All (λ p. p < n) places

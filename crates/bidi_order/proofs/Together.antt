@@ -3,6 +3,7 @@ use Rattle.std.proofs.Common.{◌≡◌, ◌∙◌, ap, sym, refl, arith, ℕ, z
 use Rattle.std.specs.Prelude.{All}
 use Rattle.std.specs.List.{filter_map, list_all}
 use Rattle.std.proofs.lemmas.List.Elements.{All-head, All-tail}
+use Rattle.bidi_order.proofs.VisualLaws.{within_length}
 use Rattle.bidi_order.specs.declared.visual.Seat.{Seat}
 use Rattle.bidi_order.specs.Reversals.{order}
 use Rattle.bidi_order.specs.Visual.{parts_nothing, seat, seats, seats_from, visual_order, within_line}
@@ -24,10 +25,6 @@ seat_at item (level ∷ levels) (None ∷ aparts) (suc p) d many none lt =
     seat_at (item + 1) levels aparts p d (omega arith) none (omega arith) ∙ ap Some next
 seat_at item (level ∷ levels) (Some apart ∷ aparts) p d many none lt = absurd (cc)
 
-within_count : (aparts : List (Option ℕ)) → length (within_line aparts) ≡ length aparts
-within_count [] = refl
-within_count (apart ∷ aparts) = refl
-
 picked : (h : ℕ → Option ℕ) (n : ℕ) (places : List ℕ) → ((p : ℕ) → p < n → h p ≡ Some p) → All (λ p. p < n) places → filter_map h places ≡ places
 picked h n [] each below = refl
 picked h n (p ∷ places) each below =
@@ -37,7 +34,7 @@ pub together : (levels : List ℕ) (aparts : List (Option ℕ)) (places : List �
     → places ≡ order levels → All (λ p. p < length levels) places → places ≡ visual_order levels aparts
 unfolding visual_order
 together levels aparts places many none is below =
-    let same = within_count aparts in
+    let same = within_length aparts in
     let long : length levels ≡ length (within_line aparts) = omega arith in
     let h : ℕ → Option ℕ = λ p. (slice_index_or (seats levels aparts) p (seat 0 None)).item in
     let each : (p : ℕ) → p < length levels → h p ≡ Some p = λ p lt.

@@ -1,9 +1,9 @@
 use Rattle.std.proofs.Common.{◌≡◌, ◌∙◌, ap, sym, rules, ℕ, ◌+◌, ◌<◌, List, [], ◌∷◌, ◌++◌, length, get_or, take, Option, None}
 use Rattle.std.specs.List.{filter_map}
 use Rattle.std.proofs.lemmas.List.{get_or_default}
+use Rattle.basic_laws.proofs.Lists.{filter_map_more}
 use Rattle.bidi_order.specs.declared.visual.Seat.{Seat}
 use Rattle.bidi_order.specs.Visual.{seat}
-use Rattle.bidi_order.proofs.FilterMap.{filter_map_more}
 use Rattle.bidi_order.proofs.visual.items_of.Goals as goal
 
 step : (seats : List Seat) (order : List ℕ) (i : ℕ) (places : List ℕ) (d : Seat) → i < length order → get_or order i 0 < length seats

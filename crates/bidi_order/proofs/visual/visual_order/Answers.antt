@@ -1,7 +1,7 @@
 use Rattle.std.proofs.Common.{◌∙◌, sym, subst, arith, ℕ, ◌<◌, List, length}
 use Rattle.std.specs.Prelude.{All}
+use Rattle.basic_laws.proofs.Lists.{range_below}
 use Rattle.bidi_order.proofs.LevelZero.{stands}
-use Rattle.bidi_order.proofs.Runs.{range_below}
 use Rattle.bidi_order.proofs.Together.{together}
 use Rattle.bidi_order.proofs.visual.visual_order.Goals as goal
 
