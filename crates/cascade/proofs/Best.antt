@@ -1,17 +1,17 @@
 -- What the greatest claim of a list is.
 use Rattle.std.proofs.Common.{◌≡◌, inl, inr, Bool, true, false, cond, List, [], ◌∷◌, refl, ◌∙◌, subst, Option, Some, None}
 use Rattle.std.specs.List.{Contains}
+use Rattle.basic_laws.proofs.Lists.{contains_cases, contains_first, contains_none, contains_other}
 use Rattle.cascade.specs.declared.claim.Claim.{Claim}
 use Rattle.cascade.specs.Claims.{numbers_of, is_below}
 use Rattle.cascade.specs.Winners.{greater, greatest, greatest_from, IsGreatest}
 use Rattle.cascade.proofs.NumberOrder.{less_one_way, not_less_than_itself, not_less_through}
-use Rattle.cascade.proofs.Members.{contains_first, contains_other, contains_cases, contains_none}
 
 -- the greatest of a first claim and others
 abbrev pub Found : (first : Claim) (others : List Claim) → Type 0
 Found first others = (best : Claim) × (greatest_from (Some first) others ≡ Some best) × IsGreatest (first ∷ others) best
 
-none_behind : (best : Option Claim) → greatest_from best [] ≡ best
+pub none_behind : (best : Option Claim) → greatest_from best [] ≡ best
 unfolding greatest_from
 none_behind best = refl
 

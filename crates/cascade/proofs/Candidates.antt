@@ -1,10 +1,12 @@
 -- The rules that are found are all that match.
-use Rattle.std.proofs.Common.{◌≡◌, ◌⊎◌, inl, inr, ℕ, zero, suc, ◌+◌, ◌<◌, Bool, true, false, ◌||◌, ◌&&◌, List, [], ◌∷◌, ◌++◌, length, map, get_or, reverse, bytes_eq, refl, sym, subst, ap, ◌∙◌, arith, Option, Some, None}
+use Rattle.std.proofs.Common.{◌≡◌, ◌⊎◌, inl, inr, ℕ, zero, suc, ◌+◌, Bool, true, false, ◌||◌, ◌&&◌, List, [], ◌∷◌, ◌++◌, length, map, get_or, reverse, bytes_eq, refl, sym, subst, ap, ◌∙◌, arith, Option, Some, None}
 use Rattle.std.specs.Prelude.{slice_get}
 use Rattle.std.specs.List.{Contains}
-use Rattle.std.proofs.lemmas.List.Elements.{Contains-append_left, Contains-append_right, Contains-append_cases, Contains-push, Contains-push_cases}
-use Rattle.std.proofs.lemmas.Option.{get_or_from_slice_get}
+use Rattle.std.proofs.lemmas.List.Elements.{Contains-append_left, Contains-append_right, Contains-append_cases}
+use Rattle.std.proofs.lemmas.Option.{get_or_from_slice_get, slice_get_within}
 use Rattle.std.proofs.lemmas.Slice.Eq.{bytes_eq-Decides}
+use Rattle.std.proofs.lemmas.Bool.{and_parts}
+use Rattle.basic_laws.proofs.Lists.{contains_cases, contains_first, contains_none, contains_other, contained_any}
 use Rattle.html_tokens.specs.declared.tag.Tag.{Tag}
 use Rattle.html_tokens.specs.Tag.{name_of}
 use Rattle.css_sheet.specs.Default.{default_rules}
@@ -22,39 +24,10 @@ use Rattle.cascade.specs.Matching.{some, each, tails, fits_type, has_class, has_
 use Rattle.cascade.specs.Winners.{winners, winners_in}
 use Rattle.cascade.proofs.Chaining.{joined_above}
 use Rattle.cascade.proofs.SameClaims.{same_winners, keys_tell}
-use Rattle.cascade.proofs.Shelving.{is_there}
 
 -- ---- members of lists
 
-pub first_of : {A : Type 0} (x : A) (others : List A) → Contains (x ∷ others) x
-first_of x others = Contains-append_left (x ∷ []) others x (Contains-push [] x)
-
-pub later_of : {A : Type 0} (x : A) (others : List A) (y : A) → Contains others y → Contains (x ∷ others) y
-later_of x others y has = Contains-append_right (x ∷ []) others y has
-
-pub none_of : {A : Type 0} (y : A) → Contains [] y → ⊥
-none_of y has = absurd (omega (arith, has.1))
-
-alone : {A : Type 0} (x y : A) → Contains [] y ⊎ (x ≡ y) → x ≡ y
-alone x y (inl none) = absurd (none_of y none)
-alone x y (inr same) = same
-
-one_of : {A : Type 0} (x : A) (others : List A) (y : A) → Contains (x ∷ []) y ⊎ Contains others y → (x ≡ y) ⊎ Contains others y
-one_of x others y (inl first) = inl (alone x y (Contains-push_cases [] x y first))
-one_of x others y (inr later) = inr later
-
-pub cases_of : {A : Type 0} (x : A) (others : List A) (y : A) → Contains (x ∷ others) y → (x ≡ y) ⊎ Contains others y
-cases_of x others y has = one_of x others y (Contains-append_cases (x ∷ []) others y has)
-
 -- ---- a compound that fits an element stands under one of its headings
-
-and_left : (one other : Bool) → (one && other) ≡ true → one ≡ true
-and_left true other is = refl
-and_left false other is = is
-
-and_right : (one other : Bool) → (one && other) ≡ true → other ≡ true
-and_right true other is = is
-and_right false other is = absurd cc
 
 or_none : (one : Bool) → (one || false) ≡ true → one ≡ true
 or_none true is = refl
@@ -65,8 +38,8 @@ same_bytes one other is = (bytes_eq-Decides one other).0 is
 
 among_own : (of : List ℕ → Heading) (own : List ℕ) (classes : List (List ℕ)) (class : List ℕ) (b : Bool) → bytes_eq class own ≡ b → (b || some (bytes_eq class) classes) ≡ true
     → (some (bytes_eq class) classes ≡ true → Contains (map of classes) (of class)) → Contains (of own ∷ map of classes) (of class)
-among_own of own classes class true same is later = subst (λ (n : List ℕ). Contains (of own ∷ map of classes) (of n)) (sym (same_bytes class own same)) (first_of (of own) (map of classes))
-among_own of own classes class false same is later = later_of (of own) (map of classes) (of class) (later is)
+among_own of own classes class true same is later = subst (λ (n : List ℕ). Contains (of own ∷ map of classes) (of n)) (sym (same_bytes class own same)) (contains_first (of own) (map of classes))
+among_own of own classes class false same is later = contains_other (of own) (of class) (map of classes) (later is)
 
 among_classes : (of : List ℕ → Heading) (classes : List (List ℕ)) (class : List ℕ) → some (bytes_eq class) classes ≡ true → Contains (map of classes) (of class)
 unfolding some
@@ -75,34 +48,34 @@ among_classes of (own ∷ classes) class is = among_own of own classes class (by
 
 id_among : (of : List ℕ → Heading) (own : Option (List ℕ)) (id : List ℕ) → has_id own id ≡ true → Contains (headings_of_id of own) (of id)
 id_among of None id is = absurd cc
-id_among of (Some own) id is = subst (λ (n : List ℕ). Contains (of own ∷ []) (of n)) (sym (same_bytes id own is)) (first_of (of own) [])
+id_among of (Some own) id is = subst (λ (n : List ℕ). Contains (of own ∷ []) (of n)) (sym (same_bytes id own is)) (contains_first (of own) [])
 
 abbrev pub headings_with : Tag → Option (List ℕ) → List (List ℕ) → List Heading
 headings_with tag id classes = of_any ∷ of_type (name_of tag) ∷ (headings_of_id of_id id ++ map of_class classes)
 
 class_found : (tag : Tag) (id : Option (List ℕ)) (classes : List (List ℕ)) (class : List ℕ) → some (bytes_eq class) classes ≡ true → Contains (headings_with tag id classes) (of_class class)
 class_found tag id classes class is =
-    later_of of_any (of_type (name_of tag) ∷ (headings_of_id of_id id ++ map of_class classes)) (of_class class)
-    (later_of (of_type (name_of tag)) (headings_of_id of_id id ++ map of_class classes) (of_class class)
+    contains_other of_any (of_class class) (of_type (name_of tag) ∷ (headings_of_id of_id id ++ map of_class classes))
+    (contains_other (of_type (name_of tag)) (of_class class) (headings_of_id of_id id ++ map of_class classes)
     (Contains-append_right (headings_of_id of_id id) (map of_class classes) (of_class class) (among_classes of_class classes class is)))
 
 id_found : (tag : Tag) (own : Option (List ℕ)) (classes : List (List ℕ)) (id : List ℕ) → has_id own id ≡ true → Contains (headings_with tag own classes) (of_id id)
 id_found tag own classes id is =
-    later_of of_any (of_type (name_of tag) ∷ (headings_of_id of_id own ++ map of_class classes)) (of_id id)
-    (later_of (of_type (name_of tag)) (headings_of_id of_id own ++ map of_class classes) (of_id id) (Contains-append_left (headings_of_id of_id own) (map of_class classes) (of_id id) (id_among of_id own id is)))
+    contains_other of_any (of_id id) (of_type (name_of tag) ∷ (headings_of_id of_id own ++ map of_class classes))
+    (contains_other (of_type (name_of tag)) (of_id id) (headings_of_id of_id own ++ map of_class classes) (Contains-append_left (headings_of_id of_id own) (map of_class classes) (of_id id) (id_among of_id own id is)))
 
 type_found : (tag : Tag) (id : Option (List ℕ)) (classes : List (List ℕ)) (name : Option (List ℕ)) → fits_type name tag ≡ true → Contains (headings_with tag id classes) (by_type name)
-type_found tag id classes None is = first_of of_any (of_type (name_of tag) ∷ (headings_of_id of_id id ++ map of_class classes))
+type_found tag id classes None is = contains_first of_any (of_type (name_of tag) ∷ (headings_of_id of_id id ++ map of_class classes))
 type_found tag id classes (Some name) is =
     subst (λ (n : List ℕ). Contains (headings_with tag id classes) (of_type n)) (sym (same_bytes name (name_of tag) is))
-    (later_of of_any (of_type (name_of tag) ∷ (headings_of_id of_id id ++ map of_class classes)) (of_type (name_of tag)) (first_of (of_type (name_of tag)) (headings_of_id of_id id ++ map of_class classes)))
+    (contains_other of_any (of_type (name_of tag)) (of_type (name_of tag) ∷ (headings_of_id of_id id ++ map of_class classes)) (contains_first (of_type (name_of tag)) (headings_of_id of_id id ++ map of_class classes)))
 
 -- the first of some names that an element all has, or what counts without them
 by_first_found : (of : List ℕ → Heading) (has : List ℕ → Bool) (names : List (List ℕ)) (all : List Heading) (other : Heading) → each has names ≡ true
     → ((name : List ℕ) → has name ≡ true → Contains all (of name)) → Contains all other → Contains all (by_first of names other)
 unfolding each
 by_first_found of has [] all other is found there = there
-by_first_found of has (name ∷ names) all other is found there = found name (and_left (has name) (each has names) is)
+by_first_found of has (name ∷ names) all other is found there = found name ((and_parts (has name) (each has names) is).0)
 
 -- ---- one to the left fits an element above
 
@@ -114,7 +87,7 @@ stands_first : (of : List ℕ → Heading) (has : List ℕ → Bool) (names : Li
     → ((name : List ℕ) → has name ≡ true → Contains all (of name)) → StandsAmong all under other → StandsAmong all (by_first of names under) other
 unfolding each
 stands_first of has [] all under other is found there = there
-stands_first of has (name ∷ names) all under other is found there = inr (found name (and_left (has name) (each has names) is))
+stands_first of has (name ∷ names) all under other is found there = inr (found name ((and_parts (has name) (each has names) is).0))
 
 stands_further : (first all : List Heading) (under other : Heading) → StandsAmong all under other → StandsAmong (first ++ all) under other
 stands_further first all under other (inl same) = inl same
@@ -152,12 +125,12 @@ above_is_found (compound ∷ left) other (element tag id classes dir own ∷ abo
     let type_fits = fits_type compound.tag tag in
     let classes_fit = each (has_class classes) compound.classes in
     let ids_fit = each (has_id id) compound.ids in
-    let fits : (type_fits && (classes_fit && ids_fit)) ≡ true = and_left (type_fits && (classes_fit && ids_fit)) (joined compound.joint (matches_from left) above) is in
-    let rest : (classes_fit && ids_fit) ≡ true = and_right type_fits (classes_fit && ids_fit) fits in
-    let further = joined_above compound.joint left above (and_right (type_fits && (classes_fit && ids_fit)) (joined compound.joint (matches_from left) above) is) in
+    let fits : (type_fits && (classes_fit && ids_fit)) ≡ true = (and_parts (type_fits && (classes_fit && ids_fit)) (joined compound.joint (matches_from left) above) is).0 in
+    let rest : (classes_fit && ids_fit) ≡ true = (and_parts type_fits (classes_fit && ids_fit) fits).1 in
+    let further = joined_above compound.joint left above ((and_parts (type_fits && (classes_fit && ids_fit)) (joined compound.joint (matches_from left) above) is).1) in
     let first : List Heading = headings_of_id of_upper_id id ++ map of_upper_class classes in
-    stands_first of_upper_id (has_id id) compound.ids (first ++ upper_headings above) _ other (and_right classes_fit ids_fit rest) (upper_id_found id classes (upper_headings above))
-    (stands_first of_upper_class (has_class classes) compound.classes (first ++ upper_headings above) _ other (and_left classes_fit ids_fit rest) (upper_class_found id classes (upper_headings above))
+    stands_first of_upper_id (has_id id) compound.ids (first ++ upper_headings above) _ other ((and_parts classes_fit ids_fit rest).1) (upper_id_found id classes (upper_headings above))
+    (stands_first of_upper_class (has_class classes) compound.classes (first ++ upper_headings above) _ other ((and_parts classes_fit ids_fit rest).0) (upper_class_found id classes (upper_headings above))
     (stands_further first (upper_headings above) (heading_above left other) other (among_tails (matches_from left) above (heading_above left other) other (above_is_found left other) further)))
 
 -- ---- so the heading of a rule that matches is one of those of the line
@@ -168,34 +141,29 @@ last_or_above first above under other has (inr there) = Contains-append_right fi
 
 heading_is_found : (compounds : List Compound) (line : List What) → matches_from compounds line ≡ true → Contains (headings line) (heading_from_right compounds)
 unfolding matches_from
-heading_is_found [] [] is = first_of of_any []
-heading_is_found [] (text letters ∷ above) is = first_of of_any (upper_headings above)
-heading_is_found [] (element tag id classes dir own ∷ above) is = first_of of_any ((of_type (name_of tag) ∷ (headings_of_id of_id id ++ map of_class classes)) ++ upper_headings above)
+heading_is_found [] [] is = contains_first of_any []
+heading_is_found [] (text letters ∷ above) is = contains_first of_any (upper_headings above)
+heading_is_found [] (element tag id classes dir own ∷ above) is = contains_first of_any ((of_type (name_of tag) ∷ (headings_of_id of_id id ++ map of_class classes)) ++ upper_headings above)
 heading_is_found (compound ∷ left) [] is = absurd cc
 heading_is_found (compound ∷ left) (text letters ∷ above) is = absurd cc
 heading_is_found (compound ∷ left) (element tag id classes dir own ∷ above) is =
     let type_fits = fits_type compound.tag tag in
     let classes_fit = each (has_class classes) compound.classes in
     let ids_fit = each (has_id id) compound.ids in
-    let fits : (type_fits && (classes_fit && ids_fit)) ≡ true = and_left (type_fits && (classes_fit && ids_fit)) (joined compound.joint (matches_from left) above) is in
-    let rest : (classes_fit && ids_fit) ≡ true = and_right type_fits (classes_fit && ids_fit) fits in
-    let further = joined_above compound.joint left above (and_right (type_fits && (classes_fit && ids_fit)) (joined compound.joint (matches_from left) above) is) in
+    let fits : (type_fits && (classes_fit && ids_fit)) ≡ true = (and_parts (type_fits && (classes_fit && ids_fit)) (joined compound.joint (matches_from left) above) is).0 in
+    let rest : (classes_fit && ids_fit) ≡ true = (and_parts type_fits (classes_fit && ids_fit) fits).1 in
+    let further = joined_above compound.joint left above ((and_parts (type_fits && (classes_fit && ids_fit)) (joined compound.joint (matches_from left) above) is).1) in
     let own_ones = headings_with tag id classes in
     let upper = upper_headings above in
     let under = heading_above left (by_type compound.tag) in
-    by_first_found of_id (has_id id) compound.ids (own_ones ++ upper) _ (and_right classes_fit ids_fit rest)
+    by_first_found of_id (has_id id) compound.ids (own_ones ++ upper) _ ((and_parts classes_fit ids_fit rest).1)
     (λ name has. Contains-append_left own_ones upper (of_id name) (id_found tag id classes name has))
-    (by_first_found of_class (has_class classes) compound.classes (own_ones ++ upper) under (and_left classes_fit ids_fit rest)
+    (by_first_found of_class (has_class classes) compound.classes (own_ones ++ upper) under ((and_parts classes_fit ids_fit rest).0)
     (λ name has. Contains-append_left own_ones upper (of_class name) (class_found tag id classes name has))
-    (last_or_above own_ones upper under (by_type compound.tag) (type_found tag id classes compound.tag (and_left type_fits (classes_fit && ids_fit) fits))
+    (last_or_above own_ones upper under (by_type compound.tag) (type_found tag id classes compound.tag ((and_parts type_fits (classes_fit && ids_fit) fits).0))
     (among_tails (matches_from left) above under (by_type compound.tag) (above_is_found left (by_type compound.tag)) further)))
 
 -- ---- the rules of a list, by their places
-
-within : (rules : List Rule) (place : ℕ) (rule : Rule) → slice_get rules place ≡ Some rule → place < length rules
-within [] place rule is = absurd cc
-within (first ∷ rules) zero rule is = omega arith
-within (first ∷ rules) (suc place) rule is = let lt = within rules place rule is in omega arith
 
 -- a claim of the rule at a place is one of those of all rules
 rule_in : (origin : Bool → Origin) (rules : List Rule) (base place number : ℕ) (rule : Rule) (line : List What) (c : Claim) → number ≡ base + place → slice_get rules place ≡ Some rule
@@ -231,7 +199,7 @@ of_later origin first rules base line c (inr later) others =
 
 of_rule : (origin : Bool → Origin) (rules : List Rule) (base : ℕ) (line : List What) (c : Claim) → Contains (claims_of_rules origin base (rulings_of rules) line) c → IsOf origin rules base line c
 unfolding claims_of_rules
-of_rule origin [] base line c has = absurd (none_of c has)
+of_rule origin [] base line c has = absurd (contains_none c has)
 of_rule origin (first ∷ rules) base line c has =
     of_later origin first rules base line c (Contains-append_cases (claims_of_rule origin base (ruling_of first) line) (claims_of_rules origin (base + 1) (rulings_of rules) line) c has)
     (of_rule origin rules (base + 1) line c)
@@ -251,13 +219,13 @@ at_this origin rules first places line place rule c is has (inr later) others =
 at_has : (origin : Bool → Origin) (rules : List Rule) (places : List ℕ) (line : List What) (place : ℕ) (rule : Rule) (c : Claim) → slice_get rules place ≡ Some rule
     → Contains (claims_of_rule origin place (ruling_of rule) line) c → Contains places place → Contains (claims_at origin rules places line) c
 unfolding claims_at
-at_has origin rules [] line place rule c is has among = absurd (none_of place among)
+at_has origin rules [] line place rule c is has among = absurd (contains_none place among)
 at_has origin rules (first ∷ places) line place rule c is has among =
-    at_this origin rules first places line place rule c is has (cases_of first places place among) (at_has origin rules places line place rule c is has)
+    at_this origin rules first places line place rule c is has (contains_cases first place places among) (at_has origin rules places line place rule c is has)
 
 from_if : (origin : Bool → Origin) (rules : List Rule) (place : ℕ) (rule : Option Rule) (line : List What) (c : Claim) → slice_get rules place ≡ rule → Contains (claims_if origin place rule line) c
     → Contains (claims_of_rules origin 0 (rulings_of rules) line) c
-from_if origin rules place None line c is has = absurd (none_of c has)
+from_if origin rules place None line c is has = absurd (contains_none c has)
 from_if origin rules place (Some rule) line c is has = rule_in origin rules 0 place place rule line c (omega arith) is has
 
 from_first : (origin : Bool → Origin) (rules : List Rule) (place : ℕ) (places : List ℕ) (line : List What) (c : Claim)
@@ -269,7 +237,7 @@ from_first origin rules place places line c (inr later) others = others later
 from_places : (origin : Bool → Origin) (rules : List Rule) (places : List ℕ) (line : List What) (c : Claim) → Contains (claims_at origin rules places line) c
     → Contains (claims_of_rules origin 0 (rulings_of rules) line) c
 unfolding claims_at
-from_places origin rules [] line c has = absurd (none_of c has)
+from_places origin rules [] line c has = absurd (contains_none c has)
 from_places origin rules (place ∷ places) line c has =
     from_first origin rules place places line c (Contains-append_cases (claims_if origin place (slice_get rules place) line) (claims_at origin rules places line) c has) (from_places origin rules places line c)
 
@@ -287,9 +255,9 @@ under_this origin rules shelves first others line under c has (inr later) rest =
 under_has : (origin : Bool → Origin) (rules : List Rule) (shelves : Shelves) (all : List Heading) (line : List What) (under : Heading) (c : Claim)
     → Contains (claims_at origin rules (shelf shelves under) line) c → Contains all under → Contains (claims_under origin rules shelves all line) c
 unfolding claims_under
-under_has origin rules shelves [] line under c has among = absurd (none_of under among)
+under_has origin rules shelves [] line under c has among = absurd (contains_none under among)
 under_has origin rules shelves (first ∷ others) line under c has among =
-    under_this origin rules shelves first others line under c has (cases_of first others under among) (under_has origin rules shelves others line under c has)
+    under_this origin rules shelves first others line under c has (contains_cases first under others among) (under_has origin rules shelves others line under c has)
 
 from_one : (origin : Bool → Origin) (rules : List Rule) (shelves : Shelves) (first : Heading) (others : List Heading) (line : List What) (c : Claim)
     → Contains (claims_at origin rules (shelf shelves first) line) c ⊎ Contains (claims_under origin rules shelves others line) c
@@ -301,14 +269,14 @@ from_one origin rules shelves first others line c (inr later) rest = rest later
 pub from_headings : (origin : Bool → Origin) (rules : List Rule) (shelves : Shelves) (all : List Heading) (line : List What) (c : Claim) → Contains (claims_under origin rules shelves all line) c
     → Contains (claims_of_rules origin 0 (rulings_of rules) line) c
 unfolding claims_under
-from_headings origin rules shelves [] line c has = absurd (none_of c has)
+from_headings origin rules shelves [] line c has = absurd (contains_none c has)
 from_headings origin rules shelves (first ∷ others) line c has =
     from_one origin rules shelves first others line c (Contains-append_cases (claims_at origin rules (shelf shelves first) line) (claims_under origin rules shelves others line) c has)
     (from_headings origin rules shelves others line c)
 
 matched : (b : Bool) (list : List Claim) (c : Claim) → Contains (if_matching b list) c → b ≡ true
 matched true list c has = refl
-matched false list c has = absurd (none_of c has)
+matched false list c has = absurd (contains_none c has)
 
 -- what is of one of the rules is found
 pub is_candidate : (origin : Bool → Origin) (rules : List Rule) (shelves : Shelves) (line : List What) (c : Claim) → AreShelved shelves rules (length rules)
@@ -320,7 +288,7 @@ is_candidate origin rules shelves line c shelved has =
     let claimed = subst (λ (n : ℕ). Contains (claims_of_rule origin n (ruling_of of.rule) line) c) here of.has in
     let does = matched (matches (selector_of of.rule.selector) line) (stated origin false (specificity_of (selector_of of.rule.selector)) of.place 0 of.rule.declarations.value.items) c claimed in
     let same : get_or rules of.place of.rule ≡ of.rule = get_or_from_slice_get rules of.place of.rule of.rule of.there in
-    let there = is_there (shelf shelves (heading (selector_of (get_or rules of.place of.rule).selector))) of.place (shelved.each of.place of.rule (within rules of.place of.rule of.there)) in
+    let there = contained_any (shelf shelves (heading (selector_of (get_or rules of.place of.rule).selector))) of.place (shelved.each of.place of.rule (slice_get_within rules of.place of.rule of.there)) in
     let place : Contains (shelf shelves under) of.place = subst (λ (r : Rule). Contains (shelf shelves (heading (selector_of r.selector))) of.place) same there in
     under_has origin rules shelves (headings line) line under c (at_has origin rules (shelf shelves under) line of.place of.rule c of.there claimed place)
     (heading_is_found (reverse (selector_of of.rule.selector)) line does)

@@ -3,7 +3,7 @@ use Rattle.std.proofs.Common.{◌≡◌, ℕ, suc, ◌-◌, ◌<◌, ◌≤◌, 
 use Rattle.std.specs.Borrow.{Bor}
 use Rattle.std.proofs.Math.Seq.{take-suc}
 use Rattle.std.proofs.lemmas.List.{take_all, length-take, length-drop, map-append, reverse-append}
-use Rattle.std.proofs.lemmas.Bool.{or_cases, false≢true}
+use Rattle.std.proofs.lemmas.Bool.{or_cases, false≢true, and_parts}
 use Rattle.std.proofs.Math.Bool.{or-true, or-false}
 use Rattle.css_types.specs.declared.rule.Joint.{Joint}
 use Rattle.css_types.specs.declared.rule.Joint.TheVariants.{Child, Descendant}
@@ -37,13 +37,9 @@ begins_with (first ∷ others) node le is =
     let rest : take (length (first ∷ others) - 1) others ≡ others = ap (λ (n : ℕ). take n others) less ∙ take_all (length others) others (omega arith) in
     ap (λ (n : Bor Node). what_of n.now.kind ∷ whats_of others) (sym is) ∙ ap (λ (ns : List (Bor Node)). what_of node.now.kind ∷ whats_of ns) (sym rest)
 
-pub no_parts : (parts : List Part) → length parts < 1 → parts ≡ []
-no_parts [] lt = refl
-no_parts (part ∷ parts) lt = absurd (omega arith)
-
-pub no_nodes : (line : List (Bor Node)) → length line < 1 → line ≡ []
-no_nodes [] lt = refl
-no_nodes (node ∷ line) lt = absurd (omega arith)
+pub none_there : {A : Type 0} (xs : List A) → length xs < 1 → xs ≡ []
+none_there [] lt = refl
+none_there (x ∷ xs) lt = absurd (omega arith)
 
 -- ---- a chain
 
@@ -98,10 +94,6 @@ chain_is (compound ∷ left) (what ∷ above) =
 
 -- ---- the nearest place is as good as any
 
-both : (one other : Bool) → (one && other) ≡ true → other ≡ true
-both true other is = is
-both false other is = absurd cc
-
 pub joined_above : (joint : Joint) (left : List Compound) (above : List What) → joined joint (matches_from left) above ≡ true → some (matches_from left) (tails above) ≡ true
 unfolding some tails
 joined_above Child left [] is = rw is refl
@@ -110,7 +102,7 @@ joined_above Descendant left above is = is
 
 joined_here : (compound : Compound) (left : List Compound) (what : What) (above : List What) → matches_from (compound ∷ left) (what ∷ above) ≡ true → some (matches_from left) (tails above) ≡ true
 unfolding matches_from
-joined_here compound left what above is = joined_above compound.joint left above (both (fits compound what) (joined compound.joint (matches_from left) above) is)
+joined_here compound left what above is = joined_above compound.joint left above ((and_parts (fits compound what) (joined compound.joint (matches_from left) above) is).1)
 
 nowhere : (compound : Compound) (left : List Compound) → some (matches_from (compound ∷ left)) (tails []) ≡ true → false ≡ true
 unfolding some tails matches_from

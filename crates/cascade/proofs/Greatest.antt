@@ -1,11 +1,12 @@
 -- The greatest claim of a list, found claim by claim.
-use Rattle.std.proofs.Common.{◌≡◌, ◌≢◌, ◌⊎◌, inl, inr, eqb, ℕ, ◌<◌, ◌≤◌, ◌+◌, Bool, true, false, List, [], ◌∷◌, length, drop, get_or, set, refl, arith, sym, ap, ◌∙◌}
+use Rattle.std.proofs.Common.{◌≡◌, ◌≢◌, ◌⊎◌, inl, inr, eqb, ℕ, ◌<◌, ◌≤◌, ◌+◌, Bool, true, false, List, ◌∷◌, length, drop, get_or, set, refl, arith, sym, ap, ◌∙◌}
 use Rattle.std.specs.Borrow.{Bor}
 use Rattle.std.specs.Prelude.{Option, None, filter, cond}
 use Rattle.std.proofs.Math.ListN.{get_or-map}
 use Rattle.std.proofs.lemmas.List.{drop_all, drop_more, get_or-set_other, length-set, map-set}
 use Rattle.std.proofs.lemmas.Grind.{get_or-set_at}
 use Rattle.std.proofs.lemmas.Bool.Decides.{eqb_tells}
+use Rattle.cascade.proofs.Best.{none_behind}
 use Rattle.cascade.specs.declared.claim.Claim.{Claim}
 use Rattle.wm_modes.specs.declared.mode.WritingMode.{WritingMode}
 use Rattle.wm_modes.specs.declared.mode.Direction.{Direction}
@@ -25,10 +26,6 @@ one_more : (keeps : Claim → Bool) (best : Option Claim) (claim : Claim) (other
     → greatest_from best (filter keeps (claim ∷ others)) ≡ greatest_from (greater_if (keeps claim) best claim) (filter keeps others)
 one_more keeps best claim others = by_bool (keeps claim) best claim (filter keeps others)
 
-none_left : (best : Option Claim) → greatest_from best [] ≡ best
-unfolding greatest_from
-none_left best = refl
-
 -- with those that are left it is the greatest of all
 pub goes_on : (keeps : Claim → Bool) (best next : Option Claim) (claims : List Claim) (i : ℕ) (d : Claim) (x : Option Claim)
     → i < length claims → next ≡ greater_if (keeps (get_or claims i d)) best (get_or claims i d)
@@ -41,7 +38,7 @@ goes_on keeps best next claims i d x lt e now =
 pub ends : (keeps : Claim → Bool) (best : Option Claim) (claims : List Claim) (i : ℕ) (x : Option Claim)
     → length claims ≤ i → greatest_from best (filter keeps (drop i claims)) ≡ x → best ≡ x
 ends keeps best claims i x le now =
-    sym (none_left best) ∙ ap (λ (l : List Claim). greatest_from best (filter keeps l)) (sym (drop_all i claims le)) ∙ now
+    sym (none_behind best) ∙ ap (λ (l : List Claim). greatest_from best (filter keeps l)) (sym (drop_all i claims le)) ∙ now
 
 -- ---- of those that name a property
 

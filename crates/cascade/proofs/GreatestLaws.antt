@@ -1,8 +1,8 @@
 -- The claim that is found is the greatest, and the greatest is found.
 use Rattle.std.proofs.Common.{◌≡◌, ◌∙◌, List, [], ◌∷◌, refl, sym, ap, subst, Some, None}
+use Rattle.basic_laws.proofs.Lists.{contains_none}
 use Rattle.cascade.specs.declared.claim.Claim.{Claim}
 use Rattle.cascade.specs.Winners.{greatest, IsGreatest, KeysDiffer}
-use Rattle.cascade.proofs.Members.{contains_none}
 use Rattle.cascade.proofs.Best.{found, of_some, of_none}
 use Rattle.cascade.proofs.Keys.{told_by_keys}
 use Rattle.cascade.proofs.SameClaims.{same_best}

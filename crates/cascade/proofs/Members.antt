@@ -1,27 +1,9 @@
 -- Members of lists.
-use Rattle.std.proofs.Common.{◌≡◌, ◌⊎◌, inl, inr, zero, suc, Bool, true, false, List, [], ◌∷◌, ap, ◌∙◌, subst, arith}
+use Rattle.std.proofs.Common.{◌≡◌, inl, inr, Bool, true, false, List, [], ◌∷◌, ap, ◌∙◌, subst}
 use Rattle.std.specs.Prelude.{cond, filter}
 use Rattle.std.specs.List.{Contains}
-use Rattle.std.proofs.lemmas.List.Elements.{All-contains, All-filter, All-contains_itself, filter_passes, Contains-append_left, Contains-append_right, Contains-append_cases, Contains-push}
-
-pub contains_first : {X : Type 0} (x : X) (others : List X) → Contains (x ∷ others) x
-contains_first x others = Contains-append_left (x ∷ []) others x (Contains-push [] x)
-
-pub contains_other : {X : Type 0} (x y : X) (others : List X) → Contains others y → Contains (x ∷ others) y
-contains_other x y others at = Contains-append_right (x ∷ []) others y at
-
-contains_one : {X : Type 0} (x y : X) → Contains (x ∷ []) y → x ≡ y
-contains_one x y (zero, below, is) = is
-contains_one x y (suc k, below, is) = absurd (omega arith)
-
-pub contains_cases : {X : Type 0} (x y : X) (others : List X) → Contains (x ∷ others) y → (x ≡ y) ⊎ Contains others y
-contains_cases x y others at = elim (Contains-append_cases (x ∷ []) others y at) [
-  | inl here ↦ inl (contains_one x y here)
-  | inr there ↦ inr there
-]
-
-pub contains_none : {X : Type 0} (x : X) → Contains [] x → ⊥
-contains_none x at = absurd (omega (arith, at.1))
+use Rattle.std.proofs.lemmas.List.Elements.{All-contains, All-filter, All-contains_itself, filter_passes}
+use Rattle.basic_laws.proofs.Lists.{contains_cases, contains_first, contains_none, contains_other}
 
 -- ---- of those that are kept
 

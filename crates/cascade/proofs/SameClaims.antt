@@ -1,7 +1,8 @@
 -- The winners among the claims of an element are told by which claims there are, in whatever order.
-use Rattle.std.proofs.Common.{◌≡◌, ℕ, Bool, List, [], ◌∷◌, refl, sym, ap, ◌∙◌, Option, Some}
+use Rattle.std.proofs.Common.{◌≡◌, Bool, List, [], ◌∷◌, refl, sym, ap, ◌∙◌, Option, Some}
 use Rattle.std.specs.Prelude.{filter, filter_map, option_map}
 use Rattle.std.specs.List.{Contains, cons_option}
+use Rattle.basic_laws.proofs.Lists.{contains_first, contains_none}
 use Rattle.wm_modes.specs.declared.mode.WritingMode.{WritingMode}
 use Rattle.wm_modes.specs.declared.mode.Direction.{Direction}
 use Rattle.css_types.specs.declared.property.Property.{Property}
@@ -13,14 +14,14 @@ use Rattle.defaulting.specs.Defaulting.{computed_mode, computed_direction, compu
 use Rattle.css_types.specs.Page.{page_of}
 use Rattle.css_types.specs.Rule.{Ruling}
 use Rattle.css_types.specs.Table.{rows}
-use Rattle.dom_store.specs.State.{State, What, IsSaidState, line}
+use Rattle.dom_store.specs.State.{What, line}
 use Rattle.cascade.specs.declared.claim.Claim.{Claim}
 use Rattle.cascade.specs.Claims.{numbers_of, claims}
 use Rattle.cascade.specs.Winners.{greatest, same_property, winner, first_winner, turned, direction_of, paired, winners_by, winners, winners_in, IsGreatest, AreSaidRules, IsSaidLine, AreSaidWinners}
 use Rattle.cascade.proofs.NumberOrder.{same_where_none_is_less}
-use Rattle.cascade.proofs.Members.{HaveSame, same_kept, kept_was, contains_first, contains_none}
+use Rattle.cascade.proofs.Members.{HaveSame, same_kept, kept_was}
 use Rattle.cascade.proofs.Keys.{keys_differ, told_by_keys}
-use Rattle.cascade.proofs.SaidClaims.{claims_said, winners_said, line_said}
+use Rattle.cascade.proofs.SaidClaims.{claims_said, winners_said}
 use Rattle.cascade.proofs.Best.{found, of_some}
 
 -- claims of one key are one
@@ -92,6 +93,3 @@ keys_tell rules line = told_by_keys (claims rules line) (keys_differ rules line)
 
 pub winners_are_said : (rules : List Ruling) (line : List What) (parent : Style) → AreSaidRules rules → IsSaidLine line → AreSaidWinners (winners rules line parent)
 winners_are_said rules line parent said said_line = winners_said (claims rules line) parent (claims_said rules line said said_line)
-
-pub said_line : (state : State) (number : ℕ) → IsSaidState state → IsSaidLine (line state number)
-said_line state number said = line_said state number said

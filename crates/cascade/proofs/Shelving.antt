@@ -4,11 +4,9 @@ use Rattle.std.specs.Prelude.{slice_get}
 use Rattle.std.specs.String.{string_bytes}
 use Rattle.std.specs.List.{Contains, list_any}
 use Rattle.std.proofs.lemmas.List.Elements.{Contains-append_left, Contains-push}
-use Rattle.std.proofs.lemmas.Bool.{eqb-true}
-use Rattle.std.proofs.lemmas.Map.Views.{list_any-from_Contains, Contains-from_any}
-use Rattle.std.proofs.lemmas.Cmp.{nat_eq_equiv}
 use Rattle.std.proofs.lemmas.List.{get_or_default}
 use Rattle.std.proofs.lemmas.Slice.Eq.{bytes_eq-Decides}
+use Rattle.basic_laws.proofs.Lists.{any_contained, contained_any}
 use Rattle.css_types.specs.declared.rule.Part.{Part}
 use Rattle.css_types.specs.declared.rule.Rule.{Rule}
 use Rattle.css_types.specs.Rule.{Compound, compound_of, compounds_of, selector_of}
@@ -16,7 +14,7 @@ use Rattle.cascade.specs.declared.places.Places.{Places}
 use Rattle.cascade.specs.declared.shelves.Shelves.{Shelves}
 use Rattle.cascade.specs.Filing.{Heading, of_id, of_class, of_type, of_any, of_upper_id, of_upper_class, by_first, heading, heading_above, heading_from_right, shelf, AreShelved, IsPut}
 use Rattle.cascade.specs.Places.{places_under}
-use Rattle.cascade.proofs.Chaining.{ends_in, from_right, no_parts}
+use Rattle.cascade.proofs.Chaining.{ends_in, from_right, none_there}
 
 abbrev pub Letters : Type 0
 Letters = String Global
@@ -153,7 +151,7 @@ heading_by_other of_ids of_classes part other ids classes ids_of_part no_id of_p
 -- ---- and of a selector
 
 pub heading_of_none : (parts : List Part) → length parts < 1 → of_any ≡ heading (compounds_of parts)
-heading_of_none parts lt = ap (λ (l : List Part). heading (compounds_of l)) (sym (no_parts parts lt))
+heading_of_none parts lt = ap (λ (l : List Part). heading (compounds_of l)) (sym (none_there parts lt))
 
 pub above_of_parts : (parts : List Part) (last : Part) (other : Heading) → 1 ≤ length parts → last ≡ get_or parts (length parts - 1) last
     → by_names of_upper_id of_upper_class last (heading_above (from_right (take (length parts - 1) parts)) other) ≡ heading_above (from_right parts) other
@@ -162,24 +160,18 @@ above_of_parts parts last other le is = sym (ap (λ (left : List Compound). head
 
 pub above_of_none : (parts : List Part) (other : Heading) → length parts < 1 → other ≡ heading_above (from_right parts) other
 unfolding heading_above
-above_of_none parts other lt = ap (λ (l : List Part). heading_above (from_right l) other) (sym (no_parts parts lt))
+above_of_none parts other lt = ap (λ (l : List Part). heading_above (from_right l) other) (sym (none_there parts lt))
 
 -- ---- the places of all rules
-
-pub is_there : (places : List ℕ) (place : ℕ) → list_any (nat_eq place) places ≡ true → Contains places place
-is_there places place = Contains-from_any eqb-true place places
-
-pub is_found : (places : List ℕ) (place : ℕ) → Contains places place → list_any (nat_eq place) places ≡ true
-is_found places place = list_any-from_Contains nat_eq_equiv place places
 
 one_more : (old new : Shelves) (rules : List Rule) (rule : Rule) (count place : ℕ) (d : Rule) → count < length rules → rule ≡ get_or rules count rule → IsPut old new (heading (selector_of rule.selector)) count → AreShelved old rules count
     → (place < count) ⊎ (place ≡ count) → list_any (nat_eq place) (shelf new (heading (selector_of (get_or rules place d).selector))) ≡ true
 one_more old new rules rule count place d below is put shelved (inl lt) =
-    is_found _ place (put.kept (heading (selector_of (get_or rules place d).selector)) place (is_there (shelf old (heading (selector_of (get_or rules place d).selector))) place (shelved.each place d lt)))
+    any_contained _ place (put.kept (heading (selector_of (get_or rules place d).selector)) place (contained_any (shelf old (heading (selector_of (get_or rules place d).selector))) place (shelved.each place d lt)))
 one_more old new rules rule count place d below is put shelved (inr same) =
     let there : get_or rules count d ≡ rule = get_or_default rules count d rule below ∙ sym is in
     let which : get_or rules place d ≡ rule = ap (λ (n : ℕ). get_or rules n d) same ∙ there in
-    is_found (shelf new (heading (selector_of (get_or rules place d).selector))) place
+    any_contained (shelf new (heading (selector_of (get_or rules place d).selector))) place
     (subst (λ (r : Rule). Contains (shelf new (heading (selector_of r.selector))) place) (sym which)
     (subst (λ (n : ℕ). Contains (shelf new (heading (selector_of rule.selector))) n) (sym same) put.placed))
 

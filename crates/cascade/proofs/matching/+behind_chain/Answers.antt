@@ -1,7 +1,7 @@
 use Rattle.std.proofs.Common.{◌-◌, length, ◌∙◌, arith}
 use Rattle.std.proofs.lemmas.List.{length-take}
 use Rattle.cascade.specs.Line.{whats_of}
-use Rattle.cascade.proofs.Chaining.{chain_of_none, chain_at_none, chain_goes_on, ends_in, no_parts, no_nodes}
+use Rattle.cascade.proofs.Chaining.{chain_of_none, chain_at_none, chain_goes_on, ends_in, none_there}
 use Rattle.cascade.proofs.Sets.{above_are_of, first_are_of}
 use Rattle.cascade.proofs.matching.+behind_chain.Goals as goal
 
@@ -15,10 +15,10 @@ pub returns-in-Descendant-clause-sets : goal.returns-in-Descendant-clause-sets
 returns-in-Descendant-clause-sets t c = above_are_of c.args.sets.now c.args.line.now c.in-len1-up-line.len_at_least c.requires
 
 pub returns-in_default-clause-found : goal.returns-in_default-clause-found
-returns-in_default-clause-found t c = rw (no_parts c.args.parts.now c.in_default.len_below) (chain_of_none (whats_of c.args.line.now))
+returns-in_default-clause-found t c = rw (none_there c.args.parts.now c.in_default.len_below) (chain_of_none (whats_of c.args.line.now))
 
 pub returns-in_default-line-clause-found : goal.returns-in_default-line-clause-found
-returns-in_default-line-clause-found t c = rw (no_nodes c.args.line.now c.in_default-line.len_below, ends_in c.args.parts.now c.last-item.result c.in-len1-up.len_at_least c.last-item.is) (chain_at_none _ _)
+returns-in_default-line-clause-found t c = rw (none_there c.args.line.now c.in_default-line.len_below, ends_in c.args.parts.now c.last-item.result c.in-len1-up.len_at_least c.last-item.is) (chain_at_none _ _)
 
 pub returns-then-not-fits-clause-found : goal.returns-then-not-fits-clause-found
 returns-then-not-fits-clause-found t c =

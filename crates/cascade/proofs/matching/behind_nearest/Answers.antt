@@ -1,6 +1,6 @@
 use Rattle.std.proofs.Common.{◌∙◌}
 use Rattle.cascade.specs.Line.{whats_of}
-use Rattle.cascade.proofs.Chaining.{from_right, nearest_found, nearest_ends, nearest_above, no_nodes, above_is_shorter}
+use Rattle.cascade.proofs.Chaining.{from_right, nearest_found, nearest_ends, nearest_above, above_is_shorter, none_there}
 use Rattle.cascade.proofs.Sets.{above_are_of}
 use Rattle.cascade.proofs.matching.behind_nearest.Goals as goal
 
@@ -10,7 +10,7 @@ returns-in-Some-clause-found c =
 
 pub returns-in_default-rest-clause-found : goal.returns-in_default-rest-clause-found
 returns-in_default-rest-clause-found c =
-    let none = no_nodes c.loop-left.rest.now c.in_default-rest.len_below in
+    let none = none_there c.loop-left.rest.now c.in_default-rest.len_below in
     let found = rw none at c.in_default.ensures.found in
     nearest_ends (from_right c.args.parts.now) found ∙ (rw none at c.loop-left.invariant.found)
 

@@ -3,7 +3,7 @@ use Rattle.dom_store.specs.State.{What, what_of}
 use Rattle.cascade.specs.Filing.{of_any, headings, headings_of, upper_headings, claims_at, claims_under}
 use Rattle.cascade.specs.Line.{whats_of}
 use Rattle.cascade.specs.Sheet.{origin_in}
-use Rattle.cascade.proofs.Chaining.{begins_with, no_nodes}
+use Rattle.cascade.proofs.Chaining.{begins_with, none_there}
 use Rattle.cascade.proofs.Filing.{under_nothing, under_then, under_parts}
 use Rattle.cascade.proofs.filed.Filed.put_claims.Goals as goal
 
@@ -16,7 +16,7 @@ returns-in_default c =
     let all = c.args.all.now.items in
     let first = c.in_ok-put_at.ensures ∙ ap (λ (places : List ℕ). all ++ claims_at origin rules places line) c.deref.ensures.value in
     under_then all c.put_at.new.all.items c.put_at.new.all.items origin rules shelves of_any [] line first (under_nothing c.put_at.new.all.items origin rules shelves line)
-    ∙ ap (λ (of : List What). all ++ claims_under origin rules shelves (headings of) line) (ap whats_of (sym (no_nodes c.args.line.nodes.now c.in_default.len_below)))
+    ∙ ap (λ (of : List What). all ++ claims_under origin rules shelves (headings of) line) (ap whats_of (sym (none_there c.args.line.nodes.now c.in_default.len_below)))
 
 pub returns-in_ok-put_of_above : goal.returns-in_ok-put_of_above
 returns-in_ok-put_of_above c =
