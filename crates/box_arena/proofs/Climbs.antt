@@ -1,7 +1,7 @@
 -- The two passes of a climb.
-use Rattle.std.proofs.Common.{◌≡◌, ◌∙◌, ◌≢◌, ◌⊎◌, ℕ, zero, suc, Bool, true, false, not, Option, Some, None, IsSome, option_map, refl, sym, ap, subst, inl, inr}
+use Rattle.std.proofs.Common.{◌≡◌, ◌∙◌, ◌≢◌, ℕ, zero, suc, Bool, true, false, Option, Some, None, IsSome, option_map, refl, sym, ap, subst, inl, inr}
 use Rattle.std.proofs.Math.Path.{fun_ext}
-use Rattle.std.proofs.lemmas.Bool.{cases_eq}
+use Rattle.std.proofs.lemmas.Bool.{cases_eq, cases_Bool}
 use Rattle.std.proofs.lemmas.Option.{none-some, same_Some}
 use Rattle.slab.specs.Slab.{Slab, get, ContainsKey}
 use Rattle.box_arena.specs.declared.entry.Entry.{Entry}
@@ -49,10 +49,6 @@ top_alone s c r free (suc n, (q, is, rest)) =
 
 true_false : {P : Type 0} (b : Bool) → b ≡ true → b ≡ false → P
 true_false b is gone = absurd (cc)
-
-by_bool : (b : Bool) → (b ≡ true) ⊎ (b ≡ false)
-by_bool true = inl refl
-by_bool false = inr refl
 
 lives_at : (s : Linking) (key p : ℕ) → IsSome (s key) → Some key ≡ Some p → IsSome (s p)
 lives_at s key p live is = let P : ℕ → Type 0 = λ k. IsSome (s k) in subst P (same_Some key p is) live
@@ -209,7 +205,7 @@ module _ (s : Linking) (key : ℕ) where
     }
 
   pub cleared : (old now : Marking) (at : Option ℕ) → ((p : ℕ) → at ≡ Some p → is_seen (now p) ≡ false) → Clears s old now key at → IsStill now
-  cleared old now at ended clears k = elim (by_bool (is_seen (now k))) [
+  cleared old now at ended clears k = elim (cases_Bool (is_seen (now k))) [
     | inl is ↦
         let (p, here, reaches) = clears.left k is in
         let P : ℕ → Type 0 = λ q. (is_seen (now q) ≡ false) × Reaches s q key in
@@ -236,15 +232,11 @@ module _ (s : Linking) (key : ℕ) where
   pub marks_up : (old mid new : Marking) → Risen s old mid key → ((k : ℕ) → is_marked (new k) ≡ is_marked (mid k)) → MarksUp s old new key
   marks_up old mid new rose same = record {
     above = λ k reaches. same k ∙ (rose.above k reaches).1;
-    others = λ k apart. same k ∙ elim (by_bool (is_seen (mid k))) [
+    others = λ k apart. same k ∙ elim (cases_Bool (is_seen (mid k))) [
       | inl is ↦ absurd (apart (rose.seen k is))
       | inr is ↦ rose.others k is
     ];
   }
-
-pub is_false : (b : Bool) → not b ≡ true → b ≡ false
-is_false true is = sym is
-is_false false is = refl
 
 -- ---- what a climb leaves
 

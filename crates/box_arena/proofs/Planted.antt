@@ -359,10 +359,6 @@ module _ {T : Type 0} where
 pub opened : (tree : BoxTree) → boxes_of tree ≡ box (node_of (out-BoxTree tree).node).name (node_of (out-BoxTree tree).node).style (node_of (out-BoxTree tree).node).content (all_boxes_of (out-BoxTree tree).children.items) none
 opened tree = ap (λ (f : Boxes → Boxes). f none) (fold_out-BoxTree (Boxes → Boxes) box_step tree)
 
-pub none_left : {A : Type 0} (xs : List A) → length xs ≡ 0 → xs ≡ []
-none_left [] is = refl
-none_left (x ∷ xs) is = absurd (omega (arith, is))
-
 -- ---- boxes that are counted one by one
 
 pub counted_on : (trees : List BoxTree) (k : ℕ) (tree : BoxTree) → k < length trees → tree ≡ slice_index_or trees k tree

@@ -1,11 +1,12 @@
 -- Two constraints that the order of their sizes ties are the same.
-use Rattle.std.proofs.Common.{◌≡◌, ◌≢◌, Bool, true, false, Option, Some, None, refl, sym, ap, ap₂}
+use Rattle.std.proofs.Common.{◌≡◌, ◌≢◌, true, false, Option, Some, None, refl, sym, ap, ap₂}
 use Rattle.std.specs.Prelude.{ℤ, ◌<ℤ◌}
 use Rattle.std.specs.Option.{option_cmp}
 use Rattle.std.specs.declared.cmp.Ordering.{Ordering}
 use Rattle.std.specs.declared.cmp.Ordering.TheVariants.{Less, Equal, Greater}
 use Rattle.std.specs.Ordering.{int_cmp, ordering_then, is_eq, MatchOrdering}
 use Rattle.std.proofs.lemmas.Cmp.{int_ranked}
+use Rattle.std.proofs.lemmas.Bool.{false_from_ne_true}
 use Rattle.fragment_types.specs.declared.constraint.Constraint.{Constraint}
 use Rattle.box_arena.specs.Results.{sizes_cmp}
 
@@ -36,9 +37,5 @@ same_constraint one other tied =
     let both = both_tied (option_cmp int_cmp one.inline other.inline) (option_cmp int_cmp one.block other.block) tied in
     ap₂ the (options_tied one.inline other.inline both.0) (options_tied one.block other.block both.1)
 
-decided : (b : Bool) → (b ≡ true → ⊥) → b ≡ false
-decided true never = absurd (never refl)
-decided false never = refl
-
 pub sizes_apart : (c other : Constraint) → other ≢ c → is_eq (sizes_cmp (c.inline, c.block) (other.inline, other.block)) ≡ false
-sizes_apart c other apart = decided _ (λ tied. apart (sym (same_constraint c other tied)))
+sizes_apart c other apart = false_from_ne_true _ (λ tied. apart (sym (same_constraint c other tied)))

@@ -1,10 +1,11 @@
 use Rattle.std.proofs.Common.{◌≡◌, ◌∙◌, ℕ, Option, refl, sym, ap, subst, false}
 use Rattle.std.proofs.lemmas.Option.{same_Some}
+use Rattle.std.proofs.lemmas.Bool.{not-true}
 use Rattle.box_arena.specs.At.{links_at, mark_at}
 use Rattle.box_arena.specs.Climb.{Clears}
 use Rattle.box_arena.specs.Links.{parent_of}
 use Rattle.box_arena.specs.Marks.{is_marked, is_seen}
-use Rattle.box_arena.proofs.Climbs.{clears_next, cleared, is_false, only_more}
+use Rattle.box_arena.proofs.Climbs.{clears_next, cleared, only_more}
 use Rattle.box_arena.proofs.climb.clear.Goals as goal
 
 pub loop-current-preserved : goal.loop-current-preserved
@@ -23,5 +24,5 @@ loop-current-preserved g c =
 pub returns-then-not-mark-clause-still : goal.returns-then-not-mark-clause-still
 returns-then-not-mark-clause-still g c =
     let P : ℕ → Type 0 = λ k. is_seen (mark_at c.loop-current.boxes.slots k) ≡ false in
-    let here : is_seen (mark_at c.loop-current.boxes.slots c.in-Some.at) ≡ false = ap is_seen c.mark_of-mark.ensures ∙ is_false _ c.if-not-mark.true in
+    let here : is_seen (mark_at c.loop-current.boxes.slots c.in-Some.at) ≡ false = ap is_seen c.mark_of-mark.ensures ∙ not-true _ c.if-not-mark.true in
     cleared _ _ _ _ c.loop-current.current (λ p is. subst P (same_Some c.in-Some.at p (sym c.in-Some.is ∙ is)) here) c.loop-current.invariant.clears

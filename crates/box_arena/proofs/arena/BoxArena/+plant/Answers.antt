@@ -1,9 +1,10 @@
 use Rattle.std.proofs.Common.{◌≡◌, ◌∙◌, ◌+◌, suc, List, ap, arith, subst}
+use Rattle.std.proofs.lemmas.List.{nil_from_length}
 use Rattle.box_gen.specs.declared.tree.BoxTree.{BoxTree, out-BoxTree}
 use Rattle.box_gen.specs.Tree.{all_boxes_of, boxes_of}
 use Rattle.box_arena.specs.At.{node_of}
 use Rattle.box_arena.specs.Planting.{count}
-use Rattle.box_arena.proofs.Planted.{IsUnderWay, begun, count_all, fewer, finished, none_left, not_above, one_on, opened}
+use Rattle.box_arena.proofs.Planted.{IsUnderWay, begun, count_all, fewer, finished, not_above, one_on, opened}
 use Rattle.box_arena.proofs.arena.BoxArena.+plant.Goals as goal
 
 pub loop-child-init : goal.loop-child-init
@@ -39,5 +40,5 @@ loop-child-preserved g t c =
 pub returns : goal.returns
 returns g t c =
     let P : List BoxTree → Type 0 = λ rest. IsUnderWay c.args.self.now c.loop-child.self c.insert_reserved-key.result (node_of (out-BoxTree c.args.tree).node) (all_boxes_of (out-BoxTree c.args.tree).children.items) rest in
-    let none = none_left c.loop-child.child-iterator.rest.items (omega (arith, c.in-None.ensures.steps.0, c.loop-child.child-iterator.rest.ok.0)) in
+    let none = nil_from_length c.loop-child.child-iterator.rest.items (omega (arith, c.in-None.ensures.steps.0, c.loop-child.child-iterator.rest.ok.0)) in
     finished c.args.self.now c.loop-child.self c.insert_reserved-key.result _ _ (boxes_of c.args.tree) (subst P none c.loop-child.invariant) (opened c.args.tree)
