@@ -1,8 +1,9 @@
 -- The hexadecimal digits of a code point, place by place.
-use Rattle.std.proofs.Common.{◌≡◌, refl, sym, ap, ◌∙◌, ℕ, zero, ◌/◌, ◌<◌, ◌≤◌, List, [], ◌∷◌, ◌++◌, length, true, false, Bool, cond, suc, nat_eq, nat_lt, arith, ◌⊎◌, inl, inr, ◌-◌}
+use Rattle.std.proofs.Common.{◌≡◌, refl, sym, ap, ◌∙◌, ℕ, zero, ◌/◌, ◌<◌, ◌≤◌, List, [], ◌∷◌, ◌++◌, length, true, false, Bool, cond, suc, nat_eq, arith, ◌⊎◌, inl, inr, ◌-◌}
 use Rattle.std.specs.Prelude.{replicate, slice_index_or}
 use Rattle.std.specs.Fmt.{digit_glyph, digits, digits_onto}
 use Rattle.std.proofs.lemmas.Bool.Decides.{nat_tests}
+use Rattle.std.proofs.lemmas.Bool.{cases_lt}
 use Rattle.listing.specs.Words.{code_point, digit, four_digits, high_digit}
 
 -- ---- one digit after another
@@ -20,13 +21,6 @@ last n k acc small = by_test n k acc true (grind (arith, nat_tests))
 
 more : (n k : ℕ) (acc : List ℕ) → 16 ≤ n → digits_onto (suc k) 16 true n acc ≡ digits_onto k 16 true (n / 16) (digit n ∷ acc)
 more n k acc large = by_test n k acc false (grind (arith, nat_tests))
-
-order : (m n : ℕ) → (m < n) ⊎ (n ≤ m)
-order m n = by (nat_lt m n) refl
-  where
-    by : (b : Bool) → nat_lt m n ≡ b → (m < n) ⊎ (n ≤ m)
-    by true e = inl (grind (arith, nat_tests))
-    by false e = inr (grind (arith, nat_tests))
 
 -- ---- numbers of one to six digits
 
@@ -77,7 +71,7 @@ unfolding code_point
 padded n ds e = ap (λ (l : List ℕ). replicate (4 - length l) 48 ++ l) e
 
 pub last_four : (n : ℕ) → n < 65536 → code_point n ≡ four_digits n
-last_four n small = by_size (order n 16) (order n 256) (order n 4096)
+last_four n small = by_size (cases_lt n 16) (cases_lt n 256) (cases_lt n 4096)
   where
     by_size : (n < 16) ⊎ (16 ≤ n) → (n < 256) ⊎ (256 ≤ n) → (n < 4096) ⊎ (4096 ≤ n) → code_point n ≡ four_digits n
     by_size (inl h) k l = let a : n / 4096 ≡ 0 = omega arith in let b : n / 256 ≡ 0 = omega arith in let c : n / 16 ≡ 0 = omega arith in padded n _ (one n h) ∙ rw (a, b, c) refl
@@ -109,7 +103,7 @@ reached : (place c : ℕ) → place ≤ c → high_digit place c ≡ digit (c / 
 reached place c h = grind (arith, nat_tests)
 
 spelled : (sign c : ℕ) → c < 1114112 → [] ++ sign ∷ [] ++ high_digit 1048576 c ++ high_digit 65536 c ++ four_digits c ≡ sign ∷ code_point c
-spelled sign c small = by_size (order c 65536) (order c 1048576)
+spelled sign c small = by_size (cases_lt c 65536) (cases_lt c 1048576)
   where
     by_size : (c < 65536) ⊎ (65536 ≤ c) → (c < 1048576) ⊎ (1048576 ≤ c) → [] ++ sign ∷ [] ++ high_digit 1048576 c ++ high_digit 65536 c ++ four_digits c ≡ sign ∷ code_point c
     by_size (inl h) k = rw (below 1048576 c (omega arith), below 65536 c h, last_four c h) refl

@@ -2,7 +2,8 @@
 use Rattle.std.proofs.Common.{◌≡◌, sym, ap, subst, ◌∙◌, arith, ℕ, ◌+◌, ◌<◌, List, [], ◌∷◌, ◌++◌, length, drop, get_or, append_assoc, append-nil}
 use Rattle.std.proofs.lemmas.List.{drop_more}
 use Rattle.std.specs.declared.option.Option.{Option}
-use Rattle.std.specs.Prelude.{Result, Ok, Err, OnOk}
+use Rattle.std.specs.Prelude.{Result, Ok, OnOk}
+use Rattle.std.proofs.lemmas.Result.{on_ok_weaker}
 use Rattle.io_edge.proofs.Growth.{front_of_longer, put_front, put_more, starts, waits_on}
 use Rattle.io_edge.specs.Edge.{AppendsUpTo, AppendsFront}
 use Rattle.listing.specs.Runs.{character, glyphs, told}
@@ -64,11 +65,6 @@ module _ (old : Option (List ℕ)) (waiting a b c : List ℕ) where
         pub three_put : (w3 : List ℕ) → AppendsUpTo s2 s3 (w2 ++ c) w3 → AppendsUpTo old s3 (waiting ++ (a ++ b ++ c)) w3
         three_put w3 last = subst (λ (l : List ℕ). AppendsUpTo old s3 l w3) three (put_more old s2 s3 (waiting ++ a ++ b) w2 c w3 (put_more old s1 s2 (waiting ++ a) w1 b w2 one two) last)
 
--- what follows at Ok
-pub on_ok : {A E : Type 0} {P Q : Type 0} (r : Result A E) → (P → Q) → OnOk r P → OnOk r Q
-on_ok (Ok x) f p = f p
-on_ok (Err e) f p = tt
-
 -- the same text in other words
 module _ (old new : Option (List ℕ)) (waiting piece text : List ℕ) (same : piece ≡ text) where
   pub front_of_same : AppendsFront old new (waiting ++ piece) → AppendsFront old new (waiting ++ text)
@@ -78,7 +74,7 @@ module _ (old new : Option (List ℕ)) (waiting piece text : List ℕ) (same : p
   put_from left = subst (λ (l : List ℕ). AppendsUpTo old new (waiting ++ l) left) same
 
   pub put_same : {A E : Type 0} (r : Result A E) (left : List ℕ) → OnOk r (AppendsUpTo old new (waiting ++ piece) left) → OnOk r (AppendsUpTo old new (waiting ++ text) left)
-  put_same r left = on_ok r (put_from left)
+  put_same r left = on_ok_weaker r (put_from left)
 
 -- where nothing is put, what waits still waits
 pub nothing_put : (sink : Option (List ℕ)) (waiting : List ℕ) → AppendsUpTo sink sink (waiting ++ []) waiting
