@@ -3,6 +3,7 @@ use Rattle.std.proofs.Common.{◌≡◌, ◌∙◌, refl, ap, ℕ, zero, suc, �
 use Rattle.std.specs.Prelude.{⊤}
 use Rattle.std.specs.List.{list_all, list_any, slice_range}
 use Rattle.std.proofs.lemmas.Bool.{and_parts}
+use Rattle.basic_laws.proofs.Booleans.{cond_same}
 use Rattle.wm_chars.specs.declared.classes.BidiClass.{BidiClass}
 use Rattle.wm_chars.specs.declared.classes.BidiClass.TheVariants.{L, R, AL, EN, ES, ET, AN, CS, NSM, B, S, WS, ON, LRE, LRO, RLE, RLO, PDF, LRI, RLI, FSI, PDI}
 use Rattle.bidi_explicit.specs.Explicit.{begin, entries, levels_by, classes_by, explicit_levels, explicit_classes, removed_marks}
@@ -263,20 +264,16 @@ scattered_zero n [] new a = refl
 scattered_zero n (p ∷ places) [] a = refl
 scattered_zero n (p ∷ places) (x ∷ new) a = rw (a.0, set_zero n p) (scattered_zero n places new a.1)
 
-either_way : (is : Bool) (n : ℕ) → cond is n n ≡ n
-either_way true n = refl
-either_way false n = refl
-
 before_zero : (level : ℕ → ℕ) → ((q : ℕ) → level q ≡ 0) → (kept : List ℕ) (p : ℕ) → level_before level 0 kept p ≡ 0
 before_zero level zeros [] p = refl
-before_zero level zeros (q ∷ kept) p = rw (zeros q, before_zero level zeros kept p) (either_way (ltb q p) 0)
+before_zero level zeros (q ∷ kept) p = rw (zeros q, before_zero level zeros kept p) (cond_same (ltb q p) 0)
 
 behind_zero : (level : ℕ → ℕ) → ((q : ℕ) → level q ≡ 0) → (kept : List ℕ) (p : ℕ) → level_behind level 0 kept p ≡ 0
 behind_zero level zeros [] p = refl
-behind_zero level zeros (q ∷ kept) p = rw (zeros q, behind_zero level zeros kept p) (either_way (ltb p q) 0)
+behind_zero level zeros (q ∷ kept) p = rw (zeros q, behind_zero level zeros kept p) (cond_same (ltb p q) 0)
 
 end_zero : (level : ℕ → ℕ) → ((q : ℕ) → level q ≡ 0) → (classes : List BidiClass) (kept : List ℕ) (p : ℕ) → level_at_end 0 level classes kept p ≡ 0
-end_zero level zeros classes kept p = rw (behind_zero level zeros kept p) (either_way (is_unmatched classes p) 0)
+end_zero level zeros classes kept p = rw (behind_zero level zeros kept p) (cond_same (is_unmatched classes p) 0)
 
 -- a sequence of these classes leaves level 0
 abbrev written : (n : ℕ) (chars : List ℕ) (originals classes : List BidiClass) → Sequence → List ℕ

@@ -1,11 +1,12 @@
 -- A paragraph in which nothing embeds, overrides or isolates is one sequence on its base level.
-use Rattle.std.proofs.Common.{◌≡◌, ◌∙◌, refl, sym, ap, ap₂, arith, append-nil, append_assoc, ℕ, zero, suc, ◌+◌, ◌<◌, ◌≤◌, Bool, true, false, cond, eqb, ltb, List, [], ◌∷◌, ◌++◌, length, get_or, take, drop, set, map, replicate, None}
+use Rattle.std.proofs.Common.{◌≡◌, ◌∙◌, refl, sym, ap, ap₂, arith, append-nil, append_assoc, ℕ, zero, suc, ◌+◌, ◌<◌, ◌≤◌, true, false, cond, eqb, ltb, List, [], ◌∷◌, ◌++◌, length, get_or, take, drop, set, map, replicate, None}
 use Rattle.std.specs.Prelude.{All, max, slice_index_or}
 use Rattle.std.specs.List.{list_all, range_with_len}
-use Rattle.std.proofs.lemmas.Bool.{and_parts}
+use Rattle.std.proofs.lemmas.Bool.{and_parts, eq-eqb}
 use Rattle.std.proofs.lemmas.List.{drop_all, drop_more, length-map, length-replicate, length-set, take_all, take_more_set}
 use Rattle.std.proofs.lemmas.List.Elements.{All-cons, All-nil}
-use Rattle.std.proofs.lemmas.List.FromFn.{get_or-range_with_len, length-range_with_len, map-range_with_len_more}
+use Rattle.std.proofs.lemmas.List.FromFn.{length-range_with_len, map-range_with_len_more}
+use Rattle.basic_laws.proofs.Booleans.{cond_same}
 use Rattle.wm_chars.specs.Classes.{is_removed}
 use Rattle.wm_chars.specs.declared.classes.BidiClass.{BidiClass}
 use Rattle.wm_chars.specs.declared.classes.BidiClass.TheVariants.{L, R, AL, EN, ES, ET, AN, CS, NSM, B, S, WS, ON, LRE, LRO, RLE, RLO, PDF, LRI, RLI, FSI, PDI}
@@ -79,13 +80,6 @@ kept_all at (c ∷ classes) a = rw (stays c a.0) (ap (λ l. at ∷ l) (kept_all 
 
 -- ---- one level
 
-same_eqb : (n : ℕ) → eqb n n ≡ true
-same_eqb n = grind arith
-
-either_way : (is : Bool) (n : ℕ) → cond is n n ≡ n
-either_way true n = refl
-either_way false n = refl
-
 max_same : (n : ℕ) → max n n ≡ n
 max_same n = omega arith
 
@@ -101,11 +95,11 @@ each_same n at (suc m) base within = (level_same n at base (omega arith), each_s
 one_run : (level : ℕ → ℕ) (base p : ℕ) (places : List ℕ) → level p ≡ base → Each (λ q. level q ≡ base) places → level_runs level (p ∷ places) ≡ (p ∷ places) ∷ []
 one_run level base p [] h a = refl
 one_run level base p (q ∷ places) h a =
-    rw (one_run level base q places a.0 a.1, h, a.0, same_eqb base) refl
+    rw (one_run level base q places a.0 a.1, h, a.0, eq-eqb base base refl) refl
 
 behind_same : (level : ℕ → ℕ) (base : ℕ) (kept : List ℕ) (p : ℕ) → Each (λ q. level q ≡ base) kept → level_behind level base kept p ≡ base
 behind_same level base [] p a = refl
-behind_same level base (q ∷ kept) p a = rw (a.0, behind_same level base kept p a.1) (either_way (ltb p q) base)
+behind_same level base (q ∷ kept) p a = rw (a.0, behind_same level base kept p a.1) (cond_same (ltb p q) base)
 
 -- ---- no character begins an isolate
 
@@ -144,7 +138,7 @@ sides base m classes a long =
     let kept = range_with_len 0 (suc m) in
     let last = last_of 0 (range_with_len 1 m) in
     let behind = behind_same level base kept last (each_same (suc m) 0 (suc m) base (omega arith)) in
-    let end_ : level_at_end base level classes kept last ≡ base = ap (λ n. cond (is_unmatched classes last) base n) behind ∙ either_way (is_unmatched classes last) base in
+    let end_ : level_at_end base level classes kept last ≡ base = ap (λ n. cond (is_unmatched classes last) base n) behind ∙ cond_same (is_unmatched classes last) base in
     rw (end_, max_same base) refl
 
 runs_one : (base m : ℕ) (classes : List BidiClass) → Each Plain classes → suc m ≡ length classes
@@ -200,12 +194,6 @@ range_written xs i lt so_far = take_more_set xs i i lt ∙ ap (λ l. l ++ i ∷ 
 
 pub range_long : (n : ℕ) → length (range_with_len 0 n) ≡ n
 range_long n = length-range_with_len 0 n
-
-pub range_below : (n : ℕ) → All (λ p. p < n) (range_with_len 0 n)
-range_below n = λ k d lt.
-    let long : length (range_with_len 0 n) ≡ n = length-range_with_len 0 n in
-    let here : get_or (range_with_len 0 n) k d ≡ 0 + k = get_or-range_with_len 0 n k d (omega arith) in
-    omega arith
 
 -- ---- I1 and I2 on the base level
 

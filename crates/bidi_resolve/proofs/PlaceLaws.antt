@@ -2,19 +2,17 @@
 use Rattle.std.proofs.Common.{◌≡◌, ◌≢◌, ◌∙◌, refl, ap, arith, ℕ, zero, suc, ◌+◌, ◌<◌, List, [], ◌∷◌, ◌++◌, length, get_or, take, drop, set, reverse, append_assoc}
 use Rattle.std.specs.Prelude.{All}
 use Rattle.std.proofs.lemmas.List.{length-set, get_or-set_same, get_or-set_other, reverse-append}
+use Rattle.std.proofs.lemmas.List.Elements.{All-tail}
 use Rattle.wm_chars.specs.declared.classes.BidiClass.{BidiClass}
 use Rattle.bidi_explicit.specs.Sequences.{Rises}
 use Rattle.bidi_resolve.specs.Passes.{each}
 use Rattle.bidi_resolve.specs.Places.{gathered, scattered}
 
-tail_all : {X : Type 0} (P : X → Type 0) (x : X) (xs : List X) → All P (x ∷ xs) → All P xs
-tail_all P x xs all k d lt = all (suc k) d (omega arith)
-
 pub outside : {X : Type 0} (places : List ℕ) (new xs : List X) (k : ℕ) (d : X) → All (λ p. k ≢ p) places → get_or (scattered places new xs) k d ≡ get_or xs k d
 outside [] new xs k d apart = refl
 outside (p ∷ places) [] xs k d apart = refl
 outside (p ∷ places) (x ∷ new) xs k d apart =
-    outside places new (set xs p x) k d (tail_all (λ q. k ≢ q) p places apart) ∙ get_or-set_other xs p k x d (apart zero p (omega arith))
+    outside places new (set xs p x) k d (All-tail (λ q. k ≢ q) p places apart) ∙ get_or-set_other xs p k x d (apart zero p (omega arith))
 
 above : (p : ℕ) (places : List ℕ) → All (λ q. p < q) places → All (λ q. p ≢ q) places
 above p places rise k d lt same = let h = rise k d lt in absurd (omega arith)

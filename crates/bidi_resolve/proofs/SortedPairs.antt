@@ -5,6 +5,7 @@ use Rattle.std.specs.Option.{option_map}
 use Rattle.std.proofs.lemmas.Bool.{cases_Bool, le-ltb, lt-ltb}
 use Rattle.std.proofs.lemmas.List.{length-set, length-map, get_or-set_other, get_or_push, get_or_append_left}
 use Rattle.std.proofs.lemmas.List.Elements.{All-append, All-tail}
+use Rattle.basic_laws.proofs.Lists.{all_alone}
 use Rattle.wm_chars.specs.declared.classes.BidiClass.{BidiClass}
 use Rattle.wm_chars.specs.declared.classes.Bracket.{Bracket}
 use Rattle.bidi_explicit.specs.Sequences.{Rises}
@@ -30,10 +31,6 @@ resolve_zipped level sos (o ∷ openings) (None ∷ closings) originals classes 
 resolve_zipped level sos (o ∷ openings) (Some c ∷ closings) originals classes = resolve_zipped level sos openings closings originals (resolve_pair level sos o c originals classes)
 
 -- ---- one pair more
-
-one : (P : ℕ → Type 0) (x : ℕ) → P x → All P (x ∷ [])
-one P x holds zero d lt = holds
-one P x holds (suc k) d lt = absurd (omega arith)
 
 -- it comes first where its bracket opens before all others
 in_front : (pair : BracketPair) (openings : List ℕ) (closings : List (Option ℕ)) → All (λ o. pair.opening < o) openings → inserted pair (zipped openings closings) ≡ pair ∷ zipped openings closings
@@ -142,7 +139,7 @@ wider place openings before k d lt = let h = before k d lt in omega arith
 rises_push : (openings : List ℕ) (place : ℕ) → Rises openings → All (λ o. o < place) openings → Rises (openings ++ place ∷ [])
 rises_push [] place rises before = (λ k d lt. absurd (omega arith), tt)
 rises_push (o ∷ openings) place rises before =
-    (All-append (λ p. o < p) openings (place ∷ []) rises.0 (one (λ p. o < p) place (before zero o (omega arith))), rises_push openings place rises.1 (All-tail (λ o. o < place) o openings before))
+    (All-append (λ p. o < p) openings (place ∷ []) rises.0 (all_alone (λ p. o < p) place (before zero o (omega arith))), rises_push openings place rises.1 (All-tail (λ o. o < place) o openings before))
 
 waits_on : (place : ℕ) (r : Reading) → Waits place r → Waits (place + 1) r
 waits_on place r w = record { many = w.many; rises = w.rises; before = wider place r.openings w.before; unclosed = w.unclosed }
@@ -163,7 +160,7 @@ waits_open place partner r w =
     record {
       many = omega arith;
       rises = rises_push r.openings place w.rises w.before;
-      before = All-append (λ o. o < place + 1) r.openings (place ∷ []) (wider place r.openings w.before) (one (λ o. o < place + 1) place (omega arith));
+      before = All-append (λ o. o < place + 1) r.openings (place ∷ []) (wider place r.openings w.before) (all_alone (λ o. o < place + 1) place (omega arith));
       unclosed = (omega arith, get_or_push r.closings None None (length r.openings) m, unclosed_push r.closings (length r.openings) r.opened (omega arith) w.unclosed);
     }
 

@@ -6,6 +6,7 @@ use Rattle.std.specs.Prelude.{All, fold}
 use Rattle.std.proofs.lemmas.Bool.{cases_Bool, eqb-true, eqb-false}
 use Rattle.std.proofs.lemmas.List.{get_or_append_left, get_or-append-add}
 use Rattle.std.proofs.lemmas.Map.Keys.{IsDistinct-IsPermutation}
+use Rattle.std.proofs.lemmas.List.Elements.{All-tail}
 use Rattle.wm_chars.specs.declared.classes.BidiClass.{BidiClass}
 use Rattle.wm_chars.specs.declared.classes.BidiClass.TheVariants.{L}
 use Rattle.bidi_explicit.specs.Sequences.{kept_places}
@@ -16,9 +17,6 @@ use Rattle.bidi_resolve.specs.Places.{gathered, scattered, run_level}
 use Rattle.bidi_resolve.specs.Sequence.{sequence_classes, sequence_levels}
 use Rattle.bidi_resolve.proofs.PlaceLaws.{outside}
 
-tail_all : {X : Type 0} (P : X → Type 0) (x : X) (xs : List X) → All P (x ∷ xs) → All P xs
-tail_all P x xs all k d lt = all (suc k) d (omega arith)
-
 -- ---- lists that are the same at these places
 
 abbrev SameAt : {X : Type 0} → List X → List X → List ℕ → Type 0
@@ -28,7 +26,7 @@ gathered_same : {X : Type 0} (d : X) (xs ys : List X) (places : List ℕ) → Sa
 gathered_same d xs ys [] same = refl
 gathered_same d xs ys (p ∷ places) same =
     let first = same zero p (omega arith) d in
-    let rest = gathered_same d xs ys places (tail_all (λ q. (e : _) → get_or xs q e ≡ get_or ys q e) p places same) in
+    let rest = gathered_same d xs ys places (All-tail (λ q. (e : _) → get_or xs q e ≡ get_or ys q e) p places same) in
     rw (first, rest) refl
 
 level_same : (xs ys : List ℕ) (places : List ℕ) → SameAt xs ys places → run_level xs places ≡ run_level ys places

@@ -2,7 +2,7 @@ use Rattle.std.proofs.Common.{◌≡◌, ◌∙◌, ◌<◌, ℕ, All, length, s
 use Rattle.std.specs.List.{range_with_len}
 use Rattle.std.proofs.lemmas.List.{take_at}
 use Rattle.std.proofs.lemmas.List.Elements.{All-same}
-use Rattle.bidi_resolve.proofs.OneSequence.{range_below}
+use Rattle.basic_laws.proofs.Lists.{range_below}
 use Rattle.bidi_resolve.proofs.single.all_places.Goals as goal
 
 pub returns-clause-within : goal.returns-clause-within
