@@ -5,7 +5,7 @@ use Rattle.std.proofs.lemmas.List.{append-nil}
 use Rattle.std.specs.Prelude.{⊤}
 use Rattle.reading.specs.Cuts.{EndsWith}
 use Rattle.reading.specs.Readers.{Read, follow, mapped, give, joined, next_is, one_of, repeat, starts, strip}
-use Rattle.reading.proofs.SpellLaws.{ok, stop, bind_ok, bind_err, same_answer, Stopped, at_first, at_second}
+use Rattle.reading.proofs.SpellLaws.{ok, stop, bind_ok, bind_err, same_answer, Stopped, at_first, at_second, same_stop}
 use Rattle.reading.proofs.StopPlaces.{repeat_ends}
 use Rattle.reading.proofs.Turns.{turns_stop_back}
 use Rattle.css_tokens.specs.Characters.{is_line_break, is_quote}
@@ -22,9 +22,6 @@ EndsLine (byte ∷ bytes) = is_line_break byte ≡ true
 -- the text ends so, and what is left begins with a line break or is nothing
 abbrev StopsAt : (left text : List ℕ) → Type 0
 StopsAt left text = EndsWith text left × EndsLine left
-
-same_left : {A : Type 0} (a b : List ℕ) → stop {A = A} a ≡ stop b → a ≡ b
-same_left a b e = cc
 
 no_stop : {A : Type 0} {left : List ℕ} {x : A × List ℕ} → ok x ≡ stop left → ⊥
 no_stop e = absurd cc
@@ -57,11 +54,11 @@ plain_by byte bytes false e line = rw (e, line) refl
 
 escaped_stops : (byte : ℕ) (bytes left : List ℕ) → escaped bytes ≡ Err left → StopsAt left (byte ∷ bytes)
 unfolding escaped
-escaped_stops byte [] left e = at_end left (byte ∷ []) (same_left [] left e)
+escaped_stops byte [] left e = at_end left (byte ∷ []) (same_stop [] left e)
 escaped_stops byte (next ∷ bytes) left e = absurd (no_stop e)
 
 plain_stops : (byte : ℕ) (bytes left : List ℕ) (t : Bool) → is_line_break byte ≡ t → cond t (stop (byte ∷ bytes)) (ok (byte ∷ [], bytes)) ≡ Err left → StopsAt left (byte ∷ bytes)
-plain_stops byte bytes left true line e = rw (← same_left (byte ∷ bytes) left e) (([], refl), line)
+plain_stops byte bytes left true line e = rw (← same_stop (byte ∷ bytes) left e) (([], refl), line)
 plain_stops byte bytes left false line e = absurd (no_stop e)
 
 stops_by : (byte : ℕ) (bytes left : List ℕ) (t : Bool) → eqb byte 92 ≡ t → string_piece (byte ∷ bytes) ≡ Err left → StopsAt left (byte ∷ bytes)
@@ -70,7 +67,7 @@ stops_by byte bytes left true is e = escaped_stops byte bytes left (sym (escaped
 stops_by byte bytes left false is e = plain_stops byte bytes left (is_line_break byte) refl (sym (plain_by byte bytes (is_line_break byte) is refl) ∙ e)
 
 piece_stops : (bytes left : List ℕ) → string_piece bytes ≡ Err left → StopsAt left bytes
-piece_stops [] left e = at_end left [] (same_left [] left (sym none_is ∙ e))
+piece_stops [] left e = at_end left [] (same_stop [] left (sym none_is ∙ e))
 piece_stops (byte ∷ bytes) left e = stops_by byte bytes left (eqb byte 92) refl e
 
 -- what stands before the rest, a byte at least
