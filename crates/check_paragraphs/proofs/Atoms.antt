@@ -27,7 +27,7 @@ pub near_atoms : (atoms : List Atom) → sum_by (λ atom. atom_reach (atom_of at
 near_atoms atoms near = subst (λ n. n ≤ 2 ^ 57) (atoms_sum atoms) near
 
 first_most : (what : PreparedContent) (a b : ℕ) → a ≤ b → atoms_first what a ≤ atoms_first what b
-first_most (contents.Unit node first end_ form advance space glyphs) a b most = most
+first_most (contents.Unit form space node first end_ advance glyphs) a b most = most
 first_most (contents.Combined node first end_ advance natural glyphs) a b most = most
 first_most (contents.Atom name) a b most = omega arith
 first_most (contents.Break node) a b most = most

@@ -226,7 +226,7 @@ fn print_content<W: Write>(output: &mut W, what: &PreparedContent) -> io::Result
             glyphs,
         } => {
             write!(output, " Combined {node} {first} {end} {advance} {natural}")?;
-            print_glyphs(output, glyphs)
+            print_glyphs(output, glyphs.glyphs())
         }
         PreparedContent::Atom { name } => write!(output, " Atom {}.{}", name.node, name.ordinal),
         PreparedContent::Break { node } => write!(output, " Break {node}"),

@@ -220,7 +220,7 @@ parts_fine ps l fine =
 -- ---- lines
 
 content_fine : (ps : List Part) (entries : List Entry) (chain : List ℕ) (a : Atom) (what : PreparedContent) → AreBoxesOf ps a.fragment → IsFine ps (content_at entries chain a what)
-content_fine ps entries chain a (unit_of node first end_ form by space glyphs) fine = tt
+content_fine ps entries chain a (unit_of form space node first end_ by glyphs) fine = tt
 content_fine ps entries chain a (combined_of node first end_ by natural glyphs) fine = tt
 content_fine ps entries chain a (atom_of name) fine = fine
 content_fine ps entries chain a (break_of node) fine = tt
@@ -232,7 +232,7 @@ items_fine ps entries boxes (s ∷ ss) fine = (content_fine ps entries s.chain s
 past_fine : (ps : List Part) (what : PreparedContent) (atoms : List Atom) → AreFineAtoms ps atoms → AreFineAtoms ps (past what atoms)
 past_fine ps (atom_of name) [] fine = tt
 past_fine ps (atom_of name) (a ∷ atoms) fine = fine.1
-past_fine ps (unit_of node first end_ form by space glyphs) atoms fine = fine
+past_fine ps (unit_of form space node first end_ by glyphs) atoms fine = fine
 past_fine ps (combined_of node first end_ by natural glyphs) atoms fine = fine
 past_fine ps (break_of node) atoms fine = fine
 

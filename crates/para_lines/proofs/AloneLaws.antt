@@ -34,7 +34,7 @@ abbrev extents : List code_atom.Atom → List ℤ
 extents atoms = atom_extents (map atom_of atoms)
 
 past_extents : (what : PreparedContent) (atoms : List code_atom.Atom) → past what (extents atoms) ≡ extents (past what atoms)
-past_extents (Unit node first end_ form advance space glyphs) atoms = refl
+past_extents (Unit form space node first end_ advance glyphs) atoms = refl
 past_extents (Combined node first end_ advance natural glyphs) atoms = refl
 past_extents (Break node) atoms = refl
 past_extents (Atom name) [] = refl

@@ -74,7 +74,7 @@ abbrev item_with : ℕ → BidiClass → ℤ → Option ℕ → Bool → Option 
 item_with level class extent inside space apart what = record { level = level; class = class; extent = extent; inside = inside; space = space; apart = apart; what = what }
 
 content_by : (entries : List Entry) (chain : List ℕ) (what : PreparedContent) (atom : rule.Atom) → content_in (shifts entries chain) what atom ≡ rule.content_of entries chain atom what
-content_by entries chain (Unit node first end_ form advance space glyphs) atom = refl
+content_by entries chain (Unit form space node first end_ advance glyphs) atom = refl
 content_by entries chain (Combined node first end_ advance natural glyphs) atom = refl
 content_by entries chain (Atom name) atom = refl
 content_by entries chain (Break node) atom = refl

@@ -91,7 +91,7 @@ under_near : (a b : ℤ) → unsigned_abs b ≤ 2 ^ 32 → unsigned_abs (a -ℤ 
 under_near a b h = omega (arith, ints)
 
 content_near : (entries : List Entry) (chain : List ℕ) (atom : rule.Atom) (what : PreparedContent) → content_reach (rule.content_of entries chain atom what) ≤ atom_part what atom
-content_near entries chain atom (Unit node first end_ form advance space glyphs) = omega arith
+content_near entries chain atom (Unit form space node first end_ advance glyphs) = omega arith
 content_near entries chain atom (Combined node first end_ advance natural glyphs) = omega arith
 content_near entries chain atom (Break node) = omega arith
 content_near entries chain atom (Atom name) =

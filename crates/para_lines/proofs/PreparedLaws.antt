@@ -22,7 +22,7 @@ length_near : (z : ℤ) (most : ℕ) → pos 0 ≤ℤ z → z ≤ℤ pos most �
 length_near z most low high = omega (arith, ints)
 
 advance_near : (what : PreparedContent) → HasBounds what → HasAdvance what
-advance_near (Unit node first end_ form advance space glyphs) h = length_near advance 655360 h.0 h.1
+advance_near (Unit form space node first end_ advance glyphs) h = length_near advance 655360 h.0 h.1
 advance_near (Combined node first end_ advance natural glyphs) h = let n = length_near advance 65536 h.0 h.1 in omega arith
 advance_near (Atom name) h = tt
 advance_near (Break node) h = tt

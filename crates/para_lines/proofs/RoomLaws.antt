@@ -85,14 +85,14 @@ standings_rise entries standings items levels classes bases extents atoms is h =
 
 one_reach : (what : PreparedContent) (atoms : List rule.Atom) → HasAdvance what
     → unsigned_abs (advance_of what (atom_extents atoms)) + atom_part what (get_or atoms 0 no_atom) + total atom_reach (past what atoms) ≤ 655360 + 2 ^ 33 + total atom_reach atoms
-one_reach (Unit node first end_ form advance space glyphs) atoms h = omega arith
+one_reach (Unit form space node first end_ advance glyphs) atoms h = omega arith
 one_reach (Combined node first end_ advance natural glyphs) atoms h = omega arith
 one_reach (Break node) atoms h = omega (arith, ints)
 one_reach (Atom name) [] h = omega (arith, ints)
 one_reach (Atom name) (atom ∷ atoms) h = omega arith
 
 pub past_extents : (what : PreparedContent) (atoms : List rule.Atom) → past what (atom_extents atoms) ≡ atom_extents (past what atoms)
-past_extents (Unit node first end_ form advance space glyphs) atoms = refl
+past_extents (Unit form space node first end_ advance glyphs) atoms = refl
 past_extents (Combined node first end_ advance natural glyphs) atoms = refl
 past_extents (Break node) atoms = refl
 past_extents (Atom name) [] = refl

@@ -89,7 +89,7 @@ raised_near : (entries : List Entry) (shift : ℤ) (chain : List ℕ) → unsign
 raised_near entries shift chain = cap_near (shift +ℤ shifts entries chain)
 
 item_limit : (entries : List Entry) (limit : ℕ) (chain : List ℕ) (what : PreparedContent) (atom : rule.Atom) → atom_part what atom ≤ limit → IsInLimit limit (rule.content_of entries chain atom what)
-item_limit entries limit chain (Unit node first end_ form advance space glyphs) atom h = tt
+item_limit entries limit chain (Unit form space node first end_ advance glyphs) atom h = tt
 item_limit entries limit chain (Combined node first end_ advance natural glyphs) atom h = tt
 item_limit entries limit chain (Break node) atom h = tt
 item_limit entries limit chain (Atom name) atom h =

@@ -59,14 +59,14 @@ boxed_atomic (piece name rect (fragments.run form level natural units) inner nex
 boxed_atomic (piece name rect (measure min max_) inner next) h left_margin over_margin over under = tt
 
 first_within : (each most : ℕ) (what : PreparedContent) (atoms : List rule.Atom) → All (IsInReach each most) atoms → IsAtomWithin most what (get_or atoms 0 no_atom)
-first_within each most (Unit node first end_ form advance space glyphs) atoms h = tt
+first_within each most (Unit form space node first end_ advance glyphs) atoms h = tt
 first_within each most (Combined node first end_ advance natural glyphs) atoms h = tt
 first_within each most (Break node) atoms h = tt
 first_within each most (Atom name) [] h = (λ left_margin over_margin over under. tt, omega arith)
 first_within each most (Atom name) (atom ∷ atoms) h = let own = h 0 atom (omega arith) in (boxed_atomic atom.fragment own.boxed, own.inner)
 
 others_all : (P : rule.Atom → Type 0) (what : PreparedContent) (atoms : List rule.Atom) → All P atoms → All P (past what atoms)
-others_all P (Unit node first end_ form advance space glyphs) atoms h = h
+others_all P (Unit form space node first end_ advance glyphs) atoms h = h
 others_all P (Combined node first end_ advance natural glyphs) atoms h = h
 others_all P (Break node) atoms h = h
 others_all P (Atom name) [] h = h
@@ -91,7 +91,7 @@ AreShort each = All (λ atom. atom_reach atom ≤ each)
 
 one_far : (each share others : ℕ) (what : PreparedContent) (atoms : List rule.Atom) → 16 * each + 2 ^ 38 ≤ share → HasAdvance what → AreShort each atoms
     → 16 * (unsigned_abs (advance_of what (atom_extents atoms)) + atom_part what (get_or atoms 0 no_atom)) + others * share ≤ 2 ^ 24 + atoms_first what others * share
-one_far each share others (Unit node first end_ form advance space glyphs) atoms le h short = omega (arith, h)
+one_far each share others (Unit form space node first end_ advance glyphs) atoms le h short = omega (arith, h)
 one_far each share others (Combined node first end_ advance natural glyphs) atoms le h short = omega (arith, h)
 one_far each share others (Break node) atoms le h short = omega (arith, ints)
 one_far each share others (Atom name) [] le h short = let more = suc-mul others share in omega (arith, ints, le, more)
@@ -139,7 +139,7 @@ standings_many inline entries prepared atoms whole =
 
 content_within : (most : ℕ) (entries : List Entry) (chain : List ℕ) (atom : rule.Atom) (what : PreparedContent) → IsAtomWithin most what atom
     → IsAtomic (rule.content_of entries chain atom what) × (content_inside (rule.content_of entries chain atom what) ≤ most)
-content_within most entries chain atom (Unit node first end_ form advance space glyphs) h = (tt, omega arith)
+content_within most entries chain atom (Unit form space node first end_ advance glyphs) h = (tt, omega arith)
 content_within most entries chain atom (Combined node first end_ advance natural glyphs) h = (tt, omega arith)
 content_within most entries chain atom (Break node) h = (tt, omega arith)
 content_within most entries chain atom (Atom name) h =

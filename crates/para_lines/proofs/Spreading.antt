@@ -253,7 +253,7 @@ all_advance (item ∷ items) h = (h 0 item (omega arith), all_advance items (λ 
 
 -- an item's own advance and those of the atoms behind it
 advance_near : (what : PreparedContent) (rest : List ℤ) → HasAdvance what → unsigned_abs (advance_of what rest) + lengths_of (past what rest) ≤ 655360 + lengths_of rest
-advance_near (Unit node first end_ form advance space glyphs) rest h = omega arith
+advance_near (Unit form space node first end_ advance glyphs) rest h = omega arith
 advance_near (Combined node first end_ advance natural glyphs) rest h = omega arith
 advance_near (Break node) rest h = omega (arith, ints)
 advance_near (Atom name) [] h = omega (arith, ints)

@@ -26,7 +26,7 @@ first_is [] = refl
 first_is (atom ∷ atoms) = refl
 
 past_is : (what : PreparedContent) (atoms : List code_atom.Atom) → past what (map atom_of atoms) ≡ map atom_of (past what atoms)
-past_is (Unit node first end_ form advance space glyphs) atoms = refl
+past_is (Unit form space node first end_ advance glyphs) atoms = refl
 past_is (Combined node first end_ advance natural glyphs) atoms = refl
 past_is (Break node) atoms = refl
 past_is (Atom name) [] = refl
@@ -42,20 +42,20 @@ having_first : (count : ℕ) (items : List PreparedItem) (atoms : List code_atom
 having_first count items atoms some near = record { able = λ k d lt. absurd (omega arith); left = some; near = near }
 
 own_atom : (what : PreparedContent) (others : ℕ) (rest : List code_atom.Atom) → atoms_first what others ≤ length rest → HasAtom what rest
-own_atom (Unit node first end_ form advance space glyphs) others rest h = tt
+own_atom (Unit form space node first end_ advance glyphs) others rest h = tt
 own_atom (Combined node first end_ advance natural glyphs) others rest h = tt
 own_atom (Break node) others rest h = tt
 own_atom (Atom name) others rest h = omega arith
 
 atoms_left : (what : PreparedContent) (others : ℕ) (rest : List code_atom.Atom) → atoms_first what others ≤ length rest → others ≤ length (past what rest)
-atoms_left (Unit node first end_ form advance space glyphs) others rest h = h
+atoms_left (Unit form space node first end_ advance glyphs) others rest h = h
 atoms_left (Combined node first end_ advance natural glyphs) others rest h = h
 atoms_left (Break node) others rest h = h
 atoms_left (Atom name) others [] h = absurd (omega arith)
 atoms_left (Atom name) others (atom ∷ rest) h = omega arith
 
 near_left : (what : PreparedContent) (rest : List code_atom.Atom) → All IsNearAtom rest → All IsNearAtom (past what rest)
-near_left (Unit node first end_ form advance space glyphs) rest h = h
+near_left (Unit form space node first end_ advance glyphs) rest h = h
 near_left (Combined node first end_ advance natural glyphs) rest h = h
 near_left (Break node) rest h = h
 near_left (Atom name) [] h = h

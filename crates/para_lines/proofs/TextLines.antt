@@ -57,7 +57,7 @@ units_found entries source name standings none are = (
 )
 
 content_bare : (entries : List Entry) (what : PreparedContent) (atom : rule.Atom) → rule.content_of entries [] atom what ≡ content_in (pos 0) what atom
-content_bare entries (Unit node first end_ form advance space glyphs) atom = refl
+content_bare entries (Unit form space node first end_ advance glyphs) atom = refl
 content_bare entries (Combined node first end_ advance natural glyphs) atom = refl
 content_bare entries (Atom name) atom = refl
 content_bare entries (Break node) atom = refl

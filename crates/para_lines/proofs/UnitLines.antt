@@ -41,7 +41,7 @@ units_found entries source name standings none are = record {
 }
 
 one_content : (node : ℕ) (form : UnitKind) (what : PreparedContent) (atom : rule.Atom) → IsUnit node form (content_in (pos 0) what atom) → IsUnitContent what
-one_content node form (Unit own first end_ kind advance space glyphs) atom is = tt
+one_content node form (Unit kind space own first end_ advance glyphs) atom is = tt
 one_content node form (Combined own first end_ advance natural glyphs) atom is = absurd is
 one_content node form (Atom name) atom is = absurd is
 one_content node form (Break own) atom is = absurd is

@@ -30,7 +30,7 @@ closing_edges inline entries (box ∷ boxes) =
     cond (box_at entries box).closes (inline_edge inline (box_at entries box).style InlineEnd) (pos 0) +ℤ closing_edges inline entries boxes
 
 abbrev pub advance_of : PreparedContent → (atoms : List ℤ) → ℤ
-advance_of (Unit node first end_ form advance space glyphs) atoms = advance
+advance_of (Unit form space node first end_ advance glyphs) atoms = advance
 advance_of (Combined node first end_ advance natural glyphs) atoms = advance
 advance_of (Atom name) atoms = slice_index_or atoms 0 (pos 0)
 advance_of (Break node) atoms = pos 0
@@ -39,12 +39,12 @@ advance_of (Break node) atoms = pos 0
 abbrev pub past : {X : Type 0} → PreparedContent → List X → List X
 past (Atom name) [] = []
 past (Atom name) (atom ∷ atoms) = atoms
-past (Unit node first end_ form advance space glyphs) atoms = atoms
+past (Unit form space node first end_ advance glyphs) atoms = atoms
 past (Combined node first end_ advance natural glyphs) atoms = atoms
 past (Break node) atoms = atoms
 
 abbrev pub is_space : PreparedContent → Bool
-is_space (Unit node first end_ form advance space glyphs) = space
+is_space (Unit form space node first end_ advance glyphs) = space
 is_space _ = false
 
 abbrev pub first_chain : List (List ℕ) → List ℕ

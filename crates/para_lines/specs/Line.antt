@@ -38,7 +38,7 @@ standing_of entries standing = record {
 -- there is an atom for an item that is one
 abbrev pub HasAtom : PreparedContent → List code_atom.Atom → Type 0
 HasAtom (atoms_of name) atoms = 0 < length atoms
-HasAtom (Unit node first end_ form advance space glyphs) atoms = ⊤
+HasAtom (Unit form space node first end_ advance glyphs) atoms = ⊤
 HasAtom (Combined node first end_ advance natural glyphs) atoms = ⊤
 HasAtom (Break node) atoms = ⊤
 
@@ -54,7 +54,7 @@ atom_in shifts atom =
     place.atom atom.fragment atom.left_margin atom.over_margin (atom.over +ℤ cap (atom.shift +ℤ shifts)) (atom.under -ℤ cap (atom.shift +ℤ shifts))
 
 abbrev pub content_in : (shifts : ℤ) → PreparedContent → rule.Atom → place.Content
-content_in shifts (Unit node first end_ form advance space glyphs) atom = place.unit node first end_ form glyphs
+content_in shifts (Unit form space node first end_ advance glyphs) atom = place.unit node first end_ form glyphs
 content_in shifts (Combined node first end_ advance natural glyphs) atom = place.combined node first end_ natural glyphs
 content_in shifts (atoms_of name) atom = atom_in shifts atom
 content_in shifts (Break node) atom = place.nothing

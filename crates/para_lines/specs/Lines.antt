@@ -110,7 +110,7 @@ line_box faces container entries boxes before after box =
     }
 
 abbrev pub content_of : List Entry → (chain : List ℕ) → Atom → PreparedContent → place.Content
-content_of entries chain atom (Unit node first end_ form advance space glyphs) = place.unit node first end_ form glyphs
+content_of entries chain atom (Unit form space node first end_ advance glyphs) = place.unit node first end_ form glyphs
 content_of entries chain atom (Combined node first end_ advance natural glyphs) = place.combined node first end_ natural glyphs
 content_of entries chain atom (atom_of name) =
     place.atom atom.fragment atom.left_margin atom.over_margin

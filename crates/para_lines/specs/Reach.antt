@@ -22,7 +22,7 @@ Rise from (item ∷ items) = (from ≤ item.source) × Rise item.source items
 
 -- no unit advances further than ten times the greatest font size
 abbrev pub HasAdvance : PreparedContent → Type 0
-HasAdvance (Unit node first end_ form advance space glyphs) = unsigned_abs advance ≤ 655360
+HasAdvance (Unit form space node first end_ advance glyphs) = unsigned_abs advance ≤ 655360
 HasAdvance (Combined node first end_ advance natural glyphs) = unsigned_abs advance ≤ 655360
 HasAdvance (Atom name) = ⊤
 HasAdvance (Break node) = ⊤
@@ -49,7 +49,7 @@ atom_reach atom =
 abbrev pub atom_part : PreparedContent → rule.Atom → ℕ
 atom_part (Atom name) atom =
     piece_reach atom.fragment + unsigned_abs atom.left_margin + unsigned_abs atom.over_margin + unsigned_abs atom.over + unsigned_abs atom.under + 2 ^ 33
-atom_part (Unit node first end_ form advance space glyphs) atom = 0
+atom_part (Unit form space node first end_ advance glyphs) atom = 0
 atom_part (Combined node first end_ advance natural glyphs) atom = 0
 atom_part (Break node) atom = 0
 
@@ -77,7 +77,7 @@ pub record IsInReach (each most : ℕ) (atom : rule.Atom) : Type 0 where
 abbrev pub IsAtomWithin : (most : ℕ) → PreparedContent → rule.Atom → Type 0
 IsAtomWithin most (Atom name) atom =
     ((left_margin over_margin over under : ℤ) → IsAtomic (place.atom atom.fragment left_margin over_margin over under)) × (inside atom.fragment ≤ most)
-IsAtomWithin most (Unit node first end_ form advance space glyphs) atom = ⊤
+IsAtomWithin most (Unit form space node first end_ advance glyphs) atom = ⊤
 IsAtomWithin most (Combined node first end_ advance natural glyphs) atom = ⊤
 IsAtomWithin most (Break node) atom = ⊤
 

@@ -10,7 +10,7 @@ use Rattle.para_lines.specs.Boxes.{chain_at}
 use Rattle.para_lines.specs.Text.{bare}
 
 abbrev pub IsUnitContent : PreparedContent → Type 0
-IsUnitContent (Unit node first end_ form advance space glyphs) = ⊤
+IsUnitContent (Unit form space node first end_ advance glyphs) = ⊤
 IsUnitContent (Combined node first end_ advance natural glyphs) = ⊥
 IsUnitContent (Atom name) = ⊥
 IsUnitContent (Break node) = ⊥

@@ -129,12 +129,13 @@ fn fill_item(
     ensures { (item : PreparedItem) (end_ : Breaking) → item ≡ slice_index_or prepared.now.items.now place item → end_ ≡ slice_index_or prepared.now.breaks.now place end_ → result ≡ fill_item inline (entries_of boxes.now.items.now) item end_ (chain_behind (entries_of boxes.now.items.now) (source_before prepared.now.items.now place)) (chain_at (entries_of boxes.now.items.now) item.source) (chain_behind (entries_of boxes.now.items.now) (source_behind prepared.now.items.now place)) (rule.advance_of item.what advances.now) }
 {
     let item = &prepared.items[place];
+    let source = item.source as usize;
     let before = prepared.source_before(place);
     let after = prepared.source_behind(place);
     FillItem {
         advance: advance_of(&item.what, advances),
-        before: edges_apart(boxes, inline, BoxSide::Start, item.source, before),
-        after: edges_apart(boxes, inline, BoxSide::End, item.source, after),
+        before: edges_apart(boxes, inline, BoxSide::Start, source, before),
+        after: edges_apart(boxes, inline, BoxSide::End, source, after),
         space: is_space(&item.what),
         end: prepared.breaks[place],
     }

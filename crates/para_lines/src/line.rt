@@ -38,7 +38,7 @@ pub(crate) fn boxes_on(
     let mut places = Vec::new(alloc);
     let mut before = None;
     for k in 0..standings.len() {
-        let source = standings[k].item.source;
+        let source = standings[k].item.source as usize;
         add_fresh(alloc, &mut places, boxes, source, before)?;
         before = Some(source);
     }

@@ -42,7 +42,7 @@ impl PreparedLists<'_> {
         if place == 0 {
             None
         } else {
-            Some(self.items[place - 1].source)
+            Some(self.items[place - 1].source as usize)
         }
     }
 
@@ -53,7 +53,7 @@ impl PreparedLists<'_> {
         ensures within { (count : ℕ) → AreSources count self.now.items.now → IfSome result (λ source. source < count) }
     {
         if place + 1 < self.items.len() {
-            Some(self.items[place + 1].source)
+            Some(self.items[place + 1].source as usize)
         } else {
             None
         }

@@ -167,7 +167,7 @@ fn source_before(standings: &[Standing], place: usize) -> Option<usize>
     if place == 0 {
         None
     } else {
-        Some(standings[place - 1].item.source)
+        Some(standings[place - 1].item.source as usize)
     }
 }
 
@@ -179,7 +179,7 @@ fn source_at(standings: &[Standing], place: usize) -> Option<usize>
     ensures there { (count : ℕ) → All (IsAble count) standings.now → IfSome result (λ source. source < count) }
 {
     if place < standings.len() {
-        Some(standings[place].item.source)
+        Some(standings[place].item.source as usize)
     } else {
         None
     }

@@ -122,7 +122,7 @@ fn line_item<'a>(boxes: &Boxes, seated: &Seated, standing: &Standing<'a>) -> Lin
     ensures { item_of result ≡ rule.line_item (entries_of boxes.now.items.now) seated.now.places.now (standing_of (entries_of boxes.now.items.now) standing.now) }
 {
     let item = standing.item;
-    let round = boxes.round(item.source);
+    let round = boxes.round(item.source as usize);
     let what = content(&item.what, round.shifts, standing.atoms);
     LineItem {
         level: standing.level,
@@ -204,7 +204,7 @@ fn other_content<'a>(what: &'a PreparedContent, shifts: i64, atoms: &'a [Atom]) 
             first: *first,
             end: *end,
             natural: *natural,
-            glyphs,
+            glyphs: glyphs.glyphs(),
         },
         PreparedContent::Atom { .. } => atom_content(&atoms[0], shifts),
         PreparedContent::Break { .. } => LineContent::Break,

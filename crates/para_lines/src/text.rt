@@ -67,7 +67,7 @@ fn stands_outside(boxes: &Boxes, standing: &Standing) -> bool
     ensures base { result ≡ true → standing.now.base ≡ 0 }
     ensures chain { result ≡ true → chain_at (entries_of boxes.now.items.now) standing.now.item.now.source ≡ [] }
 {
-    let round = boxes.round(standing.item.source);
+    let round = boxes.round(standing.item.source as usize);
     standing.base == 0 && round.inside.is_none()
 }
 
@@ -105,7 +105,7 @@ pub(crate) fn name_of(what: &PreparedContent) -> Option<TextName>
 
 // Whether these are units of this node and form at level 0, which come from this item of the paragraph.
 #[inline(never)]
-fn are_of(standings: &[Standing], source: usize, name: TextName) -> bool
+fn are_of(standings: &[Standing], source: u32, name: TextName) -> bool
     ensures { result ≡ true → All (IsUnitFrom source name) standings.now }
 {
     for standing in standings {
@@ -116,7 +116,7 @@ fn are_of(standings: &[Standing], source: usize, name: TextName) -> bool
     true
 }
 
-fn is_of(standing: &Standing, source: usize, name: TextName) -> bool
+fn is_of(standing: &Standing, source: u32, name: TextName) -> bool
     ensures { result ≡ true → IsUnitFrom source name standing.now }
 {
     standing.level == 0 && standing.item.source == source && is_unit(&standing.item.what, name)

@@ -55,12 +55,12 @@ fn is_outside(boxes: &Boxes, standing: &Standing) -> bool
     requires source { standing.now.item.now.source < length boxes.now.items.now }
     ensures chain { result ≡ true → chain_at (entries_of boxes.now.items.now) standing.now.item.now.source ≡ [] }
 {
-    let round = boxes.round(standing.item.source);
+    let round = boxes.round(standing.item.source as usize);
     round.inside.is_none()
 }
 
 // Whether these are units of this node and form, which come from this item of the paragraph, and which nothing parts.
-fn are_units(standings: &[Standing], source: usize, name: TextName) -> bool
+fn are_units(standings: &[Standing], source: u32, name: TextName) -> bool
     ensures { result ≡ true → All (IsUnitOf source name) standings.now }
 {
     for standing in standings {
@@ -71,7 +71,7 @@ fn are_units(standings: &[Standing], source: usize, name: TextName) -> bool
     true
 }
 
-fn is_unit_of(standing: &Standing, source: usize, name: TextName) -> bool
+fn is_unit_of(standing: &Standing, source: u32, name: TextName) -> bool
     ensures { result ≡ true → IsUnitOf source name standing.now }
 {
     standing.item.source == source

@@ -38,12 +38,12 @@ abbrev faces : List (Option Table)
 faces = Some mono_table ∷ Some wide_table ∷ Some first_table ∷ []
 
 -- an override of the container from right to left: the space beside controls at the start falls away, the brackets are mirrored
-override_of_the_container : preparation faces (Some 1) (record initial { mode = modes.VerticalLr; direction = directions.Rtl; orientation = orientations.Sideways; bidi = bidis.BidiOverride }) (item.text 3 (216 ∷ 156 ∷ 32 ∷ 226 ∷ 129 ∷ 169 ∷ 93 ∷ 239 ∷ 188 ∷ 136 ∷ 215 ∷ 144 ∷ 215 ∷ 145 ∷ 32 ∷ []) (record initial { mode = modes.VerticalLr; direction = directions.Rtl; orientation = orientations.Sideways; bidi = bidis.BidiOverride }) ∷ []) ≡ record { items = (record { source = 0; apart = None; what = Unit 3 3 4 kinds.Turned (pos 512) false ((91 ∷ []) ∷ []) } ∷ record { source = 0; apart = None; what = Unit 3 4 5 kinds.Turned (pos 1024) false ((65289 ∷ []) ∷ []) } ∷ record { source = 0; apart = None; what = Unit 3 5 6 kinds.Turned (pos 512) false ((1488 ∷ []) ∷ []) } ∷ record { source = 0; apart = None; what = Unit 3 6 7 kinds.Turned (pos 512) false ((1489 ∷ []) ∷ []) } ∷ []); levels = (3 ∷ 3 ∷ 3 ∷ 3 ∷ []); classes = (classes.ON ∷ classes.ON ∷ classes.R ∷ classes.R ∷ []); bases = (1 ∷ 1 ∷ 1 ∷ 1 ∷ []); breaks = (No ∷ No ∷ No ∷ No ∷ []) }
+override_of_the_container : preparation faces (Some 1) (record initial { mode = modes.VerticalLr; direction = directions.Rtl; orientation = orientations.Sideways; bidi = bidis.BidiOverride }) (item.text 3 (216 ∷ 156 ∷ 32 ∷ 226 ∷ 129 ∷ 169 ∷ 93 ∷ 239 ∷ 188 ∷ 136 ∷ 215 ∷ 144 ∷ 215 ∷ 145 ∷ 32 ∷ []) (record initial { mode = modes.VerticalLr; direction = directions.Rtl; orientation = orientations.Sideways; bidi = bidis.BidiOverride }) ∷ []) ≡ record { items = (record { source = 0; apart = None; what = Unit kinds.Turned false 3 3 4 (pos 512) ((91 ∷ []) ∷ []) } ∷ record { source = 0; apart = None; what = Unit kinds.Turned false 3 4 5 (pos 1024) ((65289 ∷ []) ∷ []) } ∷ record { source = 0; apart = None; what = Unit kinds.Turned false 3 5 6 (pos 512) ((1488 ∷ []) ∷ []) } ∷ record { source = 0; apart = None; what = Unit kinds.Turned false 3 6 7 (pos 512) ((1489 ∷ []) ∷ []) } ∷ []); levels = (3 ∷ 3 ∷ 3 ∷ 3 ∷ []); classes = (classes.ON ∷ classes.ON ∷ classes.R ∷ classes.R ∷ []); bases = (1 ∷ 1 ∷ 1 ∷ 1 ∷ []); breaks = (No ∷ No ∷ No ∷ No ∷ []) }
 unfolding preparation parts marks taking_part bidi_texts inside visual_order reset order paragraph_levels explicit_levels explicit_classes isolating_runs weak resolved sequence_classes sequence_levels units_of unit_clusters advance_of used_table row_of bidi_class break_class orientation mirror bracket initial unicode_segmentation
 override_of_the_container = refl
 
 -- plaintext: the base level is that of the first strong character, line by line
-each_bidi_paragraph_by_its_first_strong_character : preparation faces None (record initial { mode = modes.SidewaysLr; orientation = orientations.Upright; bidi = bidis.Plaintext }) (item.text 3 (226 ∷ 128 ∷ 171 ∷ []) (record initial { mode = modes.SidewaysLr; orientation = orientations.Upright; bidi = bidis.Plaintext }) ∷ item.line_break 4 ∷ item.text 5 (215 ∷ 144 ∷ 215 ∷ 145 ∷ 49 ∷ 50 ∷ 51 ∷ 52 ∷ []) (record initial { mode = modes.SidewaysLr; orientation = orientations.Upright; bidi = bidis.Plaintext }) ∷ atom (record { node = 6; ordinal = 0 }) ∷ []) ≡ record { items = (record { source = 1; apart = None; what = Break 4 } ∷ record { source = 2; apart = None; what = Unit 5 0 1 kinds.Along (pos 512) false ((1488 ∷ []) ∷ []) } ∷ record { source = 2; apart = None; what = Unit 5 1 2 kinds.Along (pos 512) false ((1489 ∷ []) ∷ []) } ∷ record { source = 2; apart = None; what = Unit 5 2 3 kinds.Along (pos 512) false ((49 ∷ []) ∷ []) } ∷ record { source = 2; apart = None; what = Unit 5 3 4 kinds.Along (pos 512) false ((50 ∷ []) ∷ []) } ∷ record { source = 2; apart = None; what = Unit 5 4 5 kinds.Along (pos 512) false ((51 ∷ []) ∷ []) } ∷ record { source = 2; apart = None; what = Unit 5 5 6 kinds.Along (pos 512) false ((52 ∷ []) ∷ []) } ∷ record { source = 3; apart = None; what = Atom (record { node = 6; ordinal = 0 }) } ∷ []); levels = (0 ∷ 1 ∷ 1 ∷ 2 ∷ 2 ∷ 2 ∷ 2 ∷ 1 ∷ []); classes = (classes.B ∷ classes.R ∷ classes.R ∷ classes.EN ∷ classes.EN ∷ classes.EN ∷ classes.EN ∷ classes.ON ∷ []); bases = (0 ∷ 1 ∷ 1 ∷ 1 ∷ 1 ∷ 1 ∷ 1 ∷ 1 ∷ []); breaks = (Must ∷ No ∷ No ∷ No ∷ No ∷ No ∷ May ∷ No ∷ []) }
+each_bidi_paragraph_by_its_first_strong_character : preparation faces None (record initial { mode = modes.SidewaysLr; orientation = orientations.Upright; bidi = bidis.Plaintext }) (item.text 3 (226 ∷ 128 ∷ 171 ∷ []) (record initial { mode = modes.SidewaysLr; orientation = orientations.Upright; bidi = bidis.Plaintext }) ∷ item.line_break 4 ∷ item.text 5 (215 ∷ 144 ∷ 215 ∷ 145 ∷ 49 ∷ 50 ∷ 51 ∷ 52 ∷ []) (record initial { mode = modes.SidewaysLr; orientation = orientations.Upright; bidi = bidis.Plaintext }) ∷ atom (record { node = 6; ordinal = 0 }) ∷ []) ≡ record { items = (record { source = 1; apart = None; what = Break 4 } ∷ record { source = 2; apart = None; what = Unit kinds.Along false 5 0 1 (pos 512) ((1488 ∷ []) ∷ []) } ∷ record { source = 2; apart = None; what = Unit kinds.Along false 5 1 2 (pos 512) ((1489 ∷ []) ∷ []) } ∷ record { source = 2; apart = None; what = Unit kinds.Along false 5 2 3 (pos 512) ((49 ∷ []) ∷ []) } ∷ record { source = 2; apart = None; what = Unit kinds.Along false 5 3 4 (pos 512) ((50 ∷ []) ∷ []) } ∷ record { source = 2; apart = None; what = Unit kinds.Along false 5 4 5 (pos 512) ((51 ∷ []) ∷ []) } ∷ record { source = 2; apart = None; what = Unit kinds.Along false 5 5 6 (pos 512) ((52 ∷ []) ∷ []) } ∷ record { source = 3; apart = None; what = Atom (record { node = 6; ordinal = 0 }) } ∷ []); levels = (0 ∷ 1 ∷ 1 ∷ 2 ∷ 2 ∷ 2 ∷ 2 ∷ 1 ∷ []); classes = (classes.B ∷ classes.R ∷ classes.R ∷ classes.EN ∷ classes.EN ∷ classes.EN ∷ classes.EN ∷ classes.ON ∷ []); bases = (0 ∷ 1 ∷ 1 ∷ 1 ∷ 1 ∷ 1 ∷ 1 ∷ 1 ∷ []); breaks = (Must ∷ No ∷ No ∷ No ∷ No ∷ No ∷ May ∷ No ∷ []) }
 unfolding preparation parts marks taking_part bidi_texts inside visual_order reset order paragraph_levels explicit_levels explicit_classes isolating_runs weak resolved sequence_classes sequence_levels units_of unit_clusters advance_of used_table row_of bidi_class break_class orientation mirror bracket initial unicode_segmentation
 each_bidi_paragraph_by_its_first_strong_character = refl
 
@@ -53,47 +53,47 @@ unfolding preparation parts marks taking_part bidi_texts inside visual_order res
 white_space_alone_before_an_atom = refl
 
 -- two atoms and a space in an isolate from left to right, in a paragraph from right to left; the bracket behind it is mirrored
-atoms_in_an_isolate : preparation faces (Some 1) (record initial { mode = modes.VerticalRl; direction = directions.Rtl }) (begins 3 (record initial { mode = modes.VerticalRl; bidi = bidis.Isolate; face = 2 }) true ∷ atom (record { node = 4; ordinal = 0 }) ∷ atom (record { node = 5; ordinal = 0 }) ∷ item.text 7 (32 ∷ 10 ∷ []) (record initial { mode = modes.VerticalRl; bidi = bidis.Isolate; face = 2 }) ∷ ends 3 true ∷ item.text 8 (227 ∷ 128 ∷ 141 ∷ []) (record initial { mode = modes.VerticalRl; direction = directions.Rtl }) ∷ []) ≡ record { items = (record { source = 1; apart = None; what = Atom (record { node = 4; ordinal = 0 }) } ∷ record { source = 2; apart = None; what = Atom (record { node = 5; ordinal = 0 }) } ∷ record { source = 3; apart = None; what = Unit 7 0 1 kinds.Turned (pos 512) true ((32 ∷ []) ∷ []) } ∷ record { source = 5; apart = (Some 1); what = Unit 8 0 1 kinds.Upright (pos 1024) false ((12300 ∷ []) ∷ []) } ∷ []); levels = (2 ∷ 2 ∷ 2 ∷ 1 ∷ []); classes = (classes.ON ∷ classes.ON ∷ classes.WS ∷ classes.ON ∷ []); bases = (1 ∷ 1 ∷ 1 ∷ 1 ∷ []); breaks = (May ∷ No ∷ No ∷ No ∷ []) }
+atoms_in_an_isolate : preparation faces (Some 1) (record initial { mode = modes.VerticalRl; direction = directions.Rtl }) (begins 3 (record initial { mode = modes.VerticalRl; bidi = bidis.Isolate; face = 2 }) true ∷ atom (record { node = 4; ordinal = 0 }) ∷ atom (record { node = 5; ordinal = 0 }) ∷ item.text 7 (32 ∷ 10 ∷ []) (record initial { mode = modes.VerticalRl; bidi = bidis.Isolate; face = 2 }) ∷ ends 3 true ∷ item.text 8 (227 ∷ 128 ∷ 141 ∷ []) (record initial { mode = modes.VerticalRl; direction = directions.Rtl }) ∷ []) ≡ record { items = (record { source = 1; apart = None; what = Atom (record { node = 4; ordinal = 0 }) } ∷ record { source = 2; apart = None; what = Atom (record { node = 5; ordinal = 0 }) } ∷ record { source = 3; apart = None; what = Unit kinds.Turned true 7 0 1 (pos 512) ((32 ∷ []) ∷ []) } ∷ record { source = 5; apart = (Some 1); what = Unit kinds.Upright false 8 0 1 (pos 1024) ((12300 ∷ []) ∷ []) } ∷ []); levels = (2 ∷ 2 ∷ 2 ∷ 1 ∷ []); classes = (classes.ON ∷ classes.ON ∷ classes.WS ∷ classes.ON ∷ []); bases = (1 ∷ 1 ∷ 1 ∷ 1 ∷ []); breaks = (May ∷ No ∷ No ∷ No ∷ []) }
 unfolding preparation parts marks taking_part bidi_texts inside visual_order reset order paragraph_levels explicit_levels explicit_classes isolating_runs weak resolved sequence_classes sequence_levels units_of unit_clusters advance_of used_table row_of bidi_class break_class orientation mirror bracket initial unicode_segmentation
 atoms_in_an_isolate = refl
 
 -- a line break stands at the base level, under an override too
-a_line_break_under_an_override : preparation faces (Some 0) (record initial { mode = modes.VerticalLr; bidi = bidis.BidiOverride }) (item.text 3 (226 ∷ 128 ∷ 172 ∷ 44 ∷ 226 ∷ 129 ∷ 167 ∷ 215 ∷ 146 ∷ 204 ∷ 129 ∷ []) (record initial { mode = modes.VerticalLr; bidi = bidis.BidiOverride }) ∷ item.line_break 4 ∷ []) ≡ record { items = (record { source = 0; apart = None; what = Unit 3 1 2 kinds.Turned (pos 512) false ((44 ∷ []) ∷ []) } ∷ record { source = 0; apart = (Some 0); what = Unit 3 3 5 kinds.Turned (pos 512) false ((1490 ∷ 769 ∷ []) ∷ []) } ∷ record { source = 1; apart = None; what = Break 4 } ∷ []); levels = (0 ∷ 1 ∷ 0 ∷ []); classes = (classes.CS ∷ classes.NSM ∷ classes.B ∷ []); bases = (0 ∷ 0 ∷ 0 ∷ []); breaks = (No ∷ No ∷ Must ∷ []) }
+a_line_break_under_an_override : preparation faces (Some 0) (record initial { mode = modes.VerticalLr; bidi = bidis.BidiOverride }) (item.text 3 (226 ∷ 128 ∷ 172 ∷ 44 ∷ 226 ∷ 129 ∷ 167 ∷ 215 ∷ 146 ∷ 204 ∷ 129 ∷ []) (record initial { mode = modes.VerticalLr; bidi = bidis.BidiOverride }) ∷ item.line_break 4 ∷ []) ≡ record { items = (record { source = 0; apart = None; what = Unit kinds.Turned false 3 1 2 (pos 512) ((44 ∷ []) ∷ []) } ∷ record { source = 0; apart = (Some 0); what = Unit kinds.Turned false 3 3 5 (pos 512) ((1490 ∷ 769 ∷ []) ∷ []) } ∷ record { source = 1; apart = None; what = Break 4 } ∷ []); levels = (0 ∷ 1 ∷ 0 ∷ []); classes = (classes.CS ∷ classes.NSM ∷ classes.B ∷ []); bases = (0 ∷ 0 ∷ 0 ∷ []); breaks = (No ∷ No ∷ Must ∷ []) }
 unfolding preparation parts marks taking_part bidi_texts inside visual_order reset order paragraph_levels explicit_levels explicit_classes isolating_runs weak resolved sequence_classes sequence_levels units_of unit_clusters advance_of used_table row_of bidi_class break_class orientation mirror bracket initial unicode_segmentation
 a_line_break_under_an_override = refl
 
 -- the level of a control that parts two items
-a_control_before_an_atom : preparation faces (Some 1) (record initial { direction = directions.Rtl; bidi = bidis.BidiOverride }) (item.text 3 (109 ∷ 226 ∷ 129 ∷ 167 ∷ 234 ∷ 176 ∷ 128 ∷ []) (record initial { direction = directions.Rtl; bidi = bidis.BidiOverride }) ∷ atom (record { node = 4; ordinal = 0 }) ∷ []) ≡ record { items = (record { source = 0; apart = None; what = Unit 3 0 1 kinds.Along (pos 512) false ((109 ∷ []) ∷ []) } ∷ record { source = 0; apart = (Some 3); what = Unit 3 2 3 kinds.Along (pos 1024) false ((44032 ∷ []) ∷ []) } ∷ record { source = 1; apart = None; what = Atom (record { node = 4; ordinal = 0 }) } ∷ []); levels = (3 ∷ 6 ∷ 5 ∷ []); classes = (classes.L ∷ classes.L ∷ classes.ON ∷ []); bases = (1 ∷ 1 ∷ 1 ∷ []); breaks = (May ∷ May ∷ No ∷ []) }
+a_control_before_an_atom : preparation faces (Some 1) (record initial { direction = directions.Rtl; bidi = bidis.BidiOverride }) (item.text 3 (109 ∷ 226 ∷ 129 ∷ 167 ∷ 234 ∷ 176 ∷ 128 ∷ []) (record initial { direction = directions.Rtl; bidi = bidis.BidiOverride }) ∷ atom (record { node = 4; ordinal = 0 }) ∷ []) ≡ record { items = (record { source = 0; apart = None; what = Unit kinds.Along false 3 0 1 (pos 512) ((109 ∷ []) ∷ []) } ∷ record { source = 0; apart = (Some 3); what = Unit kinds.Along false 3 2 3 (pos 1024) ((44032 ∷ []) ∷ []) } ∷ record { source = 1; apart = None; what = Atom (record { node = 4; ordinal = 0 }) } ∷ []); levels = (3 ∷ 6 ∷ 5 ∷ []); classes = (classes.L ∷ classes.L ∷ classes.ON ∷ []); bases = (1 ∷ 1 ∷ 1 ∷ []); breaks = (May ∷ May ∷ No ∷ []) }
 unfolding preparation parts marks taking_part bidi_texts inside visual_order reset order paragraph_levels explicit_levels explicit_classes isolating_runs weak resolved sequence_classes sequence_levels units_of unit_clusters advance_of used_table row_of bidi_class break_class orientation mirror bracket initial unicode_segmentation
 a_control_before_an_atom = refl
 
 -- a bracket on an odd level is mirrored; a space with a mark is a unit, and no Space
-a_mirrored_bracket : preparation faces (Some 1) (record initial { mode = modes.VerticalRl; direction = directions.Rtl; orientation = orientations.Sideways; bidi = bidis.Embed }) (item.text 3 (93 ∷ 234 ∷ 176 ∷ 128 ∷ 32 ∷ 204 ∷ 129 ∷ 226 ∷ 128 ∷ 143 ∷ 215 ∷ 144 ∷ 215 ∷ 145 ∷ 226 ∷ 128 ∷ 171 ∷ []) (record initial { mode = modes.VerticalRl; direction = directions.Rtl; orientation = orientations.Sideways; bidi = bidis.Embed }) ∷ []) ≡ record { items = (record { source = 0; apart = None; what = Unit 3 0 1 kinds.Turned (pos 512) false ((91 ∷ []) ∷ []) } ∷ record { source = 0; apart = None; what = Unit 3 1 2 kinds.Turned (pos 1024) false ((44032 ∷ []) ∷ []) } ∷ record { source = 0; apart = None; what = Unit 3 2 4 kinds.Turned (pos 512) false ((32 ∷ 769 ∷ []) ∷ []) } ∷ record { source = 0; apart = (Some 1); what = Unit 3 5 6 kinds.Turned (pos 512) false ((1488 ∷ []) ∷ []) } ∷ record { source = 0; apart = None; what = Unit 3 6 7 kinds.Turned (pos 512) false ((1489 ∷ []) ∷ []) } ∷ []); levels = (1 ∷ 2 ∷ 1 ∷ 1 ∷ 1 ∷ []); classes = (classes.ON ∷ classes.L ∷ classes.NSM ∷ classes.R ∷ classes.R ∷ []); bases = (1 ∷ 1 ∷ 1 ∷ 1 ∷ 1 ∷ []); breaks = (May ∷ May ∷ No ∷ No ∷ No ∷ []) }
+a_mirrored_bracket : preparation faces (Some 1) (record initial { mode = modes.VerticalRl; direction = directions.Rtl; orientation = orientations.Sideways; bidi = bidis.Embed }) (item.text 3 (93 ∷ 234 ∷ 176 ∷ 128 ∷ 32 ∷ 204 ∷ 129 ∷ 226 ∷ 128 ∷ 143 ∷ 215 ∷ 144 ∷ 215 ∷ 145 ∷ 226 ∷ 128 ∷ 171 ∷ []) (record initial { mode = modes.VerticalRl; direction = directions.Rtl; orientation = orientations.Sideways; bidi = bidis.Embed }) ∷ []) ≡ record { items = (record { source = 0; apart = None; what = Unit kinds.Turned false 3 0 1 (pos 512) ((91 ∷ []) ∷ []) } ∷ record { source = 0; apart = None; what = Unit kinds.Turned false 3 1 2 (pos 1024) ((44032 ∷ []) ∷ []) } ∷ record { source = 0; apart = None; what = Unit kinds.Turned false 3 2 4 (pos 512) ((32 ∷ 769 ∷ []) ∷ []) } ∷ record { source = 0; apart = (Some 1); what = Unit kinds.Turned false 3 5 6 (pos 512) ((1488 ∷ []) ∷ []) } ∷ record { source = 0; apart = None; what = Unit kinds.Turned false 3 6 7 (pos 512) ((1489 ∷ []) ∷ []) } ∷ []); levels = (1 ∷ 2 ∷ 1 ∷ 1 ∷ 1 ∷ []); classes = (classes.ON ∷ classes.L ∷ classes.NSM ∷ classes.R ∷ classes.R ∷ []); bases = (1 ∷ 1 ∷ 1 ∷ 1 ∷ 1 ∷ []); breaks = (May ∷ May ∷ No ∷ No ∷ No ∷ []) }
 unfolding preparation parts marks taking_part bidi_texts inside visual_order reset order paragraph_levels explicit_levels explicit_classes isolating_runs weak resolved sequence_classes sequence_levels units_of unit_clusters advance_of used_table row_of bidi_class break_class orientation mirror bracket initial unicode_segmentation
 a_mirrored_bracket = refl
 
 -- what controls of the text opened isn't opened again after a line break
-a_line_break_ends_what_controls_opened : preparation faces (Some 1) (record initial { mode = modes.SidewaysLr; direction = directions.Rtl; bidi = bidis.IsolateOverride }) (item.text 3 (226 ∷ 128 ∷ 171 ∷ 97 ∷ 98 ∷ 226 ∷ 129 ∷ 166 ∷ 226 ∷ 128 ∷ 171 ∷ []) (record initial { mode = modes.SidewaysLr; direction = directions.Rtl; bidi = bidis.IsolateOverride }) ∷ item.line_break 4 ∷ item.text 5 (217 ∷ 161 ∷ []) (record initial { mode = modes.SidewaysLr; direction = directions.Rtl; bidi = bidis.IsolateOverride }) ∷ []) ≡ record { items = (record { source = 0; apart = None; what = Unit 3 1 2 kinds.Along (pos 512) false ((97 ∷ []) ∷ []) } ∷ record { source = 0; apart = None; what = Unit 3 2 3 kinds.Along (pos 512) false ((98 ∷ []) ∷ []) } ∷ record { source = 1; apart = (Some 5); what = Break 4 } ∷ record { source = 2; apart = None; what = Unit 5 0 1 kinds.Along (pos 512) false ((1633 ∷ []) ∷ []) } ∷ []); levels = (6 ∷ 6 ∷ 1 ∷ 3 ∷ []); classes = (classes.L ∷ classes.L ∷ classes.B ∷ classes.AN ∷ []); bases = (1 ∷ 1 ∷ 1 ∷ 1 ∷ []); breaks = (No ∷ No ∷ Must ∷ No ∷ []) }
+a_line_break_ends_what_controls_opened : preparation faces (Some 1) (record initial { mode = modes.SidewaysLr; direction = directions.Rtl; bidi = bidis.IsolateOverride }) (item.text 3 (226 ∷ 128 ∷ 171 ∷ 97 ∷ 98 ∷ 226 ∷ 129 ∷ 166 ∷ 226 ∷ 128 ∷ 171 ∷ []) (record initial { mode = modes.SidewaysLr; direction = directions.Rtl; bidi = bidis.IsolateOverride }) ∷ item.line_break 4 ∷ item.text 5 (217 ∷ 161 ∷ []) (record initial { mode = modes.SidewaysLr; direction = directions.Rtl; bidi = bidis.IsolateOverride }) ∷ []) ≡ record { items = (record { source = 0; apart = None; what = Unit kinds.Along false 3 1 2 (pos 512) ((97 ∷ []) ∷ []) } ∷ record { source = 0; apart = None; what = Unit kinds.Along false 3 2 3 (pos 512) ((98 ∷ []) ∷ []) } ∷ record { source = 1; apart = (Some 5); what = Break 4 } ∷ record { source = 2; apart = None; what = Unit kinds.Along false 5 0 1 (pos 512) ((1633 ∷ []) ∷ []) } ∷ []); levels = (6 ∷ 6 ∷ 1 ∷ 3 ∷ []); classes = (classes.L ∷ classes.L ∷ classes.B ∷ classes.AN ∷ []); bases = (1 ∷ 1 ∷ 1 ∷ 1 ∷ []); breaks = (No ∷ No ∷ Must ∷ No ∷ []) }
 unfolding preparation parts marks taking_part bidi_texts inside visual_order reset order paragraph_levels explicit_levels explicit_classes isolating_runs weak resolved sequence_classes sequence_levels units_of unit_clusters advance_of used_table row_of bidi_class break_class orientation mirror bracket initial unicode_segmentation
 a_line_break_ends_what_controls_opened = refl
 
 -- text that is set upright is strong from left to right, each character
-upright_text : preparation faces (Some 0) (record initial { mode = modes.VerticalLr; direction = directions.Rtl; orientation = orientations.Upright; bidi = bidis.BidiOverride }) (item.text 3 (227 ∷ 129 ∷ 130 ∷ 217 ∷ 161 ∷ 32 ∷ []) (record initial { mode = modes.VerticalLr; direction = directions.Rtl; orientation = orientations.Upright; bidi = bidis.BidiOverride }) ∷ []) ≡ record { items = (record { source = 0; apart = None; what = Unit 3 0 1 kinds.Upright (pos 1024) false ((12354 ∷ []) ∷ []) } ∷ record { source = 0; apart = None; what = Unit 3 1 2 kinds.Upright (pos 1024) false ((1633 ∷ []) ∷ []) } ∷ []); levels = (2 ∷ 2 ∷ []); classes = (classes.L ∷ classes.L ∷ []); bases = (0 ∷ 0 ∷ []); breaks = (May ∷ No ∷ []) }
+upright_text : preparation faces (Some 0) (record initial { mode = modes.VerticalLr; direction = directions.Rtl; orientation = orientations.Upright; bidi = bidis.BidiOverride }) (item.text 3 (227 ∷ 129 ∷ 130 ∷ 217 ∷ 161 ∷ 32 ∷ []) (record initial { mode = modes.VerticalLr; direction = directions.Rtl; orientation = orientations.Upright; bidi = bidis.BidiOverride }) ∷ []) ≡ record { items = (record { source = 0; apart = None; what = Unit kinds.Upright false 3 0 1 (pos 1024) ((12354 ∷ []) ∷ []) } ∷ record { source = 0; apart = None; what = Unit kinds.Upright false 3 1 2 (pos 1024) ((1633 ∷ []) ∷ []) } ∷ []); levels = (2 ∷ 2 ∷ []); classes = (classes.L ∷ classes.L ∷ []); bases = (0 ∷ 0 ∷ []); breaks = (May ∷ No ∷ []) }
 unfolding preparation parts marks taking_part bidi_texts inside visual_order reset order paragraph_levels explicit_levels explicit_classes isolating_runs weak resolved sequence_classes sequence_levels units_of unit_clusters advance_of used_table row_of bidi_class break_class orientation mirror bracket initial unicode_segmentation
 upright_text = refl
 
 -- what boxes opened is closed before a line break and opened again after it
-line_breaks_in_an_isolate : preparation faces (Some 0) (record initial { orientation = orientations.Upright; bidi = bidis.Isolate; combine = combines.All }) (begins 3 (record initial { direction = directions.Rtl; bidi = bidis.IsolateOverride; combine = combines.All }) true ∷ item.text 4 (32 ∷ []) (record initial { direction = directions.Rtl; bidi = bidis.IsolateOverride; combine = combines.All }) ∷ item.line_break 5 ∷ item.text 6 (227 ∷ 128 ∷ 141 ∷ []) (record initial { direction = directions.Rtl; bidi = bidis.IsolateOverride; combine = combines.All }) ∷ item.line_break 7 ∷ item.text 8 (226 ∷ 128 ∷ 173 ∷ 43 ∷ 226 ∷ 128 ∷ 171 ∷ 49 ∷ 50 ∷ 226 ∷ 128 ∷ 174 ∷ []) (record initial { direction = directions.Rtl; bidi = bidis.IsolateOverride; combine = combines.All }) ∷ ends 3 true ∷ item.text 9 (43 ∷ 43 ∷ 32 ∷ []) (record initial { orientation = orientations.Upright; bidi = bidis.Isolate; combine = combines.All }) ∷ begins 10 (record initial { orientation = orientations.Upright; combine = combines.All }) true ∷ begins 11 (record initial { direction = directions.Rtl; orientation = orientations.Upright; bidi = bidis.Isolate; face = 2; combine = combines.All }) true ∷ ends 11 true ∷ atom (record { node = 12; ordinal = 0 }) ∷ item.text 14 (226 ∷ 128 ∷ 170 ∷ 226 ∷ 129 ∷ 168 ∷ 40 ∷ []) (record initial { orientation = orientations.Upright; combine = combines.All }) ∷ ends 10 true ∷ []) ≡ record { items = (record { source = 2; apart = None; what = Break 5 } ∷ record { source = 3; apart = None; what = Unit 6 0 1 kinds.Along (pos 1024) false ((12300 ∷ []) ∷ []) } ∷ record { source = 4; apart = (Some 0); what = Break 7 } ∷ record { source = 5; apart = None; what = Unit 8 1 2 kinds.Along (pos 512) false ((43 ∷ []) ∷ []) } ∷ record { source = 5; apart = None; what = Unit 8 3 4 kinds.Along (pos 512) false ((49 ∷ []) ∷ []) } ∷ record { source = 5; apart = None; what = Unit 8 4 5 kinds.Along (pos 512) false ((50 ∷ []) ∷ []) } ∷ record { source = 7; apart = (Some 0); what = Unit 9 0 1 kinds.Along (pos 512) false ((43 ∷ []) ∷ []) } ∷ record { source = 7; apart = None; what = Unit 9 1 2 kinds.Along (pos 512) false ((43 ∷ []) ∷ []) } ∷ record { source = 7; apart = None; what = Unit 9 2 3 kinds.Along (pos 512) true ((32 ∷ []) ∷ []) } ∷ record { source = 11; apart = None; what = Atom (record { node = 12; ordinal = 0 }) } ∷ record { source = 12; apart = (Some 2); what = Unit 14 2 3 kinds.Along (pos 512) false ((40 ∷ []) ∷ []) } ∷ []); levels = (0 ∷ 3 ∷ 0 ∷ 4 ∷ 6 ∷ 6 ∷ 0 ∷ 0 ∷ 0 ∷ 0 ∷ 4 ∷ []); classes = (classes.B ∷ classes.ON ∷ classes.B ∷ classes.ES ∷ classes.EN ∷ classes.EN ∷ classes.ES ∷ classes.ES ∷ classes.WS ∷ classes.ON ∷ classes.ON ∷ []); bases = (0 ∷ 0 ∷ 0 ∷ 0 ∷ 0 ∷ 0 ∷ 0 ∷ 0 ∷ 0 ∷ 0 ∷ 0 ∷ []); breaks = (Must ∷ No ∷ Must ∷ No ∷ No ∷ No ∷ No ∷ No ∷ May ∷ May ∷ No ∷ []) }
+line_breaks_in_an_isolate : preparation faces (Some 0) (record initial { orientation = orientations.Upright; bidi = bidis.Isolate; combine = combines.All }) (begins 3 (record initial { direction = directions.Rtl; bidi = bidis.IsolateOverride; combine = combines.All }) true ∷ item.text 4 (32 ∷ []) (record initial { direction = directions.Rtl; bidi = bidis.IsolateOverride; combine = combines.All }) ∷ item.line_break 5 ∷ item.text 6 (227 ∷ 128 ∷ 141 ∷ []) (record initial { direction = directions.Rtl; bidi = bidis.IsolateOverride; combine = combines.All }) ∷ item.line_break 7 ∷ item.text 8 (226 ∷ 128 ∷ 173 ∷ 43 ∷ 226 ∷ 128 ∷ 171 ∷ 49 ∷ 50 ∷ 226 ∷ 128 ∷ 174 ∷ []) (record initial { direction = directions.Rtl; bidi = bidis.IsolateOverride; combine = combines.All }) ∷ ends 3 true ∷ item.text 9 (43 ∷ 43 ∷ 32 ∷ []) (record initial { orientation = orientations.Upright; bidi = bidis.Isolate; combine = combines.All }) ∷ begins 10 (record initial { orientation = orientations.Upright; combine = combines.All }) true ∷ begins 11 (record initial { direction = directions.Rtl; orientation = orientations.Upright; bidi = bidis.Isolate; face = 2; combine = combines.All }) true ∷ ends 11 true ∷ atom (record { node = 12; ordinal = 0 }) ∷ item.text 14 (226 ∷ 128 ∷ 170 ∷ 226 ∷ 129 ∷ 168 ∷ 40 ∷ []) (record initial { orientation = orientations.Upright; combine = combines.All }) ∷ ends 10 true ∷ []) ≡ record { items = (record { source = 2; apart = None; what = Break 5 } ∷ record { source = 3; apart = None; what = Unit kinds.Along false 6 0 1 (pos 1024) ((12300 ∷ []) ∷ []) } ∷ record { source = 4; apart = (Some 0); what = Break 7 } ∷ record { source = 5; apart = None; what = Unit kinds.Along false 8 1 2 (pos 512) ((43 ∷ []) ∷ []) } ∷ record { source = 5; apart = None; what = Unit kinds.Along false 8 3 4 (pos 512) ((49 ∷ []) ∷ []) } ∷ record { source = 5; apart = None; what = Unit kinds.Along false 8 4 5 (pos 512) ((50 ∷ []) ∷ []) } ∷ record { source = 7; apart = (Some 0); what = Unit kinds.Along false 9 0 1 (pos 512) ((43 ∷ []) ∷ []) } ∷ record { source = 7; apart = None; what = Unit kinds.Along false 9 1 2 (pos 512) ((43 ∷ []) ∷ []) } ∷ record { source = 7; apart = None; what = Unit kinds.Along true 9 2 3 (pos 512) ((32 ∷ []) ∷ []) } ∷ record { source = 11; apart = None; what = Atom (record { node = 12; ordinal = 0 }) } ∷ record { source = 12; apart = (Some 2); what = Unit kinds.Along false 14 2 3 (pos 512) ((40 ∷ []) ∷ []) } ∷ []); levels = (0 ∷ 3 ∷ 0 ∷ 4 ∷ 6 ∷ 6 ∷ 0 ∷ 0 ∷ 0 ∷ 0 ∷ 4 ∷ []); classes = (classes.B ∷ classes.ON ∷ classes.B ∷ classes.ES ∷ classes.EN ∷ classes.EN ∷ classes.ES ∷ classes.ES ∷ classes.WS ∷ classes.ON ∷ classes.ON ∷ []); bases = (0 ∷ 0 ∷ 0 ∷ 0 ∷ 0 ∷ 0 ∷ 0 ∷ 0 ∷ 0 ∷ 0 ∷ 0 ∷ []); breaks = (Must ∷ No ∷ Must ∷ No ∷ No ∷ No ∷ No ∷ No ∷ May ∷ May ∷ No ∷ []) }
 unfolding preparation parts marks taking_part bidi_texts inside visual_order reset order paragraph_levels explicit_levels explicit_classes isolating_runs weak resolved sequence_classes sequence_levels units_of unit_clusters advance_of used_table row_of bidi_class break_class orientation mirror bracket initial unicode_segmentation
 line_breaks_in_an_isolate = refl
 
 -- two combined runs, and the space between them, which one of two texts has; an atom behind
-combined_runs_of_two_texts : preparation faces (Some 0) (record initial { mode = modes.VerticalRl; orientation = orientations.Upright; combine = combines.All }) (item.text 3 (32 ∷ 32 ∷ 105 ∷ 93 ∷ 93 ∷ 32 ∷ []) (record initial { mode = modes.VerticalRl; orientation = orientations.Upright; combine = combines.All }) ∷ item.text 5 (217 ∷ 161 ∷ 230 ∷ 157 ∷ 177 ∷ 228 ∷ 186 ∷ 172 ∷ 226 ∷ 128 ∷ 171 ∷ 204 ∷ 129 ∷ []) (record initial { mode = modes.VerticalRl; orientation = orientations.Upright; combine = combines.All }) ∷ atom (record { node = 7; ordinal = 0 }) ∷ []) ≡ record { items = (record { source = 0; apart = None; what = Combined 3 2 5 (pos 1024) (pos 1536) ((105 ∷ []) ∷ (93 ∷ []) ∷ (93 ∷ []) ∷ []) } ∷ record { source = 0; apart = None; what = Unit 3 5 6 kinds.Upright (pos 1024) true ((32 ∷ []) ∷ []) } ∷ record { source = 1; apart = None; what = Combined 5 0 5 (pos 1024) (pos 3072) ((1633 ∷ []) ∷ (26481 ∷ []) ∷ (20140 ∷ []) ∷ (769 ∷ []) ∷ []) } ∷ record { source = 2; apart = None; what = Atom (record { node = 7; ordinal = 0 }) } ∷ []); levels = (0 ∷ 0 ∷ 0 ∷ 0 ∷ []); classes = (classes.L ∷ classes.L ∷ classes.L ∷ classes.ON ∷ []); bases = (0 ∷ 0 ∷ 0 ∷ 0 ∷ []); breaks = (No ∷ May ∷ May ∷ No ∷ []) }
+combined_runs_of_two_texts : preparation faces (Some 0) (record initial { mode = modes.VerticalRl; orientation = orientations.Upright; combine = combines.All }) (item.text 3 (32 ∷ 32 ∷ 105 ∷ 93 ∷ 93 ∷ 32 ∷ []) (record initial { mode = modes.VerticalRl; orientation = orientations.Upright; combine = combines.All }) ∷ item.text 5 (217 ∷ 161 ∷ 230 ∷ 157 ∷ 177 ∷ 228 ∷ 186 ∷ 172 ∷ 226 ∷ 128 ∷ 171 ∷ 204 ∷ 129 ∷ []) (record initial { mode = modes.VerticalRl; orientation = orientations.Upright; combine = combines.All }) ∷ atom (record { node = 7; ordinal = 0 }) ∷ []) ≡ record { items = (record { source = 0; apart = None; what = Combined 3 2 5 (pos 1024) (pos 1536) ((105 ∷ []) ∷ (93 ∷ []) ∷ (93 ∷ []) ∷ []) } ∷ record { source = 0; apart = None; what = Unit kinds.Upright true 3 5 6 (pos 1024) ((32 ∷ []) ∷ []) } ∷ record { source = 1; apart = None; what = Combined 5 0 5 (pos 1024) (pos 3072) ((1633 ∷ []) ∷ (26481 ∷ []) ∷ (20140 ∷ []) ∷ (769 ∷ []) ∷ []) } ∷ record { source = 2; apart = None; what = Atom (record { node = 7; ordinal = 0 }) } ∷ []); levels = (0 ∷ 0 ∷ 0 ∷ 0 ∷ []); classes = (classes.L ∷ classes.L ∷ classes.L ∷ classes.ON ∷ []); bases = (0 ∷ 0 ∷ 0 ∷ 0 ∷ []); breaks = (No ∷ May ∷ May ∷ No ∷ []) }
 unfolding preparation parts marks taking_part bidi_texts inside visual_order reset order paragraph_levels explicit_levels explicit_classes isolating_runs weak resolved sequence_classes sequence_levels units_of unit_clusters advance_of used_table row_of bidi_class break_class orientation mirror bracket initial unicode_segmentation
 combined_runs_of_two_texts = refl
 
 -- a mark that X9 leaves parts a combined run from the item before it
-a_control_before_a_combined_run : preparation faces (Some 0) (record initial { mode = modes.VerticalLr; direction = directions.Rtl; orientation = orientations.Upright; combine = combines.All }) (item.text 3 (194 ∷ 160 ∷ 10 ∷ 226 ∷ 128 ∷ 143 ∷ 227 ∷ 128 ∷ 141 ∷ 226 ∷ 128 ∷ 142 ∷ 204 ∷ 129 ∷ 43 ∷ 32 ∷ []) (record initial { mode = modes.VerticalLr; direction = directions.Rtl; orientation = orientations.Upright; combine = combines.All }) ∷ []) ≡ record { items = (record { source = 0; apart = None; what = Combined 3 0 1 (pos 1024) (pos 512) ((160 ∷ []) ∷ []) } ∷ record { source = 0; apart = None; what = Unit 3 1 2 kinds.Upright (pos 1024) true ((32 ∷ []) ∷ []) } ∷ record { source = 0; apart = (Some 0); what = Combined 3 3 7 (pos 1024) (pos 2048) ((12301 ∷ []) ∷ (769 ∷ []) ∷ (43 ∷ []) ∷ []) } ∷ []); levels = (0 ∷ 0 ∷ 0 ∷ []); classes = (classes.L ∷ classes.L ∷ classes.L ∷ []); bases = (0 ∷ 0 ∷ 0 ∷ []); breaks = (No ∷ May ∷ No ∷ []) }
+a_control_before_a_combined_run : preparation faces (Some 0) (record initial { mode = modes.VerticalLr; direction = directions.Rtl; orientation = orientations.Upright; combine = combines.All }) (item.text 3 (194 ∷ 160 ∷ 10 ∷ 226 ∷ 128 ∷ 143 ∷ 227 ∷ 128 ∷ 141 ∷ 226 ∷ 128 ∷ 142 ∷ 204 ∷ 129 ∷ 43 ∷ 32 ∷ []) (record initial { mode = modes.VerticalLr; direction = directions.Rtl; orientation = orientations.Upright; combine = combines.All }) ∷ []) ≡ record { items = (record { source = 0; apart = None; what = Combined 3 0 1 (pos 1024) (pos 512) ((160 ∷ []) ∷ []) } ∷ record { source = 0; apart = None; what = Unit kinds.Upright true 3 1 2 (pos 1024) ((32 ∷ []) ∷ []) } ∷ record { source = 0; apart = (Some 0); what = Combined 3 3 7 (pos 1024) (pos 2048) ((12301 ∷ []) ∷ (769 ∷ []) ∷ (43 ∷ []) ∷ []) } ∷ []); levels = (0 ∷ 0 ∷ 0 ∷ []); classes = (classes.L ∷ classes.L ∷ classes.L ∷ []); bases = (0 ∷ 0 ∷ 0 ∷ []); breaks = (No ∷ May ∷ No ∷ []) }
 unfolding preparation parts marks taking_part bidi_texts inside visual_order reset order paragraph_levels explicit_levels explicit_classes isolating_runs weak resolved sequence_classes sequence_levels units_of unit_clusters advance_of used_table row_of bidi_class break_class orientation mirror bracket initial unicode_segmentation
 a_control_before_a_combined_run = refl
 

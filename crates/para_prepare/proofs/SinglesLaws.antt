@@ -121,7 +121,7 @@ item_at (of_unit source node upright unit []) base level h = absurd (cc)
 item_at (of_unit source node upright unit (l ∷ [])) base level h = go (level % 2 == 1)
   where
     go : (odd : Bool)
-        → (record { source = source; apart = None; what = contents.Unit node l.place (l.place + 1) unit.kind unit.advance (l.char == 0x20) ((cond odd (unwrap_or (mirror l.char) l.char) l.char ∷ []) ∷ []) })
+        → (record { source = source; apart = None; what = contents.Unit unit.kind (l.char == 0x20) node l.place (l.place + 1) unit.advance ((cond odd (unwrap_or (mirror l.char) l.char) l.char ∷ []) ∷ []) })
         ≡ cond odd (mirrored_item (flat_item (of_unit source node upright unit (l ∷ [])))) (flat_item (of_unit source node upright unit (l ∷ [])))
     go true = refl
     go false = refl
@@ -227,7 +227,7 @@ bounds_at false own h = h
 bounds_at true own h = mirrored own.source own.apart own.what h
   where
     mirrored : (source : ℕ) (apart : Option ℕ) (what : content.PreparedContent) → HasBounds what → HasBoundsIn (mirrored_item (record { source = source; apart = apart; what = what }))
-    mirrored source apart (contents.Unit node first end_ form advance space glyphs) h = h
+    mirrored source apart (contents.Unit form space node first end_ advance glyphs) h = h
     mirrored source apart (contents.Combined node first end_ advance natural glyphs) h = h
     mirrored source apart (contents.Atom name) h = h
     mirrored source apart (contents.Break node) h = h

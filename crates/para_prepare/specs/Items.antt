@@ -29,7 +29,7 @@ is_space (l ∷ (_ ∷ _)) = false
 
 abbrev pub unit_content : (level node : ℕ) → Unit → List Letter → content.PreparedContent
 unit_content level node unit letters =
-    contents.Unit node (first_place letters) (place_behind letters) unit.kind unit.advance (is_space letters) (glyph level letters ∷ [])
+    contents.Unit unit.kind (is_space letters) node (first_place letters) (place_behind letters) unit.advance (glyph level letters ∷ [])
 
 abbrev pub combined_content : (node : ℕ) → Unit → List Letter → (inside : List (List ℕ)) → content.PreparedContent
 combined_content node unit letters inside =

@@ -38,7 +38,7 @@ pub record AreWhole (items : List PreparedItem) (levels : List ℕ) (classes : L
 
 -- the bounds of an item's lengths: no character advances by more than 655,360, and a combined run by one font size
 abbrev pub HasBounds : content.PreparedContent → Type 0
-HasBounds (contents.Unit node first end_ form advance space glyphs) = (pos 0 ≤ℤ advance) × (advance ≤ℤ pos 655360)
+HasBounds (contents.Unit form space node first end_ advance glyphs) = (pos 0 ≤ℤ advance) × (advance ≤ℤ pos 655360)
 HasBounds (contents.Combined node first end_ advance natural glyphs) = (pos 0 ≤ℤ advance) × (advance ≤ℤ pos 65536) × (pos 0 ≤ℤ natural) × (natural ≤ℤ pos (655360 * (end_ - first)))
 HasBounds (contents.Atom name) = ⊤
 HasBounds (contents.Break node) = ⊤
@@ -51,7 +51,7 @@ AreFrom first many (item ∷ items) = (first ≤ item.source) × (item.source < 
 -- one more where that is an inline-block
 abbrev pub atoms_first : content.PreparedContent → (others : ℕ) → ℕ
 atoms_first (contents.Atom name) others = suc others
-atoms_first (contents.Unit node first end_ form advance space glyphs) others = others
+atoms_first (contents.Unit form space node first end_ advance glyphs) others = others
 atoms_first (contents.Combined node first end_ advance natural glyphs) others = others
 atoms_first (contents.Break node) others = others
 

@@ -14,7 +14,7 @@ use Rattle.para_prepare.specs.Preparation.{Preparation}
 
 -- what the bidi algorithm reads: a unit of one character as it stands, anything else as U+FFFC
 abbrev pub character_in : content.PreparedContent → ℕ
-character_in (contents.Unit node first end_ form advance space glyphs) = unwrap_or (only_character glyphs) 0xFFFC
+character_in (contents.Unit form space node first end_ advance glyphs) = unwrap_or (only_character glyphs) 0xFFFC
 character_in (contents.Combined node first end_ advance natural glyphs) = 0xFFFC
 character_in (contents.Atom name) = 0xFFFC
 character_in (contents.Break node) = 0xFFFC
@@ -28,7 +28,7 @@ abbrev pub mirrored_glyphs : List (List ℕ) → List (List ℕ)
 mirrored_glyphs glyphs = mirrored_by (only_character glyphs) glyphs
 
 abbrev pub mirrored_content : content.PreparedContent → content.PreparedContent
-mirrored_content (contents.Unit node first end_ form advance space glyphs) = contents.Unit node first end_ form advance space (mirrored_glyphs glyphs)
+mirrored_content (contents.Unit form space node first end_ advance glyphs) = contents.Unit form space node first end_ advance (mirrored_glyphs glyphs)
 mirrored_content (contents.Combined node first end_ advance natural glyphs) = contents.Combined node first end_ advance natural glyphs
 mirrored_content (contents.Atom name) = contents.Atom name
 mirrored_content (contents.Break node) = contents.Break node

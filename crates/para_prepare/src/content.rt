@@ -1,7 +1,7 @@
 //! The content of a paragraph once its texts are cut: ends of inline boxes, bidi controls, items (CSS Writing Modes 4, 5.1
 //! and 9.1; UAX 29).
 
-ghost use Rattle.std.specs.Prelude.{◌≡◌, ◌≤◌, ◌+◌, ◌-◌, ◌++◌, [], ◌∷◌, length, All, encode_utf8_all, IfOk, OnOk};
+ghost use Rattle.std.specs.Prelude.{◌≡◌, ◌<◌, ◌≤◌, ◌^◌, ◌+◌, ◌-◌, ◌++◌, [], ◌∷◌, length, All, encode_utf8_all, IfOk, OnOk};
 ghost use Rattle.face_api.specs.Faces.{faces_of};
 ghost use Rattle.fragment_types.specs.Item.{entry_of, entries_of};
 ghost use Rattle.para_prepare.specs.Content as spec;
@@ -29,7 +29,7 @@ pub(crate) struct Content<'a> {
 // The place of an item in its paragraph, and where its kept characters stand.
 #[derive(Clone, Copy)]
 pub(crate) struct Place {
-    pub(crate) source: usize,
+    pub(crate) source: u32,
     pub(crate) span: Span,
 }
 
@@ -46,6 +46,7 @@ pub(crate) fn content_of<'a>(
     requires letters { kept.letters.items ≡ joined (kept_of (entries_of items.now)) }
     requires ends { kept.ends.items ≡ ends_from 0 (kept_of (entries_of items.now)) }
     requires bytes { text_bytes (entries_of items.now) ≤ 1048576 }
+    requires few { length items.now < 2 ^ 32 }
     requires sizes { All HasFontSize (entries_of items.now) }
     ensures parts { IfOk result (λ c. parts_of c.letters.items c.parts.items ≡ spec.parts (faces_of ⟦<dyn Face as Face>⟧ faces.now) (entries_of items.now)) }
     ensures within { IfOk result (λ c. All (IsPart (length c.letters.items)) c.parts.items) }
@@ -71,6 +72,7 @@ fn all_parts<'a>(
     faces: &Faces,
 ) -> Result<Parts<'a>, AllocError>
     requires bytes { text_bytes (entries_of items.now) ≤ 1048576 }
+    requires few { length items.now < 2 ^ 32 }
     requires sizes { All HasFontSize (entries_of items.now) }
     requires letters { letters.now ≡ joined (kept_of (entries_of items.now)) }
     requires ends { ends.now ≡ ends_from 0 (kept_of (entries_of items.now)) }
@@ -83,7 +85,7 @@ fn all_parts<'a>(
     for i in 0..items.len() {
         let to = ends[i];
         let place = Place {
-            source: i,
+            source: i as u32,
             span: Span { from, to },
         };
         add_item(alloc, arena, &mut parts, place, &items[i], letters, faces)?;

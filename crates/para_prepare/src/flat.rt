@@ -69,6 +69,7 @@ pub(crate) fn flat_lists<'a>(
     faces: &Faces,
 ) -> Result<FlatLists<'a>, AllocError>
     requires bytes { text_bytes (entries_of items.now) ≤ 1048576 }
+    requires few { length items.now < 2 ^ 32 }
     requires sizes { All HasFontSize (entries_of items.now) }
     requires letters { letters.now ≡ joined (kept (entries_of items.now)) }
     requires ends { ends.now ≡ ends_from 0 (kept (entries_of items.now)) }
@@ -90,7 +91,7 @@ pub(crate) fn flat_lists<'a>(
     for i in 0..items.len() {
         let to = ends[i];
         let place = Place {
-            source: i,
+            source: i as u32,
             span: Span { from, to },
         };
         made.add_item(alloc, arena, place, &items[i], letters, faces)?;
@@ -357,12 +358,12 @@ impl FlatLists<'_> {
             class,
             Some(unit.break_class),
             PreparedContent::Unit {
+                form: unit.kind,
+                space: letter.char == ' ',
                 node: text.node,
                 first: letter.place,
                 end: letter.place + 1,
-                form: unit.kind,
                 advance: unit.advance,
-                space: letter.char == ' ',
                 glyphs: Glyphs::one(letter.char),
             },
         )?;
@@ -463,7 +464,7 @@ impl FlatLists<'_> {
     {
         if unit.kind == UnitKind::Combined {
             let glyphs = inside(alloc, arena, letters, text.style, faces)?;
-            let what = combined_content(text.node, unit, letters, glyphs);
+            let what = combined_content(alloc, text.node, unit, letters, glyphs)?;
             self.add(text.source, BidiClass::L, Some(unit.break_class), what)
         } else {
             self.add_unit(alloc, text, letters, unit)
@@ -511,7 +512,7 @@ impl FlatLists<'_> {
     #[inline(always)]
     fn add(
         &mut self,
-        source: usize,
+        source: u32,
         class: BidiClass,
         break_class: Option<BreakClass>,
         what: PreparedContent,

@@ -8,7 +8,7 @@ ghost use Rattle.para_prepare.specs.Items.{items_by, unit_content};
 ghost use Rattle.para_prepare.specs.Parts.{raws};
 ghost use Rattle.para_prepare.specs.Views.{IsPart, IsPlaced, letters_at, part_of, parts_of};
 
-use crate::item::{PreparedContent, PreparedItem, PreparedItems};
+use crate::item::{CombinedGlyphs, PreparedContent, PreparedItem, PreparedItems};
 use crate::letter::Letter;
 use crate::parts::Part;
 use crate::standing::Standing;
@@ -70,7 +70,7 @@ fn add_item(
             inside,
         } => {
             let own = &letters[span.from..span.to];
-            let what = combined_content(*node, *unit, own, copied(alloc, inside)?);
+            let what = combined_content(alloc, *node, *unit, own, copied(alloc, inside)?)?;
             push(items, *source, standings[place], what)?;
         }
         Part::Atom { source, name } => {
@@ -95,7 +95,7 @@ fn copied(alloc: Global, inside: &Glyphs) -> Result<Glyphs, AllocError>
 
 fn push(
     items: &mut PreparedItems,
-    source: usize,
+    source: u32,
     standing: Standing,
     what: PreparedContent,
 ) -> Result<(), AllocError>
@@ -114,7 +114,7 @@ fn push(
 pub(crate) fn push_unit(
     alloc: Global,
     items: &mut PreparedItems,
-    source: usize,
+    source: u32,
     node: u32,
     unit: Unit,
     letters: &[Letter],
@@ -128,12 +128,12 @@ pub(crate) fn push_unit(
         source,
         apart: standing.apart,
         what: PreparedContent::Unit {
+            form: unit.kind,
+            space: is_space(letters),
             node,
             first: first_place(letters),
             end: place_behind(letters),
-            form: unit.kind,
             advance: unit.advance,
-            space: is_space(letters),
             glyphs,
         },
     })?;
@@ -142,22 +142,23 @@ pub(crate) fn push_unit(
 
 // A combined run of these characters.
 pub(crate) fn combined_content(
+    alloc: Global,
     node: u32,
     unit: Unit,
     letters: &[Letter],
     inside: Glyphs,
-) -> PreparedContent
+) -> Result<PreparedContent, AllocError>
     requires { All IsPlaced letters.now }
-    ensures { result ≡ items.combined_content node unit letters.now inside }
+    ensures { IfOk result (λ what. what ≡ items.combined_content node unit letters.now inside) }
 {
-    PreparedContent::Combined {
+    Ok(PreparedContent::Combined {
         node,
         first: first_place(letters),
         end: place_behind(letters),
         advance: unit.advance,
         natural: unit.natural,
-        glyphs: inside,
-    }
+        glyphs: CombinedGlyphs::new(alloc, inside)?,
+    })
 }
 
 // The place of the first character in its node's text.

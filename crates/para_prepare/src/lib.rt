@@ -22,5 +22,5 @@ mod text;
 mod white;
 
 pub use breaks::BreakList;
-pub use item::{PreparedContent, PreparedItem, PreparedItems};
+pub use item::{CombinedGlyphs, PreparedContent, PreparedItem, PreparedItems};
 pub use preparation::{Paragraph, Prepared, prepare};

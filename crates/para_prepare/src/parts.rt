@@ -30,7 +30,7 @@ pub(crate) enum Part {
     },
     /// A unit of a text node.
     Unit {
-        source: usize,
+        source: u32,
         node: u32,
         upright: bool,
         unit: Unit,
@@ -38,7 +38,7 @@ pub(crate) enum Part {
     },
     /// A combined run of a text node, with the units inside it in visual order.
     Combined {
-        source: usize,
+        source: u32,
         node: u32,
         unit: Unit,
         letters: Span,
@@ -46,12 +46,12 @@ pub(crate) enum Part {
     },
     /// An inline-block.
     Atom {
-        source: usize,
+        source: u32,
         name: BoxName,
     },
     /// A `br`.
     Break {
-        source: usize,
+        source: u32,
         node: u32,
     },
 }

@@ -1,6 +1,6 @@
 //! A paragraph that is prepared for its lines: all of it that hangs on no width.
 
-ghost use Rattle.std.specs.Prelude.{◌≡◌, ◌+◌, ◌≤◌, true, List, length, replicate, All, IfOk, IfSome};
+ghost use Rattle.std.specs.Prelude.{◌≡◌, ◌+◌, ◌<◌, ◌≤◌, ◌^◌, true, List, length, replicate, All, IfOk, IfSome};
 ghost use Rattle.face_api.specs.Faces.{faces_of};
 ghost use Rattle.fragment_types.specs.Item.{entries_of};
 ghost use Rattle.para_prepare.specs.Boxes.{taking_part};
@@ -117,8 +117,8 @@ impl Prepared {
 }
 
 /// Prepares a paragraph. All its texts together have at most 1,048,576 bytes, and their font sizes are from 0 to 65,536.
-/// `arena` is for scratch memory, and empty when the call returns. The call is a step, also one that runs out of memory. The
-/// items come in the order of the paragraph's, and there are at most as many as bytes of text and items together, and no more
+/// `arena` is for scratch memory, and empty when the call returns. The call is a step, also one that runs out of memory, as one
+/// of 2^32 items of the paragraph or more does. The items come in the order of the paragraph's, and there are at most as many as bytes of text and items together, and no more
 /// inline-blocks among them than the paragraph has. No unit advances by less than 0 or by more than 655,360, and no combined
 /// run by more than 65,536.
 pub fn prepare<L: Ledger>(
@@ -159,6 +159,9 @@ fn scratch(
     ensures atoms { IfOk result (λ p. atoms_in p.items ≤ atoms_of (entries_of paragraph.now.items.items)) }
     ensures lengths { IfOk result (λ p. All (λ item. HasBounds item.what) p.items) }
 {
+    if paragraph.items.len() > u32::MAX as usize {
+        return Err(AllocError);
+    }
     let kept = kept_letters(arena, &paragraph.items)?;
     match by_lists(alloc, arena, paragraph, &kept, faces)? {
         Some(prepared) => Ok(prepared),
@@ -178,6 +181,7 @@ fn by_lists(
     requires base { IfSome paragraph.now.base (λ base. base ≤ 1) }
     requires bytes { text_bytes (entries_of paragraph.now.items.items) ≤ 1048576 }
     requires sizes { All HasFontSize (entries_of paragraph.now.items.items) }
+    requires few { length paragraph.now.items.items < 2 ^ 32 }
     requires letters { kept.now.letters.items ≡ joined (kept_of (entries_of paragraph.now.items.items)) }
     requires ends { kept.now.ends.items ≡ ends_from 0 (kept_of (entries_of paragraph.now.items.items)) }
     ensures prepared { IfOk result (λ made. IfSome made (λ p. p ≡ preparation (faces_of ⟦<dyn Face as Face>⟧ faces.now) paragraph.now.base paragraph.now.style (entries_of paragraph.now.items.items))) }
@@ -320,6 +324,7 @@ fn by_all_rules<'a>(
     requires base { IfSome paragraph.now.base (λ base. base ≤ 1) }
     requires bytes { text_bytes (entries_of paragraph.now.items.items) ≤ 1048576 }
     requires sizes { All HasFontSize (entries_of paragraph.now.items.items) }
+    requires few { length paragraph.now.items.items < 2 ^ 32 }
     requires letters { kept.letters.items ≡ joined (kept_of (entries_of paragraph.now.items.items)) }
     requires ends { kept.ends.items ≡ ends_from 0 (kept_of (entries_of paragraph.now.items.items)) }
     ensures prepared { IfOk result (λ p. p ≡ preparation (faces_of ⟦<dyn Face as Face>⟧ faces.now) paragraph.now.base paragraph.now.style (entries_of paragraph.now.items.items)) }

@@ -32,7 +32,7 @@ use wm_modes::WritingMode;
 /// the paragraph.
 #[derive(Clone, Copy)]
 pub(crate) struct Text<'b> {
-    pub(crate) source: usize,
+    pub(crate) source: u32,
     pub(crate) node: u32,
     pub(crate) style: &'b Style,
     pub(crate) span: Span,
