@@ -1,5 +1,5 @@
 -- The block-level nodes in inline boxes, node by node.
-use Rattle.std.proofs.Common.{◌≡◌, ◌∙◌, refl, ap, sym, ℕ, Bool, true, false, List, [], ◌∷◌, ◌++◌, append-nil, Option, Some, None, arith}
+use Rattle.std.proofs.Common.{◌≡◌, ◌∙◌, refl, ap, sym, ℕ, Bool, true, false, List, [], ◌++◌, append-nil}
 use Rattle.style_types.specs.declared.tree.StyledNode.{StyledNode}
 use Rattle.style_types.specs.declared.tree.StyledNode.TheViews.{out-StyledNode}
 use Rattle.style_types.specs.Tree as styled
@@ -7,23 +7,8 @@ use Rattle.style_types.specs.Tree.{Nodes, kind_of, before, nodes_of, all_nodes_o
 use Rattle.box_gen.specs.declared.role.Role as code_role
 use Rattle.box_gen.specs.declared.role.Role.TheVariants as code_roles
 use Rattle.box_gen.specs.Boxes.{Role, nothing, words, line_break, inline_box, atom, block_level, role_of, put_if, caught_by, caught}
-use Rattle.box_gen.specs.Building.{code_of, role_in, lesser, least}
+use Rattle.box_gen.specs.Building.{code_of, role_in}
 use Rattle.box_gen.proofs.NodeLines.{opened, role_opened}
-
-pub lesser_none : (o : Option ℕ) → lesser o None ≡ o
-lesser_none None = refl
-lesser_none (Some a) = refl
-
-pub lesser_assoc : (o p q : Option ℕ) → lesser (lesser o p) q ≡ lesser o (lesser p q)
-lesser_assoc None p q = refl
-lesser_assoc (Some a) None q = refl
-lesser_assoc (Some a) (Some b) None = refl
-lesser_assoc (Some a) (Some b) (Some c) = ap (λ (n : ℕ). Some n) (omega arith)
-
-pub least_append : (a b : List ℕ) → least (a ++ b) ≡ lesser (least a) (least b)
-unfolding least
-least_append [] b = refl
-least_append (number ∷ a) b = ap (lesser (Some number)) (least_append a b) ∙ sym (lesser_assoc (Some number) (least a) (least b))
 
 pub caught_before : (n : StyledNode) (next : Nodes) (inside : Bool) → caught (before n next) inside ≡ caught (nodes_of n) inside ++ caught next inside
 unfolding caught

@@ -311,7 +311,3 @@ pub filled_all : (left : Nodes) (number : ℕ) (style : Style) (filling : Fillin
     → made_box ≡ filled number style filling (record { first = no_run; others = no_more }) → filled number style filling (held left) ≡ whole → made_box ≡ whole
 unfolding held
 filled_all left number style filling made_box whole none_left is w = is ∙ sym (ap (λ (ns : Nodes). filled number style filling (held ns)) none_left) ∙ w
-
--- what is caught below the root
-pub content_caught : (n : StyledNode) → root_caught (nodes_of n) ≡ caught (all_nodes_of (out-StyledNode n).children.items) false
-content_caught n = ap root_caught (opened n styled.none)

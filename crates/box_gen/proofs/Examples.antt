@@ -13,6 +13,8 @@ use Rattle.style_types.specs.Tree as styled
 use Rattle.style_types.specs.Tree.{Nodes, node, element, line_break}
 use Rattle.box_gen.specs.Boxes.{root_boxes, root_caught, held, caught, stacked, join, is_blank}
 use Rattle.box_gen.specs.Building.{least}
+use Rattle.box_gen.specs.declared.limit.BoxLimit.TheVariants as limits
+use Rattle.box_gen.specs.Limit.{limit_node, limit_word}
 use Rattle.box_gen.specs.Orthogonal.{past, root_past}
 use Rattle.box_gen.specs.Tree.{box, none, blocks, inline}
 
@@ -181,3 +183,19 @@ seven_turn_tree =
 seven_turn : root_past seven_turn_tree ≡ 7 ∷ []
 unfolding initial past seven_turn_tree
 seven_turn = refl
+
+-- ---- what is told of a limit
+
+too_many_turn : limit_word (limits.TooManyOrthogonal 7) ≡ codes "TooManyOrthogonal"
+unfolding limit_word
+too_many_turn = refl
+
+a_block_in_an_inline_box : limit_word (limits.BlockInInline 3) ≡ codes "BlockInInline"
+unfolding limit_word
+a_block_in_an_inline_box = refl
+
+the_node_that_turns : limit_node (limits.TooManyOrthogonal 7) ≡ 7
+the_node_that_turns = refl
+
+the_block_of_the_inline_box : limit_node (limits.BlockInInline 3) ≡ 3
+the_block_of_the_inline_box = refl

@@ -1,8 +1,9 @@
--- The least of some numbers is one of them, and none is below it.
-use Rattle.std.proofs.Common.{◌≡◌, refl, sym, ap, ℕ, zero, suc, ◌≤◌, min, List, [], ◌∷◌, length, subst, Option, Some, None, inl, inr, arith}
+-- The least of some numbers is one of them, and none is below it; and of two lists it is the lesser of both.
+use Rattle.std.proofs.Common.{◌≡◌, ◌∙◌, refl, sym, ap, ℕ, zero, suc, ◌≤◌, min, List, [], ◌∷◌, ◌++◌, length, subst, Option, Some, None, inl, inr, arith}
 use Rattle.std.proofs.lemmas.Bool.{cases_lt}
 use Rattle.std.specs.List.{Contains}
 use Rattle.box_gen.specs.Building.{lesser, least}
+use Rattle.box_gen.specs.Orthogonal.{IsLeastOf}
 
 pub none_least : (numbers : List ℕ) → least numbers ≡ None → numbers ≡ []
 unfolding least
@@ -48,3 +49,24 @@ pub least_is : (numbers : List ℕ) (n : ℕ) → least numbers ≡ Some n → I
 unfolding least
 least_is [] n e = cc
 least_is (number ∷ numbers) n e = with_first number n numbers (least numbers) e refl (least_is numbers)
+
+pub least_of : (numbers : List ℕ) (found : Option ℕ) → found ≡ least numbers → IsLeastOf numbers found
+least_of numbers None is = none_least numbers (sym is)
+least_of numbers (Some number) is = least_is numbers number (sym is)
+
+-- ---- two lists
+
+pub lesser_none : (o : Option ℕ) → lesser o None ≡ o
+lesser_none None = refl
+lesser_none (Some a) = refl
+
+pub lesser_assoc : (o p q : Option ℕ) → lesser (lesser o p) q ≡ lesser o (lesser p q)
+lesser_assoc None p q = refl
+lesser_assoc (Some a) None q = refl
+lesser_assoc (Some a) (Some b) None = refl
+lesser_assoc (Some a) (Some b) (Some c) = ap (λ (n : ℕ). Some n) (omega arith)
+
+pub least_append : (a b : List ℕ) → least (a ++ b) ≡ lesser (least a) (least b)
+unfolding least
+least_append [] b = refl
+least_append (number ∷ a) b = ap (lesser (Some number)) (least_append a b) ∙ sym (lesser_assoc (Some number) (least a) (least b))

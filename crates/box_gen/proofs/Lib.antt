@@ -3,8 +3,9 @@ pub mod CaughtNodes
 pub mod Contents
 pub mod Examples
 pub mod Fillings
+pub mod Founds
 pub mod Least
 pub mod NodeLines
-pub mod PastNodes
 pub mod Results
 pub mod Runs
+pub mod Sites

@@ -4,7 +4,7 @@ use Rattle.fragment_types.specs.declared.item.Item.{Item}
 use Rattle.fragment_types.specs.Item.{Entry, entry_of, entries_of}
 use Rattle.box_gen.specs.declared.tree.BoxTree.{BoxTree}
 use Rattle.box_gen.specs.Tree.{Boxes, none, boxes_of, all_boxes_of}
-use Rattle.box_gen.specs.Boxes.{Run, join, no_run}
+use Rattle.box_gen.specs.Boxes.{Run, no_run}
 use Rattle.box_gen.specs.Building.{and_then, run_with}
 use Rattle.box_gen.proofs.BoxLines.{join_none, join_assoc, all_boxes_push}
 

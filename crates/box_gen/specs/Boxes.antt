@@ -1,6 +1,5 @@
 -- The boxes that a styled tree makes. CSS 2, 9.2.1 and 9.2.2, narrowed.
-use Rattle.std.specs.Prelude.{◌≡◌, ℕ, suc, Bool, true, false, ◌||◌, ◌&&◌, eqb, ◌≤◌, List, [], ◌∷◌, ◌++◌, Result, Ok, Err, ⊤}
-use Rattle.std.specs.List.{Contains}
+use Rattle.std.specs.Prelude.{ℕ, suc, Bool, true, false, ◌||◌, ◌&&◌, eqb, List, [], ◌∷◌, ◌++◌}
 use Rattle.fragment_types.specs.declared.item.BoxName.{BoxName}
 use Rattle.style_types.specs.declared.style.Display.{Display}
 use Rattle.style_types.specs.declared.style.Display.TheVariants.{Block, Inline, InlineBlock, FlowRoot, Hidden}
@@ -10,10 +9,7 @@ use Rattle.fragment_types.specs.Item as item
 use Rattle.fragment_types.specs.Item.{Entry}
 use Rattle.style_types.specs.Tree as styled
 use Rattle.style_types.specs.Tree.{Nodes, NodeKind}
-use Rattle.box_gen.specs.declared.error.BoxError.{BoxError}
-use Rattle.box_gen.specs.declared.error.BoxError.TheVariants.{BlockInInline, Memory}
-use Rattle.box_gen.specs.declared.tree.BoxTree.{BoxTree}
-use Rattle.box_gen.specs.Tree.{blocks, inline, Boxes, none, box, boxes_of}
+use Rattle.box_gen.specs.Tree.{blocks, inline, Boxes, none, box}
 
 -- ---- what a node is to its container
 
@@ -169,9 +165,3 @@ root_boxes (styled.node number kind style inner next) = made number style (held 
 abbrev pub root_caught : Nodes → List ℕ
 root_caught styled.none = []
 root_caught (styled.node number kind style inner next) = caught inner false
-
--- the boxes where no block-level box stands in an inline one, else the least number of such a node
-abbrev pub Makes : Nodes → Result BoxTree BoxError → Type 0
-Makes root (Ok tree) = (root_caught root ≡ []) × (boxes_of tree ≡ root_boxes root)
-Makes root (Err (BlockInInline number)) = Contains (root_caught root) number × ((other : ℕ) → Contains (root_caught root) other → number ≤ other)
-Makes root (Err Memory) = ⊤

@@ -3,12 +3,10 @@
 ghost use Rattle.std.specs.Prelude.{◌≡◌, true, [], IfOk};
 ghost use Rattle.style_types.specs.Tree.{nodes_of};
 ghost use Rattle.box_gen.specs.Tree.{boxes_of};
-ghost use Rattle.box_gen.specs.Boxes.{Makes, caught, root_caught, root_boxes};
+ghost use Rattle.box_gen.specs.Boxes.{caught, root_caught, root_boxes};
 ghost use Rattle.box_gen.specs.declared.role.Role.TheVariants as roles;
 ghost use Rattle.box_gen.specs.Building.{run_of, and_then, first_run, role_in};
 
-use crate::caught::least_caught;
-use crate::error::BoxError;
 use crate::filling::{Filling, own_name};
 use crate::role::{Role, role_of};
 use crate::run::Run;
@@ -17,20 +15,17 @@ use fragment_types::Item;
 use std::alloc::{AllocError, Global};
 use style_types::{StyledKind, StyledNode};
 
-/// The boxes that a styled tree makes: that of the root, whatever its display, with all inside it. A block-level box
-/// in an inline box is refused, by the least number of such a node. Takes memory for the boxes, and time in proportion
-/// to the tree.
-pub fn boxes(alloc: Global, styled: &StyledNode) -> Result<BoxTree, BoxError>
-    ensures { Makes (nodes_of styled.now) result }
+/// The boxes that a styled tree makes: that of the root, whatever its display, with all inside it. No block-level box may
+/// stand in an inline box (`check_boxes`). Takes memory for the boxes, and time in proportion to the tree.
+pub fn boxes(alloc: Global, styled: &StyledNode) -> Result<BoxTree, AllocError>
+    requires { root_caught (nodes_of styled.now) ≡ [] }
+    ensures { IfOk result (λ tree. boxes_of tree ≡ root_boxes (nodes_of styled.now)) }
 {
-    if let Some(number) = least_caught(&styled.children, false) {
-        return Err(BoxError::BlockInInline(number));
-    }
     let tree = container(alloc, styled)?;
     Ok(tree)
 }
 
-// The box of a node that is a block container, whatever its display, where nothing below it is refused.
+// The box of a node that is a block container, whatever its display, where no block-level node below it stands in an inline box.
 #[cycle(container)]
 fn container(alloc: Global, node: &StyledNode) -> Result<BoxTree, AllocError>
     ensures { IfOk result (λ tree. root_caught (nodes_of node.now) ≡ [] → boxes_of tree ≡ root_boxes (nodes_of node.now)) }
@@ -60,7 +55,7 @@ fn put_inline(alloc: Global, node: &StyledNode, run: &mut Run) -> Result<(), All
             let atom = container(alloc, node)?;
             run.put_atom(own_name(node.node), atom)
         }
-        // A block-level node in an inline box was refused before.
+        // No block-level node stands in an inline box.
         Role::Nothing | Role::BlockLevel => Ok(()),
     }
 }

@@ -4,6 +4,7 @@ ghost use Rattle.std.specs.Prelude.{◌≡◌};
 ghost use Rattle.style_types.specs.Tree.{nodes_of};
 ghost use Rattle.box_gen.specs.Boxes.{role_by, element_role, line_break};
 ghost use Rattle.box_gen.specs.Building.{code_of, role_in};
+ghost use Rattle.box_gen.specs.Site.{is_block_level, is_container};
 
 use style_types::{Display, StyledKind, StyledNode};
 
@@ -18,8 +19,30 @@ pub enum Role {
     BlockLevel,
 }
 
+impl Role {
+    /// Whether its box is a container anew.
+    pub(crate) fn is_container(self) -> bool
+        ensures { result ≡ is_container self }
+    {
+        match self {
+            Role::Atom | Role::BlockLevel => true,
+            Role::Nothing | Role::Words | Role::LineBreak | Role::InlineBox => false,
+        }
+    }
+
+    /// Whether its box is block-level.
+    pub(crate) fn is_block_level(self) -> bool
+        ensures { result ≡ is_block_level self }
+    {
+        match self {
+            Role::BlockLevel => true,
+            Role::Nothing | Role::Words | Role::LineBreak | Role::InlineBox | Role::Atom => false,
+        }
+    }
+}
+
 /// What this node is to its container.
-pub fn role_of(node: &StyledNode) -> Role
+pub(crate) fn role_of(node: &StyledNode) -> Role
     ensures { result ≡ role_in (nodes_of node.now) }
 {
     let display = node.style.display;

@@ -24,15 +24,17 @@ use Rattle.tree_laws.specs.Laws.{EditsKeepWhole}
 use Rattle.tree_laws.specs.Reached.{EditsKeepReached, IsAtLevel}
 use Rattle.tree_laws.proofs.Parents.{children_have_parents}
 use Rattle.tree_laws.proofs.Refusing.{insert_passes, lives_below}
-use Rattle.box_limits.specs.declared.found.Found.{Found}
+use Rattle.box_gen.specs.declared.found.Found.{Found}
+use Rattle.box_gen.specs.Found.{caught_from, nothing_found, past_from}
+use Rattle.box_gen.specs.Site as sites
+use Rattle.box_gen.proofs.Sites.{caught_ends, caught_steps, past_ends, past_steps, tests_caught}
 use Rattle.box_limits.specs.Limits.{EditsAreJudgedByTheirParts, IsEditedFrom, all_below, touched}
 use Rattle.box_limits.specs.Lines.{is_caught, is_past}
-use Rattle.box_limits.specs.Judging.{AreCovered, AreInside, FindsAll, FindsBelow, IsTree, count_of_tops, nothing_found, one_unless, tests_caught, tests_past, caught_from, past_from}
+use Rattle.box_limits.specs.Judging.{AreCovered, AreInside, FindsAll, FindsBelow, IsTree, count_of_tops, one_unless}
 use Rattle.box_limits.proofs.Among.{IsIn, contained, found, in_first, in_second, of_one}
 use Rattle.box_limits.proofs.Judged.{body_caught, body_past, caught_below, html_children, past_below, placed_below, says_caught, says_past}
 use Rattle.box_limits.proofs.Leasts.{finds_all}
 use Rattle.box_limits.proofs.Levels.{below_is, parent_is}
-use Rattle.box_limits.proofs.Walks.{caught_ends, caught_steps, past_ends, past_steps}
 
 -- ---- nodes that stand in no other
 
@@ -88,7 +90,7 @@ module _ (rules : List Ruling) (state : State) (tree : IsTree state) where
       let all = subst (λ (l : List ℕ). FindsBelow rules state l result) are finds in
       finds_all rules state tree (all_below state (children_at state 1)) result
       (λ number living good. contained number (all_below state (children_at state 1))
-      (placed_below rules state tree.rooted tree.whole tree.reached past_from tests_past (is_past rules) past_steps past_ends (says_past rules) body_past (past_below rules) number living good))
+      (placed_below rules state tree.rooted tree.whole tree.reached past_from sites.is_past (is_past rules) past_steps past_ends (says_past rules) body_past (past_below rules) number living good))
       (λ number living good. contained number (all_below state (children_at state 1))
       (placed_below rules state tree.rooted tree.whole tree.reached caught_from tests_caught (is_caught rules) caught_steps caught_ends (says_caught rules) body_caught (caught_below rules) number living good))
       all.past all.caught
@@ -186,7 +188,7 @@ module _ (rules : List Ruling) (edit : EditOf) (next state : State) (edited : Is
 
   pub covered : EditsAreJudgedByTheirParts → AreCovered rules next (all_below next (touched state edit))
   covered judged =
-      let those = judged rules state edit edited.fitting edited.rooted edited.whole edited.reached edited.taken edited.within.turns edited.within.blocks in
+      let those = judged rules state edit edited.fitting edited.rooted edited.whole edited.reached edited.taken edited.within in
       let now : AreCovered rules (after state edit) (all_below (after state edit) (touched state edit)) = record { past = λ number living. (those number living).0; caught = λ number living. (those number living).1 } in
       subst (λ (s : State). AreCovered rules s (all_below s (touched state edit))) (sym edited.is) now
 

@@ -19,7 +19,7 @@ use Rattle.computed.specs.Winners.{won, said}
 use Rattle.style_tree.specs.Styling.{styled_document, styled_in}
 use Rattle.box_gen.specs.Boxes.{caught, root_caught}
 use Rattle.box_gen.specs.Orthogonal.{past, root_past}
-use Rattle.box_limits.specs.Lines.{is_caught, is_past, site_on}
+use Rattle.box_limits.specs.Lines.{is_caught, is_past, place_on}
 
 -- `body`, in it a `span` with a `div` and an inline-block that has a `div` too
 inline_block : List Declaration
@@ -38,11 +38,11 @@ unfolding with_blocks blocks inline_block caught styled_in line_to tree_to match
 one_caught = refl
 
 third_is_caught : is_caught [] (line with_blocks 3) ≡ true
-unfolding with_blocks blocks inline_block site_on line_to matches_from some each tails tag_names.tags is_less stated claims_of_rules greatest_from sum default_rules initial won said margin_at padding_at size_at border_at margins paddings borders own_font_size own_mode own_display own_direction own_orientation own_combine own_bidi own_face own_line_height own_align own_shift sized
+unfolding with_blocks blocks inline_block place_on line_to matches_from some each tails tag_names.tags is_less stated claims_of_rules greatest_from sum default_rules initial won said margin_at padding_at size_at border_at margins paddings borders own_font_size own_mode own_display own_direction own_orientation own_combine own_bidi own_face own_line_height own_align own_shift sized
 third_is_caught = refl
 
 fifth_is_not : is_caught [] (line with_blocks 5) ≡ false
-unfolding with_blocks blocks inline_block site_on line_to matches_from some each tails tag_names.tags is_less stated claims_of_rules greatest_from sum default_rules initial won said margin_at padding_at size_at border_at margins paddings borders own_font_size own_mode own_display own_direction own_orientation own_combine own_bidi own_face own_line_height own_align own_shift sized
+unfolding with_blocks blocks inline_block place_on line_to matches_from some each tails tag_names.tags is_less stated claims_of_rules greatest_from sum default_rules initial won said margin_at padding_at size_at border_at margins paddings borders own_font_size own_mode own_display own_direction own_orientation own_combine own_bidi own_face own_line_height own_align own_shift sized
 fifth_is_not = refl
 
 -- `body`, and seven `div`s one in the other, each of the other mode
@@ -67,9 +67,9 @@ unfolding with_turns turned vertical horizontal past styled_in line_to tree_to m
 one_past = refl
 
 seven_are_past : is_past [] (line with_turns 8) ≡ true
-unfolding with_turns turned vertical horizontal site_on line_to matches_from some each tails tag_names.tags is_less stated claims_of_rules greatest_from sum default_rules initial won said margin_at padding_at size_at border_at margins paddings borders own_font_size own_mode own_display own_direction own_orientation own_combine own_bidi own_face own_line_height own_align own_shift sized
+unfolding with_turns turned vertical horizontal place_on line_to matches_from some each tails tag_names.tags is_less stated claims_of_rules greatest_from sum default_rules initial won said margin_at padding_at size_at border_at margins paddings borders own_font_size own_mode own_display own_direction own_orientation own_combine own_bidi own_face own_line_height own_align own_shift sized
 seven_are_past = refl
 
 six_are_not : is_past [] (line with_turns 7) ≡ false
-unfolding with_turns turned vertical horizontal site_on line_to matches_from some each tails tag_names.tags is_less stated claims_of_rules greatest_from sum default_rules initial won said margin_at padding_at size_at border_at margins paddings borders own_font_size own_mode own_display own_direction own_orientation own_combine own_bidi own_face own_line_height own_align own_shift sized
+unfolding with_turns turned vertical horizontal place_on line_to matches_from some each tails tag_names.tags is_less stated claims_of_rules greatest_from sum default_rules initial won said margin_at padding_at size_at border_at margins paddings borders own_font_size own_mode own_display own_direction own_orientation own_combine own_bidi own_face own_line_height own_align own_shift sized
 six_are_not = refl

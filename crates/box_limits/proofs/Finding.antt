@@ -1,80 +1,36 @@
 -- What is found, number by number.
-use Rattle.std.proofs.Common.{◌≡◌, ◌∙◌, ℕ, zero, suc, ◌+◌, ◌<◌, ◌≤◌, Bool, true, false, List, [], ◌++◌, length, drop, get_or, refl, sym, ap, subst, arith, Option, Some, None}
+use Rattle.std.proofs.Common.{◌≡◌, ◌∙◌, ℕ, zero, suc, ◌+◌, ◌<◌, ◌≤◌, List, [], length, drop, get_or, sym, ap, subst, arith, Option, Some, None}
 use Rattle.std.proofs.lemmas.List.{drop_all, drop_more}
 use Rattle.style_types.specs.declared.style.Style.{Style}
 use Rattle.css_types.specs.Rule.{Ruling}
 use Rattle.style_types.specs.Tree as styled
-use Rattle.style_types.specs.Tree.{Nodes, NodeKind}
 use Rattle.dom_store.specs.State as dom
 use Rattle.dom_store.specs.State.{What, Entry, State, Tree, tree_to, tree_with}
 use Rattle.style_tree.specs.Styling.{kind_of, style_at, styled_in, styled_one}
-use Rattle.box_gen.specs.Boxes.{put_if, role_of}
-use Rattle.box_gen.specs.Building.{least, lesser}
-use Rattle.box_gen.proofs.CaughtNodes.{least_append, lesser_assoc, lesser_none}
-use Rattle.box_limits.specs.declared.found.Found.{Found}
-use Rattle.box_limits.specs.Lines.{Site, site_by, site_in}
-use Rattle.box_limits.specs.Judging.{both, caught_from, found_at, found_from, nothing_found, number_if, past_from, tests_caught, tests_past}
-use Rattle.box_limits.proofs.Walks.{caught_ends, caught_steps, own_style, past_ends, past_steps}
-
-pub same_found : (past past_too caught caught_too : Option ℕ) → past ≡ past_too → caught ≡ caught_too → (let one : Found = record { past = past; caught = caught } in one) ≡ record { past = past_too; caught = caught_too }
-same_found past past_too caught caught_too one two =
-    ap (λ (o : Option ℕ). (let f : Found = record { past = o; caught = caught } in f)) one ∙ ap (λ (o : Option ℕ). (let f : Found = record { past = past_too; caught = o } in f)) two
-
-both_assoc : (one two three : Found) → both (both one two) three ≡ both one (both two three)
-both_assoc one two three = same_found _ _ _ _ (lesser_assoc one.past two.past three.past) (lesser_assoc one.caught two.caught three.caught)
-
-both_nothing : (one : Found) → both one nothing_found ≡ one
-both_nothing one = same_found _ _ _ _ (lesser_none one.past) (lesser_none one.caught)
-
-least_put : (is : Bool) (number : ℕ) (others : List ℕ) → least (put_if is number others) ≡ lesser (number_if is number) (least others)
-unfolding least
-least_put true number others = refl
-least_put false number others = refl
-
-least_of : (is : Bool) (number : ℕ) (inner next : List ℕ) → least (put_if is number inner ++ next) ≡ lesser (lesser (number_if is number) (least inner)) (least next)
-least_of is number inner next = least_append (put_if is number inner) next ∙ ap (λ (o : Option ℕ). lesser o (least next)) (least_put is number inner)
-
-found_none : (site : Site) → found_from site styled.none ≡ nothing_found
-unfolding least
-found_none site = same_found _ _ _ _ (ap least (past_ends site)) (ap least (caught_ends site))
-
-found_step : (site : Site) (number : ℕ) (kind : NodeKind) (style : Style) (inner next : Nodes) → found_from site (styled.node number kind style inner next)
-    ≡ both (both (found_at number (tests_past (role_of kind style) style site) (tests_caught (role_of kind style) style site)) (found_from (site_by (role_of kind style) style site) inner)) (found_from site next)
-found_step site number kind style inner next =
-    same_found _ _ _ _
-    (ap least (past_steps site number kind style inner next) ∙ least_of (tests_past (role_of kind style) style site) number (past_from (site_by (role_of kind style) style site) inner) (past_from site next))
-    (ap least (caught_steps site number kind style inner next) ∙ least_of (tests_caught (role_of kind style) style site) number (caught_from (site_by (role_of kind style) style site) inner) (caught_from site next))
-
-found_alone : (site : Site) (number : ℕ) (kind : NodeKind) (style : Style) (inner : Nodes) → found_from site (styled.node number kind style inner styled.none)
-    ≡ both (found_at number (tests_past (role_of kind style) style site) (tests_caught (role_of kind style) style site)) (found_from (site_by (role_of kind style) style site) inner)
-found_alone site number kind style inner =
-    found_step site number kind style inner styled.none
-    ∙ ap (both (both (found_at number (tests_past (role_of kind style) style site) (tests_caught (role_of kind style) style site)) (found_from (site_by (role_of kind style) style site) inner))) (found_none site)
-    ∙ both_nothing _
-
-found_split : (site : Site) (number : ℕ) (kind : NodeKind) (style : Style) (inner next : Nodes) → found_from site (styled.node number kind style inner next)
-    ≡ both (found_from site (styled.node number kind style inner styled.none)) (found_from site next)
-found_split site number kind style inner next = found_step site number kind style inner next ∙ ap (λ (f : Found). both f (found_from site next)) (sym (found_alone site number kind style inner))
+use Rattle.box_gen.specs.declared.found.Found.{Found}
+use Rattle.box_gen.specs.declared.site.Site.{Site}
+use Rattle.box_gen.specs.Found.{both, found_from, nothing_found}
+use Rattle.box_gen.proofs.Founds.{both_assoc, both_nothing, found_alone, found_none, found_split}
+use Rattle.box_limits.specs.declared.place.Place.{Place}
+use Rattle.box_limits.specs.Lines.{place_in}
+use Rattle.box_limits.specs.Judging.{found_there}
 
 -- ---- a node
 
 module _ (rules : List Ruling) (state : State) where
-  pub node_found : (number : ℕ) (what : What) (children : List ℕ) (depth : ℕ) (site : Site) (style : Style) → style ≡ style_at rules state number what site.style
-      → (past caught : Bool) → past ≡ tests_past (role_of (kind_of what) style) style site → caught ≡ tests_caught (role_of (kind_of what) style) style site
-      → (inside : Site) → inside ≡ site_in what style site → (numbers : List ℕ) → numbers ≡ children → (below : Found) → below ≡ found_from inside (styled_in rules state inside.style (tree_to depth state numbers))
-      → (own all : Found) → own ≡ found_at number past caught → all ≡ both own below → all ≡ found_from site (styled_one rules state site.style number what (tree_to depth state children) styled.none)
-  node_found number what children depth site style is past caught is_past is_caught inside in_ numbers are below found own all here together =
-      let role = role_of (kind_of what) style in
+  pub node_found : (number : ℕ) (what : What) (children : List ℕ) (depth : ℕ) (place : Place) (style : Style) → style ≡ style_at rules state number what place.style
+      → (inside : Place) → inside ≡ place_in what style place → (numbers : List ℕ) → numbers ≡ children → (below : Found) → below ≡ found_from inside.site (styled_in rules state inside.style (tree_to depth state numbers))
+      → (own all : Found) → own ≡ found_there number what style place.site → all ≡ both own below → all ≡ found_from place.site (styled_one rules state place.style number what (tree_to depth state children) styled.none)
+  node_found number what children depth place style is inside in_ numbers are below found own all here together =
       let inner = styled_in rules state style (tree_to depth state children) in
-      let lower : below ≡ found_from (site_by role style site) inner =
-      found ∙ ap (λ (s : Site). found_from s (styled_in rules state s.style (tree_to depth state numbers))) in_
-      ∙ ap (λ (s : Style). found_from (site_by role style site) (styled_in rules state s (tree_to depth state numbers))) (own_style role style site)
-      ∙ ap (λ (l : List ℕ). found_from (site_by role style site) (styled_in rules state style (tree_to depth state l))) are in
+      let lower : below ≡ found_from (place_in what style place).site inner =
+      found ∙ ap (λ (p : Place). found_from p.site (styled_in rules state p.style (tree_to depth state numbers))) in_
+      ∙ ap (λ (l : List ℕ). found_from (place_in what style place).site (styled_in rules state style (tree_to depth state l))) are in
       together
-      ∙ ap (λ (f : Found). both f below) (here ∙ ap (λ (b : Bool). found_at number b caught) is_past ∙ ap (found_at number (tests_past role style site)) is_caught)
-      ∙ ap (both (found_at number (tests_past role style site) (tests_caught role style site))) lower
-      ∙ sym (found_alone site number (kind_of what) style inner)
-      ∙ ap (λ (s : Style). found_from site (styled.node number (kind_of what) s (styled_in rules state s (tree_to depth state children)) styled.none)) is
+      ∙ ap (λ (f : Found). both f below) here
+      ∙ ap (both (found_there number what style place.site)) lower
+      ∙ sym (found_alone place.site number (kind_of what) style inner)
+      ∙ ap (λ (s : Style). found_from place.site (styled.node number (kind_of what) s (styled_in rules state s (tree_to depth state children)) styled.none)) is
 
 -- ---- nodes one after the other
 

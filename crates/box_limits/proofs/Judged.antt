@@ -16,14 +16,21 @@ use Rattle.tree_laws.specs.Wholeness.{IsWhole}
 use Rattle.cascade.specs.Winners.{winners}
 use Rattle.computed.specs.Step.{style_of}
 use Rattle.style_tree.specs.Styling.{body_style, from_html, html_style, kind_of, root_style, styled_document, styled_in, unturned, winners_at}
-use Rattle.box_gen.specs.Boxes.{Role, atom, block_level, inline_box, line_break, nothing, put_if, role_of, root_caught, words}
+use Rattle.box_gen.specs.declared.role.Role.{Role}
+use Rattle.box_gen.specs.declared.role.Role.TheVariants.{Nothing, Words, LineBreak, InlineBox, Atom, BlockLevel}
+use Rattle.box_gen.specs.declared.site.Site.{Site}
+use Rattle.box_gen.specs.Boxes.{put_if, root_caught}
+use Rattle.box_gen.specs.Found.{caught_from, past_from}
 use Rattle.box_gen.specs.Orthogonal.{root_past, turns_in}
+use Rattle.box_gen.specs.Site as sites
+use Rattle.box_gen.specs.Site.{in_root}
+use Rattle.box_gen.proofs.Sites.{Ends, Steps, caught_ends, caught_steps, past_ends, past_steps, tests_caught}
+use Rattle.box_limits.specs.declared.place.Place.{Place}
 use Rattle.box_limits.specs.Limits.{AreThoseWhere, DocumentsAreJudgedByLines}
-use Rattle.box_limits.specs.Lines.{Site, body_style_on, html_style_on, is_caught, is_past, site_by, site_in_body, site_on}
-use Rattle.box_limits.specs.Judging.{caught_from, past_from, site_of_body, tests_caught, tests_past}
+use Rattle.box_limits.specs.Lines.{body_style_on, html_style_on, is_caught, is_past, place_in_body, place_on, role_at}
 use Rattle.box_limits.proofs.Among.{IsIn, contained, found, in_all, kept, of_one, passes}
 use Rattle.box_limits.proofs.Levels.{child_below, first_below, line_is, no_line, up_to}
-use Rattle.box_limits.proofs.Walks.{Ends, HasTwo, SaysBy, Steps, caught_ends, caught_steps, own_style, past_ends, past_steps, walks}
+use Rattle.box_limits.proofs.Walks.{HasTwo, SaysBy, walks}
 
 -- ---- `body`
 
@@ -34,25 +41,25 @@ no_turns VerticalLr = refl
 no_turns SidewaysRl = refl
 no_turns SidewaysLr = refl
 
-pub body_past : (role : Role) (style : Style) → tests_past role style (site_of_body style) ≡ false
-body_past nothing style = refl
-body_past (words letters) style = refl
-body_past line_break style = refl
-body_past inline_box style = refl
-body_past atom style = rw (no_turns style.mode) refl
-body_past block_level style = rw (no_turns style.mode) refl
+pub body_past : (role : Role) (mode : WritingMode) → sites.is_past role mode (in_root mode) ≡ false
+body_past Nothing mode = refl
+body_past Words mode = refl
+body_past LineBreak mode = refl
+body_past InlineBox mode = refl
+body_past Atom mode = rw (no_turns mode) refl
+body_past BlockLevel mode = rw (no_turns mode) refl
 
-pub body_caught : (role : Role) (style : Style) → tests_caught role style (site_of_body style) ≡ false
-body_caught nothing style = refl
-body_caught (words letters) style = refl
-body_caught line_break style = refl
-body_caught inline_box style = refl
-body_caught atom style = refl
-body_caught block_level style = refl
+pub body_caught : (role : Role) (mode : WritingMode) → tests_caught role mode (in_root mode) ≡ false
+body_caught Nothing mode = refl
+body_caught Words mode = refl
+body_caught LineBreak mode = refl
+body_caught InlineBox mode = refl
+body_caught Atom mode = refl
+body_caught BlockLevel mode = refl
 
 -- ---- what the lines say
 
-pub says_past : (rules : List Ruling) → SaysBy rules tests_past (is_past rules)
+pub says_past : (rules : List Ruling) → SaysBy rules sites.is_past (is_past rules)
 says_past rules what above = refl
 
 pub says_caught : (rules : List Ruling) → SaysBy rules tests_caught (is_caught rules)
@@ -65,11 +72,11 @@ pub record SaysBelow (says : List What → Bool) : Type 0 where
   pub body : (body html : What) → says (body ∷ html ∷ []) ≡ false
 
 pub past_below : (rules : List Ruling) → SaysBelow (is_past rules)
-unfolding site_on
+unfolding place_on
 past_below rules = record { nowhere = refl; html = λ html. refl; body = λ body html. refl }
 
 pub caught_below : (rules : List Ruling) → SaysBelow (is_caught rules)
-unfolding site_on
+unfolding place_on
 caught_below rules = record { nowhere = refl; html = λ html. refl; body = λ body html. refl }
 
 -- ---- a document
@@ -118,15 +125,12 @@ module _ (rules : List Ruling) (state : State) (rooted : IsRooted state) where
     abbrev pub own : Style
     own = body_style rules state
 
-    abbrev pub role : Role
-    role = role_of (kind_of body.what) own
+    abbrev pub body_place : Place
+    body_place = place_in_body body.what own
 
-    abbrev pub body_site : Site
-    body_site = site_by role own (site_of_body own)
-
-    pub body_site_is : body_site ≡ site_on rules (line state 1)
-    unfolding site_on
-    body_site_is = ap (site_in_body body.what) body_style_is ∙ ap (site_on rules) (sym body_line)
+    pub body_place_is : body_place ≡ place_on rules (line state 1)
+    unfolding place_on
+    body_place_is = ap (place_in_body body.what) body_style_is ∙ ap (place_on rules) (sym body_line)
 
     body_at : IsAtLevel state 1 1
     body_at = (0, refl, contained 1 (children_at state 0) (subst (IsIn 1) (sym html_children) (inl refl)))
@@ -134,20 +138,20 @@ module _ (rules : List Ruling) (state : State) (rooted : IsRooted state) where
     body_has_two : HasTwo (line state 1)
     body_has_two = subst HasTwo (sym body_line) tt
 
-    module _ (walk : Site → Nodes → List ℕ) (test : Role → Style → Site → Bool) (says : List What → Bool) (steps : Steps walk test) (ends : Ends walk) (by : SaysBy rules test says)
-        (body_passes : (role : Role) (style : Style) → test role style (site_of_body style) ≡ false) (below : SaysBelow says) where
+    module _ (walk : Site → Nodes → List ℕ) (test : Role → WritingMode → Site → Bool) (says : List What → Bool) (steps : Steps walk test) (ends : Ends walk) (by : SaysBy rules test says)
+        (body_passes : (role : Role) (mode : WritingMode) → test role mode (in_root mode) ≡ false) (below : SaysBelow says) where
       abbrev pub inner : Nodes
       inner = styled_in rules state own (tree_to 62 state body.children)
 
       -- what is walked from `body` on
-      pub walked : walk (site_of_body own) (styled.node 1 (kind_of body.what) own inner styled.none) ≡ filter (λ number. says (line state number)) (flat_map (below_levels 0 62 state) (children_at state 1))
+      pub walked : walk (in_root own.mode) (styled.node 1 (kind_of body.what) own inner styled.none) ≡ filter (λ number. says (line state number)) (flat_map (below_levels 0 62 state) (children_at state 1))
       walked =
-          steps (site_of_body own) 1 (kind_of body.what) own inner styled.none
-          ∙ ap (λ (l : List ℕ). put_if (test role own (site_of_body own)) 1 (walk body_site inner) ++ l) (ends (site_of_body own))
+          steps (in_root own.mode) 1 (kind_of body.what) own inner styled.none
+          ∙ ap (λ (l : List ℕ). put_if (test (role_at body.what own) own.mode (in_root own.mode)) 1 (walk body_place.site inner) ++ l) (ends (in_root own.mode))
           ∙ append-nil _
-          ∙ ap (λ (b : Bool). put_if b 1 (walk body_site inner)) (body_passes role own)
-          ∙ ap (λ (l : List ℕ). walk body_site (styled_in rules state own (tree_to 62 state l))) (sym body_children)
-          ∙ walks rules state whole reached walk test says steps ends by 62 1 1 body_site own (children_at state 1) body_at body_has_two body_site_is (own_style role own (site_of_body own)) (λ number among. among)
+          ∙ ap (λ (b : Bool). put_if b 1 (walk body_place.site inner)) (body_passes (role_at body.what own) own.mode)
+          ∙ ap (λ (l : List ℕ). walk body_place.site (styled_in rules state own (tree_to 62 state l))) (sym body_children)
+          ∙ walks rules state whole reached walk test says steps ends by 62 1 1 body_place (children_at state 1) body_at body_has_two body_place_is (λ number among. among)
 
       -- a node of which the line says so
       alive : (number : ℕ) (o : Option Entry) → state.node_at number ≡ o → says (line state number) ≡ true → is_some o ≡ true
@@ -191,7 +195,7 @@ module _ (rules : List Ruling) (state : State) (rooted : IsRooted state) where
       pub placed_below : (number : ℕ) → lives state number ≡ true → says (line state number) ≡ true → IsIn number (flat_map (below_levels 0 64 state) (children_at state 1))
       placed_below number living good = further 64 62 number (omega arith) (placed_at number living good)
 
-      pub those : (numbers : List ℕ) → numbers ≡ walk (site_of_body own) (styled.node 1 (kind_of body.what) own inner styled.none) → AreThoseWhere says state numbers
+      pub those : (numbers : List ℕ) → numbers ≡ walk (in_root own.mode) (styled.node 1 (kind_of body.what) own inner styled.none) → AreThoseWhere says state numbers
       those numbers are number =
           let as_listed : numbers ≡ filter (λ number. says (line state number)) (flat_map (below_levels 0 62 state) (children_at state 1)) = are ∙ walked in (
             λ there.
@@ -206,7 +210,7 @@ module _ (rules : List Ruling) (state : State) (rooted : IsRooted state) where
     styled_as = ap (from_html rules state) two
 
     pub past_are : AreThoseWhere (is_past rules) state (root_past (styled_document rules state))
-    past_are = those past_from tests_past (is_past rules) past_steps past_ends (says_past rules) body_past (past_below rules) (root_past (styled_document rules state)) (ap root_past styled_as)
+    past_are = those past_from sites.is_past (is_past rules) past_steps past_ends (says_past rules) body_past (past_below rules) (root_past (styled_document rules state)) (ap root_past styled_as)
 
     pub caught_are : AreThoseWhere (is_caught rules) state (root_caught (styled_document rules state))
     caught_are = those caught_from tests_caught (is_caught rules) caught_steps caught_ends (says_caught rules) body_caught (caught_below rules) (root_caught (styled_document rules state)) (ap root_caught styled_as)

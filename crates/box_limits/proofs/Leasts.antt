@@ -3,25 +3,31 @@ use Rattle.std.proofs.Common.{◌≡◌, ◌∙◌, ℕ, suc, ◌+◌, ◌<◌, 
 use Rattle.std.specs.Prelude.{filter, is_some}
 use Rattle.std.specs.List.{Contains}
 use Rattle.css_types.specs.Rule.{Ruling}
-use Rattle.style_types.specs.declared.style.Style.{Style}
+use Rattle.wm_modes.specs.declared.mode.WritingMode.{WritingMode}
 use Rattle.style_types.specs.Tree.{Nodes}
 use Rattle.dom_store.specs.State.{What, Entry, State, line, line_to, line_with, tree_to}
 use Rattle.dom_store.specs.Standing.{children_at, lives}
 use Rattle.tree_laws.specs.Reached.{IsAtLevel}
 use Rattle.style_tree.specs.Styling.{styled_document, styled_in}
-use Rattle.box_gen.specs.Boxes.{Role, root_caught}
+use Rattle.box_gen.specs.declared.found.Found.{Found}
+use Rattle.box_gen.specs.declared.role.Role.{Role}
+use Rattle.box_gen.specs.declared.site.Site.{Site}
+use Rattle.box_gen.specs.Boxes.{root_caught}
 use Rattle.box_gen.specs.Building.{least}
+use Rattle.box_gen.specs.Found.{caught_from, found_from, past_from}
 use Rattle.box_gen.specs.Orthogonal.{IsLeastOf, root_past}
+use Rattle.box_gen.specs.Site as sites
 use Rattle.box_gen.proofs.Least.{least_is, none_least}
-use Rattle.box_limits.specs.declared.found.Found.{Found}
+use Rattle.box_gen.proofs.Sites.{Ends, Steps, caught_ends, caught_steps, past_ends, past_steps, tests_caught}
+use Rattle.box_limits.specs.declared.place.Place.{Place}
 use Rattle.box_limits.specs.Limits.{AreThoseWhere, IsLeastWhere, all_below}
-use Rattle.box_limits.specs.Lines.{Site, is_caught, is_past, site_on}
-use Rattle.box_limits.specs.Judging.{AreInside, FindsAll, FindsBelow, IsTree, caught_from, found_from, past_from, tests_caught, tests_past}
+use Rattle.box_limits.specs.Lines.{is_caught, is_past, place_on}
+use Rattle.box_limits.specs.Judging.{AreInside, FindsAll, FindsBelow, IsTree}
 use Rattle.box_limits.proofs.Among.{IsIn, contained, found, from_all, kept, passes}
 use Rattle.box_limits.proofs.Judged.{caught_are, caught_below, past_are, past_below, says_caught, says_past}
 use Rattle.box_limits.proofs.Levels.{child_lives, one_level}
 use Rattle.box_limits.proofs.Parts.{two_at}
-use Rattle.box_limits.proofs.Walks.{Ends, SaysBy, Steps, caught_ends, caught_steps, past_ends, past_steps, walks}
+use Rattle.box_limits.proofs.Walks.{SaysBy, walks}
 
 module _ (says : List What → Bool) (state : State) (among : List ℕ) where
   abbrev breaks : ℕ → Bool
@@ -63,11 +69,11 @@ module _ (says : List What → Bool) (state : State) (among : List ℕ) where
 
 module _ (rules : List Ruling) (state : State) (tree : IsTree state) where
   -- children of a node, and all below them
-  listed : (walk : Site → Nodes → List ℕ) (test : Role → Style → Site → Bool) (says : List What → Bool) → Steps walk test → Ends walk → SaysBy rules test says
+  listed : (walk : Site → Nodes → List ℕ) (test : Role → WritingMode → Site → Bool) (says : List What → Bool) → Steps walk test → Ends walk → SaysBy rules test says
       → (level parent : ℕ) → IsAtLevel state (suc level) parent → (numbers : List ℕ) → ((number : ℕ) → Contains numbers number → Contains (children_at state parent) number)
-      → (site : Site) → site ≡ site_on rules (line state parent) → walk site (styled_in rules state site.style (tree_to 64 state numbers)) ≡ filter (λ number. says (line state number)) (all_below state numbers)
-  listed walk test says steps ends by level parent at numbers inside site is =
-      walks rules state tree.whole tree.reached walk test says steps ends by 64 (suc level) parent site site.style numbers at (two_at state tree.rooted tree.whole tree.reached level parent at) is refl
+      → (place : Place) → place ≡ place_on rules (line state parent) → walk place.site (styled_in rules state place.style (tree_to 64 state numbers)) ≡ filter (λ number. says (line state number)) (all_below state numbers)
+  listed walk test says steps ends by level parent at numbers inside place is =
+      walks rules state tree.whole tree.reached walk test says steps ends by 64 (suc level) parent place numbers at (two_at state tree.rooted tree.whole tree.reached level parent at) is
       (λ number there. found number (children_at state parent) (inside number (contained number numbers there)))
 
   within : (level number : ℕ) → IsAtLevel state (suc level) number → suc level < 64
@@ -77,17 +83,17 @@ module _ (rules : List Ruling) (state : State) (tree : IsTree state) where
       let same : suc level ≡ own = one_level state tree.whole (suc level) own number (parent, above, contains) at in
       omega (arith, same, deep)
 
-  pub finds_below : (parent : ℕ) (numbers : List ℕ) → AreInside state parent numbers → (site : Site) → ((level : ℕ) → IsAtLevel state level parent → level < 64 → site ≡ site_on rules (line state parent))
-      → (result : Found) → result ≡ found_from site (styled_in rules state site.style (tree_to 64 state numbers)) → FindsBelow rules state numbers result
-  finds_below parent numbers inside site placed result is =
+  pub finds_below : (parent : ℕ) (numbers : List ℕ) → AreInside state parent numbers → (place : Place) → ((level : ℕ) → IsAtLevel state level parent → level < 64 → place ≡ place_on rules (line state parent))
+      → (result : Found) → result ≡ found_from place.site (styled_in rules state place.style (tree_to 64 state numbers)) → FindsBelow rules state numbers result
+  finds_below parent numbers inside place placed result is =
       let (level, below) = inside.below in
       let at : IsAtLevel state (suc level) parent = let same : level + 1 ≡ suc level = omega arith in subst (λ (n : ℕ). IsAtLevel state n parent) same below in
-      let site_is = placed (suc level) at (within level parent at) in
+      let place_is = placed (suc level) at (within level parent at) in
       record {
         past = least_where (is_past rules) state (all_below state numbers) result.past
-            (ap (λ (f : Found). f.past) is ∙ ap least (listed past_from tests_past (is_past rules) past_steps past_ends (says_past rules) level parent at numbers inside.children site site_is));
+            (ap (λ (f : Found). f.past) is ∙ ap least (listed past_from sites.is_past (is_past rules) past_steps past_ends (says_past rules) level parent at numbers inside.children place place_is));
         caught = least_where (is_caught rules) state (all_below state numbers) result.caught
-            (ap (λ (f : Found). f.caught) is ∙ ap least (listed caught_from tests_caught (is_caught rules) caught_steps caught_ends (says_caught rules) level parent at numbers inside.children site site_is));
+            (ap (λ (f : Found). f.caught) is ∙ ap least (listed caught_from tests_caught (is_caught rules) caught_steps caught_ends (says_caught rules) level parent at numbers inside.children place place_is));
       }
 
   -- where no other node breaks a limit

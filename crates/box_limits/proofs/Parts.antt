@@ -1,8 +1,8 @@
 -- Only boxes on which an edit hangs can break a limit after it.
 use Rattle.std.proofs.Common.{◌≡◌, ◌∙◌, ◌⊎◌, ℕ, zero, suc, ◌+◌, ◌<◌, Bool, true, false, List, [], ◌∷◌, refl, ap, sym, subst, arith, Option, Some, None, inl, inr}
-use Rattle.std.specs.Prelude.{◌&&◌, is_some, option_map, unwrap_or, ⊤}
+use Rattle.std.specs.Prelude.{◌&&◌, nat_lt, is_some, option_map, unwrap_or, ⊤}
 use Rattle.std.specs.List.{Contains}
-use Rattle.style_types.specs.declared.style.Style.{Style}
+use Rattle.wm_modes.specs.declared.mode.WritingMode.{WritingMode}
 use Rattle.css_types.specs.Rule.{Ruling}
 use Rattle.dom_store.specs.State.{What, text, Entry, State, IsElement, IsRooted, line, line_to, line_with}
 use Rattle.dom_store.specs.Standing.{below_levels, children_at, lives}
@@ -13,31 +13,43 @@ use Rattle.tree_laws.specs.Reached.{EditsKeepReached, IsAtLevel, IsReached}
 use Rattle.tree_laws.specs.Wholeness.{IsWhole}
 use Rattle.tree_laws.proofs.Parents.{children_have_parents}
 use Rattle.tree_laws.proofs.Refusing.{lives_below}
-use Rattle.style_tree.specs.Styling.{kind_of, styled_document}
-use Rattle.box_gen.specs.Boxes.{Role, atom, block_level, inline_box, line_break, nothing, role_of, root_caught, words}
-use Rattle.box_gen.specs.Orthogonal.{root_past}
+use Rattle.style_tree.specs.Styling.{styled_document}
+use Rattle.box_gen.specs.declared.role.Role.{Role}
+use Rattle.box_gen.specs.declared.role.Role.TheVariants.{Nothing, Words, LineBreak, InlineBox, Atom, BlockLevel}
+use Rattle.box_gen.specs.declared.site.Site.{Site}
+use Rattle.box_gen.specs.Boxes.{root_caught}
+use Rattle.box_gen.specs.Orthogonal.{most_orthogonal, root_past, turns_in}
+use Rattle.box_gen.specs.Site as sites
+use Rattle.box_gen.specs.Site.{in_node, is_block_level, is_container}
+use Rattle.box_limits.specs.declared.place.Place.{Place}
 use Rattle.box_limits.specs.Limits.{AreThoseWhere, EditsAreJudgedByTheirParts, part, touched}
-use Rattle.box_limits.specs.Lines.{Site, is_caught, is_caught_by, is_past, is_past_by, site_by, site_on, style_on}
+use Rattle.box_limits.specs.Lines.{is_caught, is_past, place_on, role_at, style_on}
 use Rattle.box_limits.proofs.Among.{IsIn, contained, found, in_all}
 use Rattle.box_limits.proofs.Judged.{documents_are_judged_by_lines, html_children}
 use Rattle.box_limits.proofs.Levels.{child_below, child_line, first_below, line_is, no_line, up_to}
 use Rattle.box_limits.proofs.Origins.{IsText, Origin, origin}
-use Rattle.box_limits.proofs.Walks.{HasTwo, site_below}
+use Rattle.box_limits.proofs.Walks.{HasTwo, place_below}
 
 -- ---- where no boxes are made
 
-hides : (role : Role) (style : Style) (site : Site) → site.shown ≡ false → (site_by role style site).shown ≡ false
-hides nothing style site is = refl
-hides (words letters) style site is = refl
-hides line_break style site is = refl
-hides inline_box style site is = is
-hides atom style site is = is
-hides block_level style site is = is
+hides : (role : Role) (mode : WritingMode) (site : Site) → site.shown ≡ false → (in_node role mode site).shown ≡ false
+hides Nothing mode site is = refl
+hides Words mode site is = refl
+hides LineBreak mode site is = refl
+hides InlineBox mode site is = is
+hides Atom mode site is = is
+hides BlockLevel mode site is = is
+
+not_past : (role : Role) (mode : WritingMode) (site : Site) → site.shown ≡ false → sites.is_past role mode site ≡ false
+not_past role mode site is = ap (λ (b : Bool). b && (is_container role && nat_lt most_orthogonal (turns_in site.mode mode site.turns))) is
+
+not_caught : (role : Role) (site : Site) → site.shown ≡ false → sites.is_caught role site ≡ false
+not_caught role site is = ap (λ (b : Bool). b && (is_block_level role && site.inside)) is
 
 -- a line that says nothing, nor does one with others before it
 record IsHidden (rules : List Ruling) (line : List What) : Type 0 where
   two : HasTwo line
-  shown : (site_on rules line).shown ≡ false
+  shown : (place_on rules line).site.shown ≡ false
   past : is_past rules line ≡ false
   caught : is_caught rules line ≡ false
 
@@ -46,13 +58,15 @@ more_two what [] two = absurd two
 more_two what (other ∷ above) two = tt
 
 hidden_below : (rules : List Ruling) (what : What) (above : List What) → IsHidden rules above → IsHidden rules (what ∷ above)
-hidden_below rules what above hidden = record {
-  two = more_two what above hidden.two;
-  shown = ap (λ (s : Site). s.shown) (site_below rules what above hidden.two)
-      ∙ hides (role_of (kind_of what) (style_on rules (what ∷ above) what (site_on rules above).style)) (style_on rules (what ∷ above) what (site_on rules above).style) (site_on rules above) hidden.shown;
-  past = ap (λ (b : Bool). b && is_past_by (role_of (kind_of what) (style_on rules (what ∷ above) what (site_on rules above).style)) (style_on rules (what ∷ above) what (site_on rules above).style) (site_on rules above)) hidden.shown;
-  caught = ap (λ (b : Bool). b && is_caught_by (role_of (kind_of what) (style_on rules (what ∷ above) what (site_on rules above).style)) (site_on rules above)) hidden.shown;
-}
+hidden_below rules what above hidden =
+    let place = place_on rules above in
+    let style = style_on rules (what ∷ above) what place.style in
+    record {
+      two = more_two what above hidden.two;
+      shown = ap (λ (p : Place). p.site.shown) (place_below rules what above hidden.two) ∙ hides (role_at what style) style.mode place.site hidden.shown;
+      past = not_past (role_at what style) style.mode place.site hidden.shown;
+      caught = not_caught (role_at what style) place.site hidden.shown;
+    }
 
 and_false : (b : Bool) → (b && false) ≡ false
 and_false true = refl
@@ -61,9 +75,9 @@ and_false false = refl
 text_hidden : (rules : List Ruling) (letters : List ℕ) (above : List What) → HasTwo above → IsHidden rules (text letters ∷ above)
 text_hidden rules letters above two = record {
   two = more_two (text letters) above two;
-  shown = ap (λ (s : Site). s.shown) (site_below rules (text letters) above two);
-  past = and_false (site_on rules above).shown;
-  caught = and_false (site_on rules above).shown;
+  shown = ap (λ (p : Place). p.site.shown) (place_below rules (text letters) above two);
+  past = and_false (place_on rules above).site.shown;
+  caught = and_false (place_on rules above).site.shown;
 }
 
 -- ---- the nodes after an edit
@@ -202,11 +216,11 @@ module _ (rules : List Ruling) (state : State) (edit : EditOf) (rooted_before : 
       ]
 
 pub edits_are_judged : KeepRoots → EditsKeepWhole → EditsKeepReached → EditsAreJudgedByTheirParts
-edits_are_judged keep_roots keep_whole keep_reached rules state edit fitting rooted whole reached accepted no_past no_caught number living =
+edits_are_judged keep_roots keep_whole keep_reached rules state edit fitting rooted whole reached accepted within number living =
     let next_rooted = keep_roots state edit rooted (children_have_parents state whole) accepted in
     let next_whole = keep_whole state edit whole accepted in
     let next_reached = keep_reached state edit fitting rooted whole reached accepted in
     let before = documents_are_judged_by_lines rules state rooted whole reached in (
-      judged rules state edit rooted whole next_rooted next_whole next_reached (is_past rules) (root_past (styled_document rules state)) before.0 no_past (λ line hidden. hidden.past) number living,
-      judged rules state edit rooted whole next_rooted next_whole next_reached (is_caught rules) (root_caught (styled_document rules state)) before.1 no_caught (λ line hidden. hidden.caught) number living,
+      judged rules state edit rooted whole next_rooted next_whole next_reached (is_past rules) (root_past (styled_document rules state)) before.0 within.turns (λ line hidden. hidden.past) number living,
+      judged rules state edit rooted whole next_rooted next_whole next_reached (is_caught rules) (root_caught (styled_document rules state)) before.1 within.blocks (λ line hidden. hidden.caught) number living,
     )

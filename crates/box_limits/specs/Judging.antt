@@ -1,78 +1,27 @@
--- What is found among styled nodes that stand at a site.
-use Rattle.std.specs.Prelude.{◌≡◌, ℕ, ◌+◌, ◌≤◌, ◌&&◌, Bool, true, false, List, [], ◌∷◌, Option, Some, None}
+-- What is found among the nodes of a document.
+use Rattle.std.specs.Prelude.{◌≡◌, ℕ, ◌+◌, true, List, [], ◌∷◌, Option, Some, None}
 use Rattle.std.specs.List.{Contains}
 use Rattle.style_types.specs.declared.style.Style.{Style}
 use Rattle.css_types.specs.Rule.{Ruling}
-use Rattle.style_types.specs.Style.{IsBounded}
-use Rattle.style_types.specs.Tree.{Nodes}
 use Rattle.html_read.specs.Values.{Node}
-use Rattle.dom_store.specs.State.{State, IsRooted, line}
+use Rattle.dom_store.specs.State.{What, State, IsRooted, line}
 use Rattle.dom_store.specs.Standing.{children_at, lives}
 use Rattle.tree_laws.specs.Reached.{IsAtLevel, IsReached}
 use Rattle.tree_laws.specs.Wholeness.{IsWhole}
 use Rattle.style_tree.specs.Styling.{styled_document}
-use Rattle.box_gen.specs.Boxes.{Role, caught, root_caught}
-use Rattle.box_gen.specs.Building.{least, lesser}
-use Rattle.box_gen.specs.Orthogonal.{IsLeastOf, past, root_past}
-use Rattle.box_limits.specs.declared.found.Found.{Found}
-use Rattle.box_limits.specs.declared.site.Site as code_site
+use Rattle.box_gen.specs.declared.found.Found.{Found}
+use Rattle.box_gen.specs.declared.site.Site.{Site}
+use Rattle.box_gen.specs.Boxes.{root_caught}
+use Rattle.box_gen.specs.Found.{found_at}
+use Rattle.box_gen.specs.Orthogonal.{IsLeastOf, root_past}
+use Rattle.box_gen.specs.Site as sites
 use Rattle.box_limits.specs.Limits.{IsLeastWhere, all_below}
-use Rattle.box_limits.specs.Lines.{Site, is_caught, is_caught_by, is_past, is_past_by}
+use Rattle.box_limits.specs.Lines.{is_caught, is_past, role_at}
 
--- ---- what the code has of it
+-- ---- a node that stands there, without those inside it
 
-abbrev pub site_of : code_site.Site → Site
-site_of site = record { style = site.style; mode = site.mode; turns = site.turns; inside = site.inside; shown = site.shown }
-
--- its numbers are within their bounds
-pub record IsFit (site : code_site.Site) : Type 0 where
-  pub bounded : IsBounded site.style
-  pub counted : site.turns ≤ 7
-
--- ---- a node that stands there
-
-abbrev pub tests_past : Role → Style → Site → Bool
-tests_past role style site = site.shown && is_past_by role style site
-
-abbrev pub tests_caught : Role → Style → Site → Bool
-tests_caught role style site = site.shown && is_caught_by role site
-
--- where `body` stands
-abbrev pub site_of_body : Style → Site
-site_of_body style = record { style = style; mode = style.mode; turns = 0; inside = false; shown = true }
-
--- ---- nodes that stand there
-
--- none where no boxes are made
-abbrev pub if_shown : (shown : Bool) → List ℕ → List ℕ
-if_shown true numbers = numbers
-if_shown false numbers = []
-
--- the nodes that have, with themselves, too many above that are orthogonal
-abbrev pub past_from : Site → Nodes → List ℕ
-past_from site nodes = if_shown site.shown (past nodes site.mode site.turns)
-
--- the block-level nodes in inline boxes
-abbrev pub caught_from : Site → Nodes → List ℕ
-caught_from site nodes = if_shown site.shown (caught nodes site.inside)
-
--- ---- the least of them
-
-abbrev pub nothing_found : Found
-nothing_found = record { past = None; caught = None }
-
-abbrev pub number_if : Bool → ℕ → Option ℕ
-number_if true number = Some number
-number_if false number = None
-
-abbrev pub found_at : (number : ℕ) → (past caught : Bool) → Found
-found_at number past caught = record { past = number_if past number; caught = number_if caught number }
-
-abbrev pub both : Found → Found → Found
-both one other = record { past = lesser one.past other.past; caught = lesser one.caught other.caught }
-
-abbrev pub found_from : Site → Nodes → Found
-found_from site nodes = record { past = least (past_from site nodes); caught = least (caught_from site nodes) }
+abbrev pub found_there : (number : ℕ) → What → Style → Site → Found
+found_there number what style site = found_at number (sites.is_past (role_at what style) style.mode site) (sites.is_caught (role_at what style) site)
 
 -- ---- a document
 

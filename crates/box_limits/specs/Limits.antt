@@ -10,11 +10,12 @@ use Rattle.dom_store.specs.Building.{tops_from}
 use Rattle.dom_store.specs.Refusals.{refusal}
 use Rattle.style_tree.specs.Styling.{styled_document}
 use Rattle.box_gen.specs.Boxes.{root_caught}
-use Rattle.box_gen.specs.Orthogonal.{IsLeastOf, root_past}
+use Rattle.box_gen.specs.Limit.{IsWithinLimits, Passes}
+use Rattle.box_gen.specs.Orthogonal.{root_past}
 use Rattle.tree_laws.specs.Wholeness.{IsWhole}
 use Rattle.tree_laws.specs.Reached.{IsReached}
 use Rattle.box_limits.specs.declared.error.LimitError.{LimitError}
-use Rattle.box_limits.specs.declared.error.LimitError.TheVariants.{TooManyOrthogonal, BlockInInline, Memory}
+use Rattle.box_limits.specs.declared.error.LimitError.TheVariants.{Limit, Memory}
 use Rattle.box_limits.specs.Lines.{is_caught, is_past}
 
 -- ---- some nodes
@@ -58,14 +59,9 @@ part state edit = all_below (after state edit) (touched state edit)
 -- where no node broke a limit, only such a node can break one after an edit that the document takes
 abbrev pub EditsAreJudgedByTheirParts : Type 0
 EditsAreJudgedByTheirParts = (rules : List Ruling) (state : State) (edit : EditOf) → IsFitting edit → IsRooted state → IsWhole state → IsReached state → refusal state edit ≡ None
-    → root_past (styled_document rules state) ≡ [] → root_caught (styled_document rules state) ≡ []
+    → IsWithinLimits (styled_document rules state)
     → (number : ℕ) → lives (after state edit) number ≡ true
     → (is_past rules (line (after state edit) number) ≡ true → Contains (part state edit) number) × (is_caught rules (line (after state edit) number) ≡ true → Contains (part state edit) number)
-
--- no box of a document breaks a limit
-pub record AreWithin (rules : List Ruling) (state : State) : Type 0 where
-  pub turns : root_past (styled_document rules state) ≡ []
-  pub blocks : root_caught (styled_document rules state) ≡ []
 
 -- a document is what this edit made of one whose boxes were within both limits
 pub record IsEditedFrom (rules : List Ruling) (edit : EditOf) (next state : State) : Type 0 where
@@ -74,12 +70,11 @@ pub record IsEditedFrom (rules : List Ruling) (edit : EditOf) (next state : Stat
   pub whole : IsWhole state
   pub reached : IsReached state
   pub taken : refusal state edit ≡ None
-  pub within : AreWithin rules state
+  pub within : IsWithinLimits (styled_document rules state)
   pub is : next ≡ after state edit
 
--- the boxes of a document are within both limits, or not: boxes that turn are judged first
+-- the boxes of a document are within both limits, or pass this one
 abbrev pub Answers : List Ruling → State → Result ⊤ LimitError → Type 0
-Answers rules state (Ok done) = AreWithin rules state
-Answers rules state (Err (TooManyOrthogonal number)) = IsLeastOf (root_past (styled_document rules state)) (Some number)
-Answers rules state (Err (BlockInInline number)) = (root_past (styled_document rules state) ≡ []) × IsLeastOf (root_caught (styled_document rules state)) (Some number)
+Answers rules state (Ok done) = IsWithinLimits (styled_document rules state)
+Answers rules state (Err (Limit limit)) = Passes (styled_document rules state) limit
 Answers rules state (Err Memory) = ⊤

@@ -4,11 +4,12 @@ ghost use Rattle.std.specs.Prelude.{◌≡◌, ◌<◌, ℕ, IfOk};
 ghost use Rattle.dom_store.specs.State.{line, state_of};
 ghost use Rattle.cascade.specs.Index.{index_rules};
 ghost use Rattle.tree_laws.specs.Reached.{IsAtLevel};
-ghost use Rattle.box_limits.specs.Lines.{site_on};
-ghost use Rattle.box_limits.specs.Judging.{IsFit, IsTree, site_of};
+ghost use Rattle.style_types.specs.Style.{IsBounded};
+ghost use Rattle.box_limits.specs.Lines.{place_on};
+ghost use Rattle.box_limits.specs.Judging.{IsTree};
 
 use crate::judging::Judging;
-use crate::site::Site;
+use crate::place::Place;
 use std::alloc::{AllocError, Global};
 
 /// The number of `body`.
@@ -16,39 +17,39 @@ pub(crate) const BODY: u32 = 1;
 
 impl<'a> Judging<'a> {
     /// Where the nodes stand that are in the node of this number, which stands at most so deep.
-    pub(crate) fn site(&self, alloc: Global, number: u32, most: usize) -> Result<Site, AllocError>
+    pub(crate) fn place(&self, alloc: Global, number: u32, most: usize) -> Result<Place, AllocError>
         requires tree { IsTree (state_of self.now.styling.document.now) }
-        ensures site { IfOk result (λ site. (level : ℕ) → IsAtLevel (state_of self.now.styling.document.now) level number → level < most
-            → site_of site ≡ site_on (index_rules self.now.styling.rules.now) (line (state_of self.now.styling.document.now) number)) }
-        ensures fit { IfOk result (λ site. IsFit site) }
+        ensures place { IfOk result (λ place. (level : ℕ) → IsAtLevel (state_of self.now.styling.document.now) level number → level < most
+            → place ≡ place_on (index_rules self.now.styling.rules.now) (line (state_of self.now.styling.document.now) number)) }
+        ensures bounded { IfOk result (λ place. IsBounded place.style) }
     {
         if most == 0 {
-            return Ok(Site::outside());
+            return Ok(Place::outside());
         }
         if number == BODY {
-            let site = self.body_site(alloc)?;
-            return Ok(site);
+            let place = self.body_place(alloc)?;
+            return Ok(place);
         }
         let Some(node) = self.styling.document.node(number) else {
-            return Ok(Site::outside());
+            return Ok(Place::outside());
         };
         let Some(parent) = node.parent else {
-            return Ok(Site::outside());
+            return Ok(Place::outside());
         };
-        let above = self.site(alloc, parent, most - 1)?;
+        let above = self.place(alloc, parent, most - 1)?;
         let style = self.styling.own_style(alloc, number, node, &above.style)?;
         Ok(above.in_node(&node.kind, &style))
     }
 
     // Where the nodes stand that are in `body`.
-    fn body_site(&self, alloc: Global) -> Result<Site, AllocError>
+    fn body_place(&self, alloc: Global) -> Result<Place, AllocError>
         requires tree { IsTree (state_of self.now.styling.document.now) }
-        ensures site { IfOk result (λ site. site_of site ≡ site_on (index_rules self.now.styling.rules.now) (line (state_of self.now.styling.document.now) 1)) }
-        ensures fit { IfOk result (λ site. IsFit site) }
+        ensures place { IfOk result (λ place. place ≡ place_on (index_rules self.now.styling.rules.now) (line (state_of self.now.styling.document.now) 1)) }
+        ensures bounded { IfOk result (λ place. IsBounded place.style) }
     {
         let html = self.styling.html_style(alloc)?;
         let style = self.styling.body_style(alloc, &html)?;
         let body = self.styling.document.node(BODY).unwrap();
-        Ok(Site::of_body(&style).in_node(&body.kind, &style))
+        Ok(Place::of_body(&style).in_node(&body.kind, &style))
     }
 }

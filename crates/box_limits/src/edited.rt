@@ -14,9 +14,9 @@ ghost use Rattle.box_limits.specs.Judging.{AreCovered, FindsAll, FindsBelow, IsT
 
 use crate::above::BODY;
 use crate::error::LimitError;
-use crate::found::Found;
 use crate::judging::Judging;
 use crate::laws::edits_are_judged_by_their_parts;
+use box_gen::Found;
 use cascade::RuleIndex;
 use dom_store::laws::accepted_edits_keep_roots;
 use dom_store::{Document, Edit};
@@ -43,11 +43,8 @@ pub fn check_edited(
         styling: Styling { document, rules },
     };
     let found = judging.edited(alloc, edit)?;
-    match (found.past, found.caught) {
-        (Some(number), _) => Err(LimitError::TooManyOrthogonal(number)),
-        (None, Some(number)) => Err(LimitError::BlockInInline(number)),
-        (None, None) => Ok(()),
-    }
+    found.judged()?;
+    Ok(())
 }
 
 impl<'a> Judging<'a> {

@@ -1,23 +1,28 @@
 //! Why the boxes of a document may not stand as they do.
 
 ghost use Rattle.std.specs.Prelude.{◌≡◌};
-ghost use Rattle.box_limits.specs.declared.error.LimitError.TheVariants.{Memory};
+ghost use Rattle.box_limits.specs.declared.error.LimitError.TheVariants.{Limit, Memory};
 
+use box_gen::BoxLimit;
 use std::alloc::AllocError;
 use thiserror::Error;
 
-/// Why the boxes of a document may not stand as they do. A number is that of a node.
+/// Why the boxes of a document may not stand as they do.
 #[derive(Error, Clone, Copy, Debug, PartialEq, Eq)]
 pub enum LimitError {
-    /// More than six boxes on a line of ancestors are orthogonal to their containing blocks: the least number of the node of
-    /// such a box.
-    #[error("TooManyOrthogonal {0}")]
-    TooManyOrthogonal(u32),
-    /// A block-level box stands in an inline box: the least number of such a node.
-    #[error("BlockInInline {0}")]
-    BlockInInline(u32),
+    /// They pass a limit.
+    #[error("{0}")]
+    Limit(BoxLimit),
     #[error("Memory")]
     Memory,
+}
+
+impl From<BoxLimit> for LimitError {
+    ghost from_gives = { λ limit own. own ≡ Limit limit };
+
+    fn from(limit: BoxLimit) -> LimitError {
+        LimitError::Limit(limit)
+    }
 }
 
 impl From<AllocError> for LimitError {

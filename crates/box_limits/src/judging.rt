@@ -6,10 +6,12 @@ ghost use Rattle.dom_store.specs.State.{state_of, tree_to, what_of};
 ghost use Rattle.cascade.specs.Index.{index_rules};
 ghost use Rattle.style_tree.specs.Styling as styling;
 ghost use Rattle.style_tree.specs.Styling.{styled_in};
-ghost use Rattle.box_limits.specs.Judging.{AreInside, FindsBelow, IsFit, IsTree, found_from, site_of};
+ghost use Rattle.style_types.specs.Style.{IsBounded};
+ghost use Rattle.box_gen.specs.Found.{found_from};
+ghost use Rattle.box_limits.specs.Judging.{AreInside, FindsBelow, IsTree};
 
-use crate::found::Found;
-use crate::site::Site;
+use crate::place::Place;
+use box_gen::Found;
 use dom_store::Node;
 use std::alloc::{AllocError, Global};
 use style_tree::Styling;
@@ -31,19 +33,18 @@ impl<'a> Judging<'a> {
         alloc: Global,
         number: u32,
         node: &Node,
-        site: &Site,
+        place: &Place,
         depth: usize,
     ) -> Result<Found, AllocError>
-        requires site { IsFit site.now }
-        ensures { IfOk result (λ found. found ≡ found_from (site_of site.now)
-            (styling.styled_one (index_rules self.now.styling.rules.now) (state_of self.now.styling.document.now) site.now.style number (what_of node.now.kind) (tree_to depth (state_of self.now.styling.document.now) node.now.children.items) trees.none)) }
+        requires { IsBounded place.now.style }
+        ensures { IfOk result (λ found. found ≡ found_from place.now.site
+            (styling.styled_one (index_rules self.now.styling.rules.now) (state_of self.now.styling.document.now) place.now.style number (what_of node.now.kind) (tree_to depth (state_of self.now.styling.document.now) node.now.children.items) trees.none)) }
     {
-        let style = self.styling.own_style(alloc, number, node, &site.style)?;
-        let past = site.is_past(&node.kind, &style);
-        let caught = site.is_caught(&node.kind, &style);
-        let inside = site.in_node(&node.kind, &style);
+        let style = self.styling.own_style(alloc, number, node, &place.style)?;
+        let own = place.found_at(number, &node.kind, &style);
+        let inside = place.in_node(&node.kind, &style);
         let below = self.nodes(alloc, &node.children, &inside, depth)?;
-        Ok(Found::at(number, past, caught).and(below))
+        Ok(own.and(below))
     }
 
     // What is found of the nodes of these numbers, which stand there, and of all inside them, down to a depth.
@@ -52,11 +53,11 @@ impl<'a> Judging<'a> {
         &self,
         alloc: Global,
         numbers: &[u32],
-        site: &Site,
+        place: &Place,
         depth: usize,
     ) -> Result<Found, AllocError>
-        requires site { IsFit site.now }
-        ensures { IfOk result (λ found. found ≡ found_from (site_of site.now) (styled_in (index_rules self.now.styling.rules.now) (state_of self.now.styling.document.now) site.now.style (tree_to depth (state_of self.now.styling.document.now) numbers.now))) }
+        requires { IsBounded place.now.style }
+        ensures { IfOk result (λ found. found ≡ found_from place.now.site (styled_in (index_rules self.now.styling.rules.now) (state_of self.now.styling.document.now) place.now.style (tree_to depth (state_of self.now.styling.document.now) numbers.now))) }
     {
         let mut found = Found::nothing();
         if depth == 0 {
@@ -64,7 +65,7 @@ impl<'a> Judging<'a> {
         }
         for number in numbers {
             if let Some(node) = self.styling.document.node(*number) {
-                found = found.and(self.node(alloc, *number, node, site, depth - 1)?);
+                found = found.and(self.node(alloc, *number, node, place, depth - 1)?);
             }
         }
         Ok(found)
@@ -82,8 +83,8 @@ impl<'a> Judging<'a> {
         requires inside { AreInside (state_of self.now.styling.document.now) parent numbers.now }
         ensures { IfOk result (λ found. FindsBelow (index_rules self.now.styling.rules.now) (state_of self.now.styling.document.now) numbers.now found) }
     {
-        let site = self.site(alloc, parent, GREATEST_DEPTH)?;
-        let found = self.nodes(alloc, numbers, &site, GREATEST_DEPTH)?;
+        let place = self.place(alloc, parent, GREATEST_DEPTH)?;
+        let found = self.nodes(alloc, numbers, &place, GREATEST_DEPTH)?;
         Ok(found)
     }
 }

@@ -5,11 +5,10 @@
 mod above;
 mod edited;
 mod error;
-mod found;
 mod judging;
 pub mod laws;
+mod place;
 mod role;
-mod site;
 
 pub use edited::check_edited;
 pub use error::LimitError;

@@ -2,9 +2,7 @@
 
 ghost use Rattle.std.specs.Prelude.{◌≡◌};
 ghost use Rattle.dom_store.specs.State.{what_of};
-ghost use Rattle.style_tree.specs.Styling.{kind_of};
-ghost use Rattle.box_gen.specs.Boxes as boxes;
-ghost use Rattle.box_gen.specs.Building.{code_of};
+ghost use Rattle.box_limits.specs.Lines.{role_at};
 
 use box_gen::{Role, role_of_break, role_of_element};
 use dom_store::NodeKind;
@@ -13,7 +11,7 @@ use style_types::Style;
 
 /// What a node of this style is to its container.
 pub(crate) fn role_of(kind: &NodeKind, style: &Style) -> Role
-    ensures { result ≡ code_of (boxes.role_of (kind_of (what_of kind.now)) style.now) }
+    ensures { result ≡ role_at (what_of kind.now) style.now }
 {
     match kind {
         NodeKind::Element { tag: Tag::Br, .. } => role_of_break(style.display),

@@ -10,7 +10,7 @@
 //! - Each box before those inside it: its name, that of the box that it stands in, and what it holds, `blocks` or a
 //!   `paragraph` with its items, as in `box 2.1 in 2.0: paragraph text 3, open 4, close 4, break 5, atom 6.0`.
 //! - What is refused has its cause and its place or node, as in `refused CssSyntax 34` or `refused TooDeep 64`. For
-//!   `BlockInInline` the nodes stand before it, for all else nothing.
+//!   `TooManyOrthogonal` and `BlockInInline` the nodes stand before it, for all else nothing.
 //! - For a line that is no such number: `not a case`.
 #![tactic(auto)]
 
@@ -20,11 +20,11 @@ mod engine;
 mod refusals;
 mod styles;
 
-use box_gen::boxes;
+use box_gen::{boxes, check_boxes};
 use boxes::print_boxes;
 use engine::style;
 use hex::FromHexError;
-use refusals::{print_box_refusal, print_refusal};
+use refusals::{print_limit, print_refusal};
 use std::alloc::Global;
 use std::io;
 use std::io::{BufRead, BufReader, BufWriter, Write};
@@ -59,8 +59,11 @@ fn answer_document<W: Write>(alloc: Global, document: &[u8], output: &mut W) -> 
 
 fn answer_root<W: Write>(alloc: Global, root: &StyledNode, output: &mut W) -> io::Result<()> {
     print_styles(output, root)?;
-    match boxes(alloc, root) {
-        Ok(tree) => print_boxes(output, &tree),
-        Err(error) => print_box_refusal(output, error),
+    match check_boxes(root) {
+        Ok(()) => {
+            let tree = boxes(alloc, root)?;
+            print_boxes(output, &tree)
+        }
+        Err(limit) => print_limit(output, limit),
     }
 }

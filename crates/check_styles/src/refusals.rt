@@ -1,7 +1,7 @@
 //! How refusals are printed.
 
 use crate::engine::StyleError;
-use box_gen::BoxError;
+use box_gen::BoxLimit;
 use css_values::CssError;
 use dom_store::EditError;
 use html_read::HtmlError;
@@ -25,10 +25,7 @@ pub(crate) fn print_refusal<W: Write>(output: &mut W, error: StyleError) -> io::
     }
 }
 
-/// Prints why a document has no boxes.
-pub(crate) fn print_box_refusal<W: Write>(output: &mut W, error: BoxError) -> io::Result<()> {
-    match error {
-        BoxError::BlockInInline(node) => writeln!(output, "refused BlockInInline {node}"),
-        BoxError::Memory => Err(io::ErrorKind::OutOfMemory.into()),
-    }
+/// Prints which limit the boxes of a document pass.
+pub(crate) fn print_limit<W: Write>(output: &mut W, limit: BoxLimit) -> io::Result<()> {
+    writeln!(output, "refused {limit}")
 }

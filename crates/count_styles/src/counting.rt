@@ -11,7 +11,7 @@ ghost use Rattle.cascade.specs.Winners.{AreSaidRules};
 
 use crate::error::CountError;
 use crate::stage::Stage;
-use box_gen::boxes;
+use box_gen::{boxes, check_boxes};
 use cascade::RuleIndex;
 use cascade::laws::what_is_read_is_said;
 use css_sheet::read_styled;
@@ -64,6 +64,7 @@ fn take_on(
     }
     let root = styled(alloc, &document, &index)?;
     if stage == Stage::Boxes {
+        check_boxes(&root)?;
         boxes(alloc, &root)?;
     }
     Ok(())

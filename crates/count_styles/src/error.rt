@@ -1,6 +1,6 @@
 //! Why a document was not taken so far.
 
-use box_gen::BoxError;
+use box_gen::BoxLimit;
 use css_values::CssError;
 use dom_store::EditError;
 use html_read::HtmlError;
@@ -23,9 +23,9 @@ pub(crate) enum CountError {
     /// Its nodes can't be stored.
     #[error("{0}")]
     Edit(EditError),
-    /// It has no boxes.
+    /// Its boxes pass a limit.
     #[error("{0}")]
-    Boxes(BoxError),
+    Limit(BoxLimit),
     /// No memory was left.
     #[error("out of memory")]
     Memory,
@@ -55,9 +55,9 @@ impl From<EditError> for CountError {
     }
 }
 
-impl From<BoxError> for CountError {
-    fn from(error: BoxError) -> CountError {
-        CountError::Boxes(error)
+impl From<BoxLimit> for CountError {
+    fn from(limit: BoxLimit) -> CountError {
+        CountError::Limit(limit)
     }
 }
 

@@ -28,7 +28,8 @@ use Rattle.edit_job.specs.Steps.{IsStepIn}
 use Rattle.session.specs.declared.error.ApplyError.{ApplyError}
 use Rattle.session.specs.declared.error.ApplyError.TheVariants as applying
 use Rattle.session.specs.Editing.{CanApply, HasOneOutcome, IsRefusedEdit}
-use Rattle.edit_job.specs.Refusal.{IsRefusal, refusal, word_of}
+use Rattle.session.specs.Error.{apply_word}
+use Rattle.edit_job.specs.Refusal.{IsRefusal, refusal}
 use Rattle.edit_job.specs.Steps.{AreSteps, HaveOneEnd, IsStep}
 
 module _ (faces : List (Option Table)) (view : View) (rules : List Ruling) where
@@ -57,7 +58,7 @@ module _ (faces : List (Option Table)) (view : View) (rules : List Ruling) where
     step_end state (edit change) line next other due more (inl (can, is, d)) (inr (error, refused, is', d')) = absurd ((one.only rules state change error refused).0 can)
     step_end state (edit change) line next other due more (inr (error, refused, is, d)) (inl (can', is', d')) = absurd ((one.only rules state change error refused).0 can')
     step_end state (edit change) line next other due more (inr (error, refused, is, d)) (inr (error', refused', is', d')) =
-        (is' ∙ sym is, d' ∙ ap (λ (e : ApplyError). refusal (word_of e) line) ((one.only rules state change error refused).1 error' refused') ∙ sym d)
+        (is' ∙ sym is, d' ∙ ap (λ (e : ApplyError). refusal (apply_word e) line) ((one.only rules state change error refused).1 error' refused') ∙ sym d)
 
     pub steps_end : (state : State) (steps : List StepAt) (last other : State) (due more : List ℕ) → AreSteps faces view rules state steps last due → AreSteps faces view rules state steps other more → (other ≡ last) × (more ≡ due)
     steps_end state [] last other due more (is, d) (is', d') = (is' ∙ sym is, d' ∙ sym d)
@@ -141,17 +142,17 @@ module _ (faces : List (Option Table)) (view : View) (rules : List Ruling) (stat
   edit_front one sink can next due step = nothing_yet sink due
 
   -- an edit that is refused, and told so
-  pub edit_refused : (error : ApplyError) (next : State) (old new : Option (List ℕ)) → (error ≡ applying.Memory) ⊎ IsRefusedEdit rules state change error → IsRefusal error → next ≡ state → Appends old new (refusal (word_of error) line)
+  pub edit_refused : (error : ApplyError) (next : State) (old new : Option (List ℕ)) → (error ≡ applying.Memory) ⊎ IsRefusedEdit rules state change error → IsRefusal error → next ≡ state → Appends old new (refusal (apply_word error) line)
       → (due : List ℕ) × IsStep faces view rules state (edit change) line next due × Appends old new due
-  edit_refused error next old new why told same more = (refusal (word_of error) line, inr (error, reason error why told, same, refl), more)
+  edit_refused error next old new why told same more = (refusal (apply_word error) line, inr (error, reason error why told, same, refl), more)
 
   -- what is due for it is that line
-  pub refused_front : HasOneOutcome → (error : ApplyError) (old new : Option (List ℕ)) → (error ≡ applying.Memory) ⊎ IsRefusedEdit rules state change error → (error ≡ applying.Memory → new ≡ old) → AppendsFront old new (refusal (word_of error) line)
+  pub refused_front : HasOneOutcome → (error : ApplyError) (old new : Option (List ℕ)) → (error ≡ applying.Memory) ⊎ IsRefusedEdit rules state change error → (error ≡ applying.Memory → new ≡ old) → AppendsFront old new (refusal (apply_word error) line)
       → (next : State) (due : List ℕ) → IsStep faces view rules state (edit change) line next due → AppendsFront old new due
   refused_front one error old new (inl is) none front next due step = subst (λ (sink : Option (List ℕ)). AppendsFront old sink due) (sym (none is)) (nothing_yet old due)
   refused_front one error old new (inr refused) none front next due (inl (can, is, d)) = absurd ((one.only rules state change error refused).0 can)
   refused_front one error old new (inr refused) none front next due (inr (other, also, is, d)) =
-      let same : due ≡ refusal (word_of error) line = d ∙ ap (λ (e : ApplyError). refusal (word_of e) line) ((one.only rules state change error refused).1 other also) in
+      let same : due ≡ refusal (apply_word error) line = d ∙ ap (λ (e : ApplyError). refusal (apply_word e) line) ((one.only rules state change error refused).1 other also) in
       subst (λ (bytes : List ℕ). AppendsFront old new bytes) (sym same) front
 
 -- ---- lines

@@ -13,8 +13,9 @@ use Rattle.listing.specs.Listing.{listing}
 use Rattle.session.specs.declared.error.ApplyError.{ApplyError}
 use Rattle.session.specs.declared.session.Session.{Session}
 use Rattle.session.specs.Editing.{CanApply, IsRefusedEdit}
+use Rattle.session.specs.Error.{apply_word}
 use Rattle.session.specs.State.{page_of}
-use Rattle.edit_job.specs.Refusal.{refusal, word_of}
+use Rattle.edit_job.specs.Refusal.{refusal}
 
 module _ (faces : List (Option Table)) (view : View) (rules : List Ruling) where
   -- A step with the number of its line: a page is listed; an edit is done and nothing is due, or its refusal is due and the
@@ -22,7 +23,7 @@ module _ (faces : List (Option Table)) (view : View) (rules : List Ruling) where
   abbrev pub IsStep : State → Step → (line : ℕ) → (next : State) → (due : List ℕ) → Type 0
   IsStep state show line next due = (next ≡ state) × (due ≡ listing (page_of faces view (styled_document rules state)))
   IsStep state (edit change) line next due = (CanApply rules state change × (next ≡ after state change) × (due ≡ []))
-      ⊎ ((error : ApplyError) × IsRefusedEdit rules state change error × (next ≡ state) × (due ≡ refusal (word_of error) line))
+      ⊎ ((error : ApplyError) × IsRefusedEdit rules state change error × (next ≡ state) × (due ≡ refusal (apply_word error) line))
 
   -- steps one after the other
   abbrev pub AreSteps : State → List StepAt → (last : State) → (due : List ℕ) → Type 0

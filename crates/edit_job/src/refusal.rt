@@ -1,11 +1,10 @@
 //! The lines that tell what is refused.
 
 ghost use Rattle.std.specs.Prelude.{◌≡◌, ◌≤◌, length};
-ghost use Rattle.edit_job.specs.Refusal.{refusal, word_of};
+ghost use Rattle.edit_job.specs.Refusal.{refusal};
 
 use arrayvec::ArrayString;
 use itoa::Buffer;
-use session::ApplyError;
 
 /// The line of a refusal: its word of at most 17 bytes, and its place, the number of a node or that of a line.
 #[tactic(auto, unfolding(crate::specs::Refusal::refusal))]
@@ -20,18 +19,4 @@ pub fn refusal_line(word: &str, place: usize) -> ArrayString<64>
     line.push_str(Buffer::new().format(place));
     line.push_str("\n");
     line
-}
-
-/// The word of why an edit is refused.
-#[tactic(auto, unfolding(crate::specs::Refusal::word_of))]
-pub(crate) fn word_of(error: ApplyError) -> &'static str
-    ensures word { result.now ≡ word_of error }
-    ensures short { length result.now ≤ 17 }
-{
-    match error {
-        ApplyError::Document(error) => error.word(),
-        ApplyError::TooManyOrthogonal(_) => "TooManyOrthogonal",
-        ApplyError::BlockInInline(_) => "BlockInInline",
-        ApplyError::Memory => "Memory",
-    }
 }

@@ -11,13 +11,14 @@ ghost use Rattle.edit_script.specs.Fitting.{AllFit, Fits, bytes_in, bytes_of};
 ghost use Rattle.edit_script.specs.Meaning as steps;
 ghost use Rattle.edit_script.specs.Views.{step_of, steps_of};
 ghost use Rattle.listing.specs.Listing.{listing};
+ghost use Rattle.session.specs.Error.{apply_word};
 ghost use Rattle.session.specs.State.{IsSound, page_in};
 ghost use Rattle.session.specs.declared.error.ApplyError.TheVariants as applying;
-ghost use Rattle.edit_job.specs.Refusal.{IsRefusal, refusal, word_of};
+ghost use Rattle.edit_job.specs.Refusal.{IsRefusal, refusal};
 ghost use Rattle.edit_job.specs.Steps.{AreStepsIn, IsStepIn};
 
 use crate::laws::steps_have_one_end;
-use crate::refusal::{refusal_line, word_of};
+use crate::refusal::refusal_line;
 use dom_store::Edit;
 use edit_script::{ScriptLine, ScriptStep};
 use face_api::Face;
@@ -139,15 +140,16 @@ fn tell_edit<K: Sink>(
 
 // The refusal of an edit, with the number of its line. Want of memory is none.
 fn tell_refusal<K: Sink>(error: ApplyError, line: usize, sink: &mut K) -> Result<(), WriteError>
-    ensures whole { OnOk result (IsRefusal error × Appends (K.held sink.old) (K.held sink.new) (refusal (word_of error) line)) }
-    ensures front { AppendsFront (K.held sink.old) (K.held sink.new) (refusal (word_of error) line) }
+    ensures whole { OnOk result (IsRefusal error × Appends (K.held sink.old) (K.held sink.new) (refusal (apply_word error) line)) }
+    ensures front { AppendsFront (K.held sink.old) (K.held sink.new) (refusal (apply_word error) line) }
     ensures none { error ≡ applying.Memory → K.held sink.new ≡ K.held sink.old }
     ensures later { K.faults sink.old ≤ K.faults sink.new }
     ensures fault { IsErrOf result WriteError.WriteFault → Rose (K.faults sink.old) (K.faults sink.new) }
 {
     match error {
-        ApplyError::Document(_) | ApplyError::TooManyOrthogonal(_) | ApplyError::BlockInInline(_) =>
-            { write_all_of(sink, refusal_line(word_of(error), line).as_bytes()) }
+        ApplyError::Document(_) | ApplyError::Limit(_) => {
+            write_all_of(sink, refusal_line(error.word(), line).as_bytes())
+        }
         ApplyError::Memory => Err(WriteError::Memory),
     }
 }

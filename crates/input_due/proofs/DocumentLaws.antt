@@ -32,13 +32,14 @@ use Rattle.edit_script.specs.declared.step.ScriptLine.{ScriptLine}
 use Rattle.edit_script.specs.Script as scripts
 use Rattle.edit_script.specs.Script.{StepAt}
 use Rattle.edit_script.specs.Views.{steps_of}
+use Rattle.session.specs.Error.{open_word}
 use Rattle.session.specs.Opening.{CanOpen, HasOneAnswer, IsRefused}
 use Rattle.session.specs.declared.error.OpenError.{OpenError}
 use Rattle.session.specs.declared.error.OpenError.TheVariants as open_errors
 use Rattle.session.specs.declared.session.Session.{Session}
 use Rattle.edit_job.specs.Refusal.{refusal}
 use Rattle.edit_job.specs.Steps.{AreSteps, AreStepsIn}
-use Rattle.input_due.specs.Due.{End, Done, Refused, IsDueBy, IsOf, cause_word, node_of, not_opened, open_word}
+use Rattle.input_due.specs.Due.{End, Done, Refused, IsDueBy, IsOf, cause_word, node_of, not_opened}
 use Rattle.input_due.specs.Input.{IsDueOfDocument, IsDueOfInput, IsDueOfOpened, IsDueOfRead, IsDueOfSteps, IsDueOfStyling, IsDueOfTail, IsDueOfWhole, longest_input, placed_from, steps_behind}
 use Rattle.input_due.specs.Document.{read_at}
 use Rattle.input_due.specs.declared.due.Due.{Due}
@@ -108,10 +109,8 @@ module _ {I : Type 0} {D : I → Type 0} (members : (x : I) → Ghosts (D x)) (f
       by (open_errors.TooManyNodes n) is' (inr refused) = told (open_errors.TooManyNodes n) (same_Some _ due is') refused
       by (open_errors.TooDeep n) is' (inl memory) = absurd cc
       by (open_errors.TooDeep n) is' (inr refused) = told (open_errors.TooDeep n) (same_Some _ due is') refused
-      by (open_errors.TooManyOrthogonal n) is' (inl memory) = absurd cc
-      by (open_errors.TooManyOrthogonal n) is' (inr refused) = told (open_errors.TooManyOrthogonal n) (same_Some _ due is') refused
-      by (open_errors.BlockInInline n) is' (inl memory) = absurd cc
-      by (open_errors.BlockInInline n) is' (inr refused) = told (open_errors.BlockInInline n) (same_Some _ due is') refused
+      by (open_errors.Limit limit) is' (inl memory) = absurd cc
+      by (open_errors.Limit limit) is' (inr refused) = told (open_errors.Limit limit) (same_Some _ due is') refused
 
   -- ---- its steps and its styles
 

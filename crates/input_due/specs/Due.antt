@@ -1,5 +1,5 @@
 -- What is due for an input, as its end and the bytes to be written.
-use Rattle.std.specs.Prelude.{◌≡◌, ◌↔◌, ◌+◌, ◌≤◌, ℕ, List, codes, Option, Some, None, option_map, ⊤}
+use Rattle.std.specs.Prelude.{◌≡◌, ◌↔◌, ◌+◌, ◌≤◌, ℕ, List, codes, Option, option_map, unwrap_or, ⊤}
 use Rattle.face_api.specs.Faces.{faces_of}
 use Rattle.face_api.specs.Table.{Table}
 use Rattle.face_api.specs.declared.face.Face.{Ghosts}
@@ -12,8 +12,8 @@ use Rattle.edit_script.specs.Fitting.{AllFit, bytes_of}
 use Rattle.edit_script.specs.Script.{StepAt}
 use Rattle.edit_script.specs.Views.{steps_of}
 use Rattle.session.specs.declared.error.OpenError.{OpenError}
-use Rattle.session.specs.declared.error.OpenError.TheVariants.{TooManyNodes, TooDeep, TooManyOrthogonal, BlockInInline, Memory}
 use Rattle.session.specs.declared.session.Session.{Session}
+use Rattle.session.specs.Error.{open_node, open_word}
 use Rattle.session.specs.State.{IsSound}
 use Rattle.edit_job.specs.Refusal.{refusal}
 use Rattle.edit_job.specs.Steps.{AreStepsIn}
@@ -27,28 +27,9 @@ pub data End : Type 0 where
   Done : End
   Refused : End
 
--- the word of why a document can't be opened, and the number of the node that it tells
-unfoldable pub open_word : OpenError → List ℕ
-open_word (TooManyNodes number) = codes "TooManyNodes"
-open_word (TooDeep number) = codes "TooDeep"
-open_word (TooManyOrthogonal number) = codes "TooManyOrthogonal"
-open_word (BlockInInline number) = codes "BlockInInline"
-open_word Memory = codes "Memory"
-
+-- the number of the node that is told of it; no refusal comes of want of memory
 abbrev pub node_of : OpenError → ℕ
-node_of (TooManyNodes number) = number
-node_of (TooDeep number) = number
-node_of (TooManyOrthogonal number) = number
-node_of (BlockInInline number) = number
-node_of Memory = 0
-
--- no refusal comes of want of memory
-abbrev pub told_node : OpenError → Option ℕ
-told_node Memory = None
-told_node (TooManyNodes number) = Some number
-told_node (TooDeep number) = Some number
-told_node (TooManyOrthogonal number) = Some number
-told_node (BlockInInline number) = Some number
+node_of error = unwrap_or (open_node error) 0
 
 -- the word of why an input is refused
 unfoldable pub cause_word : Cause → List ℕ
@@ -60,7 +41,7 @@ cause_word (causes.Opening error) = open_word error
 
 module _ {I : Type 0} {D : I → Type 0} where
   abbrev pub not_opened : OpenError → Option (Due I D)
-  not_opened error = option_map (λ node. dues.Refused (causes.Opening error) node) (told_node error)
+  not_opened error = option_map (λ node. dues.Refused (causes.Opening error) node) (open_node error)
 
   -- steps are due, and no refusal
   abbrev pub HasSteps : Due I D → Type 0

@@ -19,10 +19,11 @@ use Rattle.edit_script.specs.Script as scripts
 use Rattle.edit_script.specs.Script.{StepAt}
 use Rattle.face_api.specs.Table.{Table}
 use Rattle.session.specs.Opening.{CanOpen, IsRefused}
+use Rattle.session.specs.Error.{open_word}
 use Rattle.session.specs.declared.error.OpenError.{OpenError}
 use Rattle.edit_job.specs.Refusal.{refusal}
 use Rattle.edit_job.specs.Steps.{AreSteps}
-use Rattle.input_due.specs.Due.{End, Done, Refused, node_of, open_word}
+use Rattle.input_due.specs.Due.{End, Done, Refused, node_of}
 
 -- the greatest length of an input, in bytes
 abbrev pub longest_input : ℕ

@@ -1,7 +1,7 @@
 //! What is due for an input: the steps over its document, or its refusal.
 
 ghost use Rattle.std.specs.Prelude.{◌≡◌, ◌≤◌, length};
-ghost use Rattle.input_due.specs.Due.{cause_word, not_opened, open_word, told_node};
+ghost use Rattle.input_due.specs.Due.{cause_word, not_opened};
 ghost use Rattle.input_due.specs.declared.due.Cause.TheVariants as Causes;
 ghost use Rattle.input_due.specs.declared.due.Due.TheVariants as Dues;
 
@@ -53,7 +53,7 @@ impl Due {
     pub(crate) fn not_opened(error: OpenError) -> Option<Due>
         ensures { result ≡ not_opened error }
     {
-        let node = told_node(error)?;
+        let node = error.node()?;
         Some(Due::Refused {
             cause: Cause::Opening(error),
             place: node as usize,
@@ -88,34 +88,7 @@ impl Cause {
             Cause::Document(kind) => kind.word(),
             Cause::Style(kind) => kind.word(),
             Cause::Script(kind) => kind.word(),
-            Cause::Opening(error) => open_word(error),
+            Cause::Opening(error) => error.word(),
         }
-    }
-}
-
-#[tactic(auto, unfolding(crate::specs::Due::open_word))]
-fn open_word(error: OpenError) -> &'static str
-    ensures word { result.now ≡ open_word error }
-    ensures short { length result.now ≤ 17 }
-{
-    match error {
-        OpenError::TooManyNodes(_) => "TooManyNodes",
-        OpenError::TooDeep(_) => "TooDeep",
-        OpenError::TooManyOrthogonal(_) => "TooManyOrthogonal",
-        OpenError::BlockInInline(_) => "BlockInInline",
-        OpenError::Memory => "Memory",
-    }
-}
-
-// The number of the node that an error tells.
-fn told_node(error: OpenError) -> Option<u32>
-    ensures { result ≡ told_node error }
-{
-    match error {
-        OpenError::TooManyNodes(number) => Some(number),
-        OpenError::TooDeep(number) => Some(number),
-        OpenError::TooManyOrthogonal(number) => Some(number),
-        OpenError::BlockInInline(number) => Some(number),
-        OpenError::Memory => None,
     }
 }

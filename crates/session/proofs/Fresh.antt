@@ -1,5 +1,5 @@
 -- Boxes that were made anew.
-use Rattle.std.proofs.Common.{◌≡◌, subst, ap, sym, ◌≤◌, ◌^◌, ℕ, List, Option, Ok}
+use Rattle.std.proofs.Common.{◌≡◌, subst, ap, sym, ◌≤◌, ◌^◌, ℕ, List, Option}
 use Rattle.face_api.specs.Table.{Table}
 use Rattle.wm_units.specs.declared.view.View.{View}
 use Rattle.css_types.specs.Rule.{Ruling}
@@ -20,7 +20,6 @@ use Rattle.para_prepare.specs.Preparation.{Preparation}
 use Rattle.relayout.specs.Laws.{BareIsRight}
 use Rattle.relayout.specs.Relayout.{AreRightUnder}
 use Rattle.session.specs.Limits.{BoxesFit, CanBeLaidOut, DocumentsFit}
-use Rattle.session.specs.Opening.{MakesBoxes}
 
 -- states that are one are the same
 pub same_opened : (state other : State) → state ≡ other → AreSame state other
@@ -32,12 +31,12 @@ pub fits : DocumentsFit → BoxesFit → (rules : List Ruling) (state : State) �
 fits documents boxes rules state whole few short bounded = boxes (styled_document rules state) (documents rules state whole few short bounded)
 
 -- so there are few enough
-pub few_boxes : (nodes : Nodes) (tree : BoxTree) → MakesBoxes nodes (Ok tree) → CanBeLaidOut (root_boxes nodes) → planting.count (boxes_of tree) ≤ 2 ^ 18
-few_boxes nodes tree makes fits = subst (λ (boxes : Boxes). planting.count boxes ≤ 2 ^ 18) (sym makes.2) fits.few
+pub few_boxes : (nodes : Nodes) (tree : BoxTree) → boxes_of tree ≡ root_boxes nodes → CanBeLaidOut (root_boxes nodes) → planting.count (boxes_of tree) ≤ 2 ^ 18
+few_boxes nodes tree makes fits = subst (λ (boxes : Boxes). planting.count boxes ≤ 2 ^ 18) (sym makes) fits.few
 
 -- and they stand where they were planted
-pub stand : (nodes : Nodes) (tree : BoxTree) (slots : Slots Preparation) (root : ℕ) → MakesBoxes nodes (Ok tree) → Stands slots root (boxes_of tree) → Stands slots root (root_boxes nodes)
-stand nodes tree slots root makes stands = subst (λ (boxes : Boxes). Stands slots root boxes) makes.2 stands
+pub stand : (nodes : Nodes) (tree : BoxTree) (slots : Slots Preparation) (root : ℕ) → boxes_of tree ≡ root_boxes nodes → Stands slots root (boxes_of tree) → Stands slots root (root_boxes nodes)
+stand nodes tree slots root makes stands = subst (λ (boxes : Boxes). Stands slots root boxes) makes stands
 
 -- where nothing is kept all that is kept is right
 pub right : BareIsRight → (faces : List (Option Table)) (view : View) (slots : Slots Preparation) (root : ℕ) → ((key : ℕ) → planting.IsBare slots key) → AreRightUnder faces view slots root

@@ -1,6 +1,8 @@
 pub mod Answering
+mod Examples
 pub mod Fresh
 pub mod Holding
+pub mod Limiting
 pub mod Near
 pub mod Outcomes
 pub mod Refusals

@@ -1,5 +1,5 @@
 -- What an edit of an open document leads to, by what the document and its boxes answer.
-use Rattle.std.proofs.Common.{◌≡◌, ◌⊎◌, ◌+◌, ◌≤◌, sym, ap, subst, refl, inl, inr, ℕ, List, [], Option, Some, None, Err}
+use Rattle.std.proofs.Common.{◌≡◌, ◌⊎◌, ◌+◌, ◌≤◌, sym, ap, subst, refl, inl, inr, ℕ, List, Option, Some, None, Err}
 use Rattle.css_types.specs.Rule.{Ruling}
 use Rattle.dom_store.specs.declared.error.EditError.{EditError}
 use Rattle.dom_store.specs.declared.error.EditError.TheVariants as refusals
@@ -15,15 +15,15 @@ use Rattle.tree_laws.specs.Reached.{EditsKeepReached, IsReached}
 use Rattle.tree_laws.specs.Weight.{bytes, total}
 use Rattle.tree_laws.specs.Wholeness.{IsWhole}
 use Rattle.style_tree.specs.Styling.{styled_document}
-use Rattle.box_gen.specs.Boxes.{root_caught}
-use Rattle.box_gen.specs.Orthogonal.{IsLeastOf, root_past}
+use Rattle.box_gen.specs.declared.limit.BoxLimit.{BoxLimit}
+use Rattle.box_gen.specs.Limit.{IsWithinLimits, Passes}
 use Rattle.box_limits.specs.declared.error.LimitError.{LimitError}
 use Rattle.box_limits.specs.declared.error.LimitError.TheVariants as limits
-use Rattle.box_limits.specs.Limits.{Answers, AreWithin, IsEditedFrom}
+use Rattle.box_limits.specs.Limits.{Answers, IsEditedFrom}
 use Rattle.session.specs.declared.error.ApplyError.{ApplyError}
 use Rattle.session.specs.declared.error.ApplyError.TheVariants as applying
 use Rattle.session.specs.Editing.{CanApply, HasOneOutcome, IsRefusedEdit, of_limit_error, of_refusal, styled_after}
-use Rattle.session.proofs.Answering.{IsEmptyOrHasLeast, least_one, least_or_none, none_there}
+use Rattle.session.proofs.Limiting.{IsWithinOrPasses, not_within, one_limit, within_or_passes}
 
 -- ---- one outcome
 
@@ -36,39 +36,28 @@ module _ (rules : List Ruling) (state : State) (edit : EditOf) where
 
   not_applied : (error : ApplyError) → IsRefusedEdit rules state edit error → CanApply rules state edit → ⊥
   not_applied (applying.Document error) is can = taken error is can.taken
-  not_applied (applying.TooManyOrthogonal number) (none, least) can = none_there _ number can.turns least.0
-  not_applied (applying.BlockInInline number) (none, turns, least) can = none_there _ number can.blocks least.0
+  not_applied (applying.Limit limit) (none, passes) can = not_within (styled_after rules state edit) limit passes can.within
   not_applied applying.Memory is can = is
 
   same : (error other : ApplyError) → IsRefusedEdit rules state edit error → IsRefusedEdit rules state edit other → other ≡ error
   same (applying.Document error) (applying.Document e) is is' = ap (λ (x : EditError). applying.Document x) (same_some error e is is')
-  same (applying.Document error) (applying.TooManyOrthogonal n) is (none, least) = absurd (taken error is none)
-  same (applying.Document error) (applying.BlockInInline n) is (none, turns, least) = absurd (taken error is none)
-  same (applying.TooManyOrthogonal number) (applying.Document e) (none, least) is = absurd (taken e is none)
-  same (applying.TooManyOrthogonal number) (applying.TooManyOrthogonal n) (none, least) (none', least') = ap (λ (k : ℕ). applying.TooManyOrthogonal k) (least_one number n (least.1 n least'.0) (least'.1 number least.0))
-  same (applying.TooManyOrthogonal number) (applying.BlockInInline n) (none, least) (none', turns, least') = absurd (none_there _ number turns least.0)
-  same (applying.BlockInInline number) (applying.Document e) (none, turns, least) is = absurd (taken e is none)
-  same (applying.BlockInInline number) (applying.TooManyOrthogonal n) (none, turns, least) (none', least') = absurd (none_there _ n turns least'.0)
-  same (applying.BlockInInline number) (applying.BlockInInline n) (none, turns, least) (none', turns', least') = ap (λ (k : ℕ). applying.BlockInInline k) (least_one number n (least.1 n least'.0) (least'.1 number least.0))
+  same (applying.Document error) (applying.Limit l) is (none, passes) = absurd (taken error is none)
+  same (applying.Limit limit) (applying.Document e) (none, passes) is = absurd (taken e is none)
+  same (applying.Limit limit) (applying.Limit l) (none, passes) (none', passes') = ap (λ (x : BoxLimit). applying.Limit x) (one_limit (styled_after rules state edit) limit l passes passes')
   same applying.Memory other is is' = absurd is
   same (applying.Document error) applying.Memory is is' = absurd is'
-  same (applying.TooManyOrthogonal number) applying.Memory is is' = absurd is'
-  same (applying.BlockInInline number) applying.Memory is is' = absurd is'
+  same (applying.Limit limit) applying.Memory is is' = absurd is'
 
-  -- by what the document, then orthogonal boxes, then block-level boxes in inline ones are refused for
+  -- by what the document, then its boxes are refused for
   abbrev HasOutcome : Type 0
   HasOutcome = CanApply rules state edit ⊎ ((error : ApplyError) × IsRefusedEdit rules state edit error)
 
-  by_blocks : refusal state edit ≡ None → root_past (styled_after rules state edit) ≡ [] → IsEmptyOrHasLeast (root_caught (styled_after rules state edit)) → HasOutcome
-  by_blocks none turns (inl blocks) = inl (record { taken = none; turns = turns; blocks = blocks })
-  by_blocks none turns (inr (number, least)) = inr (applying.BlockInInline number, (none, turns, least))
-
-  by_turns : refusal state edit ≡ None → IsEmptyOrHasLeast (root_past (styled_after rules state edit)) → HasOutcome
-  by_turns none (inl turns) = by_blocks none turns (least_or_none (root_caught (styled_after rules state edit)))
-  by_turns none (inr (number, least)) = inr (applying.TooManyOrthogonal number, (none, least))
+  by_boxes : refusal state edit ≡ None → IsWithinOrPasses (styled_after rules state edit) → HasOutcome
+  by_boxes none (inl within) = inl (record { taken = none; within = within })
+  by_boxes none (inr (limit, passes)) = inr (applying.Limit limit, (none, passes))
 
   by_document : (reason : Option EditError) → refusal state edit ≡ reason → HasOutcome
-  by_document None is = by_turns is (least_or_none (root_past (styled_after rules state edit)))
+  by_document None is = by_boxes is (within_or_passes (styled_after rules state edit))
   by_document (Some error) is = inr (applying.Document error, is)
 
 pub one_outcome : HasOneOutcome
@@ -107,16 +96,14 @@ done_by done old next edit elements is = done old next edit elements is
 module _ (rules : List Ruling) (old next : State) (edit : EditOf) (done : (refusal old edit ≡ None) × (next ≡ after old edit)) where
   -- what its boxes are refused for is what it is refused for
   pub boxes_refuse : (error : LimitError) → Answers rules next (Err error) → (of_limit_error error ≡ applying.Memory) ⊎ IsRefusedEdit rules old edit (of_limit_error error)
-  boxes_refuse (limits.TooManyOrthogonal number) least = inr (done.0, subst (λ (s : State). IsLeastOf (root_past (styled_document rules s)) (Some number)) done.1 least)
-  boxes_refuse (limits.BlockInInline number) (turns, least) =
-      inr (done.0, subst (λ (s : State). root_past (styled_document rules s) ≡ []) done.1 turns, subst (λ (s : State). IsLeastOf (root_caught (styled_document rules s)) (Some number)) done.1 least)
+  boxes_refuse (limits.Limit limit) passes = inr (done.0, subst (λ (s : State). Passes (styled_document rules s) limit) done.1 passes)
   boxes_refuse limits.Memory answers = inl refl
 
-  pub can_apply : AreWithin rules next → CanApply rules old edit
-  can_apply within = let there = subst (AreWithin rules) done.1 within in record { taken = done.0; turns = there.turns; blocks = there.blocks }
+  pub can_apply : IsWithinLimits (styled_document rules next) → CanApply rules old edit
+  can_apply within = record { taken = done.0; within = subst (λ (s : State). IsWithinLimits (styled_document rules s)) done.1 within }
 
   -- its boxes may be judged
-  pub edited_from : IsFitting edit → IsRooted old → IsWhole old → IsReached old → AreWithin rules old → IsEditedFrom rules edit next old
+  pub edited_from : IsFitting edit → IsRooted old → IsWhole old → IsReached old → IsWithinLimits (styled_document rules old) → IsEditedFrom rules edit next old
   edited_from fitting rooted whole reached within = record { fitting = fitting; rooted = rooted; whole = whole; reached = reached; taken = done.0; within = within; is = done.1 }
 
   pub rooted_after : KeepRoots → ChildrenHaveParents → IsWhole old → IsRooted old → IsRooted next

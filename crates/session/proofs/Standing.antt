@@ -1,5 +1,5 @@
 -- The boxes of a session stand in its arena through all that is laid out and forgotten.
-use Rattle.std.proofs.Common.{◌≡◌, ◌≤◌, [], ◌∙◌, sym, ap, subst, ℕ, List, Option, Some, None, IfSome}
+use Rattle.std.proofs.Common.{◌≡◌, ◌≤◌, ◌∙◌, sym, ap, subst, ℕ, List, Option, Some, None, IfSome}
 use Rattle.dom_store.specs.declared.document.Document.{Document}
 use Rattle.dom_store.specs.Opening.{greatest_count}
 use Rattle.dom_store.specs.Standing.{live_count}
@@ -9,8 +9,8 @@ use Rattle.tree_laws.specs.Weight.{bytes, total}
 use Rattle.tree_laws.specs.Wholeness.{IsWhole}
 use Rattle.cascade.specs.Index.{index_rules}
 use Rattle.style_tree.specs.Styling.{styled_document}
-use Rattle.box_gen.specs.Boxes.{root_boxes, root_caught}
-use Rattle.box_gen.specs.Orthogonal.{root_past}
+use Rattle.box_gen.specs.Boxes.{root_boxes}
+use Rattle.box_gen.specs.Limit.{IsWithinLimits}
 use Rattle.box_gen.specs.Tree.{Boxes, box, none}
 use Rattle.box_arena.specs.Arena.{SameLinks, SameNodes}
 use Rattle.box_arena.specs.At.{Node, Slots, first_at, next_at, node_at, parent_at}
@@ -83,8 +83,7 @@ module _ {I : Type 0} {D : I → Type 0} where
     few = sound.few;
     short = sound.short;
     rules = sound.rules;
-    turns = sound.turns;
-    blocks = sound.blocks;
+    within = sound.within;
     view = sound.view;
     ready = ready;
   }
@@ -106,8 +105,7 @@ module _ {I : Type 0} {D : I → Type 0} where
         few = subst (λ (state : State). live_count state ≤ greatest_count) (sym same) sound.few;
         short = subst (λ (state : State). total bytes state ≤ 1048576) (sym same) sound.short;
         rules = sound.rules;
-        turns = subst (λ (state : State). root_past (styled state) ≡ []) (sym same) sound.turns;
-        blocks = subst (λ (state : State). root_caught (styled state) ≡ []) (sym same) sound.blocks;
+        within = subst (λ (state : State). IsWithinLimits (styled state)) (sym same) sound.within;
         view = sound.view;
         ready = subst (λ (state : State). IfSome session.boxes (AreReady faces session.view (root_boxes (styled state)))) (sym same) sound.ready;
       }

@@ -8,9 +8,11 @@ use Rattle.dom_store.specs.Laws.{KeepRoots}
 use Rattle.dom_store.specs.Taking.{BeforeOf, LeadsBack, taken_back}
 use Rattle.tree_laws.specs.Laws.{ChildrenHaveParents, EditsKeepWhole}
 use Rattle.tree_laws.specs.Reached.{EditsKeepReached}
-use Rattle.box_limits.specs.Limits.{AreWithin, DocumentsAreJudgedByLines, EditsAreJudgedByTheirParts, IsEditedFrom}
+use Rattle.style_tree.specs.Styling.{styled_document}
+use Rattle.box_gen.specs.Limit.{IsWithinLimits}
+use Rattle.box_limits.specs.Limits.{DocumentsAreJudgedByLines, EditsAreJudgedByTheirParts, IsEditedFrom}
 use Rattle.session.specs.Editing.{CanBeTakenBack}
-use Rattle.session.proofs.Answering.{none_there}
+use Rattle.session.proofs.Limiting.{none_there}
 
 -- a list of no number
 empty : (numbers : List ℕ) → ((number : ℕ) → Contains numbers number → ⊥) → numbers ≡ []
@@ -19,13 +21,13 @@ empty (number ∷ numbers) none = absurd (none number (0, omega arith, refl))
 
 -- after a removal no box breaks a limit
 pub removed_within : DocumentsAreJudgedByLines → EditsAreJudgedByTheirParts → KeepRoots → ChildrenHaveParents → EditsKeepWhole → EditsKeepReached
-    → (rules : List Ruling) (next state : State) (number : ℕ) → IsEditedFrom rules (remove number) next state → AreWithin rules next
+    → (rules : List Ruling) (next state : State) (number : ℕ) → IsEditedFrom rules (remove number) next state → IsWithinLimits (styled_document rules next)
 removed_within by_lines by_parts roots parents whole reached rules next state number edited =
     let edit = remove number in
     let judged = by_lines rules (after state edit) (roots state edit edited.rooted (parents state edited.whole) edited.taken) (whole state edit edited.whole edited.taken)
     (reached state edit tt edited.rooted edited.whole edited.reached edited.taken) in
-    let stay = by_parts rules state edit tt edited.rooted edited.whole edited.reached edited.taken edited.within.turns edited.within.blocks in
-    subst (AreWithin rules) (sym edited.is) (record {
+    let stay = by_parts rules state edit tt edited.rooted edited.whole edited.reached edited.taken edited.within in
+    subst (λ (s : State). IsWithinLimits (styled_document rules s)) (sym edited.is) (record {
       turns = empty _ (λ other held. let told = (judged.0 other).0 held in none_there [] other refl ((stay other told.0).0 told.1));
       blocks = empty _ (λ other held. let told = (judged.1 other).0 held in none_there [] other refl ((stay other told.0).1 told.1));
     })

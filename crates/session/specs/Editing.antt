@@ -1,5 +1,5 @@
 -- What an edit of an open document leads to.
-use Rattle.std.specs.Prelude.{◌≡◌, ◌⊎◌, List, [], Some, None, Result, Ok, Err, ⊤}
+use Rattle.std.specs.Prelude.{◌≡◌, ◌⊎◌, List, Some, None, Result, Ok, Err, ⊤}
 use Rattle.css_types.specs.Rule.{Ruling}
 use Rattle.dom_store.specs.declared.error.EditError.{EditError}
 use Rattle.dom_store.specs.declared.error.EditError.TheVariants as refusals
@@ -9,12 +9,11 @@ use Rattle.dom_store.specs.State.{State, state_of}
 use Rattle.cascade.specs.Index.{index_rules}
 use Rattle.style_tree.specs.Styling.{styled_document}
 use Rattle.style_types.specs.Tree.{Nodes}
-use Rattle.box_gen.specs.Boxes.{root_caught}
-use Rattle.box_gen.specs.Orthogonal.{IsLeastOf, root_past}
+use Rattle.box_gen.specs.Limit.{IsWithinLimits, Passes}
 use Rattle.box_limits.specs.declared.error.LimitError.{LimitError}
 use Rattle.box_limits.specs.declared.error.LimitError.TheVariants as limits
 use Rattle.session.specs.declared.error.ApplyError.{ApplyError}
-use Rattle.session.specs.declared.error.ApplyError.TheVariants.{Document, TooManyOrthogonal, BlockInInline, Memory}
+use Rattle.session.specs.declared.error.ApplyError.TheVariants.{Document, Limit, Memory}
 use Rattle.session.specs.declared.session.Session.{Session}
 
 -- want of memory is no refusal
@@ -23,8 +22,7 @@ of_refusal refusals.Memory = Memory
 of_refusal other = Document other
 
 abbrev pub of_limit_error : LimitError → ApplyError
-of_limit_error (limits.TooManyOrthogonal number) = TooManyOrthogonal number
-of_limit_error (limits.BlockInInline number) = BlockInInline number
+of_limit_error (limits.Limit limit) = Limit limit
 of_limit_error limits.Memory = Memory
 
 -- a removal can't be taken back
@@ -39,15 +37,12 @@ styled_after rules state edit = styled_document rules (after state edit)
 -- it can be applied: the document takes it, and the boxes of the next state can stand
 pub record CanApply (rules : List Ruling) (state : State) (edit : EditOf) : Type 0 where
   pub taken : refusal state edit ≡ None
-  pub turns : root_past (styled_after rules state edit) ≡ []
-  pub blocks : root_caught (styled_after rules state edit) ≡ []
+  pub within : IsWithinLimits (styled_after rules state edit)
 
--- it can't, for this reason: those of the document come first, then orthogonal boxes, then block-level boxes in inline ones
+-- it can't, for this reason: those of the document come first, then those of boxes
 abbrev pub IsRefusedEdit : List Ruling → State → EditOf → ApplyError → Type 0
 IsRefusedEdit rules state edit (Document error) = refusal state edit ≡ Some error
-IsRefusedEdit rules state edit (TooManyOrthogonal number) = (refusal state edit ≡ None) × IsLeastOf (root_past (styled_after rules state edit)) (Some number)
-IsRefusedEdit rules state edit (BlockInInline number) =
-    (refusal state edit ≡ None) × (root_past (styled_after rules state edit) ≡ []) × IsLeastOf (root_caught (styled_after rules state edit)) (Some number)
+IsRefusedEdit rules state edit (Limit limit) = (refusal state edit ≡ None) × Passes (styled_after rules state edit) limit
 IsRefusedEdit rules state edit Memory = ⊥
 
 -- an edit can be applied, or is refused, and for one reason alone

@@ -1,4 +1,5 @@
 pub mod Editing
+pub mod Error
 pub mod Limits
 pub mod Opening
 pub mod Spread

@@ -1,5 +1,5 @@
 -- What a session holds, and the page that it shows.
-use Rattle.std.specs.Prelude.{◌≡◌, ◌≤◌, ◌⊎◌, List, [], None, Option, IfSome, Result, Ok, Err}
+use Rattle.std.specs.Prelude.{◌≡◌, ◌≤◌, ◌⊎◌, List, None, Option, IfSome, Result, Ok, Err}
 use Rattle.face_api.specs.Table.{Table}
 use Rattle.css_types.specs.declared.value.Declaration.{Declaration}
 use Rattle.css_types.specs.Rule.{Ruling}
@@ -16,8 +16,8 @@ use Rattle.tree_laws.specs.Wholeness.{IsWhole}
 use Rattle.cascade.specs.Index.{index_rules}
 use Rattle.cascade.specs.Winners.{AreSaidRules}
 use Rattle.style_tree.specs.Styling.{styled_document}
-use Rattle.box_gen.specs.Boxes.{root_boxes, root_caught}
-use Rattle.box_gen.specs.Orthogonal.{root_past}
+use Rattle.box_gen.specs.Boxes.{root_boxes}
+use Rattle.box_gen.specs.Limit.{IsWithinLimits}
 use Rattle.box_gen.specs.Tree.{Boxes}
 use Rattle.box_arena.specs.At.{parent_at}
 use Rattle.box_arena.specs.Boxes.{Stands}
@@ -63,8 +63,7 @@ module _ {I : Type 0} {D : I → Type 0} where
     pub few : live_count (state_of session.document) ≤ greatest_count
     pub short : total bytes (state_of session.document) ≤ 1048576
     pub rules : AreSaidRules (index_rules session.rules)
-    pub turns : root_past (styled_in session) ≡ []
-    pub blocks : root_caught (styled_in session) ≡ []
+    pub within : IsWithinLimits (styled_in session)
     pub view : IsView session.view
     pub ready : IfSome session.boxes (AreReady faces session.view (boxes_of session))
 

@@ -1,6 +1,6 @@
 //! The boxes of a document (docs/PROFILE/boxes.md).
 
-ghost use Rattle.std.specs.Prelude.{◌≡◌, ◌≤◌, ℕ, [], IfErr, IfOk, None};
+ghost use Rattle.std.specs.Prelude.{◌≡◌, ◌≤◌, ℕ, IfErr, IfOk, None};
 ghost use Rattle.dom_store.specs.Edited.{edit_of};
 ghost use Rattle.dom_store.specs.State.{IsRooted, IsSaidState, State, state_of};
 ghost use Rattle.cascade.specs.Index.{index_rules};
@@ -10,8 +10,8 @@ ghost use Rattle.dom_store.specs.Opening.{greatest_count};
 ghost use Rattle.dom_store.specs.Standing.{live_count};
 ghost use Rattle.tree_laws.specs.Weight.{bytes, total};
 ghost use Rattle.tree_laws.specs.Wholeness.{IsWhole};
-ghost use Rattle.box_gen.specs.Boxes.{root_boxes, root_caught};
-ghost use Rattle.box_gen.specs.Orthogonal.{root_past};
+ghost use Rattle.box_gen.specs.Boxes.{root_boxes};
+ghost use Rattle.box_gen.specs.Limit.{IsWithinLimits};
 ghost use Rattle.box_arena.specs.At.{parent_at};
 ghost use Rattle.box_arena.specs.Boxes.{Stands};
 ghost use Rattle.box_arena.specs.Planting.{IsBare};
@@ -19,12 +19,11 @@ ghost use Rattle.box_limits.specs.Limits.{Answers, IsEditedFrom};
 ghost use Rattle.session.specs.Editing.{CanBeTakenBack};
 ghost use Rattle.session.specs.Limits.{CanBeLaidOut};
 ghost use Rattle.session.specs.Opening.{MakesBoxes};
-ghost use Rattle.session.specs.declared.error.OpenError.TheVariants.{Memory};
 
 use crate::error::OpenError;
 use crate::laws::{boxes_within_limits_fit, documents_within_limits_fit};
 use crate::planting::{Rooted, grown};
-use box_gen::{BoxTree, boxes, too_many_orthogonal};
+use box_gen::{BoxTree, boxes, check_boxes};
 use box_limits::laws::{documents_are_judged_by_lines, edits_are_judged_by_their_parts};
 use box_limits::{LimitError, check_edited};
 use cascade::RuleIndex;
@@ -50,16 +49,14 @@ pub(crate) fn boxes_in(
     ensures bounded { IfOk result (λ _. AreBounded (styled_document (index_rules rules.now) (state_of document.now))) }
 {
     let root = styled(alloc, document, rules)?;
-    if let Some(number) = too_many_orthogonal(&root) {
-        return Err(OpenError::TooManyOrthogonal(number));
-    }
+    check_boxes(&root)?;
     let tree = boxes(alloc, &root)?;
     Ok(tree)
 }
 
 /// Whether the boxes of a document can stand after this edit, where they could before it. After a removal, which can't be taken
 /// back, they can.
-pub(crate) fn check_boxes(
+pub(crate) fn check_boxes_after(
     alloc: Global,
     document: &Document,
     rules: &RuleIndex,
@@ -102,8 +99,7 @@ pub(crate) fn made_boxes(
     requires whole { IsWhole (state_of document.now) }
     requires few { live_count (state_of document.now) ≤ greatest_count }
     requires short { total bytes (state_of document.now) ≤ 1048576 }
-    requires turns { root_past (styled_document (index_rules rules.now) (state_of document.now)) ≡ [] }
-    requires blocks { root_caught (styled_document (index_rules rules.now) (state_of document.now)) ≡ [] }
+    requires within { IsWithinLimits (styled_document (index_rules rules.now) (state_of document.now)) }
     ensures stands { IfOk result (λ made. Stands made.arena.slots made.root (root_boxes (styled_document (index_rules rules.now) (state_of document.now)))) }
     ensures free { IfOk result (λ made. parent_at made.arena.slots made.root ≡ None) }
     ensures fit { IfOk result (λ _. CanBeLaidOut (root_boxes (styled_document (index_rules rules.now) (state_of document.now)))) }
@@ -111,19 +107,8 @@ pub(crate) fn made_boxes(
 {
     documents_within_limits_fit();
     boxes_within_limits_fit();
-    match boxes_in(alloc, document, rules) {
-        Ok(tree) => {
-            let made = grown(alloc, tree)?;
-            Ok(made)
-        }
-        Err(error) => Err(want_of_memory(error)),
-    }
-}
-
-// Where boxes can stand nothing else is answered.
-fn want_of_memory(error: OpenError) -> AllocError
-    requires { error ≡ Memory }
-{
-    let _ = error;
-    AllocError
+    let root = styled(alloc, document, rules)?;
+    let tree = boxes(alloc, &root)?;
+    let made = grown(alloc, tree)?;
+    Ok(made)
 }

@@ -10,7 +10,7 @@ ghost use Rattle.tree_laws.specs.Weight.{bytes, total};
 ghost use Rattle.session.specs.Editing.{Applies, CanApply};
 ghost use Rattle.session.specs.State.{IsSound};
 
-use crate::boxes::check_boxes;
+use crate::boxes::check_boxes_after;
 use crate::error::ApplyError;
 use crate::session::Session;
 use dom_store::Edit;
@@ -47,7 +47,7 @@ impl Session {
         accepted_edits_stay_said();
         accepted_edits_keep_documents_reached();
         let change = self.document.apply(self.alloc, edit)?;
-        match check_boxes(self.alloc, &self.document, &self.rules, edit) {
+        match check_boxes_after(self.alloc, &self.document, &self.rules, edit) {
             Ok(()) => {
                 self.boxes = None;
                 Ok(())

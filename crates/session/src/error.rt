@@ -1,14 +1,12 @@
 //! Why a document can't be opened, and why an edit isn't done.
 
-ghost use Rattle.std.specs.Prelude.{◌≡◌};
-ghost use Rattle.dom_store.specs.declared.error.EditError as edit;
-ghost use Rattle.box_gen.specs.declared.error.BoxError as boxes;
-ghost use Rattle.session.specs.Opening.{of_box_error, of_edit_error};
-ghost use Rattle.session.specs.declared.error.OpenError.TheVariants.{Memory};
-ghost use Rattle.box_limits.specs.declared.error.LimitError as limits;
+ghost use Rattle.std.specs.Prelude.{◌≡◌, ◌≤◌, length};
+ghost use Rattle.session.specs.Opening.{of_edit_error};
+ghost use Rattle.session.specs.declared.error.OpenError.TheVariants.{Limit, Memory};
 ghost use Rattle.session.specs.Editing.{of_limit_error, of_refusal};
+ghost use Rattle.session.specs.Error.{apply_word, open_node, open_word};
 
-use box_gen::BoxError;
+use box_gen::BoxLimit;
 use box_limits::LimitError;
 use dom_store::EditError;
 use std::alloc::AllocError;
@@ -23,15 +21,39 @@ pub enum OpenError {
     /// A node would stand deeper than 64, where `html` is at 1: the least such number.
     #[error("TooDeep {0}")]
     TooDeep(u32),
-    /// More than six boxes on a line of ancestors would be orthogonal to their containing blocks: the least number of the
-    /// node of such a box.
-    #[error("TooManyOrthogonal {0}")]
-    TooManyOrthogonal(u32),
-    /// A block-level box would stand in an inline box: the least number of such a node.
-    #[error("BlockInInline {0}")]
-    BlockInInline(u32),
+    /// Its boxes would pass a limit.
+    #[error("{0}")]
+    Limit(BoxLimit),
     #[error("Memory")]
     Memory,
+}
+
+impl OpenError {
+    /// The word that a line of refusal has for it.
+    #[tactic(auto, unfolding(crate::specs::Error::open_word))]
+    pub fn word(self) -> &'static str
+        ensures word { result.now ≡ open_word self }
+        ensures short { length result.now ≤ 17 }
+    {
+        match self {
+            OpenError::TooManyNodes(_) => "TooManyNodes",
+            OpenError::TooDeep(_) => "TooDeep",
+            OpenError::Limit(limit) => limit.word(),
+            OpenError::Memory => "Memory",
+        }
+    }
+
+    /// The number of the node that it tells; none of want of memory.
+    pub fn node(self) -> Option<u32>
+        ensures { result ≡ open_node self }
+    {
+        match self {
+            OpenError::TooManyNodes(number) => Some(number),
+            OpenError::TooDeep(number) => Some(number),
+            OpenError::Limit(limit) => Some(limit.node()),
+            OpenError::Memory => None,
+        }
+    }
 }
 
 impl From<EditError> for OpenError {
@@ -53,14 +75,11 @@ impl From<EditError> for OpenError {
     }
 }
 
-impl From<BoxError> for OpenError {
-    ghost from_gives = { λ error own. own ≡ of_box_error error };
+impl From<BoxLimit> for OpenError {
+    ghost from_gives = { λ limit own. own ≡ Limit limit };
 
-    fn from(error: BoxError) -> OpenError {
-        match error {
-            BoxError::BlockInInline(number) => OpenError::BlockInInline(number),
-            BoxError::Memory => OpenError::Memory,
-        }
+    fn from(limit: BoxLimit) -> OpenError {
+        OpenError::Limit(limit)
     }
 }
 
@@ -78,15 +97,26 @@ pub enum ApplyError {
     /// The document refuses it.
     #[error("{0}")]
     Document(EditError),
-    /// More than six boxes on a line of ancestors would be orthogonal to their containing blocks: the least number of the
-    /// node of such a box.
-    #[error("TooManyOrthogonal {0}")]
-    TooManyOrthogonal(u32),
-    /// A block-level box would stand in an inline box: the least number of such a node.
-    #[error("BlockInInline {0}")]
-    BlockInInline(u32),
+    /// The boxes of the next state would pass a limit.
+    #[error("{0}")]
+    Limit(BoxLimit),
     #[error("Memory")]
     Memory,
+}
+
+impl ApplyError {
+    /// The word that a line of refusal has for it.
+    #[tactic(auto, unfolding(crate::specs::Error::apply_word))]
+    pub fn word(self) -> &'static str
+        ensures word { result.now ≡ apply_word self }
+        ensures short { length result.now ≤ 17 }
+    {
+        match self {
+            ApplyError::Document(error) => error.word(),
+            ApplyError::Limit(limit) => limit.word(),
+            ApplyError::Memory => "Memory",
+        }
+    }
 }
 
 impl From<EditError> for ApplyError {
@@ -112,8 +142,7 @@ impl From<LimitError> for ApplyError {
 
     fn from(error: LimitError) -> ApplyError {
         match error {
-            LimitError::TooManyOrthogonal(number) => ApplyError::TooManyOrthogonal(number),
-            LimitError::BlockInInline(number) => ApplyError::BlockInInline(number),
+            LimitError::Limit(limit) => ApplyError::Limit(limit),
             LimitError::Memory => ApplyError::Memory,
         }
     }

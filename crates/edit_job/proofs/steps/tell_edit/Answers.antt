@@ -1,9 +1,7 @@
-use Rattle.std.proofs.Common.{◌≤◌, arith}
+use Rattle.std.proofs.Common.{arith}
 use Rattle.face_api.specs.Faces.{faces_of}
 use Rattle.dom_store.specs.Edited.{edit_of}
-use Rattle.dom_store.specs.Edits.{after}
 use Rattle.dom_store.specs.State.{state_of}
-use Rattle.tree_laws.specs.Weight.{bytes, total}
 use Rattle.cascade.specs.Index.{index_rules}
 use Rattle.edit_job.proofs.StepLaws.{edit_done, edit_front, edit_refused, on_ok, refused_front}
 use Rattle.edit_job.proofs.steps.tell_edit.Goals as goal

@@ -1,6 +1,7 @@
 use Rattle.io_edge.proofs.Growth.{nothing_yet}
-use Rattle.edit_job.specs.Refusal.{refusal, word_of}
+use Rattle.session.specs.Error.{apply_word}
+use Rattle.edit_job.specs.Refusal.{refusal}
 use Rattle.edit_job.proofs.steps.tell_refusal.Goals as goal
 
 pub returns-in-Memory-clause-front : goal.returns-in-Memory-clause-front
-returns-in-Memory-clause-front g c = nothing_yet (g.K.Sink.held c.args.sink.now) (refusal (word_of c.args.error) c.args.line)
+returns-in-Memory-clause-front g c = nothing_yet (g.K.Sink.held c.args.sink.now) (refusal (apply_word c.args.error) c.args.line)

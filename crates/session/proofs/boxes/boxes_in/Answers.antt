@@ -1,19 +1,14 @@
 use Rattle.std.proofs.lemmas.Result.{err_from_is_err_and}
-use Rattle.std.proofs.Common.{◌≡◌, subst, [], Some, Err}
+use Rattle.std.proofs.Common.{◌∙◌, ap, subst}
 use Rattle.style_types.specs.Tree.{Nodes}
-use Rattle.box_gen.specs.Boxes.{Makes}
-use Rattle.box_gen.specs.Orthogonal.{IsLeastOf, root_past}
-use Rattle.session.proofs.Refusals.{refused_boxes}
+use Rattle.box_gen.specs.Boxes.{root_boxes}
+use Rattle.box_gen.specs.Limit.{IsWithinLimits, Passes}
 use Rattle.session.proofs.boxes.boxes_in.Goals as goal
 
-pub returns-in-Some-clause-makes : goal.returns-in-Some-clause-makes
-returns-in-Some-clause-makes c =
-    let P : Nodes → Type 0 = λ nodes. IsLeastOf (root_past nodes) (Some c.in-Some.number) in subst P c.in_ok-root.ensures.styled c.in-Some.ensures
+pub returns-in_err-check_boxes-clause-makes : goal.returns-in_err-check_boxes-clause-makes
+returns-in_err-check_boxes-clause-makes c =
+    let p = err_from_is_err_and c.from_residual-in_err-check_boxes.result c.from_residual-in_err-check_boxes.ensures.1 in
+    rw (p.1, p.2) (subst (λ (nodes : Nodes). Passes nodes c.in_err-check_boxes.field-0.0) c.in_ok-root.ensures.styled c.in_err-check_boxes.ensures)
 
-pub returns-in_err-tree-clause-makes : goal.returns-in_err-tree-clause-makes
-returns-in_err-tree-clause-makes c =
-    let own = c.in_err-tree.field-0.0 in
-    let P : Nodes → Type 0 = λ nodes. root_past nodes ≡ [] in
-    let Q : Nodes → Type 0 = λ nodes. Makes nodes (Err own) in
-    let p = err_from_is_err_and c.from_residual-in_err-tree.result c.from_residual-in_err-tree.ensures.1 in
-    rw (p.1, p.2) (refused_boxes _ own (subst P c.in_ok-root.ensures.styled c.in_default.ensures) (subst Q c.in_ok-root.ensures.styled c.in_err-tree.ensures))
+pub returns-clause-makes : goal.returns-clause-makes
+returns-clause-makes c = (subst IsWithinLimits c.in_ok-root.ensures.styled c.in_ok-check_boxes.ensures, c.in_ok-tree.ensures ∙ ap root_boxes c.in_ok-root.ensures.styled)

@@ -1,7 +1,6 @@
 use Rattle.std.proofs.Common.{◌+◌, ◌*◌}
 use Rattle.dom_store.specs.State.{state_of}
 use Rattle.cascade.specs.Index.{index_rules}
-use Rattle.box_limits.specs.Judging.{site_of}
 use Rattle.box_limits.proofs.Finding.{IsGoing}
 use Rattle.box_limits.proofs.judging.Judging.+node.Given as goal
 
@@ -12,4 +11,4 @@ abbrev pub decreases-nodes : goal.decreases-nodes
 decreases-nodes l = 2 * l.depth
 
 abbrev pub invariant-nodes-loop-number : goal.invariant-nodes-loop-number
-invariant-nodes-loop-number l = IsGoing (index_rules l.self.styling.rules.now) (state_of l.self.styling.document.now) (site_of l.site) l.site.style l.numbers l.depth l.number-index l.found
+invariant-nodes-loop-number l = IsGoing (index_rules l.self.styling.rules.now) (state_of l.self.styling.document.now) l.place.site l.place.style l.numbers l.depth l.number-index l.found

@@ -20,8 +20,8 @@ returns-in_err-change-clause-applies g c =
 pub returns-in_err-change-clause-sound : goal.returns-in_err-change-clause-sound
 returns-in_err-change-clause-sound g c = sound_in (faces_of (λ vtable. (g.dyn-1.0.entry vtable).1) c.args.self.now.faces) c.args.self.now c.apply.new.self c.in_err-change.ensures.applies.1 c.requires.sound
 
-pub check_boxes-requires-clause-own : goal.check_boxes-requires-clause-own
-check_boxes-requires-clause-own g c =
+pub check_boxes_after-requires-clause-own : goal.check_boxes_after-requires-clause-own
+check_boxes_after-requires-clause-own g c =
     let old = state_of c.args.self.now.document in
     let next = state_of c.apply.new.self in
     let rules = index_rules c.args.self.now.rules in
@@ -29,15 +29,15 @@ check_boxes-requires-clause-own g c =
     let done = done_by c.accepted_edits_are_done.ensures old next edit c.in_ok-change.change.elements.items c.in_ok-change.ensures.applies in
     said_after rules old next edit done c.accepted_edits_stay_said.ensures c.requires.said c.requires.sound.said
 
-pub check_boxes-requires-clause-edited : goal.check_boxes-requires-clause-edited
-check_boxes-requires-clause-edited g c =
+pub check_boxes_after-requires-clause-edited : goal.check_boxes_after-requires-clause-edited
+check_boxes_after-requires-clause-edited g c =
     let old = state_of c.args.self.now.document in
     let next = state_of c.apply.new.self in
     let rules = index_rules c.args.self.now.rules in
     let edit = edit_of c.args.edit.now in
     let done = done_by c.accepted_edits_are_done.ensures old next edit c.in_ok-change.change.elements.items c.in_ok-change.ensures.applies in
     let sound = c.requires.sound in
-    (old, edited_from rules old next edit done c.requires.fitting sound.rooted sound.whole sound.reached (record { turns = sound.turns; blocks = sound.blocks }))
+    (old, edited_from rules old next edit done c.requires.fitting sound.rooted sound.whole sound.reached sound.within)
 
 pub returns-in-Ok-clause-applies : goal.returns-in-Ok-clause-applies
 returns-in-Ok-clause-applies g c =
@@ -75,8 +75,7 @@ returns-in-Ok-clause-sound g c =
       few = few_after rules old next edit done weigh sound.few;
       short = subst (λ (state : State). total bytes state ≤ 1048576) (sym done.1) room;
       rules = sound.rules;
-      turns = c.in-Ok.ensures.answers.turns;
-      blocks = c.in-Ok.ensures.answers.blocks;
+      within = c.in-Ok.ensures.answers;
       view = sound.view;
       ready = tt;
     }

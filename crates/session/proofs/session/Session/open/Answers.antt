@@ -1,11 +1,9 @@
-use Rattle.std.proofs.Common.{◌≡◌, ◌∙◌, [], sym, subst, List, map, Err, ap, arith}
+use Rattle.std.proofs.Common.{◌≡◌, ◌∙◌, sym, subst, List, map, Err, ap, arith}
 use Rattle.std.proofs.lemmas.Result.{err_from_is_err_and}
 use Rattle.face_api.specs.Faces.{faces_of}
 use Rattle.css_types.specs.Rule.{Ruling, rulings_of}
-use Rattle.style_types.specs.Tree.{Nodes}
 use Rattle.html_read.specs.Values.{nodes_of}
-use Rattle.box_gen.specs.Boxes.{root_caught}
-use Rattle.box_gen.specs.Orthogonal.{root_past}
+use Rattle.box_gen.specs.Limit.{IsWithinLimits}
 use Rattle.dom_store.specs.State.{State, state_of}
 use Rattle.style_tree.specs.Styling.{styled_document}
 use Rattle.cascade.specs.Index.{index_rules}
@@ -43,8 +41,7 @@ returns-clause-opens g c =
     ap (λ (r : List Ruling). styled_document r state) ruled ∙ ap (styled_document rules) stores.1 in (
       record {
         few = stores.0;
-        turns = subst (λ (tree : Nodes). root_past tree ≡ []) as_read makes.0;
-        blocks = subst (λ (tree : Nodes). root_caught tree ≡ []) as_read makes.1;
+        within = subst IsWithinLimits as_read makes.0;
       },
       stores.1,
       ruled,
@@ -64,7 +61,7 @@ grown-requires g c =
     let short = c.requires.bytes in
     record {
       few =
-          few_boxes _ c.in_ok-boxes.boxes c.in_ok-boxes.ensures.makes
+          few_boxes _ c.in_ok-boxes.boxes c.in_ok-boxes.ensures.makes.1
           (fits c.documents_within_limits_fit.ensures c.boxes_within_limits_fit.ensures (index_rules c.in_ok-rules.rules) state opened.0 (omega (arith, counts, number, few)) (omega (arith, letters, short)) c.in_ok-boxes.ensures.bounded);
     }
 
@@ -96,11 +93,10 @@ returns-clause-sound g c =
       few = omega (arith, counts, number, few);
       short = omega (arith, letters, short);
       rules = subst AreSaidRules (sym (c.in_ok-rules.ensures ∙ ap rulings_of c.deref.ensures.value)) c.requires.rules;
-      turns = c.in_ok-boxes.ensures.makes.0;
-      blocks = c.in_ok-boxes.ensures.makes.1;
+      within = c.in_ok-boxes.ensures.makes.0;
       view = c.requires.view;
       ready = record {
-        stands = stand _ c.in_ok-boxes.boxes c.in_ok-grown.grown.arena.slots c.in_ok-grown.grown.root c.in_ok-boxes.ensures.makes c.in_ok-grown.ensures.stands;
+        stands = stand _ c.in_ok-boxes.boxes c.in_ok-grown.grown.arena.slots c.in_ok-grown.grown.root c.in_ok-boxes.ensures.makes.1 c.in_ok-grown.ensures.stands;
         free = c.in_ok-grown.ensures.free;
         fit = fits c.documents_within_limits_fit.ensures c.boxes_within_limits_fit.ensures (index_rules c.in_ok-rules.rules) state opened.0 (omega (arith, counts, number, few)) (omega (arith, letters, short)) c.in_ok-boxes.ensures.bounded;
         right = right c.what_is_not_kept_is_right.ensures.bare (faces_of (λ vtable. (g.dyn-1.0.entry vtable).1) c.args.faces) c.args.view c.in_ok-grown.grown.arena.slots c.in_ok-grown.grown.root c.in_ok-grown.ensures.bare;

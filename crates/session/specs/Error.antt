@@ -1,0 +1,28 @@
+-- What lines of refusal tell of why a document can't be opened, or an edit isn't done (docs/PROFILE/commands.md).
+use Rattle.std.specs.Prelude.{ℕ, List, codes, Option, Some, None}
+use Rattle.dom_store.specs.Error.{error_word}
+use Rattle.box_gen.specs.Limit.{limit_node, limit_word}
+use Rattle.session.specs.declared.error.ApplyError.{ApplyError}
+use Rattle.session.specs.declared.error.ApplyError.TheVariants as applying
+use Rattle.session.specs.declared.error.OpenError.{OpenError}
+use Rattle.session.specs.declared.error.OpenError.TheVariants as opening
+
+-- the word of why a document can't be opened
+unfoldable pub open_word : OpenError → List ℕ
+open_word (opening.TooManyNodes number) = codes "TooManyNodes"
+open_word (opening.TooDeep number) = codes "TooDeep"
+open_word (opening.Limit limit) = limit_word limit
+open_word opening.Memory = codes "Memory"
+
+-- the number of the node that it tells; want of memory is of none
+abbrev pub open_node : OpenError → Option ℕ
+open_node (opening.TooManyNodes number) = Some number
+open_node (opening.TooDeep number) = Some number
+open_node (opening.Limit limit) = Some (limit_node limit)
+open_node opening.Memory = None
+
+-- the word of why an edit isn't done
+unfoldable pub apply_word : ApplyError → List ℕ
+apply_word (applying.Document error) = error_word error
+apply_word (applying.Limit limit) = limit_word limit
+apply_word applying.Memory = codes "Memory"
