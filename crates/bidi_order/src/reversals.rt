@@ -13,7 +13,7 @@ const FLAT: u8 = 2;
 
 /// The places of a line's characters in the order in which they stand from left to right, by their levels (UAX 9,
 /// L2).
-#[tactic(auto, using(crate::proofs::Runs::range_below), unfolding(crate::specs::Reversals::order))]
+#[tactic(auto, using(basic_laws::proofs::Lists::range_below), unfolding(crate::specs::Reversals::order))]
 pub fn order(alloc: Global, levels: &[u8]) -> Result<Order, AllocError>
     ensures order { IfOk result (λ places. places.items ≡ order levels.now) }
     ensures rearranged { IfOk result (λ places. IsPermutation (range_with_len 0 (length levels.now)) places.items) }
