@@ -3,7 +3,6 @@ use Rattle.std.proofs.Common.{◌≡◌, inl, inr, ℕ, ◌<◌, ◌≤◌, Bool
 use Rattle.std.specs.Prelude.{⊤}
 use Rattle.std.proofs.lemmas.List.{append-nil}
 use Rattle.std.proofs.lemmas.Bool.{not-false, and_parts, or_left, or_right}
-use Rattle.css_tokens.proofs.Running.{starts_name}
 use Rattle.reading.specs.Readers.{Read, Reader, refuse, follow, mapped, choice, strip, starts, next_is, repeat}
 use Rattle.reading.specs.Names.{lowered}
 use Rattle.reading.specs.Grammars.{Each, Fixed}
@@ -95,6 +94,10 @@ record IsNamed (bytes rest : List ℕ) : Type 0 where
 ahead_start : (bytes : List ℕ) → name_ahead bytes ≡ true → next_is is_name_start bytes ≡ true
 unfolding name_ahead
 ahead_start bytes e = (and_parts (next_is is_name_start bytes) (not (number_ahead bytes)) e).0
+
+starts_name : (bytes : List ℕ) → next_is is_name_start bytes ≡ true → next_is is_name_byte bytes ≡ true
+starts_name [] e = absurd cc
+starts_name (byte ∷ bytes) e = rw e refl
 
 name_is : (bytes run rest : List ℕ) → name bytes ≡ good (run, rest) → IsRun is_name_byte bytes run rest
 unfolding name

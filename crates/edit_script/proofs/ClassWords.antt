@@ -9,13 +9,16 @@ use Rattle.std.specs.declared.string.String.{String}
 use Rattle.std.proofs.lemmas.Str.{NoCharPasses-byte}
 use Rattle.std.specs.Prelude.{Option, Some, None}
 use denote.Bor.{Bor}
-use Rattle.html_read.proofs.Words.{in_word, some_word, white_goes, white_low}
 use Rattle.reading.specs.White.{is_white}
 use Rattle.html_read.specs.Judging.{word_before, words, words_behind}
 
 no_words : words [] ≡ []
 unfolding words
 no_words = refl
+
+white_goes : (byte : ℕ) (bytes : List ℕ) → is_white byte ≡ true → words (byte ∷ bytes) ≡ words bytes
+unfolding words
+white_goes byte bytes e = rw e refl
 
 gap_goes : (gap bytes : List ℕ) → AllPass is_white gap → words (gap ++ bytes) ≡ words bytes
 gap_goes [] bytes white = refl
@@ -24,6 +27,9 @@ gap_goes (byte ∷ gap) bytes white = white_goes byte (gap ++ bytes) (white 0 0 
 -- none of these bytes is white space
 abbrev NoneWhite : List ℕ → Type 0
 NoneWhite word = (k : ℕ) → k < length word → is_white (get_or word k 0) ≡ false
+
+in_word : (word : List ℕ) (byte : ℕ) (bytes : List ℕ) → is_white byte ≡ false → words_behind word (byte ∷ bytes) ≡ words_behind (word ++ byte ∷ []) bytes
+in_word word byte bytes e = rw e refl
 
 word_goes : (word more bytes : List ℕ) → NoneWhite more → words_behind word (more ++ bytes) ≡ words_behind (word ++ more) bytes
 word_goes word [] bytes none = ap (λ (w : List ℕ). words_behind w bytes) (sym (append-nil word))
@@ -35,6 +41,14 @@ word_ends : (word bytes : List ℕ) (byte : ℕ) → is_white byte ≡ true → 
 unfolding words
 word_ends word bytes byte e = rw e refl
 
+some_word : (word : List ℕ) (others : List (List ℕ)) → 0 < length word → word_before word others ≡ word ∷ others
+some_word [] others lt = absurd (omega arith)
+some_word (byte ∷ word) others lt = refl
+
+nothing_left : (rest : List ℕ) → length rest ≡ 0 → rest ≡ []
+nothing_left [] e = refl
+nothing_left (byte ∷ rest) e = absurd (omega arith)
+
 at_end : (word rest : List ℕ) → length rest ≡ 0 → words_behind word rest ≡ word_before word (words rest)
 unfolding words
 at_end word [] e = refl
@@ -45,8 +59,11 @@ behind_word word [] rest is = at_end word rest (is.2 refl)
 behind_word word (byte ∷ []) rest is = word_ends word rest byte (is.0 0 0 (omega arith))
 behind_word word (byte ∷ next ∷ sep) rest is = absurd (omega (arith, is.1))
 
+white_is_ascii : (byte : ℕ) → is_white byte ≡ true → byte < 128
+white_is_ascii byte e = grind arith
+
 not_white_by : (byte : ℕ) (t : Bool) → is_white byte ≡ t → (byte < 128 → is_white byte ≡ false) → is_white byte ≡ false
-not_white_by byte true e low = low (white_low byte e)
+not_white_by byte true e low = low (white_is_ascii byte e)
 not_white_by byte false e low = e
 
 none_white : (word : List ℕ) → NoCharPasses is_white word → NoneWhite word
