@@ -30,7 +30,10 @@ use Rattle.session.specs.declared.error.ApplyError.TheVariants as applying
 use Rattle.session.specs.Editing.{CanApply, HasOneOutcome, IsRefusedEdit}
 use Rattle.session.specs.Error.{apply_word}
 use Rattle.edit_job.specs.Refusal.{IsRefusal, refusal}
-use Rattle.edit_job.specs.Steps.{AreSteps, HaveOneEnd, IsStep}
+use Rattle.edit_job.specs.Steps.{AreSteps, HaveAnEnd, HaveOneEnd, IsStep}
+use Rattle.listing.specs.Listing.{listing}
+use Rattle.session.specs.State.{page_of}
+use Rattle.style_tree.specs.Styling.{styled_document}
 
 module _ (faces : List (Option Table)) (view : View) (rules : List Ruling) where
   -- with a step more at the end
@@ -68,8 +71,29 @@ module _ (faces : List (Option Table)) (view : View) (rules : List Ruling) where
         let more_ends = steps_end next steps last other rest rest' after_ behind in
         (more_ends.0, cut' ∙ ap (λ (d : List ℕ). d ++ rest') here_ends.1 ∙ ap (λ (d : List ℕ). first ++ d) more_ends.1 ∙ sym cut)
 
+    -- ---- there is an end
+
+    edit_leads : (state : State) (change : EditOf) (line : ℕ) → CanApply rules state change ⊎ ((error : ApplyError) × IsRefusedEdit rules state change error)
+        → (next : State) × (due : List ℕ) × IsStep faces view rules state (edit change) line next due
+    edit_leads state change line (inl can) = (after state change, [], inl (can, refl, refl))
+    edit_leads state change line (inr (error, refused)) = (state, refusal (apply_word error) line, inr (error, refused, refl, refl))
+
+    step_leads : (state : State) (what : Step) (line : ℕ) → (next : State) × (due : List ℕ) × IsStep faces view rules state what line next due
+    step_leads state show line = (state, listing (page_of faces view (styled_document rules state)), (refl, refl))
+    step_leads state (edit change) line = edit_leads state change line (one.some rules state change)
+
+    steps_lead : (state : State) (steps : List StepAt) → (last : State) × (due : List ℕ) × AreSteps faces view rules state steps last due
+    steps_lead state [] = (state, [], (refl, refl))
+    steps_lead state (s ∷ steps) =
+        let here = step_leads state s.what s.line in
+        let more = steps_lead here.0 steps in
+        (more.0, here.1 ++ more.1, (here.0, here.1, more.1, here.2, more.2, refl))
+
 pub one_end : HasOneOutcome → HaveOneEnd
 one_end one faces view rules state steps last other due more is also = steps_end faces view rules one state steps last other due more is also
+
+pub some_end : HasOneOutcome → HaveAnEnd
+some_end one faces view rules state steps = steps_lead faces view rules one state steps
 
 -- ---- what is written of steps
 

@@ -42,3 +42,7 @@ module _ {I : Type 0} {D : I → Type 0} where
 abbrev pub HaveOneEnd : Type 0
 HaveOneEnd = (faces : List (Option Table)) (view : View) (rules : List Ruling) (state : State) (steps : List StepAt) (one other : State) (due more : List ℕ)
     → AreSteps faces view rules state steps one due → AreSteps faces view rules state steps other more → (other ≡ one) × (more ≡ due)
+
+-- steps lead to a state, whatever they are
+abbrev pub HaveAnEnd : Type 0
+HaveAnEnd = (faces : List (Option Table)) (view : View) (rules : List Ruling) (state : State) (steps : List StepAt) → (last : State) × (due : List ℕ) × AreSteps faces view rules state steps last due

@@ -5,6 +5,7 @@ mod document;
 mod due;
 mod error;
 mod input;
+pub mod laws;
 
 pub use document::due_of_document;
 pub use due::{Cause, Due};

@@ -1,2 +1,3 @@
 pub mod JobLaws
+pub mod OneResult
 pub mod StandingLaws

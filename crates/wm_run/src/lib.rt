@@ -4,6 +4,7 @@
 
 mod generated;
 mod job;
+pub mod laws;
 mod status;
 mod tell;
 

@@ -1,0 +1,124 @@
+-- Something is due for every input, and nothing else is.
+use Rattle.std.proofs.Common.{◌≡◌, ◌⊎◌, ◌∙◌, refl, sym, ap, arith, inl, inr, ℕ, ◌<◌, ◌≤◌, Bool, true, false, List, length, drop, Option, Ok, Err}
+use Rattle.std.specs.Prelude.{Result, codes, nat_lt, ⊤}
+use Rattle.std.proofs.lemmas.Bool.Decides.{nat_tests}
+use Rattle.face_api.specs.Table.{Table}
+use Rattle.wm_units.specs.declared.view.View.{View}
+use Rattle.css_values.specs.Error.{kind_word as style_word}
+use Rattle.css_sheet.specs.Styled.{Placed, styling}
+use Rattle.css_types.specs.Rule.{Styling}
+use Rattle.reading.specs.Readers.{Read, ReadOr}
+use Rattle.html_tokens.specs.Error.{Fault, kind_word, syntax}
+use Rattle.html_read.specs.Error.{place_in}
+use Rattle.html_read.specs.Reading as reading
+use Rattle.html_read.specs.Values.{Node, Whole}
+use Rattle.dom_store.specs.Opening.{opened}
+use Rattle.edit_script.specs.Error.{kind_word as script_word}
+use Rattle.edit_script.specs.declared.error.Refusal as script_faults
+use Rattle.edit_script.specs.Script.{StepAt}
+use Rattle.session.specs.Opening.{CanOpen, HasOneAnswer, IsRefused}
+use Rattle.session.specs.declared.error.OpenError.{OpenError}
+use Rattle.edit_job.specs.Refusal.{refusal}
+use Rattle.edit_job.specs.Steps.{HaveAnEnd, HaveOneEnd}
+use Rattle.session.specs.Error.{open_word}
+use Rattle.input_due.specs.Due.{End, Done, Refused, node_of}
+use Rattle.input_due.specs.Input.{IsDueOfDocument, IsDueOfFault, IsDueOfInput, IsDueOfOpened, IsDueOfRead, IsDueOfSteps, IsDueOfStyling, IsDueOfTail, longest_input, steps_behind}
+use Rattle.input_due.specs.Laws.{HaveOneDue}
+
+-- what was read of a script
+abbrev Steps : Type 0
+Steps = Result (List StepAt) (script_faults.Refusal × ℕ)
+
+either_way : (input : List ℕ) → (longest_input < length input) ⊎ (length input ≤ longest_input)
+either_way input = by (nat_lt longest_input (length input)) refl
+  where
+    by : (b : Bool) → nat_lt longest_input (length input) ≡ b → (longest_input < length input) ⊎ (length input ≤ longest_input)
+    by true is = inl (grind (arith, nat_tests))
+    by false is = inr (grind (arith, nat_tests))
+
+never_both : (m n : ℕ) → m < n → n ≤ m → ⊥
+never_both m n less most = absurd (omega (arith, less, most))
+
+-- ---- something is due
+
+-- a line of refusal
+abbrev Line : (word : List ℕ) (place : ℕ) → Type 0
+Line word place = (end_ : End) × (due : List ℕ) × ((end_ ≡ Refused) × (due ≡ refusal word place))
+
+line : (word : List ℕ) (place : ℕ) → Line word place
+line word place = (Refused, refusal word place, (refl, refl))
+
+module _ (faces : List (Option Table)) (view : View) (answers : HasOneAnswer) (leads : HaveAnEnd) where
+  opened_some : (nodes : List Node) (styles : Styling) (steps : List StepAt) → CanOpen nodes styles.own styles.rules ⊎ ((error : OpenError) × IsRefused nodes styles.own styles.rules error)
+      → (end_ : End) × (due : List ℕ) × IsDueOfOpened faces view nodes styles steps end_ due
+  opened_some nodes styles steps (inl can) =
+      let end_ = leads faces view styles.rules (opened nodes styles.own) steps in
+      (Done, end_.1, (can, end_.0, end_.2))
+  opened_some nodes styles steps (inr (error, refused)) = (Refused, refusal (open_word error) (node_of error), (error, refused, refl))
+
+  steps_some : (nodes : List Node) (styles : Styling) (steps : Steps) → (end_ : End) × (due : List ℕ) × IsDueOfSteps faces view nodes styles steps end_ due
+  steps_some nodes styles (Ok steps) = opened_some nodes styles steps (answers.some nodes styles.own styles.rules)
+  steps_some nodes styles (Err refused) = line (script_word refused.0) refused.1
+
+  styling_some : (nodes : List Node) (read : Placed Styling) (steps : Steps) → (end_ : End) × (due : List ℕ) × IsDueOfStyling faces view nodes read steps end_ due
+  styling_some nodes (Ok styles) steps = steps_some nodes styles steps
+  styling_some nodes (Err refused) steps = line (style_word refused.0) refused.1
+
+  tail_some : (script : Bool) (size : ℕ) (document : Whole) (behind : Read ⊤) → (end_ : End) × (due : List ℕ) × IsDueOfTail faces view script size document behind end_ due
+  tail_some script size document (Ok behind) = styling_some document.nodes (styling document) (steps_behind script size behind.1)
+  tail_some script size document (Err left) = line (kind_word (syntax left).0) (place_in size (syntax left).1)
+
+  read_some : (script : Bool) (bytes : List ℕ) (read : ReadOr Fault Whole) → (end_ : End) × (due : List ℕ) × IsDueOfRead faces view script bytes read end_ due
+  read_some script bytes (Ok read) = tail_some script (length bytes) read.0 (reading.tail script (drop read.0.length bytes))
+  read_some script bytes (Err fault) = line (kind_word fault.0) (place_in (length bytes) fault.1)
+
+  by_length : (script : Bool) (input : List ℕ) → (longest_input < length input) ⊎ (length input ≤ longest_input) → (end_ : End) × (due : List ℕ) × IsDueOfInput faces view script input end_ due
+  by_length script input (inl long) = (Refused, refusal (codes "TooLong") longest_input, inl (long, refl, refl))
+  by_length script input (inr short) =
+      let some = read_some script input (reading.input input) in
+      (some.0, some.1, inr (short, some.2))
+
+-- ---- nothing else is
+
+one_line : (word : List ℕ) (place : ℕ) (end_ other : End) (due more : List ℕ) → (end_ ≡ Refused) × (due ≡ refusal word place) → (other ≡ Refused) × (more ≡ refusal word place) → (other ≡ end_) × (more ≡ due)
+one_line word place end_ other due more (is, d) (is', d') = (is' ∙ sym is, d' ∙ sym d)
+
+module _ (faces : List (Option Table)) (view : View) (answers : HasOneAnswer) (ends : HaveOneEnd) where
+  opened_only : (nodes : List Node) (styles : Styling) (steps : List StepAt) (end_ other : End) (due more : List ℕ) → IsDueOfOpened faces view nodes styles steps end_ due → IsDueOfOpened faces view nodes styles steps other more → (other ≡ end_) × (more ≡ due)
+  opened_only nodes styles steps Done Done due more (can, last, here) (can', last', there) = (refl, (ends faces view styles.rules (opened nodes styles.own) steps last last' due more here there).1)
+  opened_only nodes styles steps Done Refused due more (can, last, here) (error, refused, d) = absurd ((answers.only nodes styles.own styles.rules error refused).0 can)
+  opened_only nodes styles steps Refused Done due more (error, refused, d) (can, last, here) = absurd ((answers.only nodes styles.own styles.rules error refused).0 can)
+  opened_only nodes styles steps Refused Refused due more (error, refused, d) (error', refused', d') =
+      (refl, d' ∙ ap (λ (e : OpenError). refusal (open_word e) (node_of e)) ((answers.only nodes styles.own styles.rules error refused).1 error' refused') ∙ sym d)
+
+  steps_only : (nodes : List Node) (styles : Styling) (steps : Steps) (end_ other : End) (due more : List ℕ) → IsDueOfSteps faces view nodes styles steps end_ due → IsDueOfSteps faces view nodes styles steps other more → (other ≡ end_) × (more ≡ due)
+  steps_only nodes styles (Ok steps) end_ other due more = opened_only nodes styles steps end_ other due more
+  steps_only nodes styles (Err refused) end_ other due more = one_line (script_word refused.0) refused.1 end_ other due more
+
+  styling_only : (nodes : List Node) (read : Placed Styling) (steps : Steps) (end_ other : End) (due more : List ℕ) → IsDueOfStyling faces view nodes read steps end_ due → IsDueOfStyling faces view nodes read steps other more → (other ≡ end_) × (more ≡ due)
+  styling_only nodes (Ok styles) steps end_ other due more = steps_only nodes styles steps end_ other due more
+  styling_only nodes (Err refused) steps end_ other due more = one_line (style_word refused.0) refused.1 end_ other due more
+
+  tail_only : (script : Bool) (size : ℕ) (document : Whole) (behind : Read ⊤) (end_ other : End) (due more : List ℕ) → IsDueOfTail faces view script size document behind end_ due → IsDueOfTail faces view script size document behind other more → (other ≡ end_) × (more ≡ due)
+  tail_only script size document (Ok behind) end_ other due more = styling_only document.nodes (styling document) (steps_behind script size behind.1) end_ other due more
+  tail_only script size document (Err left) end_ other due more = one_line (kind_word (syntax left).0) (place_in size (syntax left).1) end_ other due more
+
+  read_only : (script : Bool) (bytes : List ℕ) (read : ReadOr Fault Whole) (end_ other : End) (due more : List ℕ) → IsDueOfRead faces view script bytes read end_ due → IsDueOfRead faces view script bytes read other more → (other ≡ end_) × (more ≡ due)
+  read_only script bytes (Ok read) end_ other due more = tail_only script (length bytes) read.0 (reading.tail script (drop read.0.length bytes)) end_ other due more
+  read_only script bytes (Err fault) end_ other due more = one_line (kind_word fault.0) (place_in (length bytes) fault.1) end_ other due more
+
+  input_only : (script : Bool) (input : List ℕ) (end_ other : End) (due more : List ℕ) → IsDueOfInput faces view script input end_ due → IsDueOfInput faces view script input other more → (other ≡ end_) × (more ≡ due)
+  input_only script input end_ other due more (inl (long, is, d)) (inl (long', is', d')) = one_line (codes "TooLong") longest_input end_ other due more (is, d) (is', d')
+  input_only script input end_ other due more (inl (long, is, d)) (inr (short, is')) = absurd (never_both longest_input (length input) long short)
+  input_only script input end_ other due more (inr (short, is)) (inl (long, is', d')) = absurd (never_both longest_input (length input) long short)
+  input_only script input end_ other due more (inr (short, is)) (inr (short', is')) = read_only script input (reading.input input) end_ other due more is is'
+
+-- ---- the law
+
+pub one_due : HasOneAnswer → HaveAnEnd → HaveOneEnd → HaveOneDue
+one_due answers leads ends = record {
+  document_some = λ faces view script bytes. read_some faces view answers leads script bytes (reading.input bytes);
+  document_only = λ faces view script bytes. read_only faces view answers ends script bytes (reading.input bytes);
+  some = λ faces view script input. by_length faces view answers leads script input (either_way input);
+  only = λ faces view script input. input_only faces view answers ends script input;
+}
