@@ -3,6 +3,8 @@
 #![tactic(auto)]
 
 #[cfg(test)]
+mod edited;
+#[cfg(test)]
 mod running;
 #[cfg(test)]
 mod runs;
