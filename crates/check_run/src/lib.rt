@@ -3,8 +3,6 @@
 #![tactic(auto)]
 
 #[cfg(test)]
-mod edited;
-#[cfg(test)]
 mod running;
 #[cfg(test)]
 mod runs;
