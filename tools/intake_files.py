@@ -139,7 +139,7 @@ def tree_of_html(data: bytes, encoding: str | None, declared: str | None) -> Tre
     tree = parser.parse(
         data, override_encoding=encoding, transport_encoding=declared, likely_encoding=likely, useChardet=False
     )
-    if not TAG.search(decoded(data, parser.documentEncoding)):
+    if not TAG.search(decoded(data, parser.documentEncoding or "utf-8")):
         raise listing.InputError("there is no tag of HTML in it")
     return tree
 
