@@ -14,6 +14,10 @@ from typing import NamedTuple
 DECLARATION = re.compile(
     r"^(?:(?:pub|abbrev|unfoldable|opaque) )*([^\s(){}]+)((?: [({][^\n=]*[)}])?) :(?= )((?:.*\n)(?:[ \t].*\n)*)", re.MULTILINE
 )
+# A module of a file: what it binds, and the lines that stand in it.
+MODULE = re.compile(r"^module \S+ (.*?)\s*\bwhere\n((?:[ \t].*\n|\n)*)", re.MULTILINE)
+# One pair of brackets of what a module binds; those inside it are at most two deep.
+BIND = re.compile(r"[({](?:[^(){}]|[({](?:[^(){}]|[({][^(){}]*[)}])*[)}])*[)}]")
 USE = re.compile(r"^(?:pub )?use ([^\s{]+?)(?:\.\{([^}]*)\}| as (\S+))?\s*$", re.MULTILINE)
 COMMENT = re.compile(r"(?:^|(?<=\s))--.*$", re.MULTILINE)
 TOKEN = re.compile(r'"(?:[^"\\]|\\.)*"|[(){}\[\],;]|[^\s(){}\[\],;"]+')
@@ -187,11 +191,36 @@ def meanings_of(text: str, module: str, own: str) -> dict[str, str]:
     return meanings
 
 
+def blocks_of(text: str, line: int = 1, binds: str = "") -> Iterator[tuple[str, int, str]]:
+    """The text of a file without its modules, and then what stands in each of these, moved to the left: with the line at which it
+    begins, and what the modules round it bind."""
+    rest, inner = text, []
+    for found in MODULE.finditer(text):
+        inside = re.sub(r"^  ", "", found.group(2), flags=re.MULTILINE)
+        inner.append((inside, text.count("\n", 0, found.start(2)), found.group(1)))
+    for found in reversed(list(MODULE.finditer(text))):
+        rest = rest[: found.start()] + "\n" * text.count("\n", found.start(), found.end()) + rest[found.end() :]
+    yield rest, line, binds
+    for inside, begins, own in inner:
+        yield from blocks_of(inside, line + begins, f"{binds} {own}".strip())
+
+
+def with_binds(binds: str, said: str) -> str:
+    """What is said in a module that binds these, of which only what is named counts."""
+    for bind in reversed(BIND.findall(binds)):
+        names = bind[1:].partition(":")[0].split()
+        if set(names) & {word.partition(".")[0] for word in TOKEN.findall(said)}:
+            said = f"{bind} → {said}"
+    return said
+
+
 def lemmas_of(text: str, module: str, own: str) -> Iterator[Lemma]:
     """The lemmas of a file, which is the module of this name."""
     text = COMMENT.sub("", text)
     meanings = meanings_of(text, module, own)
-    for found in DECLARATION.finditer(text):
-        form = form_of(f"{found.group(2)} → {found.group(3)}" if found.group(2) else found.group(3), meanings)
-        if form is not None:
-            yield Lemma(text.count("\n", 0, found.start()) + 1, found.group(1), form)
+    for block, line, binds in blocks_of(text):
+        for found in DECLARATION.finditer(block):
+            said = f"{found.group(2)} → {found.group(3)}" if found.group(2) else found.group(3)
+            form = form_of(with_binds(binds, said), meanings)
+            if form is not None:
+                yield Lemma(line + block.count("\n", 0, found.start()), found.group(1), form)

@@ -96,6 +96,12 @@ class Names(support.ToolCase):
         found = [(lemma.line, lemma.name) for lemma in statements.lemmas_of(text, "Rattle.high.proofs.Laws", OWN)]
         self.same(found, [(8, "one")], "the line and the name of a lemma")
 
+    def test_lemmas_of_modules(self) -> None:
+        apart = "module _ (b : Bool) where\n  module _ {A : Type 0} (a : A) where\n    off : not b ≡ true → b ≡ false\n    off e = cc\n\none : (n : ℕ) → f n ≡ n\n"
+        found = list(statements.lemmas_of(apart, "Rattle.high.proofs.Laws", OWN))
+        self.same([(lemma.line, lemma.name) for lemma in found], [(6, "one"), (3, "off")], "lemmas in a module and after it")
+        self.same(found[1].form, form(SAME[0][0][1]), "what a module binds is bound in its lemmas")
+
     def test_copies(self) -> None:
         top = self.folder()
         for crate, name in ("low", "first"), ("high", "second"):
@@ -106,8 +112,9 @@ class Names(support.ToolCase):
         script = names()
         setattr(script, "CRATES", os.path.join(top, "crates"))
         setattr(script, "COPIES", os.path.join(top, "copies.txt"))
-        stays, gone = "high/proofs/Laws.antt second: high stands alone\n", "high/proofs/Laws.antt third: gone\n"
-        for listed, due in ("", 1), (stays, 0), (gone, 2):
+        stays, gone = "high/proofs/Laws.antt second: first of low\n", "high/proofs/Laws.antt third: first of low\n"
+        other, none = "high/proofs/Laws.antt second: third of low\n", "high/proofs/Laws.antt second: because\n"
+        for listed, due in ("", 1), (stays, 0), (gone, 2), (other, 1), (none, 1):
             put_input(os.path.join(top, "copies.txt"), f"# reasons\n{listed}")
             count, wrong = script.check_copies()
             self.same((count, len(wrong)), ("2 statements", due), f"copies, where {listed!r} is listed: {wrong}")
