@@ -5,7 +5,7 @@ ghost use Rattle.std.specs.Prelude.{◌≡◌, ◌<◌};
 
 use edit_job::{refusal_line, tell_steps};
 use face_api::{Face, Faces, MonoFace};
-use input_due::{Due, due_of_document};
+use input_due::{Due, Follows, due_of_document};
 use io_edge::{SteadySink, write_all_of};
 use std::alloc::Global;
 use std::marker::Brand;
@@ -60,7 +60,7 @@ fn written<L: Ledger, M: Ledger>(
     own.push(Box::new(alloc, MonoFace::new())?)?;
     let faces = Faces::new(alloc, own)?;
     let mut sink = SteadySink::new(alloc);
-    match due_of_document(alloc, VIEW, faces, input, true)? {
+    match due_of_document(alloc, VIEW, faces, input, Follows::Script)? {
         Due::Steps {
             mut session,
             script,

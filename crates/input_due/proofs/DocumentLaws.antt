@@ -1,5 +1,5 @@
 -- What is due for a document, by what was read of it.
-use Rattle.std.proofs.Common.{◌≡◌, ◌↔◌, ◌⊎◌, ◌∙◌, refl, sym, ap, subst, arith, inl, inr, ℕ, ◌-◌, ◌<◌, ◌≤◌, Bool, true, false, List, length, drop, Option, Some, Ok, Err}
+use Rattle.std.proofs.Common.{◌≡◌, ◌↔◌, ◌⊎◌, ◌∙◌, refl, sym, ap, subst, arith, inl, inr, ℕ, ◌-◌, ◌<◌, ◌≤◌, List, length, drop, Option, Some, Ok, Err}
 use Rattle.std.specs.Prelude.{IfOk, Result, codes, ⊤}
 use Rattle.std.proofs.lemmas.List.{length-drop}
 use Rattle.std.proofs.lemmas.Option.{same_Some}
@@ -40,6 +40,8 @@ use Rattle.session.specs.declared.session.Session.{Session}
 use Rattle.edit_job.specs.Refusal.{refusal}
 use Rattle.edit_job.specs.Steps.{AreSteps, AreStepsIn}
 use Rattle.input_due.specs.Due.{End, Done, Refused, IsDueBy, IsOf, cause_word, node_of, not_opened}
+use Rattle.input_due.specs.declared.follows.Follows.{Follows}
+use Rattle.input_due.specs.declared.follows.Follows.TheVariants.{Nothing, Script}
 use Rattle.input_due.specs.Input.{IsDueOfDocument, IsDueOfInput, IsDueOfOpened, IsDueOfRead, IsDueOfSteps, IsDueOfStyling, IsDueOfTail, IsDueOfWhole, longest_input, placed_from, steps_behind}
 use Rattle.input_due.specs.Document.{read_at}
 use Rattle.input_due.specs.declared.due.Due.{Due}
@@ -138,47 +140,47 @@ module _ {I : Type 0} {D : I → Type 0} (members : (x : I) → Ghosts (D x)) (f
 
   -- ---- what stands behind it, and the input
 
-  pub tail_read : (script : Bool) (size : ℕ) (document : Whole) (read : Read ⊤) (rest : List ℕ) (due : Due I D) → read ≡ Ok (tt, rest) → IsDueBy members (IsDueOfWhole faces view document (steps_behind script size rest)) due
-      → IsDueBy members (IsDueOfTail faces view script size document read) due
-  tail_read script size document read rest due is by = subst (λ (r : Read ⊤). IsDueBy members (IsDueOfTail faces view script size document r) due) (sym is) by
+  pub tail_read : (follows : Follows) (size : ℕ) (document : Whole) (read : Read ⊤) (rest : List ℕ) (due : Due I D) → read ≡ Ok (tt, rest) → IsDueBy members (IsDueOfWhole faces view document (steps_behind follows size rest)) due
+      → IsDueBy members (IsDueOfTail faces view follows size document read) due
+  tail_read follows size document read rest due is by = subst (λ (r : Read ⊤). IsDueBy members (IsDueOfTail faces view follows size document r) due) (sym is) by
 
-  pub no_tail : (script : Bool) (size : ℕ) (document : Whole) (read : Read ⊤) (kind : Refusal) (left : List ℕ) (place : ℕ) → kind ≡ Syntax → read ≡ Err left → place ≡ place_in size left
-      → IsDueBy members (IsDueOfTail faces view script size document read) (dues.Refused (causes.Document kind) place)
+  pub no_tail : (follows : Follows) (size : ℕ) (document : Whole) (read : Read ⊤) (kind : Refusal) (left : List ℕ) (place : ℕ) → kind ≡ Syntax → read ≡ Err left → place ≡ place_in size left
+      → IsDueBy members (IsDueOfTail faces view follows size document read) (dues.Refused (causes.Document kind) place)
   unfolding cause_word
-  no_tail script size document read kind left place what is at =
-      subst (λ (r : Read ⊤). (end_ : End) (due : List ℕ) → IsDueOfTail faces view script size document r end_ due ↔ ((end_ ≡ Refused) × (due ≡ refusal (kind_word kind) place))) (sym is)
+  no_tail follows size document read kind left place what is at =
+      subst (λ (r : Read ⊤). (end_ : End) (due : List ℕ) → IsDueOfTail faces view follows size document r end_ due ↔ ((end_ ≡ Refused) × (due ≡ refusal (kind_word kind) place))) (sym is)
       (same_line (kind_word Syntax) (kind_word kind) (place_in size left) place (ap (λ (k : Refusal). kind_word k) (sym what)) (sym at))
 
-  pub document_read : (script : Bool) (bytes : List ℕ) (read : Whole × List ℕ) (due : Due I D) → reading.input bytes ≡ Ok read → IsDueBy members (IsDueOfRead faces view script bytes (Ok read)) due
-      → IsDueBy members (IsDueOfDocument faces view script bytes) due
-  document_read script bytes read due is by = subst (λ (r : ReadOr Fault Whole). IsDueBy members (IsDueOfRead faces view script bytes r) due) (sym is) by
+  pub document_read : (follows : Follows) (bytes : List ℕ) (read : Whole × List ℕ) (due : Due I D) → reading.input bytes ≡ Ok read → IsDueBy members (IsDueOfRead faces view follows bytes (Ok read)) due
+      → IsDueBy members (IsDueOfDocument faces view follows bytes) due
+  document_read follows bytes read due is by = subst (λ (r : ReadOr Fault Whole). IsDueBy members (IsDueOfRead faces view follows bytes r) due) (sym is) by
 
-  pub no_document : (script : Bool) (bytes : List ℕ) (kind : Refusal) (left : List ℕ) (place : ℕ) → reading.input bytes ≡ Err (kind, left) → place ≡ place_in (length bytes) left
-      → IsDueBy members (IsDueOfDocument faces view script bytes) (dues.Refused (causes.Document kind) place)
+  pub no_document : (follows : Follows) (bytes : List ℕ) (kind : Refusal) (left : List ℕ) (place : ℕ) → reading.input bytes ≡ Err (kind, left) → place ≡ place_in (length bytes) left
+      → IsDueBy members (IsDueOfDocument faces view follows bytes) (dues.Refused (causes.Document kind) place)
   unfolding cause_word
-  no_document script bytes kind left place is at =
-      subst (λ (r : ReadOr Fault Whole). (end_ : End) (due : List ℕ) → IsDueOfRead faces view script bytes r end_ due ↔ ((end_ ≡ Refused) × (due ≡ refusal (kind_word kind) place))) (sym is)
+  no_document follows bytes kind left place is at =
+      subst (λ (r : ReadOr Fault Whole). (end_ : End) (due : List ℕ) → IsDueOfRead faces view follows bytes r end_ due ↔ ((end_ ≡ Refused) × (due ≡ refusal (kind_word kind) place))) (sym is)
       (same_line (kind_word kind) (kind_word kind) (place_in (length bytes) left) place refl (sym at))
 
   -- an input that is too long is refused
-  pub too_long : (script : Bool) (input : List ℕ) → longest_input < length input → IsDueBy members (IsDueOfInput faces view script input) (dues.Refused causes.TooLong longest_input)
+  pub too_long : (follows : Follows) (input : List ℕ) → longest_input < length input → IsDueBy members (IsDueOfInput faces view follows input) (dues.Refused causes.TooLong longest_input)
   unfolding cause_word
-  too_long script input long = both where
-    there : (end_ : End) (due : List ℕ) → IsDueOfInput faces view script input end_ due → (end_ ≡ Refused) × (due ≡ refusal (codes "TooLong") longest_input)
+  too_long follows input long = both where
+    there : (end_ : End) (due : List ℕ) → IsDueOfInput faces view follows input end_ due → (end_ ≡ Refused) × (due ≡ refusal (codes "TooLong") longest_input)
     there end_ due (inl q) = (q.1, q.2)
     there end_ due (inr q) = absurd (let short = q.0 in omega (arith, short, long))
 
-    both : (end_ : End) (due : List ℕ) → IsDueOfInput faces view script input end_ due ↔ ((end_ ≡ Refused) × (due ≡ refusal (codes "TooLong") longest_input))
+    both : (end_ : End) (due : List ℕ) → IsDueOfInput faces view follows input end_ due ↔ ((end_ ≡ Refused) × (due ≡ refusal (codes "TooLong") longest_input))
     both end_ due = (there end_ due, λ q. inl (long, q.0, q.1))
 
   -- for an input that isn't too long what is due is what is due for the document
-  pub short_enough : (script : Bool) (input : List ℕ) (due : Due I D) → length input ≤ longest_input → IsDueBy members (IsDueOfDocument faces view script input) due → IsDueBy members (IsDueOfInput faces view script input) due
-  short_enough script input due short by = both where
-    there : (end_ : End) (bytes : List ℕ) → IsDueOfInput faces view script input end_ bytes → IsOf members due end_ bytes
+  pub short_enough : (follows : Follows) (input : List ℕ) (due : Due I D) → length input ≤ longest_input → IsDueBy members (IsDueOfDocument faces view follows input) due → IsDueBy members (IsDueOfInput faces view follows input) due
+  short_enough follows input due short by = both where
+    there : (end_ : End) (bytes : List ℕ) → IsDueOfInput faces view follows input end_ bytes → IsOf members due end_ bytes
     there end_ bytes (inl q) = absurd (let long = q.0 in omega (arith, short, long))
     there end_ bytes (inr q) = (by end_ bytes).0 q.1
 
-    both : (end_ : End) (bytes : List ℕ) → IsDueOfInput faces view script input end_ bytes ↔ IsOf members due end_ bytes
+    both : (end_ : End) (bytes : List ℕ) → IsDueOfInput faces view follows input end_ bytes ↔ IsOf members due end_ bytes
     both end_ bytes = (there end_ bytes, λ q. inr (short, (by end_ bytes).1 q))
 
 -- ---- answers
@@ -188,9 +190,9 @@ if_ok (Ok x) more p = more x p
 if_ok (Err error) more p = tt
 
 -- a script at its place in the input
-pub steps_here : (flag : Bool) (input text : List ℕ) (place : ℕ) → place ≤ length input → text ≡ drop place input → steps_behind flag (length input) (drop place input) ≡ read_at flag text place
-steps_here false input text place within is = refl
-steps_here true input text place within is =
+pub steps_here : (follows : Follows) (input text : List ℕ) (place : ℕ) → place ≤ length input → text ≡ drop place input → steps_behind follows (length input) (drop place input) ≡ read_at follows text place
+steps_here Nothing input text place within is = refl
+steps_here Script input text place within is =
     let long = length-drop place input in
     let at : length input - length (drop place input) ≡ place = omega (arith, long, within) in
     ap (λ (n : ℕ). placed_from n (scripts.script (drop place input))) at ∙ ap (λ (t : List ℕ). placed_from place (scripts.script t)) (sym is)

@@ -1,3 +1,4 @@
 pub mod DocumentLaws
+mod Examples
 pub mod OneDue
 pub mod Taken

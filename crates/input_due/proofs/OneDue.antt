@@ -22,7 +22,8 @@ use Rattle.edit_job.specs.Refusal.{refusal}
 use Rattle.edit_job.specs.Steps.{HaveAnEnd, HaveOneEnd}
 use Rattle.session.specs.Error.{open_word}
 use Rattle.input_due.specs.Due.{End, Done, Refused, node_of}
-use Rattle.input_due.specs.Input.{IsDueOfDocument, IsDueOfFault, IsDueOfInput, IsDueOfOpened, IsDueOfRead, IsDueOfSteps, IsDueOfStyling, IsDueOfTail, longest_input, steps_behind}
+use Rattle.input_due.specs.declared.follows.Follows.{Follows}
+use Rattle.input_due.specs.Input.{IsDueOfInput, IsDueOfOpened, IsDueOfRead, IsDueOfSteps, IsDueOfStyling, IsDueOfTail, has_script, longest_input, steps_behind}
 use Rattle.input_due.specs.Laws.{HaveOneDue}
 
 -- what was read of a script
@@ -64,18 +65,18 @@ module _ (faces : List (Option Table)) (view : View) (answers : HasOneAnswer) (l
   styling_some nodes (Ok styles) steps = steps_some nodes styles steps
   styling_some nodes (Err refused) steps = line (style_word refused.0) refused.1
 
-  tail_some : (script : Bool) (size : ℕ) (document : Whole) (behind : Read ⊤) → (end_ : End) × (due : List ℕ) × IsDueOfTail faces view script size document behind end_ due
-  tail_some script size document (Ok behind) = styling_some document.nodes (styling document) (steps_behind script size behind.1)
-  tail_some script size document (Err left) = line (kind_word (syntax left).0) (place_in size (syntax left).1)
+  tail_some : (follows : Follows) (size : ℕ) (document : Whole) (behind : Read ⊤) → (end_ : End) × (due : List ℕ) × IsDueOfTail faces view follows size document behind end_ due
+  tail_some follows size document (Ok behind) = styling_some document.nodes (styling document) (steps_behind follows size behind.1)
+  tail_some follows size document (Err left) = line (kind_word (syntax left).0) (place_in size (syntax left).1)
 
-  read_some : (script : Bool) (bytes : List ℕ) (read : ReadOr Fault Whole) → (end_ : End) × (due : List ℕ) × IsDueOfRead faces view script bytes read end_ due
-  read_some script bytes (Ok read) = tail_some script (length bytes) read.0 (reading.tail script (drop read.0.length bytes))
-  read_some script bytes (Err fault) = line (kind_word fault.0) (place_in (length bytes) fault.1)
+  read_some : (follows : Follows) (bytes : List ℕ) (read : ReadOr Fault Whole) → (end_ : End) × (due : List ℕ) × IsDueOfRead faces view follows bytes read end_ due
+  read_some follows bytes (Ok read) = tail_some follows (length bytes) read.0 (reading.tail (has_script follows) (drop read.0.length bytes))
+  read_some follows bytes (Err fault) = line (kind_word fault.0) (place_in (length bytes) fault.1)
 
-  by_length : (script : Bool) (input : List ℕ) → (longest_input < length input) ⊎ (length input ≤ longest_input) → (end_ : End) × (due : List ℕ) × IsDueOfInput faces view script input end_ due
-  by_length script input (inl long) = (Refused, refusal (codes "TooLong") longest_input, inl (long, refl, refl))
-  by_length script input (inr short) =
-      let some = read_some script input (reading.input input) in
+  by_length : (follows : Follows) (input : List ℕ) → (longest_input < length input) ⊎ (length input ≤ longest_input) → (end_ : End) × (due : List ℕ) × IsDueOfInput faces view follows input end_ due
+  by_length follows input (inl long) = (Refused, refusal (codes "TooLong") longest_input, inl (long, refl, refl))
+  by_length follows input (inr short) =
+      let some = read_some follows input (reading.input input) in
       (some.0, some.1, inr (short, some.2))
 
 -- ---- nothing else is
@@ -99,26 +100,26 @@ module _ (faces : List (Option Table)) (view : View) (answers : HasOneAnswer) (e
   styling_only nodes (Ok styles) steps end_ other due more = steps_only nodes styles steps end_ other due more
   styling_only nodes (Err refused) steps end_ other due more = one_line (style_word refused.0) refused.1 end_ other due more
 
-  tail_only : (script : Bool) (size : ℕ) (document : Whole) (behind : Read ⊤) (end_ other : End) (due more : List ℕ) → IsDueOfTail faces view script size document behind end_ due → IsDueOfTail faces view script size document behind other more → (other ≡ end_) × (more ≡ due)
-  tail_only script size document (Ok behind) end_ other due more = styling_only document.nodes (styling document) (steps_behind script size behind.1) end_ other due more
-  tail_only script size document (Err left) end_ other due more = one_line (kind_word (syntax left).0) (place_in size (syntax left).1) end_ other due more
+  tail_only : (follows : Follows) (size : ℕ) (document : Whole) (behind : Read ⊤) (end_ other : End) (due more : List ℕ) → IsDueOfTail faces view follows size document behind end_ due → IsDueOfTail faces view follows size document behind other more → (other ≡ end_) × (more ≡ due)
+  tail_only follows size document (Ok behind) end_ other due more = styling_only document.nodes (styling document) (steps_behind follows size behind.1) end_ other due more
+  tail_only follows size document (Err left) end_ other due more = one_line (kind_word (syntax left).0) (place_in size (syntax left).1) end_ other due more
 
-  read_only : (script : Bool) (bytes : List ℕ) (read : ReadOr Fault Whole) (end_ other : End) (due more : List ℕ) → IsDueOfRead faces view script bytes read end_ due → IsDueOfRead faces view script bytes read other more → (other ≡ end_) × (more ≡ due)
-  read_only script bytes (Ok read) end_ other due more = tail_only script (length bytes) read.0 (reading.tail script (drop read.0.length bytes)) end_ other due more
-  read_only script bytes (Err fault) end_ other due more = one_line (kind_word fault.0) (place_in (length bytes) fault.1) end_ other due more
+  read_only : (follows : Follows) (bytes : List ℕ) (read : ReadOr Fault Whole) (end_ other : End) (due more : List ℕ) → IsDueOfRead faces view follows bytes read end_ due → IsDueOfRead faces view follows bytes read other more → (other ≡ end_) × (more ≡ due)
+  read_only follows bytes (Ok read) end_ other due more = tail_only follows (length bytes) read.0 (reading.tail (has_script follows) (drop read.0.length bytes)) end_ other due more
+  read_only follows bytes (Err fault) end_ other due more = one_line (kind_word fault.0) (place_in (length bytes) fault.1) end_ other due more
 
-  input_only : (script : Bool) (input : List ℕ) (end_ other : End) (due more : List ℕ) → IsDueOfInput faces view script input end_ due → IsDueOfInput faces view script input other more → (other ≡ end_) × (more ≡ due)
-  input_only script input end_ other due more (inl (long, is, d)) (inl (long', is', d')) = one_line (codes "TooLong") longest_input end_ other due more (is, d) (is', d')
-  input_only script input end_ other due more (inl (long, is, d)) (inr (short, is')) = absurd (never_both longest_input (length input) long short)
-  input_only script input end_ other due more (inr (short, is)) (inl (long, is', d')) = absurd (never_both longest_input (length input) long short)
-  input_only script input end_ other due more (inr (short, is)) (inr (short', is')) = read_only script input (reading.input input) end_ other due more is is'
+  input_only : (follows : Follows) (input : List ℕ) (end_ other : End) (due more : List ℕ) → IsDueOfInput faces view follows input end_ due → IsDueOfInput faces view follows input other more → (other ≡ end_) × (more ≡ due)
+  input_only follows input end_ other due more (inl (long, is, d)) (inl (long', is', d')) = one_line (codes "TooLong") longest_input end_ other due more (is, d) (is', d')
+  input_only follows input end_ other due more (inl (long, is, d)) (inr (short, is')) = absurd (never_both longest_input (length input) long short)
+  input_only follows input end_ other due more (inr (short, is)) (inl (long, is', d')) = absurd (never_both longest_input (length input) long short)
+  input_only follows input end_ other due more (inr (short, is)) (inr (short', is')) = read_only follows input (reading.input input) end_ other due more is is'
 
 -- ---- the law
 
 pub one_due : HasOneAnswer → HaveAnEnd → HaveOneEnd → HaveOneDue
 one_due answers leads ends = record {
-  document_some = λ faces view script bytes. read_some faces view answers leads script bytes (reading.input bytes);
-  document_only = λ faces view script bytes. read_only faces view answers ends script bytes (reading.input bytes);
-  some = λ faces view script input. by_length faces view answers leads script input (either_way input);
-  only = λ faces view script input. input_only faces view answers ends script input;
+  document_some = λ faces view follows bytes. read_some faces view answers leads follows bytes (reading.input bytes);
+  document_only = λ faces view follows bytes. read_only faces view answers ends follows bytes (reading.input bytes);
+  some = λ faces view follows input. by_length faces view answers leads follows input (either_way input);
+  only = λ faces view follows input. input_only faces view answers ends follows input;
 }

@@ -1,5 +1,5 @@
 -- What stands behind a document that was read, and how much of it there is.
-use Rattle.std.specs.Prelude.{◌≡◌, ◌≤◌, ℕ, Bool, true, false, List, length, Option, Some, None, Result, Ok, Err, ⊤}
+use Rattle.std.specs.Prelude.{◌≡◌, ◌≤◌, ℕ, List, length, Option, Some, None, Result, Ok, Err, ⊤}
 use Rattle.html_read.specs.declared.node.ReadDocument.{ReadDocument}
 use Rattle.html_read.specs.Shape.{IsInDocumentOrder, IsShaped, text_bytes}
 use Rattle.html_read.specs.Values.{nodes_of}
@@ -12,6 +12,8 @@ use Rattle.edit_script.specs.Script.{StepAt}
 use Rattle.edit_script.specs.Views.{steps_of}
 use Rattle.std.specs.Global.{Vec}
 use Rattle.input_due.specs.declared.document.Behind.{Behind}
+use Rattle.input_due.specs.declared.follows.Follows.{Follows}
+use Rattle.input_due.specs.declared.follows.Follows.TheVariants.{Nothing, Script}
 use Rattle.input_due.specs.Input.{one_page, placed_from}
 
 -- what every document that was read has, with at most so many bytes of text
@@ -25,10 +27,10 @@ abbrev pub stands_behind : Option Behind → Result (List StepAt) (script_faults
 stands_behind None = Ok one_page
 stands_behind (Some behind) = placed_from behind.start (scripts.script behind.text.now)
 
--- the same by whether a script is asked for
-abbrev pub read_at : (script : Bool) → (text : List ℕ) → (start : ℕ) → Result (List StepAt) (script_faults.Refusal × ℕ)
-read_at false text start = Ok one_page
-read_at true text start = placed_from start (scripts.script text)
+-- the steps that stand in a text from a place on
+abbrev pub read_at : Follows → (text : List ℕ) → (start : ℕ) → Result (List StepAt) (script_faults.Refusal × ℕ)
+read_at Nothing text start = Ok one_page
+read_at Script text start = placed_from start (scripts.script text)
 
 -- how many bytes of text they may bring
 abbrev pub room_for : Option Behind → ℕ

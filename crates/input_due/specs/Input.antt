@@ -23,6 +23,8 @@ use Rattle.session.specs.Error.{open_word}
 use Rattle.session.specs.declared.error.OpenError.{OpenError}
 use Rattle.edit_job.specs.Refusal.{refusal}
 use Rattle.edit_job.specs.Steps.{AreSteps}
+use Rattle.input_due.specs.declared.follows.Follows.{Follows}
+use Rattle.input_due.specs.declared.follows.Follows.TheVariants.{Nothing, Script}
 use Rattle.input_due.specs.Due.{End, Done, Refused, node_of}
 
 -- the greatest length of an input, in bytes
@@ -44,10 +46,15 @@ abbrev pub placed_from : (start : ℕ) → Result (List StepAt) (script_faults.R
 placed_from start (Ok steps) = Ok steps
 placed_from start (Err refused) = Err (refused.0, place_from start refused.1)
 
--- the steps over a document: those of the script behind it, or, where none is asked for, the page once
-abbrev pub steps_behind : (script : Bool) → (size : ℕ) → (behind : List ℕ) → Result (List StepAt) (script_faults.Refusal × ℕ)
-steps_behind false size behind = Ok one_page
-steps_behind true size behind = placed_from (size - length behind) (scripts.script behind)
+-- a script follows
+abbrev pub has_script : Follows → Bool
+has_script Nothing = false
+has_script Script = true
+
+-- the steps over a document: those of the script that follows it, or the page once
+abbrev pub steps_behind : Follows → (size : ℕ) → (behind : List ℕ) → Result (List StepAt) (script_faults.Refusal × ℕ)
+steps_behind Nothing size behind = Ok one_page
+steps_behind Script size behind = placed_from (size - length behind) (scripts.script behind)
 
 -- ---- what is due
 
@@ -71,21 +78,21 @@ module _ (faces : List (Option Table)) (view : View) where
   abbrev pub IsDueOfWhole : Whole → Result (List StepAt) (script_faults.Refusal × ℕ) → End → List ℕ → Type 0
   IsDueOfWhole document steps = IsDueOfStyling document.nodes (styling document) steps
 
-  -- for a document that stands in an input of this size, by what was read behind it, where a script may follow
-  abbrev pub IsDueOfTail : (script : Bool) → (size : ℕ) → Whole → Read ⊤ → End → List ℕ → Type 0
-  IsDueOfTail script size document (Ok behind) end_ due = IsDueOfWhole document (steps_behind script size behind.1) end_ due
-  IsDueOfTail script size document (Err left) end_ due = IsDueOfFault size (syntax left) end_ due
+  -- for a document that stands in an input of this size, by what was read behind it, with what may follow it
+  abbrev pub IsDueOfTail : Follows → (size : ℕ) → Whole → Read ⊤ → End → List ℕ → Type 0
+  IsDueOfTail follows size document (Ok behind) end_ due = IsDueOfWhole document (steps_behind follows size behind.1) end_ due
+  IsDueOfTail follows size document (Err left) end_ due = IsDueOfFault size (syntax left) end_ due
 
   -- for an input, by what was read of it: a fault, or a document with what stands behind it
-  abbrev pub IsDueOfRead : (script : Bool) → List ℕ → ReadOr Fault Whole → End → List ℕ → Type 0
-  IsDueOfRead script bytes (Ok read) end_ due = IsDueOfTail script (length bytes) read.0 (reading.tail script (drop read.0.length bytes)) end_ due
-  IsDueOfRead script bytes (Err fault) end_ due = IsDueOfFault (length bytes) fault end_ due
+  abbrev pub IsDueOfRead : Follows → List ℕ → ReadOr Fault Whole → End → List ℕ → Type 0
+  IsDueOfRead follows bytes (Ok read) end_ due = IsDueOfTail follows (length bytes) read.0 (reading.tail (has_script follows) (drop read.0.length bytes)) end_ due
+  IsDueOfRead follows bytes (Err fault) end_ due = IsDueOfFault (length bytes) fault end_ due
 
   -- for an input that isn't too long
-  abbrev pub IsDueOfDocument : (script : Bool) → List ℕ → End → List ℕ → Type 0
-  IsDueOfDocument script bytes = IsDueOfRead script bytes (reading.input bytes)
+  abbrev pub IsDueOfDocument : Follows → List ℕ → End → List ℕ → Type 0
+  IsDueOfDocument follows bytes = IsDueOfRead follows bytes (reading.input bytes)
 
   -- for an input: that it is too long is refused first
-  abbrev pub IsDueOfInput : (script : Bool) → List ℕ → End → List ℕ → Type 0
-  IsDueOfInput script input end_ due = ((longest_input < length input) × (end_ ≡ Refused) × (due ≡ refusal (codes "TooLong") longest_input))
-      ⊎ ((length input ≤ longest_input) × IsDueOfDocument script input end_ due)
+  abbrev pub IsDueOfInput : Follows → List ℕ → End → List ℕ → Type 0
+  IsDueOfInput follows input end_ due = ((longest_input < length input) × (end_ ≡ Refused) × (due ≡ refusal (codes "TooLong") longest_input))
+      ⊎ ((length input ≤ longest_input) × IsDueOfDocument follows input end_ due)

@@ -14,9 +14,10 @@ ghost use Rattle.edit_script.specs.Fitting.{AllFit, bytes_of};
 ghost use Rattle.edit_script.specs.Views.{steps_of};
 ghost use Rattle.input_due.specs.Document.{IsReadBefore, ReadsSteps, read_at, room_for, stands_behind};
 ghost use Rattle.input_due.specs.Due.{IsDueBy, IsReady};
-ghost use Rattle.input_due.specs.Input.{IsDueOfDocument, IsDueOfOpened, IsDueOfSteps, IsDueOfTail, IsDueOfWhole, one_page};
+ghost use Rattle.input_due.specs.Input.{IsDueOfDocument, IsDueOfOpened, IsDueOfSteps, IsDueOfTail, IsDueOfWhole, has_script, one_page};
 
 use crate::due::Due;
+use crate::follows::Follows;
 use cascade::laws::what_is_read_is_said;
 use css_sheet::read_styled;
 use css_types::Styled;
@@ -38,24 +39,23 @@ struct Behind<'a> {
     start: usize,
 }
 
-/// What is due for an input that isn't too long. Behind the document stands a script, or nothing; where nothing stands the page is
-/// listed once.
+/// What is due for an input that isn't too long. Where nothing follows the document, the page is listed once.
 pub fn due_of_document(
     alloc: Global,
     view: View,
     faces: Faces,
     input: &[u8],
-    script: bool,
+    follows: Follows,
 ) -> Result<Due, AllocError>
     requires view { IsView view }
     requires short { length input.now ≤ 1048576 }
-    ensures due { IfOk result (λ due. IsDueBy ⟦<dyn Face as Face>⟧ (IsDueOfDocument (faces_of ⟦<dyn Face as Face>⟧ faces) view script input.now) due) }
+    ensures due { IfOk result (λ due. IsDueBy ⟦<dyn Face as Face>⟧ (IsDueOfDocument (faces_of ⟦<dyn Face as Face>⟧ faces) view follows input.now) due) }
     ensures ready { IfOk result (λ due. IsReady ⟦<dyn Face as Face>⟧ due) }
 {
     documents_spell();
     texts_stand_apart();
     match read_document(alloc, input) {
-        Ok(read) => with_tail(alloc, view, faces, input, &read, script),
+        Ok(read) => with_tail(alloc, view, faces, input, &read, follows),
         Err(HtmlError::Refused { kind, place }) => Ok(Due::no_document(kind, place)),
         Err(HtmlError::Memory) => Err(AllocError),
     }
@@ -68,19 +68,25 @@ fn with_tail(
     faces: Faces,
     input: &[u8],
     read: &ReadDocument,
-    script: bool,
+    follows: Follows,
 ) -> Result<Due, AllocError>
     requires view { IsView view }
     requires short { length input.now ≤ 1048576 }
     requires end { read.now.end ≤ length input.now }
     requires utf8 { IsUtf8 (drop read.now.end input.now) }
     requires read { IsReadBefore read.now read.now.end }
-    ensures due { IfOk result (λ due. IsDueBy ⟦<dyn Face as Face>⟧ (IsDueOfTail (faces_of ⟦<dyn Face as Face>⟧ faces) view script (length input.now) (whole_of read.now) (reading.tail script (drop read.now.end input.now))) due) }
+    ensures due { IfOk result (λ due. IsDueBy ⟦<dyn Face as Face>⟧ (IsDueOfTail (faces_of ⟦<dyn Face as Face>⟧ faces) view follows (length input.now) (whole_of read.now) (reading.tail (has_script follows) (drop read.now.end input.now))) due) }
     ensures ready { IfOk result (λ due. IsReady ⟦<dyn Face as Face>⟧ due) }
 {
-    match read_tail(input, read.end, script) {
+    match read_tail(input, read.end, follows.is_script()) {
         Ok(place) => match str::from_utf8(input.split_at(place).1) {
-            Ok(text) => with_styles(alloc, view, faces, read, script_behind(script, text, place)),
+            Ok(text) => with_styles(
+                alloc,
+                view,
+                faces,
+                read,
+                script_behind(follows, text, place),
+            ),
             // What is left behind a document is a text.
             Err(_) => Err(AllocError),
         },
@@ -90,14 +96,13 @@ fn with_tail(
 }
 
 // The text of a script where one is asked for.
-fn script_behind<'a>(script: bool, text: &'a str, start: usize) -> Option<Behind<'a>>
-    ensures read { stands_behind result ≡ read_at script text.now start }
+fn script_behind<'a>(follows: Follows, text: &'a str, start: usize) -> Option<Behind<'a>>
+    ensures read { stands_behind result ≡ read_at follows text.now start }
     ensures room { room_for result ≤ length text.now }
 {
-    if script {
-        Some(Behind { text, start })
-    } else {
-        None
+    match follows {
+        Follows::Nothing => None,
+        Follows::Script => Some(Behind { text, start }),
     }
 }
 

@@ -11,6 +11,7 @@ ghost use Rattle.input_due.specs.Input.{IsDueOfInput, longest_input};
 use crate::document::due_of_document;
 use crate::due::{Cause, Due};
 use crate::error::InputError;
+use crate::follows::Follows;
 use face_api::{Face, Faces};
 use io_edge::{ReadError, Source, read_all};
 use std::alloc::Global;
@@ -26,18 +27,18 @@ pub fn due_of_input<S: Source>(
     alloc: Global,
     view: View,
     faces: Faces,
-    script: bool,
+    follows: Follows,
     source: &mut S,
 ) -> Result<Due, InputError>
     requires view { IsView view }
-    ensures due { IfOk result (λ due. (input : List ℕ) → S.left source.old ≡ Some input → IsDueBy ⟦<dyn Face as Face>⟧ (IsDueOfInput (faces_of ⟦<dyn Face as Face>⟧ faces) view script input) due) }
+    ensures due { IfOk result (λ due. (input : List ℕ) → S.left source.old ≡ Some input → IsDueBy ⟦<dyn Face as Face>⟧ (IsDueOfInput (faces_of ⟦<dyn Face as Face>⟧ faces) view follows input) due) }
     ensures ready { IfOk result (λ due. IsReady ⟦<dyn Face as Face>⟧ due) }
     ensures done { IfOk result (λ due. HasSteps due → IsAtEnd (S.left source.new)) }
     ensures short { IfOk result (λ due. (input : List ℕ) → S.left source.old ≡ Some input → length input ≤ longest_input → IsAtEnd (S.left source.new)) }
     ensures fault { IsErrOf result InputError.ReadFault → Rose (S.faults source.old) (S.faults source.new) }
 {
     match read_all(alloc, source, LONGEST_INPUT) {
-        Ok(input) => match due_of_document(alloc, view, faces, input.as_slice(), script) {
+        Ok(input) => match due_of_document(alloc, view, faces, input.as_slice(), follows) {
             Ok(due) => Ok(due),
             Err(_) => Err(InputError::Memory),
         },

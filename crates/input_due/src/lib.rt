@@ -4,10 +4,12 @@
 mod document;
 mod due;
 mod error;
+mod follows;
 mod input;
 pub mod laws;
 
 pub use document::due_of_document;
 pub use due::{Cause, Due};
 pub use error::InputError;
+pub use follows::Follows;
 pub use input::due_of_input;

@@ -1,5 +1,5 @@
 -- What is due for words and an input, from what is due for its parts.
-use Rattle.std.proofs.Common.{◌≡◌, ◌∙◌, refl, sym, ap, subst, inl, inr, true, ℕ, List, Option}
+use Rattle.std.proofs.Common.{◌≡◌, ◌∙◌, refl, sym, ap, subst, inl, inr, ℕ, List, Option}
 use Rattle.std.specs.Prelude.{◌↔◌, OnOk, Result, ⊤}
 use Rattle.std.specs.Global.{Vec}
 use Rattle.std.specs.Io.KnownBytes.{Appends}
@@ -15,6 +15,7 @@ use Rattle.edit_script.specs.declared.step.ScriptLine.{ScriptLine}
 use Rattle.edit_script.specs.Views.{steps_of}
 use Rattle.edit_job.specs.Steps.{AreStepsIn, HaveOneEnd}
 use Rattle.generator.specs.Generator.{gen_input}
+use Rattle.input_due.specs.declared.follows.Follows.TheVariants.{Script}
 use Rattle.input_due.specs.Due.{End, IsDueBy, IsOf}
 use Rattle.input_due.specs.Input.{IsDueOfDocument}
 use Rattle.input_due.specs.declared.due.Due.{Due}
@@ -55,8 +56,8 @@ module _ {I : Type 0} {D : I → Type 0} (members : (x : I) → Ghosts (D x)) wh
       (on_ok written whole (λ w. (w.0, (refl, state, subst (λ (l : List ScriptLine). AreStepsIn (faces_of members session.faces) session (steps_of l) state w.0) same w.1), w.2))))
 
 -- the line of counts
-pub only_counted : (faces : List (Option Table)) (view : View) (count : ℕ) (written line : List ℕ) → (end_ : End) × IsDueOfDocument faces view true (gen_input count) end_ written
-    → ((end_ : End) (other : List ℕ) → IsDueOfDocument faces view true (gen_input count) end_ other → other ≡ written) → line ≡ counted count written → IsOnly (IsDueOfGenerated faces view count) Done line
+pub only_counted : (faces : List (Option Table)) (view : View) (count : ℕ) (written line : List ℕ) → (end_ : End) × IsDueOfDocument faces view Script (gen_input count) end_ written
+    → ((end_ : End) (other : List ℕ) → IsDueOfDocument faces view Script (gen_input count) end_ other → other ≡ written) → line ≡ counted count written → IsOnly (IsDueOfGenerated faces view count) Done line
 only_counted faces view count written line is one same = record { is = (refl, is.0, written, is.1, same); only = only } where
   only : (s : Status) (d : List ℕ) → IsDueOfGenerated faces view count s d → d ≡ line
   only s d q = q.4 ∙ ap (counted count) (one q.1 q.2 q.3) ∙ sym same

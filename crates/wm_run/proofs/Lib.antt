@@ -1,3 +1,4 @@
+mod Examples
 pub mod JobLaws
 pub mod OneResult
 pub mod StandingLaws

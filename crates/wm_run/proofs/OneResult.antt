@@ -1,6 +1,5 @@
 -- Something is due for all words and every input, and nothing else is.
-use Rattle.std.proofs.Common.{◌≡◌, ◌⊎◌, ◌∙◌, refl, sym, ap, subst, inl, inr, ℕ, true, false, List, Option, Some, None}
-use Rattle.std.specs.Prelude.{◌↔◌}
+use Rattle.std.proofs.Common.{◌≡◌, ◌⊎◌, ◌∙◌, refl, sym, ap, subst, inl, inr, ℕ, List, Option, Some, None}
 use Rattle.std.proofs.lemmas.Option.{same_Some}
 use Rattle.face_api.specs.Table.{Table}
 use Rattle.wm_units.specs.declared.view.View.{View}
@@ -11,6 +10,7 @@ use Rattle.command_line.specs.declared.job.Command.{Command}
 use Rattle.command_line.specs.declared.job.Command.TheVariants.{Layout, Edit, Gen}
 use Rattle.command_line.specs.declared.job.Job.{Job}
 use Rattle.generator.specs.Generator.{gen_input}
+use Rattle.input_due.specs.declared.follows.Follows.TheVariants.{Nothing, Script}
 use Rattle.input_due.specs.Due.{End}
 use Rattle.input_due.specs.Due as ends
 use Rattle.input_due.specs.Input.{IsDueOfInput}
@@ -50,15 +50,15 @@ module _ (IsDueWith : End → List ℕ → Type 0) (one : (end_ other : End) (du
 
 module _ (one : HaveOneDue) (faces : List (Option Table)) (view : View) (count : ℕ) (input : List ℕ) where
   command_some : (command : Command) → (status : Status) × (due : List ℕ) × IsDueOfCommand command faces view count input status due
-  command_some Layout = let some = one.some faces view false input in with_end (IsDueOfInput faces view false input) some.0 some.1 some.2
-  command_some Edit = let some = one.some faces view true input in with_end (IsDueOfInput faces view true input) some.0 some.1 some.2
-  command_some Gen = let some = one.document_some faces view true (gen_input count) in (Done, counted count some.1, (refl, some.0, some.1, some.2, refl))
+  command_some Layout = let some = one.some faces view Nothing input in with_end (IsDueOfInput faces view Nothing input) some.0 some.1 some.2
+  command_some Edit = let some = one.some faces view Script input in with_end (IsDueOfInput faces view Script input) some.0 some.1 some.2
+  command_some Gen = let some = one.document_some faces view Script (gen_input count) in (Done, counted count some.1, (refl, some.0, some.1, some.2, refl))
 
   command_only : (command : Command) (status other : Status) (due more : List ℕ) → IsDueOfCommand command faces view count input status due → IsDueOfCommand command faces view count input other more → (other ≡ status) × (more ≡ due)
-  command_only Layout status other due more is also = one_status (IsDueOfInput faces view false input) (one.only faces view false input) status other due more is also
-  command_only Edit status other due more is also = one_status (IsDueOfInput faces view true input) (one.only faces view true input) status other due more is also
+  command_only Layout status other due more is also = one_status (IsDueOfInput faces view Nothing input) (one.only faces view Nothing input) status other due more is also
+  command_only Edit status other due more is also = one_status (IsDueOfInput faces view Script input) (one.only faces view Script input) status other due more is also
   command_only Gen status other due more (is, end_, written, of, d) (is', end_', written', of', d') =
-      (is' ∙ sym is, d' ∙ ap (counted count) (one.document_only faces view true (gen_input count) end_ end_' written written' of of').1 ∙ sym d)
+      (is' ∙ sym is, d' ∙ ap (counted count) (one.document_only faces view Script (gen_input count) end_ end_' written written' of of').1 ∙ sym d)
 
 -- ---- the words
 

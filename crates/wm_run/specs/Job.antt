@@ -1,5 +1,5 @@
 -- The job: which bytes are due for words and an input, and with which status.
-use Rattle.std.specs.Prelude.{◌≡◌, ◌⊎◌, ◌==◌, ℕ, List, ◌++◌, length, count_by, codes, decimal, true, false, Option, ⊤}
+use Rattle.std.specs.Prelude.{◌≡◌, ◌⊎◌, ◌==◌, ℕ, List, ◌++◌, length, count_by, codes, decimal, Option, ⊤}
 use Rattle.wm_units.specs.declared.view.View.{View}
 use Rattle.face_api.specs.Table.{Table}
 use Rattle.generator.specs.Generator.{gen_input}
@@ -7,6 +7,7 @@ use Rattle.command_line.specs.Command.{IsJob}
 use Rattle.command_line.specs.declared.job.Command.{Command}
 use Rattle.command_line.specs.declared.job.Command.TheVariants.{Layout, Edit, Gen}
 use Rattle.command_line.specs.declared.job.Job.{Job}
+use Rattle.input_due.specs.declared.follows.Follows.TheVariants.{Nothing, Script}
 use Rattle.input_due.specs.Due.{End}
 use Rattle.input_due.specs.Due as ends
 use Rattle.input_due.specs.Input.{IsDueOfDocument, IsDueOfInput}
@@ -36,7 +37,7 @@ counted count written = codes "gen " ++ decimal count ++ codes " bytes " ++ deci
 
 -- what is due for the generated input is counted
 abbrev pub IsDueOfGenerated : (faces : List (Option Table)) → View → (count : ℕ) → Status → List ℕ → Type 0
-IsDueOfGenerated faces view count status due = (status ≡ Done) × (end_ : End) × (written : List ℕ) × IsDueOfDocument faces view true (gen_input count) end_ written × (due ≡ counted count written)
+IsDueOfGenerated faces view count status due = (status ≡ Done) × (end_ : End) × (written : List ℕ) × IsDueOfDocument faces view Script (gen_input count) end_ written × (due ≡ counted count written)
 
 -- ---- a command
 
@@ -48,8 +49,8 @@ Reads Gen = ⊥
 
 -- `layout` lists the page of a document, `edit` goes through the script that stands behind it
 abbrev pub IsDueOfCommand : Command → (faces : List (Option Table)) → View → (count : ℕ) → (input : List ℕ) → Status → List ℕ → Type 0
-IsDueOfCommand Layout faces view count input status due = with_status (IsDueOfInput faces view false input) status due
-IsDueOfCommand Edit faces view count input status due = with_status (IsDueOfInput faces view true input) status due
+IsDueOfCommand Layout faces view count input status due = with_status (IsDueOfInput faces view Nothing input) status due
+IsDueOfCommand Edit faces view count input status due = with_status (IsDueOfInput faces view Script input) status due
 IsDueOfCommand Gen faces view count input status due = IsDueOfGenerated faces view count status due
 
 abbrev pub IsDueOfJob : (faces : List (Option Table)) → Job → (input : List ℕ) → Status → List ℕ → Type 0

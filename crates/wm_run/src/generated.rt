@@ -16,7 +16,7 @@ use arrayvec::ArrayString;
 use edit_job::laws::steps_have_one_end;
 use face_api::{Face, Faces};
 use generator::gen_input;
-use input_due::due_of_document;
+use input_due::{Follows, due_of_document};
 use io_edge::{Sink, SteadySink};
 use itoa::Buffer;
 use std::alloc::{AllocError, Global};
@@ -64,12 +64,12 @@ fn written_for<L: Ledger, M: Ledger>(
     requires view { IsView view }
     requires some { 1 ≤ count }
     requires few { count ≤ 1000 }
-    ensures is { IfOk result (λ written. (end_ : End) × IsDueOfDocument (faces_of ⟦<dyn Face as Face>⟧ faces) view true (gen_input count) end_ written) }
-    ensures only { IfOk result (λ written. (end_ : End) (other : List ℕ) → IsDueOfDocument (faces_of ⟦<dyn Face as Face>⟧ faces) view true (gen_input count) end_ other → other ≡ written) }
+    ensures is { IfOk result (λ written. (end_ : End) × IsDueOfDocument (faces_of ⟦<dyn Face as Face>⟧ faces) view Follows.Script (gen_input count) end_ written) }
+    ensures only { IfOk result (λ written. (end_ : End) (other : List ℕ) → IsDueOfDocument (faces_of ⟦<dyn Face as Face>⟧ faces) view Follows.Script (gen_input count) end_ other → other ≡ written) }
 {
     steps_have_one_end();
     let input = gen_input(alloc, count)?;
-    let due = due_of_document(alloc, view, faces, &input, true)?;
+    let due = due_of_document(alloc, view, faces, &input, Follows::Script)?;
     let mut sink = SteadySink::new(alloc);
     match tell(due, &mut sink, prepared, arranged) {
         Status::Done | Status::Refused => Ok(sink),

@@ -15,7 +15,7 @@ use crate::status::Status;
 use crate::tell::{tell, tell_usage};
 use command_line::{Command, Job, Words, WordsError, read_words};
 use face_api::{Face, Faces};
-use input_due::{InputError, due_of_input};
+use input_due::{Follows, InputError, due_of_input};
 use io_edge::{Sink, Source};
 use std::alloc::Global;
 use std::sync::ledger::Ledger;
@@ -104,10 +104,24 @@ fn tell_job<S: Source, K: Sink, L: Ledger, M: Ledger>(
 {
     match job.command {
         Command::Layout => tell_input(
-            alloc, job.view, faces, false, source, sink, prepared, arranged,
+            alloc,
+            job.view,
+            faces,
+            Follows::Nothing,
+            source,
+            sink,
+            prepared,
+            arranged,
         ),
         Command::Edit => tell_input(
-            alloc, job.view, faces, true, source, sink, prepared, arranged,
+            alloc,
+            job.view,
+            faces,
+            Follows::Script,
+            source,
+            sink,
+            prepared,
+            arranged,
         ),
         Command::Gen => tell_generated(alloc, job.view, faces, job.count, sink, prepared, arranged),
     }
@@ -118,7 +132,7 @@ fn tell_input<S: Source, K: Sink, L: Ledger, M: Ledger>(
     alloc: Global,
     view: View,
     faces: Faces,
-    script: bool,
+    follows: Follows,
     source: &mut S,
     sink: &mut K,
     prepared: &mut Steps<L>,
@@ -126,14 +140,14 @@ fn tell_input<S: Source, K: Sink, L: Ledger, M: Ledger>(
 ) -> Status
     requires view { IsView view }
     ensures stands { (input : List ℕ) → S.left source.old ≡ Some input
-        → Stands (with_status (IsDueOfInput (faces_of ⟦<dyn Face as Face>⟧ faces) view script input)) (K.held sink.old) (K.held sink.new) result }
+        → Stands (with_status (IsDueOfInput (faces_of ⟦<dyn Face as Face>⟧ faces) view follows input)) (K.held sink.old) (K.held sink.new) result }
     ensures no_usage { result ≡ Status.Usage → ⊥ }
     ensures read_fault { result ≡ Status.ReadFault → Rose (S.faults source.old) (S.faults source.new) × Keeps (K.held sink.old) (K.held sink.new) }
     ensures write_fault { result ≡ Status.WriteFault → Rose (K.faults sink.old) (K.faults sink.new) }
     ensures done { result ≡ Status.Done → IsAtEnd (S.left source.new) }
     ensures refused { (input : List ℕ) → S.left source.old ≡ Some input → length input ≤ longest_input → result ≡ Status.Refused → IsAtEnd (S.left source.new) }
 {
-    match due_of_input(alloc, view, faces, script, source) {
+    match due_of_input(alloc, view, faces, follows, source) {
         Ok(due) => tell(due, sink, prepared, arranged),
         Err(InputError::ReadFault) => Status::ReadFault,
         Err(InputError::Memory) => Status::Memory,

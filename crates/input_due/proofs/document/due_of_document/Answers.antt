@@ -19,10 +19,10 @@ with_tail-requires-clause-read g c = record {
 pub returns-in-Ok-clause-due : goal.returns-in-Ok-clause-due
 returns-in-Ok-clause-due g c =
     let read = c.in-Ok.ensures.read in
-    if_ok c.with_tail.result (λ due by. document_read (λ vtable. (g.dyn-1.0.entry vtable).1) (faces_of (λ vtable. (g.dyn-1.0.entry vtable).1) c.args.faces) c.args.view c.args.script c.args.input.now _ due read.1 by) c.with_tail.ensures.due
+    if_ok c.with_tail.result (λ due by. document_read (λ vtable. (g.dyn-1.0.entry vtable).1) (faces_of (λ vtable. (g.dyn-1.0.entry vtable).1) c.args.faces) c.args.view c.args.follows c.args.input.now _ due read.1 by) c.with_tail.ensures.due
 
 pub returns-in-Err-Refused-clause-due : goal.returns-in-Err-Refused-clause-due
 returns-in-Err-Refused-clause-due g c =
     let told = subst (λ (e : HtmlError). IsRefused (length c.args.input.now) e (reading.input c.args.input.now)) c.in-Err-Refused.field-0-is c.in-Err-Refused.ensures.read in
-    subst (λ due. IsDueBy (λ vtable. (g.dyn-1.0.entry vtable).1) (IsDueOfDocument (faces_of (λ vtable. (g.dyn-1.0.entry vtable).1) c.args.faces) c.args.view c.args.script c.args.input.now) due) (sym c.no_document.ensures)
-    (no_document (λ vtable. (g.dyn-1.0.entry vtable).1) (faces_of (λ vtable. (g.dyn-1.0.entry vtable).1) c.args.faces) c.args.view c.args.script c.args.input.now _ told.0 _ (told.1 ∙ ap (λ (k : Refusal). Err (k, told.0)) (sym c.in-Err-Refused.kind-is)) (c.in-Err-Refused.place-is ∙ told.2))
+    subst (λ due. IsDueBy (λ vtable. (g.dyn-1.0.entry vtable).1) (IsDueOfDocument (faces_of (λ vtable. (g.dyn-1.0.entry vtable).1) c.args.faces) c.args.view c.args.follows c.args.input.now) due) (sym c.no_document.ensures)
+    (no_document (λ vtable. (g.dyn-1.0.entry vtable).1) (faces_of (λ vtable. (g.dyn-1.0.entry vtable).1) c.args.faces) c.args.view c.args.follows c.args.input.now _ told.0 _ (told.1 ∙ ap (λ (k : Refusal). Err (k, told.0)) (sym c.in-Err-Refused.kind-is)) (c.in-Err-Refused.place-is ∙ told.2))

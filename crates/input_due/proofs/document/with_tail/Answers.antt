@@ -1,4 +1,4 @@
-use Rattle.std.proofs.Common.{rules, ◌≡◌, ◌∙◌, subst, sym, length, drop, Err}
+use Rattle.std.proofs.Common.{rules, ◌≡◌, ◌∙◌, subst, sym, Bool, length, drop, Err}
 use Rattle.face_api.specs.Faces.{faces_of}
 use Rattle.html_read.specs.declared.error.HtmlError.{HtmlError}
 use Rattle.html_read.specs.Error.{TellsTail}
@@ -15,15 +15,22 @@ returns-in-Ok-from_utf8-clause-due g c =
     let input = c.args.input.now in
     let place = c.in-Ok.place in
     let text : c.in-Ok-from_utf8.text.now ≡ drop place input = search rules in
-    let same : steps_behind c.args.script (length input) (drop place input) ≡ stands_behind c.script_behind.result =
-    steps_here c.args.script input c.in-Ok-from_utf8.text.now place c.in-Ok.ensures.within.1 text ∙ sym c.script_behind.ensures.read in
+    let behind = drop c.args.read.now.end input in
+    let faces = faces_of (λ vtable. (g.dyn-1.0.entry vtable).1) c.args.faces in
+    let same : steps_behind c.args.follows (length input) (drop place input) ≡ stands_behind c.script_behind.result =
+    steps_here c.args.follows input c.in-Ok-from_utf8.text.now place c.in-Ok.ensures.within.1 text ∙ sym c.script_behind.ensures.read in
     if_ok c.with_styles.result
-    (λ due by. tail_read (λ vtable. (g.dyn-1.0.entry vtable).1) (faces_of (λ vtable. (g.dyn-1.0.entry vtable).1) c.args.faces) c.args.view c.args.script (length input) (whole_of c.args.read.now) (reading.tail c.args.script (drop c.args.read.now.end input)) (drop place input) due c.in-Ok.ensures.rest
-    (subst (λ steps. IsDueBy (λ vtable. (g.dyn-1.0.entry vtable).1) (IsDueOfWhole (faces_of (λ vtable. (g.dyn-1.0.entry vtable).1) c.args.faces) c.args.view (whole_of c.args.read.now) steps) due) (sym same) by)) c.with_styles.ensures.due
+    (λ due by. subst (λ (s : Bool). IsDueBy (λ vtable. (g.dyn-1.0.entry vtable).1) (IsDueOfTail faces c.args.view c.args.follows (length input) (whole_of c.args.read.now) (reading.tail s behind)) due) c.is_script.ensures
+    (tail_read (λ vtable. (g.dyn-1.0.entry vtable).1) faces c.args.view c.args.follows (length input) (whole_of c.args.read.now) (reading.tail c.is_script.result behind) (drop place input) due c.in-Ok.ensures.rest
+    (subst (λ steps. IsDueBy (λ vtable. (g.dyn-1.0.entry vtable).1) (IsDueOfWhole faces c.args.view (whole_of c.args.read.now) steps) due) (sym same) by))) c.with_styles.ensures.due
 
 pub returns-in-Err-Refused-clause-due : goal.returns-in-Err-Refused-clause-due
 returns-in-Err-Refused-clause-due g c =
-    let read = reading.tail c.args.script (drop c.args.read.now.end c.args.input.now) in
-    let told = subst (λ (e : HtmlError). TellsTail (length c.args.input.now) (Err e) read) c.in-Err-Refused.field-0-is c.in-Err-Refused.ensures.read in
-    subst (λ due. IsDueBy (λ vtable. (g.dyn-1.0.entry vtable).1) (IsDueOfTail (faces_of (λ vtable. (g.dyn-1.0.entry vtable).1) c.args.faces) c.args.view c.args.script (length c.args.input.now) (whole_of c.args.read.now) read) due) (sym c.no_document.ensures)
-    (no_tail (λ vtable. (g.dyn-1.0.entry vtable).1) (faces_of (λ vtable. (g.dyn-1.0.entry vtable).1) c.args.faces) c.args.view c.args.script (length c.args.input.now) (whole_of c.args.read.now) read _ told.1 _ (c.in-Err-Refused.kind-is ∙ told.0) told.2 (c.in-Err-Refused.place-is ∙ told.3))
+    let input = c.args.input.now in
+    let behind = drop c.args.read.now.end input in
+    let faces = faces_of (λ vtable. (g.dyn-1.0.entry vtable).1) c.args.faces in
+    let read = reading.tail c.is_script.result behind in
+    let told = subst (λ (e : HtmlError). TellsTail (length input) (Err e) read) c.in-Err-Refused.field-0-is c.in-Err-Refused.ensures.read in
+    subst (λ (s : Bool). IsDueBy (λ vtable. (g.dyn-1.0.entry vtable).1) (IsDueOfTail faces c.args.view c.args.follows (length input) (whole_of c.args.read.now) (reading.tail s behind)) c.no_document.result) c.is_script.ensures
+    (subst (λ due. IsDueBy (λ vtable. (g.dyn-1.0.entry vtable).1) (IsDueOfTail faces c.args.view c.args.follows (length input) (whole_of c.args.read.now) read) due) (sym c.no_document.ensures)
+    (no_tail (λ vtable. (g.dyn-1.0.entry vtable).1) faces c.args.view c.args.follows (length input) (whole_of c.args.read.now) read _ told.1 _ (c.in-Err-Refused.kind-is ∙ told.0) told.2 (c.in-Err-Refused.place-is ∙ told.3)))

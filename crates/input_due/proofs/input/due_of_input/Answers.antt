@@ -17,7 +17,7 @@ returns-in-Err-TooLong-clause-due g c = λ input told.
     let more : longest_input < length taken.0 = taken.3.0 (ap (λ (e : ReadError). Err e) c.in-Err-TooLong.field-0-is) in
     let front = taken_front input taken.0 (g.S.Source.left c.read_all.new.source) consumed in
     let long : longest_input < length input = omega (arith, more, front) in
-    too_long (λ vtable. (g.dyn-1.0.entry vtable).1) (faces_of (λ vtable. (g.dyn-1.0.entry vtable).1) c.args.faces) c.args.view c.args.script input long
+    too_long (λ vtable. (g.dyn-1.0.entry vtable).1) (faces_of (λ vtable. (g.dyn-1.0.entry vtable).1) c.args.faces) c.args.view c.args.follows input long
 
 pub returns-in-Ok-due_of_document-clause-due : goal.returns-in-Ok-due_of_document-clause-due
 returns-in-Ok-due_of_document-clause-due g c = λ input told.
@@ -27,7 +27,7 @@ returns-in-Ok-due_of_document-clause-due g c = λ input told.
     let all : input ≡ taken.0 = taken_all input taken.0 new consumed c.in-Ok.ensures.end in
     let whole : input ≡ c.as_slice.result.now = all ∙ sym taken.2 ∙ sym c.as_slice.ensures in
     let faces = faces_of (λ vtable. (g.dyn-1.0.entry vtable).1) c.args.faces in
-    let P : List ℕ → Type 0 = λ bytes. IsDueBy (λ vtable. (g.dyn-1.0.entry vtable).1) (IsDueOfDocument faces c.args.view c.args.script bytes) c.in-Ok-due_of_document.due in
+    let P : List ℕ → Type 0 = λ bytes. IsDueBy (λ vtable. (g.dyn-1.0.entry vtable).1) (IsDueOfDocument faces c.args.view c.args.follows bytes) c.in-Ok-due_of_document.due in
     let Q : List ℕ → Type 0 = λ bytes. length bytes ≤ longest_input in
-    short_enough (λ vtable. (g.dyn-1.0.entry vtable).1) faces c.args.view c.args.script input c.in-Ok-due_of_document.due
+    short_enough (λ vtable. (g.dyn-1.0.entry vtable).1) faces c.args.view c.args.follows input c.in-Ok-due_of_document.due
     (subst Q (taken.2 ∙ sym all) c.in-Ok.ensures.within) (subst P (sym whole) c.in-Ok-due_of_document.ensures.due)

@@ -8,10 +8,10 @@ use Rattle.wm_run.proofs.job.tell_input.Goals as goal
 pub returns-in-Ok-clause-stands : goal.returns-in-Ok-clause-stands
 returns-in-Ok-clause-stands g c = λ input told.
     let faces = faces_of (λ vtable. (g.dyn-1.0.entry vtable).1) c.args.faces in
-    stands_by (with_status (IsOf (λ vtable. (g.dyn-1.0.entry vtable).1) c.in-Ok.due)) (with_status (IsDueOfInput faces c.args.view c.args.script input)) (g.K.Sink.held c.args.sink.now) (g.K.Sink.held c.tell.new.sink) c.tell.result
-    (same_with (IsOf (λ vtable. (g.dyn-1.0.entry vtable).1) c.in-Ok.due) (IsDueOfInput faces c.args.view c.args.script input) (λ end_ due. ((c.in-Ok.ensures.due input told end_ due).1, (c.in-Ok.ensures.due input told end_ due).0)))
+    stands_by (with_status (IsOf (λ vtable. (g.dyn-1.0.entry vtable).1) c.in-Ok.due)) (with_status (IsDueOfInput faces c.args.view c.args.follows input)) (g.K.Sink.held c.args.sink.now) (g.K.Sink.held c.tell.new.sink) c.tell.result
+    (same_with (IsOf (λ vtable. (g.dyn-1.0.entry vtable).1) c.in-Ok.due) (IsDueOfInput faces c.args.view c.args.follows input) (λ end_ due. ((c.in-Ok.ensures.due input told end_ due).1, (c.in-Ok.ensures.due input told end_ due).0)))
     c.tell.ensures.stands
 
 pub returns-in-Err-Memory-clause-stands : goal.returns-in-Err-Memory-clause-stands
 returns-in-Err-Memory-clause-stands g c = λ input told.
-    nothing_written (with_status (IsDueOfInput (faces_of (λ vtable. (g.dyn-1.0.entry vtable).1) c.args.faces) c.args.view c.args.script input)) (g.K.Sink.held c.args.sink.now)
+    nothing_written (with_status (IsDueOfInput (faces_of (λ vtable. (g.dyn-1.0.entry vtable).1) c.args.faces) c.args.view c.args.follows input)) (g.K.Sink.held c.args.sink.now)
