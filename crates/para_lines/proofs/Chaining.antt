@@ -1,8 +1,8 @@
 -- Which boxes stand round an entry, step by step.
-use Rattle.std.proofs.Common.{inl, inr, ◌≡◌, ◌∙◌, refl, sym, ap, arith, subst, Bool, true, false, cond, ◌||◌, ◌&&◌, ◌⊎◌, leb, ltb, ℕ, zero, suc, ◌+◌, ◌-◌, ◌*◌, ◌<◌, ◌≤◌, ◌^◌, List, [], ◌∷◌, ◌++◌, length, map, get_or, take, drop, set, replicate, Option, Some, None, ℤ, ◌+ℤ◌, unsigned_abs}
+use Rattle.std.proofs.Common.{inl, inr, ◌≡◌, ◌∙◌, refl, sym, ap, arith, subst, Bool, true, false, cond, ◌||◌, ◌&&◌, ◌⊎◌, leb, ltb, ℕ, zero, suc, ◌+◌, ◌-◌, ◌*◌, ◌<◌, ◌≤◌, ◌^◌, List, [], ◌∷◌, ◌++◌, length, map, get_or, take, drop, set, Option, Some, None, ℤ, ◌+ℤ◌, unsigned_abs}
 use Rattle.std.specs.Prelude.{⊤, All, IfSome, ◌==◌}
 use Rattle.std.proofs.lemmas.Int.{ints}
-use Rattle.std.proofs.lemmas.List.{append-nil, append_assoc, get_or-map, get_or-take, get_or_default, get_or_past, get_or-replicate, get_or-set_same, get_or-set_other, length-append, length-map, length-replicate, length-set, length-take-le, drop_all, drop_more, take_all, take_more}
+use Rattle.std.proofs.lemmas.List.{append-nil, append_assoc, get_or-map, get_or-take, get_or_default, get_or_past, get_or-set_same, get_or-set_other, length-append, length-map, length-set, length-take-le, drop_more, take_all, take_more}
 use Rattle.std.proofs.lemmas.Bool.{cases_eq, cases_lt, cond_both, eq-eqb, le-leb, le-ltb, lt-leb, lt-ltb, ne_eqb}
 use Rattle.style_types.specs.declared.style.Style.{Style}
 use Rattle.style_types.specs.Initial.{initial}
@@ -578,9 +578,6 @@ pub some_within : (other : Option ℕ) (place n : ℕ) → other ≡ Some place 
 some_within other place n at_ h =
     let P : Option ℕ → Type 0 = λ o. IfSome o (λ p. p < n) in
     subst P at_ h
-
-pub other_within : (items : List Item) (other : Option ℕ) → IfSome other (λ o. o < length items) → IfSome other (λ o. o < length (entries_of items))
-other_within items other h = rw (length-map items entry_of) h
 
 abbrev mark : ℕ → Bool → BoxEnd
 mark place edges = record { place = place; closes = edges }

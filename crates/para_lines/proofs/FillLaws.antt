@@ -1,6 +1,6 @@
 -- The items of a paragraph as lines are filled with them, item by item.
 use Rattle.std.specs.Prelude.{IfSome}
-use Rattle.std.proofs.Common.{◌≡◌, ◌∙◌, refl, sym, ap, arith, true, false, None, ℕ, zero, suc, ◌+◌, ◌*◌, ◌<◌, ◌≤◌, ◌^◌, List, [], ◌∷◌, ◌++◌, length, map, get_or, drop, reverse, Option, Some, append_assoc, append-nil, ℤ, pos, ◌+ℤ◌, unsigned_abs}
+use Rattle.std.proofs.Common.{◌≡◌, ◌∙◌, refl, sym, ap, arith, true, false, ℕ, zero, suc, ◌+◌, ◌*◌, ◌<◌, ◌≤◌, ◌^◌, List, [], ◌∷◌, ◌++◌, length, map, get_or, drop, reverse, Option, Some, append_assoc, append-nil, ℤ, pos, ◌+ℤ◌, unsigned_abs}
 use Rattle.std.proofs.lemmas.Int.{ints}
 use Rattle.std.proofs.lemmas.List.{drop-map, drop_all, drop_more, reverse-append}
 use Rattle.fragment_types.specs.declared.breaking.Breaking.{Breaking}
@@ -14,7 +14,7 @@ use Rattle.para_lines.specs.Around.{chains, fresh, has}
 use Rattle.para_lines.specs.Boxes.{apart, chain_at, chain_behind, innermost}
 use Rattle.para_lines.specs.Filling.{advance_of, closing_edges, fill_item, fill_items, fill_items_from, first_chain, item_chains, opening_edges, past}
 use Rattle.para_lines.specs.Prepared.{edge_of, edges_of, first_source, source_before, source_behind}
-use Rattle.para_lines.proofs.Chaining.{Climbing, at, climbing_ends, climbing_first, climbing_on, climbing_stops, climbing_within, left_near, left_of, less_left, linked, none_apart, there}
+use Rattle.para_lines.proofs.Chaining.{Climbing, at, climbing_first, climbing_on, climbing_stops, climbing_within, left_near, left_of, less_left, linked, none_apart, there}
 
 -- ---- edges of some boxes together
 

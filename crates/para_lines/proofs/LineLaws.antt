@@ -1,8 +1,6 @@
 -- The boxes of a line.
-use Rattle.std.proofs.Common.{inl, inr, ◌≡◌, ◌∙◌, refl, sym, ap, arith, Bool, true, false, ◌||◌, ℕ, suc, ◌+◌, ◌-◌, ◌<◌, ◌≤◌, List, [], ◌∷◌, ◌++◌, length, map, get_or, set, drop, reverse, append-nil, Option, Some, ℤ, pos}
-use Rattle.std.specs.Prelude.{All, ◌==◌, option_map}
-use Rattle.std.proofs.lemmas.List.{drop_all, drop_more, get_or-set_same, get_or-set_other, length-set}
-use Rattle.std.proofs.lemmas.Bool.{cases_eq, eq-eqb, ne_eqb}
+use Rattle.std.proofs.Common.{◌≡◌, ◌∙◌, refl, sym, ap, Bool, true, ℕ, ◌+◌, ◌<◌, ◌≤◌, List, [], ◌∷◌, ◌++◌, length, map, get_or, drop, reverse, append-nil, Option, Some, ℤ, pos}
+use Rattle.std.specs.Prelude.{option_map}
 use Rattle.std.proofs.lemmas.Simd.{map-map}
 use Rattle.face_api.specs.Table.{Table}
 use Rattle.wm_chars.specs.declared.classes.BidiClass.{BidiClass}
@@ -23,7 +21,7 @@ use Rattle.para_lines.specs.Filling.{is_space}
 use Rattle.para_lines.specs.Lines as rule
 use Rattle.para_lines.specs.Around.{fresh, has}
 use Rattle.para_lines.specs.Boxes.{apart, chain_at, chain_behind, innermost, round_of}
-use Rattle.para_lines.specs.Line.{AreSeats, content_in, first_atom, on_line, standing_of}
+use Rattle.para_lines.specs.Line.{content_in, first_atom, on_line, standing_of}
 use Rattle.para_lines.specs.Lines.{innermost_in, place_in}
 use Rattle.para_lines.proofs.Chaining.{none_apart}
 

@@ -1,6 +1,6 @@
 -- The items of a paragraph on their way to its lines: how many there are, and how far they reach.
 use Rattle.std.proofs.Common.{◌≡◌, ◌∙◌, refl, sym, ap, arith, subst, ℕ, suc, ◌+◌, ◌*◌, ◌≤◌, ◌^◌, List, [], ◌∷◌, length, map, get_or, take, Option, Some, ℤ, pos, unsigned_abs}
-use Rattle.std.specs.Prelude.{All, ⊤, ◌≤ℤ◌}
+use Rattle.std.specs.Prelude.{All, ⊤}
 use Rattle.std.proofs.lemmas.Int.{ints}
 use Rattle.std.proofs.lemmas.List.{length-map, take_all}
 use Rattle.std.proofs.lemmas.List.Sums.{sum_by-cons}
@@ -9,27 +9,32 @@ use Rattle.face_api.specs.Table.{Table}
 use Rattle.wm_chars.specs.declared.classes.BidiClass.{BidiClass}
 use Rattle.fragment_types.specs.declared.breaking.Breaking.{Breaking}
 use Rattle.fragment_types.specs.Fragment.{Pieces}
-use Rattle.fragment_types.specs.Item.{Entry}
-use Rattle.style_types.specs.Style.{IsBounded}
+use Rattle.fragment_types.specs.declared.item.Item.{Item}
+use Rattle.fragment_types.specs.Item.{Entry, entries_of, entry_of}
 use Rattle.line_fill.specs.declared.item.FillItem.{FillItem}
-use Rattle.line_fill.specs.Filling.{lines}
+use Rattle.line_fill.specs.Filling.{Divide, lines}
 use Rattle.line_place.specs.Reach.{total}
 use Rattle.para_prepare.specs.declared.item.PreparedItem.{PreparedItem}
 use Rattle.para_prepare.specs.declared.item.PreparedContent.{PreparedContent}
 use Rattle.para_prepare.specs.declared.item.PreparedContent.TheVariants.{Unit, Combined, Atom, Break}
-use Rattle.para_prepare.specs.Preparation.{Preparation}
+use Rattle.para_prepare.specs.Preparation.{AreFrom, HasBounds as prepared_bounds, Preparation}
 use Rattle.para_lines.specs.declared.standing.Standing as code
 use Rattle.para_lines.specs.declared.paragraph.Atom as code_atom
 use Rattle.para_lines.specs.declared.paragraph.Container.{Container}
 use Rattle.para_lines.specs.declared.setting.Setting as code_setting
-use Rattle.para_lines.specs.Boxes.{AreBoxes, chain_at}
+use Rattle.para_lines.specs.declared.filled.ParagraphInput as code_input
+use Rattle.para_lines.specs.declared.prepared.PreparedLists as code_lists
+use Rattle.para_lines.specs.Boxes.{AreBounded, HasBounds, chain_at}
+use Rattle.para_lines.specs.Filled.{IsFilled, fills_in}
 use Rattle.para_lines.specs.Filling.{advance_of, fill_items, fill_items_from, item_chains, past}
 use Rattle.para_lines.specs.Line.{IsAble, IsNearAtom, RiseIn, standing_of}
 use Rattle.para_lines.specs.Lines as rule
 use Rattle.para_lines.specs.Lines.{Standing, atom_extents, lines_from, no_atom, paragraph_lines, standings_by}
-use Rattle.para_lines.specs.Paragraph.{atom_of}
+use Rattle.para_lines.specs.Paragraph.{IsContainer, atom_of}
+use Rattle.para_lines.specs.Prepared.{AreSources, preparation_of}
 use Rattle.para_lines.specs.Reach.{AreNear, HasAdvance, Rise, atom_part, atom_reach, lengths_of, standing_reach}
 use Rattle.para_lines.specs.Setting.{IsSetting, entries_in}
+use Rattle.para_lines.proofs.PreparedLaws.{prepared_near, sources_there}
 use Rattle.para_lines.proofs.Spreading.{AdvanceAll, all_advance}
 
 -- ---- as many as there are items
@@ -163,42 +168,72 @@ count_of entries prepared atoms inline advances fills made whole is are =
     let s = standings_count entries prepared.items prepared.levels prepared.classes prepared.bases (map (λ (item : FillItem). item.advance) fills) atoms whole.levels whole.classes whole.bases (omega arith) in
     omega arith
 
-pub setting_ready : (setting : code_setting.Setting) (prepared : Preparation) (atoms : List code_atom.Atom) (inline : Option ℤ) (fills : List FillItem) (made : List code.Standing)
-    → AreBoxes setting.boxes.now → IsBounded setting.container.now.style → pos 0 ≤ℤ setting.container.now.size → setting.container.now.size ≤ℤ pos (2 ^ 32) → setting.standings.now ≡ made
-    → map (standing_of (entries_in setting)) made ≡ rule.standings (entries_in setting) prepared (map atom_of atoms) (map (λ (item : FillItem). item.advance) fills)
-    → fills ≡ fill_items inline (entries_in setting) prepared (atom_extents (map atom_of atoms)) → All (IsAble (length setting.boxes.now.items.now)) made
-    → AreWhole prepared → AreNear prepared.items → length prepared.items ≤ 2 ^ 21 → total atom_reach (map atom_of atoms) ≤ 2 ^ 57 → setting.empty.now.value.items ≡ [] → IsSetting setting
-setting_ready setting prepared atoms inline fills made boxes style low high same are is able whole near few most empty =
+pub whole_lists : (lists : code_lists.PreparedLists) → AreWhole (preparation_of lists)
+whole_lists lists = record { levels = lists.each_level; classes = lists.each_class; bases = lists.each_base; breaks = lists.each_break }
+
+-- ---- from a prepared paragraph to its lines
+
+abbrev advances : List FillItem → List ℤ
+advances fills = map (λ (item : FillItem). item.advance) fills
+
+pub bounded_of : (boxes : List Entry) (items : List Item) → boxes ≡ entries_of items → length items ≤ 2 ^ 20 → All HasBounds (entries_of items) → AreBounded boxes
+bounded_of boxes items are few bounds = let many = length-map items entry_of in subst AreBounded (sym are) (record { few = omega arith; bounds = bounds })
+
+pub near_of : (lists : code_lists.PreparedLists) (prepared : Preparation) (count : ℕ) → preparation_of lists ≡ prepared → length prepared.items ≤ 2 ^ 21 → AreFrom 0 count prepared.items
+    → All (λ item. prepared_bounds item.what) prepared.items → AreNear lists.items.now × (length lists.items.now ≤ 2 ^ 21)
+near_of lists prepared count are few from lengths =
+    let P : List PreparedItem → Type 0 = λ items. AreNear items × (length items ≤ 2 ^ 21) in
+    subst P (sym (ap (λ (p : Preparation). p.items) are)) (prepared_near count prepared.items few from lengths, few)
+
+pub sources_of : (lists : code_lists.PreparedLists) (prepared : Preparation) (boxes : List Entry) (items : List Item) → preparation_of lists ≡ prepared → boxes ≡ entries_of items → AreFrom 0 (length items) prepared.items
+    → AreSources (length boxes) lists.items.now
+sources_of lists prepared boxes items are same from =
+    let P : List PreparedItem → Type 0 = λ is. AreSources (length boxes) is in
+    let Q : ℕ → Type 0 = λ n. AreSources n prepared.items in
+    subst P (sym (ap (λ (p : Preparation). p.items) are)) (subst Q (sym (ap length same ∙ length-map items entry_of)) (sources_there 0 (length items) prepared.items from))
+
+pub filled_with : (input : code_input.ParagraphInput) (fills : List FillItem) (s : ℤ) (made : List code.Standing) (ends : List ℕ) → fills ≡ fills_in input
+    → map (standing_of input.boxes.now) made ≡ rule.standings input.boxes.now (preparation_of input.lists) (map atom_of input.atoms.now) (advances fills)
+    → All (IsAble (length input.boxes.now)) made → ends ≡ lines s fills → s ≡ input.container.now.size → Divide 0 (length made) ends → IsFilled input made ends
+filled_with input fills s made ends is are able at same divide = record {
+  are = are ∙ ap (λ (fs : List FillItem). rule.standings input.boxes.now (preparation_of input.lists) (map atom_of input.atoms.now) (advances fs)) is;
+  able = able;
+  ends_are = at ∙ ap (λ z. lines z fills) same ∙ ap (lines input.container.now.size) is;
+  divide = divide;
+}
+
+pub setting_ready : (setting : code_setting.Setting) (prepared : Preparation) (atoms : List code_atom.Atom) (inline : Option ℤ) (made : List code.Standing)
+    → AreBounded setting.boxes.now → IsContainer setting.container.now → setting.standings.now ≡ made
+    → map (standing_of (entries_in setting)) made
+    ≡ rule.standings (entries_in setting) prepared (map atom_of atoms) (advances (fill_items inline (entries_in setting) prepared (atom_extents (map atom_of atoms))))
+    → All (IsAble (length setting.boxes.now)) made → AreWhole prepared → AreNear prepared.items → length prepared.items ≤ 2 ^ 21 → total atom_reach (map atom_of atoms) ≤ 2 ^ 57 → setting.empty.now.value.items ≡ []
+    → IsSetting setting
+setting_ready setting prepared atoms inline made bounded container same are able whole near few most empty =
     let entries : List Entry = entries_in setting in
-    let P : List code.Standing → Type 0 = λ ss. All (IsAble (length setting.boxes.now.items.now)) ss in
+    let fills : List FillItem = fill_items inline entries prepared (atom_extents (map atom_of atoms)) in
+    let P : List code.Standing → Type 0 = λ ss. All (IsAble (length setting.boxes.now)) ss in
     let Q : List code.Standing → Type 0 = λ ss. RiseIn 0 ss in
     let R : List code.Standing → Type 0 = λ ss. length ss ≤ 2 ^ 21 in
     let S : List code.Standing → Type 0 = λ ss. total standing_reach (map (standing_of entries) ss) ≤ 2 ^ 58 in
     let T : List Standing → Type 0 = λ ss. total standing_reach ss ≤ 2 ^ 58 in
-    let count = count_of entries prepared (map atom_of atoms) inline (atom_extents (map atom_of atoms)) fills made whole is are in
-    let whole_are : map (standing_of entries) made
-    ≡ rule.standings entries prepared (map atom_of atoms) (map (λ (item : FillItem). item.advance) (fill_items inline entries prepared (atom_extents (map atom_of atoms)))) =
-    are ∙ ap (λ (fs : List FillItem). rule.standings entries prepared (map atom_of atoms) (map (λ (item : FillItem). item.advance) fs)) is in
+    let count = count_of entries prepared (map atom_of atoms) inline (atom_extents (map atom_of atoms)) fills made whole refl are in
     record {
-      boxes = boxes;
-      style = style;
-      low = low;
-      high = high;
+      bounded = bounded;
+      container = container;
       able = subst P (sym same) able;
-      rise = subst Q (sym same) (standings_rise entries made prepared.items prepared.levels prepared.classes prepared.bases (map (λ (item : FillItem). item.advance) fills) (map atom_of atoms) are near.rise);
+      rise = subst Q (sym same) (standings_rise entries made prepared.items prepared.levels prepared.classes prepared.bases (advances fills) (map atom_of atoms) are near.rise);
       few = subst R (sym same) (omega arith);
-      reach = subst S (sym same) (subst T (sym whole_are) (standings_reach inline entries prepared (map atom_of atoms) near.advances few most));
+      reach = subst S (sym same) (subst T (sym are) (standings_reach inline entries prepared (map atom_of atoms) near.advances few most));
       empty = empty;
     }
 
-pub lines_all : (tables : List (Option Table)) (container : Container) (entries : List Entry) (prepared : Preparation) (atoms : List rule.Atom) (s t : ℤ) (fills : List FillItem) (standings : List Standing) (ends : List ℕ)
-    (made : Pieces) → made ≡ lines_from tables container entries 0 0 (pos 0) [] standings ends → standings ≡ rule.standings entries prepared atoms (map (λ (item : FillItem). item.advance) fills)
-    → ends ≡ lines s fills → s ≡ container.size → fills ≡ fill_items (Some t) entries prepared (atom_extents atoms) → t ≡ container.size → made ≡ paragraph_lines tables container entries prepared atoms
+pub lines_all : (tables : List (Option Table)) (container : Container) (entries given : List Entry) (prepared asked : Preparation) (atoms : List rule.Atom) (standings : List Standing) (ends : List ℕ) (made : Pieces)
+    → made ≡ lines_from tables container entries 0 0 (pos 0) [] standings ends → standings ≡ rule.standings entries prepared atoms (advances (fill_items (Some container.size) entries prepared (atom_extents atoms)))
+    → ends ≡ lines container.size (fill_items (Some container.size) entries prepared (atom_extents atoms)) → entries ≡ given → prepared ≡ asked → made ≡ paragraph_lines tables container given asked atoms
 unfolding paragraph_lines
-lines_all tables container entries prepared atoms s t fills standings ends made is are at same filled too =
-    let advances : List FillItem → List ℤ = λ fs. map (λ (item : FillItem). item.advance) fs in
-    let put : List FillItem → Pieces = λ fs. lines_from tables container entries 0 0 (pos 0) [] (rule.standings entries prepared atoms (advances fs)) (lines container.size fs) in
+lines_all tables container entries given prepared asked atoms standings ends made is are at same alike =
     is
     ∙ ap (λ (ss : List Standing). lines_from tables container entries 0 0 (pos 0) [] ss ends) are
-    ∙ ap (lines_from tables container entries 0 0 (pos 0) [] (rule.standings entries prepared atoms (advances fills))) (at ∙ ap (λ z. lines z fills) same)
-    ∙ ap put (filled ∙ ap (λ z. fill_items (Some z) entries prepared (atom_extents atoms)) too)
+    ∙ ap (lines_from tables container entries 0 0 (pos 0) [] (rule.standings entries prepared atoms (advances (fill_items (Some container.size) entries prepared (atom_extents atoms))))) at
+    ∙ ap (λ (es : List Entry). paragraph_lines tables container es prepared atoms) same
+    ∙ ap (λ (p : Preparation). paragraph_lines tables container given p atoms) alike

@@ -1,9 +1,9 @@
 -- A line of a paragraph that is one run of text outside all inline boxes, item by item.
-use Rattle.std.proofs.Common.{◌≡◌, ◌∙◌, refl, sym, ap, arith, subst, true, false, ℕ, suc, ◌+◌, ◌-◌, ◌<◌, ◌≤◌, ◌^◌, List, [], ◌∷◌, ◌++◌, length, map, get_or, take, drop, Option, None, ℤ, pos, ◌+ℤ◌, unsigned_abs, to_z, of_z, w64}
+use Rattle.std.proofs.Common.{◌≡◌, ◌∙◌, refl, sym, ap, arith, subst, true, ℕ, suc, ◌+◌, ◌-◌, ◌<◌, ◌≤◌, ◌^◌, List, [], ◌∷◌, ◌++◌, length, map, get_or, take, drop, Option, None, ℤ, pos, ◌+ℤ◌, unsigned_abs, to_z, of_z, w64}
 use Rattle.std.specs.Prelude.{All, ◌≤ℤ◌}
 use Rattle.std.specs.List.{slice_range}
 use Rattle.std.proofs.lemmas.Int.{ints}
-use Rattle.std.proofs.lemmas.List.{get_or-map, get_or-take, length-map, length-take-le, take-map}
+use Rattle.std.proofs.lemmas.List.{get_or-take, length-map, length-take-le, take-map}
 use Rattle.std.proofs.lemmas.List.Elements.{All-map, All-weaker}
 use Rattle.face_api.specs.Table.{Table}
 use Rattle.fragment_types.specs.declared.unit_kind.UnitKind.{UnitKind}
@@ -24,11 +24,11 @@ use Rattle.para_lines.specs.declared.text.TextName.{TextName}
 use Rattle.para_lines.specs.Around.{fresh}
 use Rattle.para_lines.specs.Boxes.{chain_at, innermost}
 use Rattle.para_lines.specs.Filling.{is_space}
-use Rattle.para_lines.specs.Line.{IsAble, content_in, first_atom, standing_of}
+use Rattle.para_lines.specs.Line.{content_in, first_atom, standing_of}
 use Rattle.para_lines.specs.Lines as rule
 use Rattle.para_lines.specs.Lines.{boxes_on, chain_of_first, chain_of_last, line_item}
 use Rattle.para_lines.specs.Reach.{standing_reach}
-use Rattle.para_lines.specs.Text.{HasOwnAtom, IsText, IsUnitFrom, bare}
+use Rattle.para_lines.specs.Text.{IsText, IsUnitFrom, bare}
 use Rattle.para_lines.specs.Setting.{line_between}
 use Rattle.para_lines.proofs.StackLaws.{range_map, total_part}
 

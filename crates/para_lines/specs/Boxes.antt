@@ -1,8 +1,7 @@
 -- The inline boxes of a paragraph as tables by place: what stands round each entry, and where the box ends that begins there.
 use Rattle.std.specs.Prelude.{◌≡◌, ℕ, ◌+◌, ◌<◌, ◌≤◌, ◌^◌, ⊤, Bool, false, cond, not, List, [], ◌∷◌, length, map, filter, All, Option, Some, None, slice_index_or, slice_set, ◌+ℤ◌}
-use Rattle.fragment_types.specs.Item.{Entry, text, begins, ends, atom, line_break, entries_of}
+use Rattle.fragment_types.specs.Item.{Entry, text, begins, ends, atom, line_break}
 use Rattle.style_types.specs.Style.{IsBounded}
-use Rattle.para_lines.specs.declared.boxes.Boxes as code
 use Rattle.para_lines.specs.declared.boxes.BoxEnd.{BoxEnd}
 use Rattle.para_lines.specs.declared.boxes.Round.{Round}
 use Rattle.para_lines.specs.Around.{chains, ends_it, has}
@@ -15,6 +14,11 @@ HasBounds (ends node edges) = ⊤
 HasBounds (text node bytes style) = ⊤
 HasBounds (atom name) = ⊤
 HasBounds (line_break node) = ⊤
+
+-- the entries of a paragraph: few, and no number of their styles is too great
+pub record AreBounded (entries : List Entry) : Type 0 where
+  pub few : length entries ≤ 2 ^ 20
+  pub bounds : All HasBounds entries
 
 abbrev pub innermost : List ℕ → Option ℕ
 innermost [] = None
@@ -62,12 +66,11 @@ pub record AreEnds (entries : List Entry) (ends : List BoxEnd) : Type 0 where
   pub count : length ends ≡ length entries
   pub each : (box : ℕ) (d : BoxEnd) → box < length entries → slice_index_or ends box d ≡ end_of entries box
 
--- they are the boxes of its items
-pub record AreBoxes (boxes : code.Boxes) : Type 0 where
-  pub count : length boxes.items.now ≤ 2 ^ 20
-  pub bounds : All HasBounds (entries_of boxes.items.now)
-  pub rounds : boxes.rounds.items ≡ map (round_of (entries_of boxes.items.now)) (chains (entries_of boxes.items.now))
-  pub ends : AreEnds (entries_of boxes.items.now) boxes.ends.items
+-- tables by entry: what stands round each, and where the box ends that begins there
+pub record AreBoxes (entries : List Entry) (rounds : List Round) (ends : List BoxEnd) : Type 0 where
+  pub bounded : AreBounded entries
+  pub rounds_are : rounds ≡ map (round_of entries) (chains entries)
+  pub ends_are : AreEnds entries ends
 
 -- ---- one entry more
 

@@ -2,6 +2,7 @@ pub mod Alone
 pub mod Around
 pub mod Boxes
 pub mod Edges
+pub mod Filled
 pub mod Filling
 pub mod Line
 pub mod Lines

@@ -1,15 +1,18 @@
 -- The boxes of a line by their places among the paragraph's entries.
-use Rattle.std.specs.Prelude.{◌≡◌, ℕ, ◌<◌, ◌≤◌, ◌^◌, ⊤, true, List, [], ◌∷◌, All, length, map, IfSome, slice_index_or, ℤ, ◌+ℤ◌, ◌-ℤ◌, unsigned_abs}
+use Rattle.std.specs.Prelude.{◌≡◌, ℕ, ◌<◌, ◌≤◌, ◌^◌, ⊤, true, List, [], ◌∷◌, All, length, map, IfSome, Option, slice_index_or, ℤ, ◌+ℤ◌, ◌-ℤ◌, unsigned_abs}
 use Rattle.wm_units.specs.Numbers.{cap}
+use Rattle.face_api.specs.Table.{Table}
+use Rattle.line_place.specs.declared.line.LineBox.{LineBox}
 use Rattle.line_place.specs.Line as place
 use Rattle.para_prepare.specs.declared.item.PreparedContent.{PreparedContent}
 use Rattle.para_prepare.specs.declared.item.PreparedContent.TheVariants.{Unit, Combined, Atom as atoms_of, Break}
 use Rattle.para_lines.specs.declared.standing.Standing as code
 use Rattle.para_lines.specs.declared.paragraph.Atom as code_atom
-use Rattle.para_lines.specs.Paragraph.{atom_of}
+use Rattle.para_lines.specs.declared.line.Seated as code_seated
+use Rattle.para_lines.specs.Paragraph.{IsContainer, atom_of}
 use Rattle.fragment_types.specs.Item.{Entry}
 use Rattle.para_lines.specs.Around.{has, no_entry}
-use Rattle.para_lines.specs.Boxes.{Begins, chain_at, innermost}
+use Rattle.para_lines.specs.Boxes.{Begins, chain_at, chain_behind, innermost}
 use Rattle.para_lines.specs.Lines as rule
 use Rattle.para_lines.specs.Lines.{boxes_on, no_atom, place_in}
 
@@ -73,6 +76,21 @@ pub record IsOnLine (entries : List Entry) (places : List ℕ) (box : ℕ) : Typ
 
 abbrev pub AreOnLine : List Entry → (places : List ℕ) → Type 0
 AreOnLine entries places = (box : ℕ) → has places box ≡ true → IsOnLine entries places box
+
+-- what a line's boxes are made from: its container, the boxes that stand on it, each after those round it, with the table of
+-- their places, and entries that there are on both sides
+pub record IsSeated (seated : code_seated.Seated) : Type 0 where
+  pub container : IsContainer seated.container.now
+  pub seats : AreSeats seated.places.now seated.seats.now
+  pub on_line : AreOnLine seated.boxes.now seated.places.now
+  pub before : IfSome seated.sides.before (λ before. before < length seated.boxes.now)
+  pub after : IfSome seated.sides.after (λ after. after < length seated.boxes.now)
+
+-- a box on this line
+abbrev pub box_on : code_seated.Seated → List (Option Table) → (box : ℕ) → LineBox
+box_on seated tables =
+    rule.line_box tables seated.container.now seated.boxes.now seated.places.now
+    (chain_behind seated.boxes.now seated.sides.before) (chain_behind seated.boxes.now seated.sides.after)
 
 -- ---- the items that a line is made of
 

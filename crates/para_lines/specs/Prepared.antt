@@ -1,5 +1,5 @@
 -- A prepared paragraph as lines are told of it, item by item.
-use Rattle.std.specs.Prelude.{◌≡◌, ℕ, zero, suc, ◌+◌, ◌<◌, cond, List, [], ◌∷◌, All, length, drop, Option, Some, None, ℤ, pos, ◌+ℤ◌}
+use Rattle.std.specs.Prelude.{ℕ, zero, suc, ◌+◌, ◌<◌, cond, List, [], ◌∷◌, All, drop, Option, Some, None, ℤ, pos, ◌+ℤ◌}
 use Rattle.wm_modes.specs.declared.sides.FlowSide.TheVariants.{InlineStart, InlineEnd}
 use Rattle.fragment_types.specs.Item.{Entry}
 use Rattle.para_prepare.specs.Preparation.{Preparation}
@@ -18,13 +18,6 @@ preparation_of prepared = record {
   bases = prepared.bases.now;
   breaks = prepared.breaks.now;
 }
-
--- each of its lists has one entry for each item
-pub record IsWhole (prepared : code.PreparedLists) : Type 0 where
-  pub levels : length prepared.levels.now ≡ length prepared.items.now
-  pub classes : length prepared.classes.now ≡ length prepared.items.now
-  pub bases : length prepared.bases.now ≡ length prepared.items.now
-  pub breaks : length prepared.breaks.now ≡ length prepared.items.now
 
 -- items come from entries that there are
 abbrev pub AreSources : (count : ℕ) → List PreparedItem → Type 0

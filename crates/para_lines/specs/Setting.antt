@@ -1,20 +1,23 @@
 -- What the lines of a paragraph are made from, and the line of some of its items (CSS 2, 9.4.2).
-use Rattle.std.specs.Prelude.{◌≡◌, ℕ, ◌+◌, ◌*◌, ◌≤◌, ◌^◌, List, [], drop, take, length, map, All, Option, pos, ◌≤ℤ◌}
+use Rattle.std.specs.Prelude.{◌≡◌, ℕ, ◌+◌, ◌*◌, ◌≤◌, ◌^◌, List, [], drop, take, length, map, All, Option, ℤ, unsigned_abs}
 use Rattle.std.specs.List.{slice_range}
 use Rattle.face_api.specs.Table.{Table}
-use Rattle.fragment_types.specs.Item.{Entry, entries_of}
-use Rattle.style_types.specs.Style.{IsBounded}
+use Rattle.fragment_types.specs.Item.{Entry}
+use Rattle.fragment_types.specs.Fragment.{Pieces}
 use Rattle.line_place.specs.Line.{Line}
+use Rattle.line_place.specs.Placing.{line_over, line_under, parts}
 use Rattle.line_place.specs.Reach.{total}
+use Rattle.line_place.specs.Spread.{spread}
 use Rattle.para_lines.specs.declared.paragraph.Container.{Container}
 use Rattle.para_lines.specs.declared.setting.Setting as code
-use Rattle.para_lines.specs.Boxes.{AreBoxes}
+use Rattle.para_lines.specs.Boxes.{AreBounded}
 use Rattle.para_lines.specs.Line.{IsAble, RiseIn, standing_of}
 use Rattle.para_lines.specs.Lines.{Standing, chain_of_first, chain_of_last, line}
-use Rattle.para_lines.specs.Reach.{standing_reach}
+use Rattle.para_lines.specs.Paragraph.{IsContainer}
+use Rattle.para_lines.specs.Reach.{HoldsWithin, standing_reach}
 
 abbrev pub entries_in : code.Setting → List Entry
-entries_in setting = entries_of setting.boxes.now.items.now
+entries_in setting = setting.boxes.now
 
 abbrev pub standings_in : code.Setting → List Standing
 standings_in setting = map (standing_of (entries_in setting)) setting.standings.now
@@ -38,12 +41,23 @@ lines_reach count standings = count * (5 * 2 ^ 39) + length standings * 2 ^ 35 +
 
 -- lines can be made from it: few items, in order, each with its atom, and lengths within bounds
 pub record IsSetting (setting : code.Setting) : Type 0 where
-  pub boxes : AreBoxes setting.boxes.now
-  pub style : IsBounded setting.container.now.style
-  pub low : pos 0 ≤ℤ setting.container.now.size
-  pub high : setting.container.now.size ≤ℤ pos (2 ^ 32)
-  pub able : All (IsAble (length setting.boxes.now.items.now)) setting.standings.now
+  pub bounded : AreBounded setting.boxes.now
+  pub container : IsContainer setting.container.now
+  pub able : All (IsAble (length setting.boxes.now)) setting.standings.now
   pub rise : RiseIn 0 setting.standings.now
   pub few : length setting.standings.now ≤ 2 ^ 21
   pub reach : total standing_reach (standings_in setting) ≤ 2 ^ 58
   pub empty : setting.empty.now.value.items ≡ []
+
+-- the line box of a line: how far it reaches over and under its baseline, and its fragments
+pub record IsLineBox (line : Line) (over under : ℤ) (made : Pieces) : Type 0 where
+  pub over_is : over ≡ line_over line
+  pub under_is : under ≡ line_under line
+  pub parts_are : made ≡ parts line
+
+-- the line box of the items from one place up to another, which is as near as these can reach
+pub record IsPlaced (setting : code.Setting) (tables : List (Option Table)) (from end_ : ℕ) (over under : ℤ) (made : Pieces) : Type 0 where
+  pub line_box : IsLineBox (line_between tables setting.container.now (entries_in setting) (standings_in setting) from end_) over under made
+  pub over_near : unsigned_abs over ≤ 2 ^ 34 + room_between (standings_in setting) from end_
+  pub under_near : unsigned_abs under ≤ 2 ^ 34 + room_between (standings_in setting) from end_
+  pub within : (most : ℕ) → All (HoldsWithin most) (standings_in setting) → spread made ≤ 12 * reach_between (length setting.boxes.now) (standings_in setting) from end_ + most

@@ -12,7 +12,7 @@ ghost use Rattle.para_lines.specs.Filling.{fill_items, item_chains};
 ghost use Rattle.para_lines.specs.Line.{IsAble, IsNearAtom, standing_of};
 ghost use Rattle.para_lines.specs.Lines.{atom_extents, standings_by};
 ghost use Rattle.para_lines.specs.Paragraph.{atom_of};
-ghost use Rattle.para_lines.specs.Prepared.{AreSources, IsWhole, preparation_of};
+ghost use Rattle.para_lines.specs.Prepared.{AreSources, preparation_of};
 
 use crate::filling::{is_space, past};
 use crate::paragraph::Atom;
@@ -62,8 +62,7 @@ pub(crate) fn standings_alone<'a>(
     lists: &PreparedLists<'a>,
     atoms: &'a [Atom],
 ) -> Result<Standings<'a>, AllocError>
-    requires whole { IsWhole lists.now }
-    requires sources { AreSources 1 lists.now.items.now }
+    requires { AreSources 1 lists.now.items.now }
     ensures are { IfOk result (λ made. (entries : List Entry) → length entries ≡ 1 → map (standing_of entries) made.items ≡ standings_by lists.now.items.now lists.now.levels.now lists.now.classes.now lists.now.bases.now (map (λ item. item.advance) (map fill_alone made.items)) (item_chains entries lists.now.items.now) (map atom_of atoms.now)) }
     ensures fills { IfOk result (λ made. (inline : Option ℤ) (entries : List Entry) → length entries ≡ 1 → map fill_alone made.items ≡ fill_items inline entries (preparation_of lists.now) (atom_extents (map atom_of atoms.now))) }
     ensures able { IfOk result (λ made. (count : ℕ) → AreSources count lists.now.items.now → atoms_in lists.now.items.now ≤ length atoms.now → All IsNearAtom atoms.now → All (IsAble count) made.items) }
@@ -81,8 +80,7 @@ pub(crate) fn standings_alone<'a>(
 // The item at a place, with the atoms from it on.
 #[inline(always)]
 fn standing_alone<'a>(lists: &PreparedLists<'a>, place: usize, atoms: &'a [Atom]) -> Standing<'a>
-    requires whole { IsWhole lists.now }
-    requires place { place < length lists.now.items.now }
+    requires { place < length lists.now.items.now }
     ensures item { result.item.now ≡ slice_index_or lists.now.items.now place result.item.now }
     ensures level { result.level ≡ slice_index_or lists.now.levels.now place result.level }
     ensures bidi_class { result.class ≡ slice_index_or lists.now.classes.now place result.class }

@@ -1,14 +1,15 @@
 //! The inline boxes of a paragraph: which stand round each of its items, and where each ends (CSS 2, 9.2.2).
 
 ghost use Rattle.std.specs.Prelude.{◌≡◌, ◌+◌, ◌*◌, ◌<◌, ◌≤◌, ◌^◌, [], ℕ, length, map, slice_index_or, All, IfOk, IfSome, unsigned_abs};
-ghost use Rattle.fragment_types.specs.Item.{Entry, entries_of, entry_of};
+ghost use Rattle.fragment_types.specs.Item.{entries_of, entry_of};
 ghost use Rattle.style_types.specs.Style.{IsBounded};
 ghost use Rattle.para_lines.specs.Around.{box_at, box_by, chains, has, no_entry};
 ghost use Rattle.para_lines.specs.Boxes as rule;
-ghost use Rattle.para_lines.specs.Boxes.{AreBoxes, AreEnds, Begins, HasBounds, apart, chain_at, chain_behind, round_of};
+ghost use Rattle.para_lines.specs.Boxes.{AreBounded, AreEnds, Begins, HasBounds, apart, chain_at, chain_behind, round_of};
 
 use fragment_types::Item;
 use std::alloc::{AllocError, Global};
+use std::marker::Model;
 use style_types::Style;
 
 /// What stands round an item of a paragraph.
@@ -42,9 +43,21 @@ pub(crate) struct Beginning {
 /// What stands round each item of a paragraph, and where the box ends that begins there.
 #[derive(Drop)]
 pub(crate) struct Boxes<'a> {
-    pub(crate) items: &'a [Item],
-    pub(crate) rounds: Vec<Round>,
-    pub(crate) ends: BoxEnds,
+    items: &'a [Item],
+    rounds: Vec<Round>,
+    ends: BoxEnds,
+}
+
+impl<'a> Model for Boxes<'a> {
+    ghost use Rattle.std.specs.Prelude.{List};
+    ghost use Rattle.fragment_types.specs.Item.{Entry, entries_of};
+    ghost use Rattle.para_lines.specs.Boxes.{AreBoxes};
+
+    ghost Value = { List Entry };
+
+    ghost view = { λ boxes. entries_of boxes.items.now };
+
+    ghost invariant = { λ boxes. AreBoxes (entries_of boxes.items.now) boxes.rounds.items boxes.ends.items };
 }
 
 /// Places of boxes in order.
@@ -52,10 +65,8 @@ pub(crate) type Places = Vec<usize>;
 
 /// The boxes of a paragraph. Each item is looked at twice.
 pub(crate) fn inline_boxes(alloc: Global, items: &[Item]) -> Result<Boxes<'_>, AllocError>
-    requires count { length items.now ≤ 2 ^ 20 }
-    requires bounds { All HasBounds (entries_of items.now) }
-    ensures boxes { IfOk result (λ made. AreBoxes made) }
-    ensures items { IfOk result (λ made. made.items.now ≡ items.now) }
+    requires { AreBounded (entries_of items.now) }
+    ensures { IfOk result (λ made. made ≡ entries_of items.now) }
 {
     let rounds = rounds(alloc, items)?;
     let ends = ends(alloc, items, &rounds)?;
@@ -67,6 +78,13 @@ pub(crate) fn inline_boxes(alloc: Global, items: &[Item]) -> Result<Boxes<'_>, A
 }
 
 impl Boxes<'_> {
+    /// How many items the paragraph has.
+    pub(crate) fn count(&self) -> usize
+        ensures { result ≡ length self.now }
+    {
+        self.items.len()
+    }
+
     /// The boxes round an item that are not round another one, the innermost first. Looks at one box more than it gives.
     pub(crate) fn apart(
         &self,
@@ -74,10 +92,9 @@ impl Boxes<'_> {
         place: usize,
         other: Option<usize>,
     ) -> Result<Places, AllocError>
-        requires boxes { AreBoxes self.now }
-        requires place { place < length self.now.items.now }
-        requires other { IfSome other (λ other. other < length self.now.items.now) }
-        ensures { IfOk result (λ made. made.items ≡ apart (chain_at (entries_of self.now.items.now) place) (chain_behind (entries_of self.now.items.now) other)) }
+        requires place { place < length self.now }
+        requires other { IfSome other (λ other. other < length self.now) }
+        ensures { IfOk result (λ made. made.items ≡ apart (chain_at self.now place) (chain_behind self.now other)) }
     {
         let mut places = Vec::new(alloc);
         let mut inside = self.rounds[place].inside;
@@ -93,12 +110,11 @@ impl Boxes<'_> {
 
     /// The box that begins at a place.
     pub(crate) fn at(&self, place: usize) -> Beginning
-        requires boxes { AreBoxes self.now }
-        requires place { place < length self.now.items.now }
-        ensures node { result.node ≡ (box_at (entries_of self.now.items.now) place).node }
-        ensures style { result.style ≡ (box_at (entries_of self.now.items.now) place).style }
-        ensures opens { result.opens ≡ (box_at (entries_of self.now.items.now) place).opens }
-        ensures closes { result.closes ≡ (box_at (entries_of self.now.items.now) place).closes }
+        requires { place < length self.now }
+        ensures node { result.node ≡ (box_at self.now place).node }
+        ensures style { result.style ≡ (box_at self.now place).style }
+        ensures opens { result.opens ≡ (box_at self.now place).opens }
+        ensures closes { result.closes ≡ (box_at self.now place).closes }
         ensures bounded { IsBounded result.style }
     {
         let end = self.ends[place];
@@ -107,9 +123,8 @@ impl Boxes<'_> {
 
     /// What stands round the item at a place.
     pub(crate) fn round(&self, place: usize) -> Round
-        requires boxes { AreBoxes self.now }
-        requires place { place < length self.now.items.now }
-        ensures is { result ≡ round_of (entries_of self.now.items.now) (chain_at (entries_of self.now.items.now) place) }
+        requires { place < length self.now }
+        ensures is { result ≡ round_of self.now (chain_at self.now place) }
         ensures near { unsigned_abs result.shifts ≤ 2 ^ 53 }
     {
         self.rounds[place]
@@ -117,10 +132,9 @@ impl Boxes<'_> {
 
     /// Whether a box stands round an item.
     pub(crate) fn stands_round(&self, beginning: usize, other: Option<usize>) -> bool
-        requires boxes { AreBoxes self.now }
-        requires begins { Begins (slice_index_or (entries_of self.now.items.now) beginning no_entry) }
-        requires other { IfSome other (λ other. other < length self.now.items.now) }
-        ensures { result ≡ has (chain_behind (entries_of self.now.items.now) other) beginning }
+        requires begins { Begins (slice_index_or self.now beginning no_entry) }
+        requires other { IfSome other (λ other. other < length self.now) }
+        ensures { result ≡ has (chain_behind self.now other) beginning }
     {
         match other {
             None => false,
@@ -157,8 +171,7 @@ fn beginning_of(item: &Item, closes: bool) -> Beginning
 }
 
 fn rounds(alloc: Global, items: &[Item]) -> Result<Vec<Round>, AllocError>
-    requires count { length items.now ≤ 2 ^ 20 }
-    requires bounds { All HasBounds (entries_of items.now) }
+    requires { AreBounded (entries_of items.now) }
     ensures { IfOk result (λ made. made.items ≡ map (round_of (entries_of items.now)) (chains (entries_of items.now))) }
 {
     let mut rounds = Vec::with_capacity(alloc, items.len())?;

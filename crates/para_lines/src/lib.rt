@@ -4,6 +4,7 @@
 mod alone;
 mod boxes;
 mod edges;
+mod filled;
 mod filling;
 mod input;
 mod line;

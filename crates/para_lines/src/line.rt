@@ -1,17 +1,17 @@
 //! The inline boxes of a line (CSS 2, 9.4.2 and 10.8.1).
 
-ghost use Rattle.std.specs.Prelude.{◌≡◌, ◌+◌, ◌<◌, ◌≤◌, ◌^◌, ◌≤ℤ◌, ◌+ℤ◌, ◌++◌, ◌&&◌, true, not, [], All, IfOk, IfSome, List, OnOk, Option, length, map, option_map, pos, reverse, slice_index_or, unsigned_abs};
+ghost use Rattle.std.specs.Prelude.{◌≡◌, ◌+◌, ◌<◌, ◌≤◌, ◌^◌, ◌+ℤ◌, ◌++◌, ◌&&◌, true, not, [], All, IfOk, IfSome, List, OnOk, Option, length, map, option_map, pos, reverse, slice_index_or, unsigned_abs};
 ghost use Rattle.face_api.specs.Faces.{faces_of};
-ghost use Rattle.fragment_types.specs.Item.{entries_of};
 ghost use Rattle.style_types.specs.Style.{IsBounded};
 ghost use Rattle.line_place.specs.Reach.{AreNear};
 ghost use Rattle.wm_units.specs.Numbers.{cap};
 ghost use Rattle.face_api.specs.Table.{Table};
 ghost use Rattle.para_lines.specs.Around.{box_at, fresh, has, no_entry};
 ghost use Rattle.para_lines.specs.Edges.{raised_in};
-ghost use Rattle.para_lines.specs.Boxes.{AreBoxes, Begins, chain_at, chain_behind};
-ghost use Rattle.para_lines.specs.Line.{AreOnLine, AreSeats, IsAble, IsOnLine, on_line};
+ghost use Rattle.para_lines.specs.Boxes.{Begins, chain_at, chain_behind};
+ghost use Rattle.para_lines.specs.Line.{AreSeats, IsAble, IsOnLine, IsSeated, box_on, on_line};
 ghost use Rattle.para_lines.specs.Lines as rule;
+ghost use Rattle.para_lines.specs.Paragraph.{IsContainer};
 
 use crate::boxes::{Boxes, Places};
 use crate::edges::{inner_edge_on, margin_on};
@@ -31,9 +31,8 @@ pub(crate) fn boxes_on(
     boxes: &Boxes,
     standings: &[Standing],
 ) -> Result<Places, AllocError>
-    requires boxes { AreBoxes boxes.now }
-    requires able { All (IsAble (length boxes.now.items.now)) standings.now }
-    ensures { IfOk result (λ made. made.items ≡ on_line (entries_of boxes.now.items.now) [] standings.now) }
+    requires { All (IsAble (length boxes.now)) standings.now }
+    ensures { IfOk result (λ made. made.items ≡ on_line boxes.now [] standings.now) }
 {
     let mut places = Vec::new(alloc);
     let mut before = None;
@@ -55,10 +54,9 @@ fn add_fresh(
     source: usize,
     other: Option<usize>,
 ) -> Result<(), AllocError>
-    requires boxes { AreBoxes boxes.now }
-    requires source { source < length boxes.now.items.now }
-    requires other { IfSome other (λ other. other < length boxes.now.items.now) }
-    ensures { OnOk result (places.new.items ≡ places.old.items ++ fresh (chain_at (entries_of boxes.now.items.now) source) (chain_behind (entries_of boxes.now.items.now) other)) }
+    requires source { source < length boxes.now }
+    requires other { IfSome other (λ other. other < length boxes.now) }
+    ensures { OnOk result (places.new.items ≡ places.old.items ++ fresh (chain_at boxes.now source) (chain_behind boxes.now other)) }
 {
     if other != Some(source) {
         let fresh = boxes.apart(alloc, source, other)?;
@@ -78,13 +76,6 @@ fn add_reversed(places: &mut Places, fresh: &[usize]) -> Result<(), AllocError>
     Ok(())
 }
 
-/// The boxes of a line, and a table by box of their places in this list.
-#[derive(Clone, Copy)]
-pub(crate) struct Seated<'a> {
-    pub(crate) places: &'a [usize],
-    pub(crate) seats: &'a [usize],
-}
-
 /// What the items on both sides of a line come from.
 #[derive(Clone, Copy)]
 pub(crate) struct Sides {
@@ -92,10 +83,21 @@ pub(crate) struct Sides {
     pub(crate) after: Option<usize>,
 }
 
+/// What a line's items and boxes are made from: the boxes of the paragraph and its container, the places of those that stand on
+/// the line, a table by box of their places in this list, and what stands on both sides of it.
+#[derive(Clone, Copy)]
+pub(crate) struct Seated<'a> {
+    pub(crate) boxes: &'a Boxes<'a>,
+    pub(crate) container: &'a Container,
+    pub(crate) places: &'a [usize],
+    pub(crate) seats: &'a [usize],
+    pub(crate) sides: Sides,
+}
+
 impl Seated<'_> {
     /// The place of a box in the line's list.
     pub(crate) fn seat_of(&self, inside: Option<usize>) -> Option<usize>
-        requires seats { AreSeats self.now.places.now self.now.seats.now }
+        requires seated { IsSeated self.now }
         requires inside { IfSome inside (λ box. has self.now.places.now box ≡ true) }
         ensures { result ≡ option_map (rule.place_in self.now.places.now) inside }
     {
@@ -103,6 +105,89 @@ impl Seated<'_> {
             Some(place) => Some(self.seats[place]),
             None => None,
         }
+    }
+
+    /// The boxes of the line.
+    pub(crate) fn line_boxes(&self, alloc: Global, faces: &Faces) -> Result<LineBoxes, AllocError>
+        requires { IsSeated self.now }
+        ensures are { IfOk result (λ made. made.items ≡ map (box_on self.now (faces_of ⟦<dyn Face as Face>⟧ faces.now)) self.now.places.now) }
+        ensures near { IfOk result (λ made. All (λ b. AreNear b.extents) made.items) }
+    {
+        let mut made = Vec::with_capacity(alloc, self.places.len())?;
+        for k in 0..self.places.len() {
+            made.push(self.line_box(faces, self.places[k]))?;
+        }
+        Ok(made)
+    }
+
+    // An inline box as it stands on the line: its extents, its edges, and whether it begins and ends there.
+    fn line_box(&self, faces: &Faces, place: usize) -> LineBox
+        requires seated { IsSeated self.now }
+        requires place { IsOnLine self.now.boxes.now self.now.places.now place }
+        ensures is { result ≡ box_on self.now (faces_of ⟦<dyn Face as Face>⟧ faces.now) place }
+        ensures near { AreNear result.extents }
+    {
+        let extents = self.extents_of(faces, place);
+        let made = self.box_with(place, extents);
+        made
+    }
+
+    // The extents of a box.
+    fn extents_of(&self, faces: &Faces, place: usize) -> Extents
+        requires { place < length self.now.boxes.now }
+        ensures are { result ≡ rule.extents_in (faces_of ⟦<dyn Face as Face>⟧ faces.now) self.now.container.now (box_at self.now.boxes.now place).style (raised_in self.now.boxes.now (box_at self.now.boxes.now place).style.shift (box_at self.now.boxes.now place).outer) }
+        ensures near { AreNear result }
+    {
+        let own = self.boxes.at(place);
+        let raised = self.box_raised(&own.style, place);
+        extents_in(faces, self.container, &own.style, raised)
+    }
+
+    // How far a box in this style is raised.
+    fn box_raised(&self, style: &Style, place: usize) -> i64
+        requires style { IsBounded style.now }
+        requires place { place < length self.now.boxes.now }
+        ensures value { result ≡ raised_in self.now.boxes.now style.now.shift (box_at self.now.boxes.now place).outer }
+        ensures near { unsigned_abs result ≤ 2 ^ 32 }
+    {
+        let round = self.boxes.round(place);
+        raised(style.shift, round.shifts)
+    }
+
+    // The box with these extents.
+    fn box_with(&self, place: usize, extents: Extents) -> LineBox
+        requires seated { IsSeated self.now }
+        requires place { IsOnLine self.now.boxes.now self.now.places.now place }
+        ensures is { (tables : List (Option Table)) → extents ≡ rule.extents_in tables self.now.container.now (box_at self.now.boxes.now place).style (raised_in self.now.boxes.now (box_at self.now.boxes.now place).style.shift (box_at self.now.boxes.now place).outer) → result ≡ box_on self.now tables place }
+        ensures extents { result.extents ≡ extents }
+    {
+        let own = self.boxes.at(place);
+        let round = self.boxes.round(place);
+        let style = &own.style;
+        let container = self.container;
+        LineBox {
+            node: own.node,
+            outer: self.seat_of(round.inside),
+            extents,
+            dir: style.used_direction(),
+            left: inner_edge_at(container, style, FlowSide::LineLeft),
+            right: inner_edge_at(container, style, FlowSide::LineRight),
+            over: inner_edge_at(container, style, FlowSide::LineOver),
+            under: inner_edge_at(container, style, FlowSide::LineUnder),
+            left_margin: margin_at(container, style, FlowSide::LineLeft),
+            right_margin: margin_at(container, style, FlowSide::LineRight),
+            first: self.has_edge(own.opens, place, self.sides.before),
+            last: self.has_edge(own.closes, place, self.sides.after),
+        }
+    }
+
+    // Whether the edges of a box stand on the line: not where it stands round the item beyond them too.
+    fn has_edge(&self, edges: bool, place: usize, beyond: Option<usize>) -> bool
+        requires begins { Begins (slice_index_or self.now.boxes.now place no_entry) }
+        requires beyond { IfSome beyond (λ other. other < length self.now.boxes.now) }
+        ensures { result ≡ (edges && not (has (chain_behind self.now.boxes.now beyond) place)) }
+    {
+        edges && !self.boxes.stands_round(place, beyond)
     }
 }
 
@@ -121,9 +206,8 @@ pub(crate) fn seat(seats: &mut Places, places: &[usize])
 
 /// The margin of an inline box on a side of its container's lines.
 fn margin_at(container: &Container, style: &Style, side: FlowSide) -> i64
+    requires container { IsContainer container.now }
     requires style { IsBounded style.now }
-    requires low { pos 0 ≤ℤ container.now.size }
-    requires high { container.now.size ≤ℤ pos (2 ^ 32) }
     ensures value { result ≡ rule.margin_at container.now style.now side }
     ensures near { unsigned_abs result ≤ 2 ^ 32 }
 {
@@ -136,9 +220,8 @@ fn margin_at(container: &Container, style: &Style, side: FlowSide) -> i64
 
 /// Its border and padding there.
 fn inner_edge_at(container: &Container, style: &Style, side: FlowSide) -> i64
+    requires container { IsContainer container.now }
     requires style { IsBounded style.now }
-    requires low { pos 0 ≤ℤ container.now.size }
-    requires high { container.now.size ≤ℤ pos (2 ^ 32) }
     ensures value { result ≡ rule.inner_edge_at container.now style.now side }
     ensures near { unsigned_abs result ≤ 2 ^ 33 }
 {
@@ -179,127 +262,4 @@ pub(crate) fn raised(shift: i64, shifts: i64) -> i64
     ensures near { unsigned_abs result ≤ 2 ^ 32 }
 {
     cap(shift + shifts)
-}
-
-/// The boxes of a line between items that come from these.
-pub(crate) fn line_boxes(
-    alloc: Global,
-    boxes: &Boxes,
-    container: &Container,
-    faces: &Faces,
-    seated: &Seated,
-    sides: Sides,
-) -> Result<LineBoxes, AllocError>
-    requires boxes { AreBoxes boxes.now }
-    requires low { pos 0 ≤ℤ container.now.size }
-    requires high { container.now.size ≤ℤ pos (2 ^ 32) }
-    requires seats { AreSeats seated.now.places.now seated.now.seats.now }
-    requires on_line { AreOnLine (entries_of boxes.now.items.now) seated.now.places.now }
-    requires before { IfSome sides.before (λ before. before < length boxes.now.items.now) }
-    requires after { IfSome sides.after (λ after. after < length boxes.now.items.now) }
-    ensures are { IfOk result (λ made. made.items ≡ map (rule.line_box (faces_of ⟦<dyn Face as Face>⟧ faces.now) container.now (entries_of boxes.now.items.now) seated.now.places.now (chain_behind (entries_of boxes.now.items.now) sides.before) (chain_behind (entries_of boxes.now.items.now) sides.after)) seated.now.places.now) }
-    ensures near { IfOk result (λ made. All (λ b. AreNear b.extents) made.items) }
-{
-    let mut made = Vec::with_capacity(alloc, seated.places.len())?;
-    for k in 0..seated.places.len() {
-        let place = seated.places[k];
-        made.push(line_box(boxes, container, faces, seated, sides, place))?;
-    }
-    Ok(made)
-}
-
-// An inline box as it stands on its line: its extents, its edges, and whether it begins and ends there.
-fn line_box(
-    boxes: &Boxes,
-    container: &Container,
-    faces: &Faces,
-    seated: &Seated,
-    sides: Sides,
-    place: usize,
-) -> LineBox
-    requires boxes { AreBoxes boxes.now }
-    requires low { pos 0 ≤ℤ container.now.size }
-    requires high { container.now.size ≤ℤ pos (2 ^ 32) }
-    requires seats { AreSeats seated.now.places.now seated.now.seats.now }
-    requires on_line { IsOnLine (entries_of boxes.now.items.now) seated.now.places.now place }
-    requires before { IfSome sides.before (λ before. before < length boxes.now.items.now) }
-    requires after { IfSome sides.after (λ after. after < length boxes.now.items.now) }
-    ensures is { result ≡ rule.line_box (faces_of ⟦<dyn Face as Face>⟧ faces.now) container.now (entries_of boxes.now.items.now) seated.now.places.now (chain_behind (entries_of boxes.now.items.now) sides.before) (chain_behind (entries_of boxes.now.items.now) sides.after) place }
-    ensures near { AreNear result.extents }
-{
-    let extents = extents_of(boxes, container, faces, place);
-    let made = box_with(boxes, container, seated, sides, place, extents);
-    made
-}
-
-// The extents of a box.
-fn extents_of(boxes: &Boxes, container: &Container, faces: &Faces, place: usize) -> Extents
-    requires boxes { AreBoxes boxes.now }
-    requires place { place < length boxes.now.items.now }
-    ensures are { result ≡ rule.extents_in (faces_of ⟦<dyn Face as Face>⟧ faces.now) container.now (box_at (entries_of boxes.now.items.now) place).style (raised_in (entries_of boxes.now.items.now) (box_at (entries_of boxes.now.items.now) place).style.shift (box_at (entries_of boxes.now.items.now) place).outer) }
-    ensures near { AreNear result }
-{
-    let own = boxes.at(place);
-    let raised = box_raised(boxes, &own.style, place);
-    extents_in(faces, container, &own.style, raised)
-}
-
-// How far a box in this style is raised.
-fn box_raised(boxes: &Boxes, style: &Style, place: usize) -> i64
-    requires boxes { AreBoxes boxes.now }
-    requires place { place < length boxes.now.items.now }
-    requires style { IsBounded style.now }
-    ensures value { result ≡ raised_in (entries_of boxes.now.items.now) style.now.shift (box_at (entries_of boxes.now.items.now) place).outer }
-    ensures near { unsigned_abs result ≤ 2 ^ 32 }
-{
-    let round = boxes.round(place);
-    raised(style.shift, round.shifts)
-}
-
-// The box with these extents.
-fn box_with(
-    boxes: &Boxes,
-    container: &Container,
-    seated: &Seated,
-    sides: Sides,
-    place: usize,
-    extents: Extents,
-) -> LineBox
-    requires boxes { AreBoxes boxes.now }
-    requires low { pos 0 ≤ℤ container.now.size }
-    requires high { container.now.size ≤ℤ pos (2 ^ 32) }
-    requires seats { AreSeats seated.now.places.now seated.now.seats.now }
-    requires on_line { IsOnLine (entries_of boxes.now.items.now) seated.now.places.now place }
-    requires before { IfSome sides.before (λ before. before < length boxes.now.items.now) }
-    requires after { IfSome sides.after (λ after. after < length boxes.now.items.now) }
-    ensures is { (tables : List (Option Table)) → extents ≡ rule.extents_in tables container.now (box_at (entries_of boxes.now.items.now) place).style (raised_in (entries_of boxes.now.items.now) (box_at (entries_of boxes.now.items.now) place).style.shift (box_at (entries_of boxes.now.items.now) place).outer) → result ≡ rule.line_box tables container.now (entries_of boxes.now.items.now) seated.now.places.now (chain_behind (entries_of boxes.now.items.now) sides.before) (chain_behind (entries_of boxes.now.items.now) sides.after) place }
-    ensures extents { result.extents ≡ extents }
-{
-    let own = boxes.at(place);
-    let round = boxes.round(place);
-    let style = &own.style;
-    LineBox {
-        node: own.node,
-        outer: seated.seat_of(round.inside),
-        extents,
-        dir: style.used_direction(),
-        left: inner_edge_at(container, style, FlowSide::LineLeft),
-        right: inner_edge_at(container, style, FlowSide::LineRight),
-        over: inner_edge_at(container, style, FlowSide::LineOver),
-        under: inner_edge_at(container, style, FlowSide::LineUnder),
-        left_margin: margin_at(container, style, FlowSide::LineLeft),
-        right_margin: margin_at(container, style, FlowSide::LineRight),
-        first: has_edge(boxes, own.opens, place, sides.before),
-        last: has_edge(boxes, own.closes, place, sides.after),
-    }
-}
-
-// Whether the edges of a box stand on a line: not where it stands round the item beyond them too.
-fn has_edge(boxes: &Boxes, edges: bool, place: usize, beyond: Option<usize>) -> bool
-    requires boxes { AreBoxes boxes.now }
-    requires begins { Begins (slice_index_or (entries_of boxes.now.items.now) place no_entry) }
-    requires beyond { IfSome beyond (λ other. other < length boxes.now.items.now) }
-    ensures { result ≡ (edges && not (has (chain_behind (entries_of boxes.now.items.now) beyond) place)) }
-{
-    edges && !boxes.stands_round(place, beyond)
 }

@@ -1,7 +1,6 @@
 //! What lines are told of a prepared paragraph.
 
-ghost use Rattle.std.specs.Prelude.{◌≡◌, ℕ, ◌<◌, IfSome, length};
-ghost use Rattle.para_lines.specs.Prepared.{AreSources, IsWhole, preparation_of, source_before, source_behind};
+ghost use Rattle.std.specs.Prelude.{◌≡◌, ◌<◌, length};
 
 use fragment_types::Breaking;
 use para_prepare::{Prepared, PreparedItem};
@@ -16,23 +15,30 @@ pub(crate) struct PreparedLists<'a> {
     pub(crate) classes: &'a [BidiClass],
     pub(crate) bases: &'a [u8],
     pub(crate) breaks: &'a [Breaking],
+
+    ghost each_level: { length levels.now ≡ length items.now },
+    ghost each_class: { length classes.now ≡ length items.now },
+    ghost each_base: { length bases.now ≡ length items.now },
+    ghost each_break: { length breaks.now ≡ length items.now },
 }
 
-/// The lists of a prepared paragraph.
-pub(crate) fn lists_of(prepared: &Prepared) -> PreparedLists<'_>
-    ensures lists { preparation_of result ≡ prepared.now }
-    ensures whole { IsWhole result }
-{
-    PreparedLists {
-        items: prepared.items(),
-        levels: prepared.levels(),
-        classes: prepared.classes(),
-        bases: prepared.bases(),
-        breaks: prepared.breaks(),
+impl<'a> PreparedLists<'a> {
+    ghost use Rattle.std.specs.Prelude.{ℕ, IfSome};
+    ghost use Rattle.para_lines.specs.Prepared.{AreSources, preparation_of, source_before, source_behind};
+
+    /// The lists of a prepared paragraph.
+    pub(crate) fn of(prepared: &'a Prepared) -> PreparedLists<'a>
+        ensures { preparation_of result ≡ prepared.now }
+    {
+        PreparedLists {
+            items: prepared.items(),
+            levels: prepared.levels(),
+            classes: prepared.classes(),
+            bases: prepared.bases(),
+            breaks: prepared.breaks(),
+        }
     }
-}
 
-impl PreparedLists<'_> {
     /// The paragraph's item that the prepared one before this comes from.
     pub(crate) fn source_before(&self, place: usize) -> Option<usize>
         requires { place < length self.now.items.now }

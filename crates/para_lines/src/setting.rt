@@ -5,18 +5,14 @@ ghost use Rattle.face_api.specs.Faces.{faces_of};
 ghost use Rattle.fragment_types.specs.Fragment.{pieces_of};
 ghost use Rattle.fragment_types.specs.Item.{Entry};
 ghost use Rattle.line_place.specs.Line.{line_of};
-ghost use Rattle.line_place.specs.Placing.{line_over, line_under, parts};
 ghost use Rattle.line_place.specs.Reach.{AreNested, HasLimit, IsBefore, line_reach};
-ghost use Rattle.line_place.specs.Spread.{spread};
 ghost use Rattle.para_lines.specs.Boxes.{chain_behind};
 ghost use Rattle.para_lines.specs.Line.{IsAble, standing_of};
 ghost use Rattle.para_lines.specs.Lines.{chain_of_first, chain_of_last};
-ghost use Rattle.para_lines.specs.Reach.{HoldsWithin};
-ghost use Rattle.para_lines.specs.Setting.{IsSetting, entries_in, line_between, reach_between, room_between, standings_in};
+ghost use Rattle.para_lines.specs.Setting.{IsPlaced, IsSetting, entries_in, line_between, reach_between, room_between, standings_in};
 
 use crate::boxes::{Boxes, Places};
-use crate::input::line_input;
-use crate::line::Sides;
+use crate::line::{Seated, Sides, boxes_on, seat};
 use crate::paragraph::Container;
 use crate::standing::Standing;
 use crate::text::{text_in, text_line};
@@ -48,15 +44,11 @@ impl<'a> Setting<'a> {
         end: usize,
     ) -> Result<LineFragment, AllocError>
         requires set { IsSetting self.now }
-        requires seats { length seats.old.items ≡ length self.now.boxes.now.items.now }
+        requires seats { length seats.old.items ≡ length self.now.boxes.now }
         requires from { from ≤ end }
         requires end { end ≤ length self.now.standings.now }
         ensures same { length seats.new.items ≡ length seats.old.items }
-        ensures over { IfOk result (λ made. made.over ≡ line_over (line_between (faces_of ⟦<dyn Face as Face>⟧ faces.now) self.now.container.now (entries_in self.now) (standings_in self.now) from end)) }
-        ensures under { IfOk result (λ made. made.under ≡ line_under (line_between (faces_of ⟦<dyn Face as Face>⟧ faces.now) self.now.container.now (entries_in self.now) (standings_in self.now) from end)) }
-        ensures parts { IfOk result (λ made. pieces_of made.parts.items ≡ parts (line_between (faces_of ⟦<dyn Face as Face>⟧ faces.now) self.now.container.now (entries_in self.now) (standings_in self.now) from end)) }
-        ensures within { IfOk result (λ made. (unsigned_abs made.over ≤ 2 ^ 34 + room_between (standings_in self.now) from end) × (unsigned_abs made.under ≤ 2 ^ 34 + room_between (standings_in self.now) from end)) }
-        ensures spread { IfOk result (λ made. (most : ℕ) → All (HoldsWithin most) (standings_in self.now) → spread (pieces_of made.parts.items) ≤ 12 * reach_between (length self.now.boxes.now.items.now) (standings_in self.now) from end + most) }
+        ensures placed { IfOk result (λ made. IsPlaced self.now (faces_of ⟦<dyn Face as Face>⟧ faces.now) from end made.over made.under (pieces_of made.parts.items)) }
     {
         let standings = &self.standings[from..end];
         match text_in(self.boxes, standings) {
@@ -82,15 +74,11 @@ impl<'a> Setting<'a> {
         end: usize,
     ) -> Result<LineFragment, AllocError>
         requires set { IsSetting self.now }
-        requires seats { length seats.old.items ≡ length self.now.boxes.now.items.now }
+        requires seats { length seats.old.items ≡ length self.now.boxes.now }
         requires from { from ≤ end }
         requires end { end ≤ length self.now.standings.now }
         ensures same { length seats.new.items ≡ length seats.old.items }
-        ensures over { IfOk result (λ made. made.over ≡ line_over (line_between (faces_of ⟦<dyn Face as Face>⟧ faces.now) self.now.container.now (entries_in self.now) (standings_in self.now) from end)) }
-        ensures under { IfOk result (λ made. made.under ≡ line_under (line_between (faces_of ⟦<dyn Face as Face>⟧ faces.now) self.now.container.now (entries_in self.now) (standings_in self.now) from end)) }
-        ensures parts { IfOk result (λ made. pieces_of made.parts.items ≡ parts (line_between (faces_of ⟦<dyn Face as Face>⟧ faces.now) self.now.container.now (entries_in self.now) (standings_in self.now) from end)) }
-        ensures within { IfOk result (λ made. (unsigned_abs made.over ≤ 2 ^ 34 + room_between (standings_in self.now) from end) × (unsigned_abs made.under ≤ 2 ^ 34 + room_between (standings_in self.now) from end)) }
-        ensures spread { IfOk result (λ made. (most : ℕ) → All (HoldsWithin most) (standings_in self.now) → spread (pieces_of made.parts.items) ≤ 12 * reach_between (length self.now.boxes.now.items.now) (standings_in self.now) from end + most) }
+        ensures placed { IfOk result (λ made. IsPlaced self.now (faces_of ⟦<dyn Face as Face>⟧ faces.now) from end made.over made.under (pieces_of made.parts.items)) }
     {
         let standings = &self.standings[from..end];
         match units_in(self.boxes, standings) {
@@ -116,7 +104,7 @@ impl<'a> Setting<'a> {
         end: usize,
     ) -> Result<LineInput<'a>, AllocError>
         requires set { IsSetting self.now }
-        requires seats { length seats.old.items ≡ length self.now.boxes.now.items.now }
+        requires seats { length seats.old.items ≡ length self.now.boxes.now }
         requires from { from ≤ end }
         requires end { end ≤ length self.now.standings.now }
         ensures same { length seats.new.items ≡ length seats.old.items }
@@ -124,20 +112,20 @@ impl<'a> Setting<'a> {
         ensures nested { IfOk result (λ made. AreNested made.boxes.items) }
         ensures inside { IfOk result (λ made. All (λ item. IsBefore (length made.boxes.items) item.inside) (line_of made).items) }
         ensures reach { IfOk result (λ made. line_reach (line_of made) ≤ 2 ^ 60) }
-        ensures far { IfOk result (λ made. line_reach (line_of made) ≤ reach_between (length self.now.boxes.now.items.now) (standings_in self.now) from end) }
+        ensures far { IfOk result (λ made. line_reach (line_of made) ≤ reach_between (length self.now.boxes.now) (standings_in self.now) from end) }
         ensures limit { IfOk result (λ made. HasLimit (2 ^ 34 + room_between (standings_in self.now) from end) (line_of made)) }
     {
-        let sides = sides_of(self.standings, from, end);
         let items = &self.standings[from..end];
-        let made = line_input(
-            alloc,
-            self.boxes,
-            self.container,
-            faces,
+        let places = boxes_on(alloc, self.boxes, items)?;
+        seat(seats, &places);
+        let seated = Seated {
+            boxes: self.boxes,
+            container: self.container,
+            places: &places,
             seats,
-            items,
-            sides,
-        )?;
+            sides: sides_of(self.standings, from, end),
+        };
+        let made = seated.line(alloc, faces, items)?;
         Ok(made)
     }
 }

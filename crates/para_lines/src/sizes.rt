@@ -1,16 +1,16 @@
 //! The intrinsic sizes of a paragraph (CSS 2, 10.3.5).
 
-ghost use Rattle.std.specs.Prelude.{◌≡◌, ◌≤◌, ◌^◌, All, IfOk, length};
+ghost use Rattle.std.specs.Prelude.{◌≡◌, ◌≤◌, ◌^◌, All, IfOk, None, length};
 ghost use Rattle.fragment_types.specs.Item.{entries_of};
 ghost use Rattle.para_prepare.specs.Preparation.{AreFrom, HasBounds as prepared_bounds};
-ghost use Rattle.para_lines.specs.Boxes.{AreBoxes, HasBounds};
+ghost use Rattle.para_lines.specs.Boxes.{AreBounded, HasBounds};
 ghost use Rattle.para_lines.specs.Filling as rule;
-ghost use Rattle.para_lines.specs.Prepared.{AreSources, IsWhole, preparation_of};
+ghost use Rattle.para_lines.specs.Prepared.{preparation_of};
 ghost use Rattle.para_lines.specs.Reach.{AreNear, lengths_of};
 
-use crate::boxes::{Boxes, inline_boxes};
-use crate::filling::fill_items;
-use crate::prepared::{PreparedLists, lists_of};
+use crate::boxes::inline_boxes;
+use crate::filling::FillInput;
+use crate::prepared::PreparedLists;
 use fragment_types::Item;
 use line_fill::{Intrinsic, intrinsic};
 use para_prepare::Prepared;
@@ -37,29 +37,31 @@ pub fn paragraph_sizes(
     ensures { IfOk result (λ sizes. sizes ≡ rule.paragraph_sizes (entries_of items.now) prepared.now mins.now maxs.now) }
 {
     let boxes = inline_boxes(alloc, items)?;
-    let lists = lists_of(prepared);
-    let sizes = sizes_of(alloc, &boxes, &lists, mins, maxs)?;
+    let input = FillInput {
+        boxes: &boxes,
+        lists: PreparedLists::of(prepared),
+        inline: None,
+    };
+    let sizes = sizes_of(alloc, &input, mins, maxs)?;
     Ok(sizes)
 }
 
 // The min-content and the max-content size of a paragraph whose inline boxes are known (CSS 2, 10.3.5).
 fn sizes_of(
     alloc: Global,
-    boxes: &Boxes,
-    lists: &PreparedLists,
+    input: &FillInput,
     mins: &[i64],
     maxs: &[i64],
 ) -> Result<Intrinsic, AllocError>
-    requires boxes { AreBoxes boxes.now }
-    requires whole { IsWhole lists.now }
-    requires sources { AreSources (length boxes.now.items.now) lists.now.items.now }
-    requires near { AreNear lists.now.items.now }
+    requires unknown { input.now.inline ≡ None }
+    requires bounded { AreBounded input.now.boxes.now }
+    requires near { AreNear input.now.lists.items.now }
     requires mins { lengths_of mins.now ≤ 2 ^ 59 }
     requires maxs { lengths_of maxs.now ≤ 2 ^ 59 }
-    ensures { IfOk result (λ sizes. sizes ≡ rule.paragraph_sizes (entries_of boxes.now.items.now) (preparation_of lists.now) mins.now maxs.now) }
+    ensures { IfOk result (λ sizes. sizes ≡ rule.paragraph_sizes input.now.boxes.now (preparation_of input.now.lists) mins.now maxs.now) }
 {
-    let narrow = fill_items(alloc, boxes, lists, None, mins)?;
-    let wide = fill_items(alloc, boxes, lists, None, maxs)?;
+    let narrow = input.items(alloc, mins)?;
+    let wide = input.items(alloc, maxs)?;
     Ok(Intrinsic {
         min: intrinsic(&narrow).min,
         max: intrinsic(&wide).max,

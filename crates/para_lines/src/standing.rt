@@ -1,19 +1,18 @@
 //! The items of a paragraph on their way to its lines (CSS 2, 9.4.2 and 10.8.1).
 
 ghost use Rattle.std.specs.Prelude.{◌≡◌, ◌+◌, ◌<◌, ◌≤◌, ◌^◌, true, [], ℕ, All, IfOk, IfSome, List, length, map, slice_index_or, unsigned_abs};
-ghost use Rattle.fragment_types.specs.Item.{Entry, entries_of};
+ghost use Rattle.fragment_types.specs.Item.{Entry};
 ghost use Rattle.line_fill.specs.declared.item.FillItem.{FillItem};
 ghost use Rattle.para_prepare.specs.Preparation.{atoms_in};
 ghost use Rattle.para_lines.specs.Filling.{item_chains};
-ghost use Rattle.para_lines.specs.Boxes.{AreBoxes, chain_at, innermost};
+ghost use Rattle.para_lines.specs.Boxes.{chain_at, innermost};
 ghost use Rattle.line_place.specs.Line.{content_of, item_of};
-ghost use Rattle.para_lines.specs.Line.{AreSeats, HasAtom, IsAble, IsNearAtom, atom_in, content_in, first_atom, on_line, standing_of};
+ghost use Rattle.para_lines.specs.Line.{HasAtom, IsAble, IsNearAtom, IsSeated, atom_in, content_in, first_atom, on_line, standing_of};
 ghost use Rattle.para_lines.specs.Paragraph.{atom_of};
 ghost use Rattle.para_lines.specs.Lines as rule;
-ghost use Rattle.para_lines.specs.Prepared.{AreSources, IsWhole};
+ghost use Rattle.para_lines.specs.Prepared.{AreSources};
 ghost use Rattle.para_lines.specs.Around.{has};
 
-use crate::boxes::Boxes;
 use crate::filling::{is_space, past};
 use crate::line::{Seated, raised};
 use crate::paragraph::Atom;
@@ -50,8 +49,7 @@ pub(crate) fn standings<'a>(
     fills: &[FillItem],
     atoms: &'a [Atom],
 ) -> Result<Standings<'a>, AllocError>
-    requires whole { IsWhole lists.now }
-    requires fills { length fills.now ≡ length lists.now.items.now }
+    requires { length fills.now ≡ length lists.now.items.now }
     ensures are { IfOk result (λ made. (entries : List Entry) → map (standing_of entries) made.items ≡ rule.standings_by lists.now.items.now lists.now.levels.now lists.now.classes.now lists.now.bases.now (map (λ item. item.advance) fills.now) (item_chains entries lists.now.items.now) (map atom_of atoms.now)) }
     ensures able { IfOk result (λ made. (count : ℕ) → AreSources count lists.now.items.now → atoms_in lists.now.items.now ≤ length atoms.now → All IsNearAtom atoms.now → All (IsAble count) made.items) }
 {
@@ -72,7 +70,6 @@ fn standing_at<'a>(
     place: usize,
     atoms: &'a [Atom],
 ) -> Standing<'a>
-    requires whole { IsWhole lists.now }
     requires fills { length fills.now ≡ length lists.now.items.now }
     requires place { place < length lists.now.items.now }
     ensures item { result.item.now ≡ slice_index_or lists.now.items.now place result.item.now }
@@ -93,45 +90,44 @@ fn standing_at<'a>(
     }
 }
 
-/// The items of a line with these boxes.
-pub(crate) fn line_items<'a>(
-    alloc: Global,
-    boxes: &Boxes,
-    seated: &Seated,
-    standings: &[Standing<'a>],
-) -> Result<LineItems<'a>, AllocError>
-    requires boxes { AreBoxes boxes.now }
-    requires seats { AreSeats seated.now.places.now seated.now.seats.now }
-    requires able { All (IsAble (length boxes.now.items.now)) standings.now }
-    requires places { seated.now.places.now ≡ on_line (entries_of boxes.now.items.now) [] standings.now }
-    ensures { IfOk result (λ made. map item_of made.items ≡ map (λ standing. rule.line_item (entries_of boxes.now.items.now) seated.now.places.now (standing_of (entries_of boxes.now.items.now) standing)) standings.now) }
-{
-    let mut made = Vec::with_capacity(alloc, standings.len())?;
-    for k in 0..standings.len() {
-        made.push_reserved(line_item(boxes, seated, &standings[k]));
+impl Seated<'_> {
+    /// The items of the line.
+    pub(crate) fn line_items<'b>(
+        &self,
+        alloc: Global,
+        standings: &[Standing<'b>],
+    ) -> Result<LineItems<'b>, AllocError>
+        requires seated { IsSeated self.now }
+        requires able { All (IsAble (length self.now.boxes.now)) standings.now }
+        requires places { self.now.places.now ≡ on_line self.now.boxes.now [] standings.now }
+        ensures { IfOk result (λ made. map item_of made.items ≡ map (λ standing. rule.line_item self.now.boxes.now self.now.places.now (standing_of self.now.boxes.now standing)) standings.now) }
+    {
+        let mut made = Vec::with_capacity(alloc, standings.len())?;
+        for k in 0..standings.len() {
+            made.push_reserved(self.line_item(&standings[k]));
+        }
+        Ok(made)
     }
-    Ok(made)
-}
 
-// An item on its line: what it is, its level and its extent, and in which box of the line it stands.
-fn line_item<'a>(boxes: &Boxes, seated: &Seated, standing: &Standing<'a>) -> LineItem<'a>
-    requires boxes { AreBoxes boxes.now }
-    requires seats { AreSeats seated.now.places.now seated.now.seats.now }
-    requires able { IsAble (length boxes.now.items.now) standing.now }
-    requires inside { IfSome (innermost (chain_at (entries_of boxes.now.items.now) standing.now.item.now.source)) (λ box. has seated.now.places.now box ≡ true) }
-    ensures { item_of result ≡ rule.line_item (entries_of boxes.now.items.now) seated.now.places.now (standing_of (entries_of boxes.now.items.now) standing.now) }
-{
-    let item = standing.item;
-    let round = boxes.round(item.source as usize);
-    let what = content(&item.what, round.shifts, standing.atoms);
-    LineItem {
-        level: standing.level,
-        class: standing.class,
-        extent: standing.extent,
-        inside: seated.seat_of(round.inside),
-        space: is_space(&item.what),
-        apart: item.apart,
-        what,
+    // An item on the line: what it is, its level and its extent, and in which box of the line it stands.
+    fn line_item<'b>(&self, standing: &Standing<'b>) -> LineItem<'b>
+        requires seated { IsSeated self.now }
+        requires able { IsAble (length self.now.boxes.now) standing.now }
+        requires inside { IfSome (innermost (chain_at self.now.boxes.now standing.now.item.now.source)) (λ box. has self.now.places.now box ≡ true) }
+        ensures { item_of result ≡ rule.line_item self.now.boxes.now self.now.places.now (standing_of self.now.boxes.now standing.now) }
+    {
+        let item = standing.item;
+        let round = self.boxes.round(item.source as usize);
+        let what = content(&item.what, round.shifts, standing.atoms);
+        LineItem {
+            level: standing.level,
+            class: standing.class,
+            extent: standing.extent,
+            inside: self.seat_of(round.inside),
+            space: is_space(&item.what),
+            apart: item.apart,
+            what,
+        }
     }
 }
 

@@ -1,17 +1,17 @@
 //! A line of a paragraph that is one run of text outside all inline boxes (CSS 2, 9.4.2 and 10.8).
 
-ghost use Rattle.std.specs.Prelude.{◌≡◌, ℕ, ◌<◌, ◌≤◌, ◌^◌, ◌≤ℤ◌, true, [], List, All, IfOk, IfSome, length, map, pos, unsigned_abs};
+ghost use Rattle.std.specs.Prelude.{◌≡◌, ℕ, ◌<◌, ◌≤◌, ◌^◌, true, [], List, All, IfOk, IfSome, length, map, pos, unsigned_abs};
 ghost use Rattle.face_api.specs.Faces.{faces_of};
 ghost use Rattle.fragment_types.specs.Fragment.{pieces_of};
-ghost use Rattle.fragment_types.specs.Item.{Entry, entries_of};
-ghost use Rattle.style_types.specs.Style.{IsBounded};
-ghost use Rattle.line_place.specs.Placing.{line_over, line_under, parts};
+ghost use Rattle.fragment_types.specs.Item.{Entry};
 ghost use Rattle.line_place.specs.Reach.{AreNear, item_reach, total};
 ghost use Rattle.line_place.specs.TextLine.{IsUnit, extent_in, unit_in};
-ghost use Rattle.para_lines.specs.Boxes.{AreBoxes, chain_at};
+ghost use Rattle.para_lines.specs.Boxes.{chain_at};
 ghost use Rattle.para_lines.specs.Line.{IsAble, content_in, first_atom, standing_of};
 ghost use Rattle.para_lines.specs.Filling.{is_space};
 ghost use Rattle.para_lines.specs.Lines as rule;
+ghost use Rattle.para_lines.specs.Paragraph.{IsContainer};
+ghost use Rattle.para_lines.specs.Setting.{IsLineBox};
 ghost use Rattle.para_lines.specs.Text.{AreSpacesFrom, HasOwnAtom, IsText, IsUnitFrom, bare};
 
 use crate::boxes::Boxes;
@@ -42,9 +42,8 @@ pub(crate) struct Text {
 
 /// The text that these items are, where they are one run outside all inline boxes, from left to right, before Spaces.
 pub(crate) fn text_in(boxes: &Boxes, standings: &[Standing]) -> Option<Text>
-    requires boxes { AreBoxes boxes.now }
-    requires able { All (IsAble (length boxes.now.items.now)) standings.now }
-    ensures { IfSome result (λ text. IsText (entries_of boxes.now.items.now) standings.now text) }
+    requires { All (IsAble (length boxes.now)) standings.now }
+    ensures { IfSome result (λ text. IsText boxes.now standings.now text) }
 {
     let count = without_spaces(standings);
     if count == 0 {
@@ -62,10 +61,9 @@ pub(crate) fn text_in(boxes: &Boxes, standings: &[Standing]) -> Option<Text>
 // Whether an item stands outside all inline boxes, in a paragraph of level 0.
 #[tactic(auto, using(crate::proofs::TextLines::no_chain))]
 fn stands_outside(boxes: &Boxes, standing: &Standing) -> bool
-    requires boxes { AreBoxes boxes.now }
-    requires source { standing.now.item.now.source < length boxes.now.items.now }
+    requires { standing.now.item.now.source < length boxes.now }
     ensures base { result ≡ true → standing.now.base ≡ 0 }
-    ensures chain { result ≡ true → chain_at (entries_of boxes.now.items.now) standing.now.item.now.source ≡ [] }
+    ensures chain { result ≡ true → chain_at boxes.now standing.now.item.now.source ≡ [] }
 {
     let round = boxes.round(standing.item.source as usize);
     standing.base == 0 && round.inside.is_none()
@@ -143,15 +141,11 @@ pub(crate) fn text_line(
     empty: &Rc<Fragments>,
 ) -> Result<LineFragment, AllocError>
     requires empty { empty.now.value.items ≡ [] }
-    requires style { IsBounded container.now.style }
-    requires low { pos 0 ≤ℤ container.now.size }
-    requires high { container.now.size ≤ℤ pos (2 ^ 32) }
+    requires container { IsContainer container.now }
     requires count { text.count ≤ length standings.now }
     requires atoms { All HasOwnAtom standings.now }
     requires reach { total item_reach (map bare standings.now) ≤ 2 ^ 58 }
-    ensures over { IfOk result (λ made. (entries : List Entry) (before after : List ℕ) → IsText entries standings.now text → made.over ≡ line_over (rule.line (faces_of ⟦<dyn Face as Face>⟧ faces.now) container.now entries before after (map (standing_of entries) standings.now))) }
-    ensures under { IfOk result (λ made. (entries : List Entry) (before after : List ℕ) → IsText entries standings.now text → made.under ≡ line_under (rule.line (faces_of ⟦<dyn Face as Face>⟧ faces.now) container.now entries before after (map (standing_of entries) standings.now))) }
-    ensures parts { IfOk result (λ made. (entries : List Entry) (before after : List ℕ) → IsText entries standings.now text → pieces_of made.parts.items ≡ parts (rule.line (faces_of ⟦<dyn Face as Face>⟧ faces.now) container.now entries before after (map (standing_of entries) standings.now))) }
+    ensures line_box { IfOk result (λ made. (entries : List Entry) (before after : List ℕ) → IsText entries standings.now text → IsLineBox (rule.line (faces_of ⟦<dyn Face as Face>⟧ faces.now) container.now entries before after (map (standing_of entries) standings.now)) made.over made.under (pieces_of made.parts.items)) }
     ensures near { IfOk result (λ made. (unsigned_abs made.over ≤ 2 ^ 34) × (unsigned_abs made.under ≤ 2 ^ 34)) }
     ensures strut { IfOk result (λ made. AreNear (rule.extents_in (faces_of ⟦<dyn Face as Face>⟧ faces.now) container.now container.now.style (pos 0))) }
 {

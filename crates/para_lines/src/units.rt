@@ -1,18 +1,18 @@
 //! A line of a paragraph that is units of one text outside all inline boxes (CSS 2, 9.4.2 and 10.8).
 
-ghost use Rattle.std.specs.Prelude.{◌≡◌, ℕ, ◌<◌, ◌≤◌, ◌^◌, ◌≤ℤ◌, true, [], List, All, IfOk, IfSome, length, map, pos, unsigned_abs};
+ghost use Rattle.std.specs.Prelude.{◌≡◌, ℕ, ◌<◌, ◌≤◌, ◌^◌, true, [], List, All, IfOk, IfSome, length, map, pos, unsigned_abs};
 ghost use Rattle.face_api.specs.Faces.{faces_of};
 ghost use Rattle.fragment_types.specs.Fragment.{pieces_of};
-ghost use Rattle.fragment_types.specs.Item.{Entry, entries_of};
-ghost use Rattle.style_types.specs.Style.{IsBounded};
+ghost use Rattle.fragment_types.specs.Item.{Entry};
 ghost use Rattle.bidi_order.specs.Blanks.{reset};
-ghost use Rattle.line_place.specs.Placing.{line_over, line_under, parts};
 ghost use Rattle.line_place.specs.Reach.{AreNear, item_reach, total};
 ghost use Rattle.line_place.specs.TextLine.{unit_in};
 ghost use Rattle.line_place.specs.UnitLine.{IsUnitItem, unit_seen};
-ghost use Rattle.para_lines.specs.Boxes.{AreBoxes, chain_at};
+ghost use Rattle.para_lines.specs.Boxes.{chain_at};
 ghost use Rattle.para_lines.specs.Line.{IsAble, standing_of};
 ghost use Rattle.para_lines.specs.Lines as rule;
+ghost use Rattle.para_lines.specs.Paragraph.{IsContainer};
+ghost use Rattle.para_lines.specs.Setting.{IsLineBox};
 ghost use Rattle.para_lines.specs.Text.{bare};
 ghost use Rattle.para_lines.specs.Units.{AreUnits, IsUnitContent, IsUnitOf};
 
@@ -32,9 +32,8 @@ use std::alloc::{AllocError, Global};
 
 /// The text node and the form of these items, where they are units of one text outside all inline boxes, which nothing parts.
 pub(crate) fn units_in(boxes: &Boxes, standings: &[Standing]) -> Option<TextName>
-    requires boxes { AreBoxes boxes.now }
-    requires able { All (IsAble (length boxes.now.items.now)) standings.now }
-    ensures { IfSome result (λ name. AreUnits (entries_of boxes.now.items.now) standings.now name) }
+    requires { All (IsAble (length boxes.now)) standings.now }
+    ensures { IfSome result (λ name. AreUnits boxes.now standings.now name) }
 {
     if standings.is_empty() {
         return None;
@@ -51,9 +50,8 @@ pub(crate) fn units_in(boxes: &Boxes, standings: &[Standing]) -> Option<TextName
 // Whether an item stands outside all inline boxes.
 #[tactic(auto, using(crate::proofs::TextLines::no_chain))]
 fn is_outside(boxes: &Boxes, standing: &Standing) -> bool
-    requires boxes { AreBoxes boxes.now }
-    requires source { standing.now.item.now.source < length boxes.now.items.now }
-    ensures chain { result ≡ true → chain_at (entries_of boxes.now.items.now) standing.now.item.now.source ≡ [] }
+    requires { standing.now.item.now.source < length boxes.now }
+    ensures chain { result ≡ true → chain_at boxes.now standing.now.item.now.source ≡ [] }
 {
     let round = boxes.round(standing.item.source as usize);
     round.inside.is_none()
@@ -87,14 +85,10 @@ pub(crate) fn unit_line(
     standings: &[Standing],
     name: TextName,
 ) -> Result<LineFragment, AllocError>
-    requires style { IsBounded container.now.style }
-    requires low { pos 0 ≤ℤ container.now.size }
-    requires high { container.now.size ≤ℤ pos (2 ^ 32) }
+    requires container { IsContainer container.now }
     requires units { All (IsUnitItem name.node name.form) (map bare standings.now) }
     requires reach { total item_reach (map bare standings.now) ≤ 2 ^ 58 }
-    ensures over { IfOk result (λ made. (entries : List Entry) (before after : List ℕ) → AreUnits entries standings.now name → made.over ≡ line_over (rule.line (faces_of ⟦<dyn Face as Face>⟧ faces.now) container.now entries before after (map (standing_of entries) standings.now))) }
-    ensures under { IfOk result (λ made. (entries : List Entry) (before after : List ℕ) → AreUnits entries standings.now name → made.under ≡ line_under (rule.line (faces_of ⟦<dyn Face as Face>⟧ faces.now) container.now entries before after (map (standing_of entries) standings.now))) }
-    ensures parts { IfOk result (λ made. (entries : List Entry) (before after : List ℕ) → AreUnits entries standings.now name → pieces_of made.parts.items ≡ parts (rule.line (faces_of ⟦<dyn Face as Face>⟧ faces.now) container.now entries before after (map (standing_of entries) standings.now))) }
+    ensures line_box { IfOk result (λ made. (entries : List Entry) (before after : List ℕ) → AreUnits entries standings.now name → IsLineBox (rule.line (faces_of ⟦<dyn Face as Face>⟧ faces.now) container.now entries before after (map (standing_of entries) standings.now)) made.over made.under (pieces_of made.parts.items)) }
     ensures near { IfOk result (λ made. (unsigned_abs made.over ≤ 2 ^ 34) × (unsigned_abs made.under ≤ 2 ^ 34)) }
     ensures strut { IfOk result (λ made. AreNear (rule.extents_in (faces_of ⟦<dyn Face as Face>⟧ faces.now) container.now container.now.style (pos 0))) }
 {

@@ -31,8 +31,8 @@ loop-place-preserved c =
       done = λ entries one.
           rw c.past-atoms.ensures
           (alone_on entries c.args.lists.now.items.now c.args.lists.now.levels.now c.args.lists.now.classes.now c.args.lists.now.bases.now c.args.lists.now.breaks.now c.args.atoms.now c.loop-place.atoms.now
-          c.loop-place.made.items c.push_reserved.new.self.items c.loop-place.place c.standing_alone-standing.result one lt c.requires.sources c.requires.whole.levels c.requires.whole.classes c.requires.whole.bases
-          c.requires.whole.breaks own.item own.level own.bidi_class own.base own.end own.extent own.atoms c.push_reserved.ensures.items (c.loop-place.invariant.done entries one));
+          c.loop-place.made.items c.push_reserved.new.self.items c.loop-place.place c.standing_alone-standing.result one lt c.requires c.args.lists.now.each_level c.args.lists.now.each_class c.args.lists.now.each_base
+          c.args.lists.now.each_break own.item own.level own.bidi_class own.base own.end own.extent own.atoms c.push_reserved.ensures.items (c.loop-place.invariant.done entries one));
       room =
           let r = c.loop-place.invariant.room in
           let n = c.push_reserved.ensures.len in
@@ -52,7 +52,7 @@ returns-clause-are c entries one =
     let h = c.loop-place.invariant.done entries one in
     let fills : List FillItem = map fill_alone c.loop-place.made.items in
     let is = filling_all None entries (preparation_of c.args.lists.now) (atom_extents (map atom_of c.args.atoms.now)) (atom_extents (map atom_of c.loop-place.atoms.now)) fills c.loop-place.place past (h.filling None) in
-    let many : length fills ≡ length c.args.lists.now.items.now = ap length is ∙ fills_count None entries (preparation_of c.args.lists.now) (atom_extents (map atom_of c.args.atoms.now)) c.requires.whole.breaks in
+    let many : length fills ≡ length c.args.lists.now.items.now = ap length is ∙ fills_count None entries (preparation_of c.args.lists.now) (atom_extents (map atom_of c.args.atoms.now)) c.args.lists.now.each_break in
     standings_all entries c.args.lists.now.items.now c.args.lists.now.levels.now c.args.lists.now.classes.now c.args.lists.now.bases.now fills c.args.atoms.now c.loop-place.atoms.now
     c.loop-place.made.items c.loop-place.place past (h.standings fills many (λ j d lt. refl))
 
@@ -63,5 +63,5 @@ returns-clause-able c = λ count sources some near.
     let h = c.loop-place.invariant.done entries refl in
     let fills : List FillItem = map fill_alone c.loop-place.made.items in
     let is = filling_all None entries (preparation_of c.args.lists.now) (atom_extents (map atom_of c.args.atoms.now)) (atom_extents (map atom_of c.loop-place.atoms.now)) fills c.loop-place.place past (h.filling None) in
-    let many : length fills ≡ length c.args.lists.now.items.now = ap length is ∙ fills_count None entries (preparation_of c.args.lists.now) (atom_extents (map atom_of c.args.atoms.now)) c.requires.whole.breaks in
+    let many : length fills ≡ length c.args.lists.now.items.now = ap length is ∙ fills_count None entries (preparation_of c.args.lists.now) (atom_extents (map atom_of c.args.atoms.now)) c.args.lists.now.each_break in
     ((h.standings fills many (λ j d lt. refl)).able count sources some near).able

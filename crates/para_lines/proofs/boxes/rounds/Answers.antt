@@ -22,7 +22,7 @@ pub past-round-requires-clause-shifts : goal.past-round-requires-clause-shifts
 past-round-requires-clause-shifts c =
     let lt : c.loop-place.place < length c.args.items.now = search rules in
     let many = length-map c.args.items.now entry_of in
-    let few = c.requires.count in
+    let few = c.requires.few in
     rounding_near (entries_of c.args.items.now) c.loop-place.place c.loop-place.rounds.items c.loop-place.round c.requires.bounds (omega arith) (omega arith) c.loop-place.invariant
 
 pub past-round-requires-clause-inside : goal.past-round-requires-clause-inside

@@ -27,14 +27,14 @@ made inline entries item own end_ own_end before after advances a space is is_en
 
 pub returns : goal.returns
 returns c = λ inline entries item end_ one read read_end.
-    let items : List PreparedItem = c.args.prepared.now.items.now in
-    let own : PreparedItem = get_or items c.args.place c.index-prepared-place.result in
+    let items : List PreparedItem = c.args.lists.now.items.now in
+    let own : PreparedItem = get_or items c.args.place c.index-lists-place.result in
     let lt : c.args.place < length items = c.requires.place in
-    let many : length c.args.prepared.now.breaks.now ≡ length items = c.requires.whole.breaks in
-    let is : own ≡ item = get_or_default items c.args.place c.index-prepared-place.result item lt ∙ sym read in
-    let is_end : get_or c.args.prepared.now.breaks.now c.args.place No ≡ end_ = get_or_default c.args.prepared.now.breaks.now c.args.place No end_ (omega arith) ∙ sym read_end in
+    let many : length c.args.lists.now.breaks.now ≡ length items = c.args.lists.now.each_break in
+    let is : own ≡ item = get_or_default items c.args.place c.index-lists-place.result item lt ∙ sym read in
+    let is_end : get_or c.args.lists.now.breaks.now c.args.place No ≡ end_ = get_or_default c.args.lists.now.breaks.now c.args.place No end_ (omega arith) ∙ sym read_end in
     let fits : FitsSigned w64 c.advance_of.result = search rules in
     let own_source = c.requires.sources c.args.place item lt in
     let source = ap (λ (x : PreparedItem). x.source) read in
-    made inline entries item own end_ (get_or c.args.prepared.now.breaks.now c.args.place No) (chain_behind entries (source_before items c.args.place)) (chain_behind entries (source_behind items c.args.place)) c.args.advances.now _ _ is is_end
+    made inline entries item own end_ (get_or c.args.lists.now.breaks.now c.args.place No) (chain_behind entries (source_before items c.args.place)) (chain_behind entries (source_behind items c.args.place)) c.args.advances.now _ _ is is_end
     (to_z-of_z w64 c.advance_of.result fits ∙ c.advance_of.ensures) c.is_space.ensures (chain_alone entries item.source one (omega arith))

@@ -41,15 +41,15 @@ loop-end-preserved g c =
     (get_or_default ends k 0 (get_or ends k 0) lt) (omega arith) c.requires.set.reach h in
     let later = can.later in
     let within = can.within in
-    let there : 0 < length c.args.setting.now.boxes.now.items.now = source_there c.args.setting.now.standings.now (length c.args.setting.now.boxes.now.items.now) c.requires.set.able (omega arith) in
+    let there : 0 < length c.args.setting.now.boxes.now = source_there c.args.setting.now.standings.now (length c.args.setting.now.boxes.now) c.requires.set.able (omega arith) in
     let near : (most : ℕ) → unsigned_abs c.loop-end.stack.block + 14 * 2 ^ 36 + 16 * room_between (standings_in c.args.setting.now) c.loop-end.stack.from (get_or ends k 0)
-    + length c.args.setting.now.boxes.now.items.now * (3 * 2 ^ 39) + most ≤ lines_reach (length c.args.setting.now.boxes.now.items.now) (standings_in c.args.setting.now) + most =
-    λ most. bound_on (length c.args.setting.now.boxes.now.items.now) k c.loop-end.stack.from (get_or ends k 0) most (standings_in c.args.setting.now) c.loop-end.stack.block h.some later within there h.near in
+    + length c.args.setting.now.boxes.now * (3 * 2 ^ 39) + most ≤ lines_reach (length c.args.setting.now.boxes.now) (standings_in c.args.setting.now) + most =
+    λ most. bound_on (length c.args.setting.now.boxes.now) k c.loop-end.stack.from (get_or ends k 0) most (standings_in c.args.setting.now) c.loop-end.stack.block h.some later within there h.near in
     record {
       stacking = stacking_on _ c.args.setting.now.container.now (entries_in c.args.setting.now) (standings_in c.args.setting.now) ends c.loop-end.stack c.add.new.self k (get_or ends k 0) lt
           (get_or_default ends k 0 (get_or ends k 0) lt) c.in_ok-add.ensures.from c.in_ok-add.ensures.block c.in_ok-add.ensures.within c.in_ok-add.ensures.count c.in_ok-add.ensures.made
           (c.in_ok-add.ensures.near h.lines) h;
-      spread = λ most held. c.in_ok-add.ensures.spread (lines_reach (length c.args.setting.now.boxes.now.items.now) (standings_in c.args.setting.now) + most) most held (near most) (c.loop-end.invariant.spread most held);
+      spread = λ most held. c.in_ok-add.ensures.spread (lines_reach (length c.args.setting.now.boxes.now) (standings_in c.args.setting.now) + most) most held (near most) (c.loop-end.invariant.spread most held);
       seats = c.in_ok-add.ensures.seats ∙ c.loop-end.invariant.seats;
     }
 
@@ -60,4 +60,4 @@ returns-clause-lines g c =
 
 pub returns-clause-spread : goal.returns-clause-spread
 returns-clause-spread g c most held =
-    pieces_within (lines_reach (length c.args.setting.now.boxes.now.items.now) (standings_in c.args.setting.now) + most) c.loop-end.stack.made.items (c.loop-end.invariant.spread most held)
+    pieces_within (lines_reach (length c.args.setting.now.boxes.now) (standings_in c.args.setting.now) + most) c.loop-end.stack.made.items (c.loop-end.invariant.spread most held)

@@ -10,7 +10,7 @@ loop-place-preserved c =
       done = λ entries.
           rw c.past-atoms.ensures
           (standings_more entries c.args.lists.now.items.now c.args.lists.now.levels.now c.args.lists.now.classes.now c.args.lists.now.bases.now c.args.fills.now c.args.atoms.now c.loop-place.atoms.now
-          c.loop-place.made.items c.push_reserved.new.self.items c.loop-place.place c.standing_at-standing.result lt c.requires.whole.levels c.requires.whole.classes c.requires.whole.bases c.requires.fills
+          c.loop-place.made.items c.push_reserved.new.self.items c.loop-place.place c.standing_at-standing.result lt c.args.lists.now.each_level c.args.lists.now.each_class c.args.lists.now.each_base c.requires
           own.item own.level own.bidi_class own.base own.extent own.atoms c.push_reserved.ensures.items (c.loop-place.invariant.done entries));
       room =
           let r = c.loop-place.invariant.room in

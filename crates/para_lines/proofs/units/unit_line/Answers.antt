@@ -19,35 +19,18 @@ place_units-requires g c =
     let b = length-map c.args.standings.now bare in
     record {
       levels = omega (arith, e, u, i, b, c.in_ok-levels_of.ensures.length);
-      reach = units_near c.args.container.now.size c.extents_in-strut.result (map bare c.args.standings.now) _ c.requires.low c.requires.high c.in_ok-units_of.ensures c.requires.reach c.extents_in-strut.ensures.near;
+      reach = units_near c.args.container.now.size c.extents_in-strut.result (map bare c.args.standings.now) _ c.requires.container.low c.requires.container.high c.in_ok-units_of.ensures c.requires.reach c.extents_in-strut.ensures.near;
     }
 
-pub returns-clause-over : goal.returns-clause-over
-returns-clause-over g c entries before after is =
-    let low = c.requires.low in
-    let high = c.requires.high in
+pub returns-clause-line_box : goal.returns-clause-line_box
+returns-clause-line_box g c entries before after is =
+    let low = c.requires.container.low in
+    let high = c.requires.container.high in
     let size : to_z w64 (of_z w64 c.args.container.now.size) ≡ c.args.container.now.size = omega (arith, ints) in
-    c.in_ok-made.ensures.over _
-    (units_are _ c.args.container.now entries before after c.args.standings.now c.args.name _ is (c.first_base.ensures entries) refl size c.extents_in-strut.ensures.are refl refl
-    (c.in_ok-levels_of.ensures.levels entries) c.in_ok-units_of.ensures c.without_spaces.ensures)
-
-pub returns-clause-under : goal.returns-clause-under
-returns-clause-under g c entries before after is =
-    let low = c.requires.low in
-    let high = c.requires.high in
-    let size : to_z w64 (of_z w64 c.args.container.now.size) ≡ c.args.container.now.size = omega (arith, ints) in
-    c.in_ok-made.ensures.under _
-    (units_are _ c.args.container.now entries before after c.args.standings.now c.args.name _ is (c.first_base.ensures entries) refl size c.extents_in-strut.ensures.are refl refl
-    (c.in_ok-levels_of.ensures.levels entries) c.in_ok-units_of.ensures c.without_spaces.ensures)
-
-pub returns-clause-parts : goal.returns-clause-parts
-returns-clause-parts g c entries before after is =
-    let low = c.requires.low in
-    let high = c.requires.high in
-    let size : to_z w64 (of_z w64 c.args.container.now.size) ≡ c.args.container.now.size = omega (arith, ints) in
-    c.in_ok-made.ensures.parts _
-    (units_are _ c.args.container.now entries before after c.args.standings.now c.args.name _ is (c.first_base.ensures entries) refl size c.extents_in-strut.ensures.are refl refl
-    (c.in_ok-levels_of.ensures.levels entries) c.in_ok-units_of.ensures c.without_spaces.ensures)
+    let made = c.in_ok-made.ensures in
+    let units = units_are _ c.args.container.now entries before after c.args.standings.now c.args.name _ is (c.first_base.ensures entries) refl size c.extents_in-strut.ensures.are refl refl
+    (c.in_ok-levels_of.ensures.levels entries) c.in_ok-units_of.ensures c.without_spaces.ensures in
+    record { over_is = made.over _ units; under_is = made.under _ units; parts_are = made.parts _ units }
 
 pub returns-clause-strut : goal.returns-clause-strut
 returns-clause-strut g c = subst AreNear c.extents_in-strut.ensures.are c.extents_in-strut.ensures.near

@@ -21,7 +21,7 @@ returns-clause-made g c next =
     ∙ followed_push c.args.self.now.made.items c.in_ok-line_fragment.field-0 next
     ∙ ap (followed c.args.self.now.made.items)
     (c.in_ok-line_fragment.ensures.piece next
-    ∙ piece_is c.args.setting.now.container.now (length c.args.self.now.made.items) _ c.args.self.now.block _ _ _ _ next _ i b c.in_ok-line.ensures.over c.in_ok-line.ensures.under c.in_ok-line.ensures.parts)
+    ∙ piece_is c.args.setting.now.container.now (length c.args.self.now.made.items) _ c.args.self.now.block _ _ _ _ next _ i b c.in_ok-line.ensures.placed.line_box.over_is c.in_ok-line.ensures.placed.line_box.under_is c.in_ok-line.ensures.placed.line_box.parts_are)
 
 pub returns-clause-near : goal.returns-clause-near
 returns-clause-near g c = λ all.
@@ -30,7 +30,7 @@ returns-clause-near g c = λ all.
     let f : Fragment = c.in_ok-line_fragment.field-0 in
     let near : IsNearLine f =
     line_near f c.args.self.now.block c.in_ok-line.line.over c.in_ok-line.line.under (2 ^ 34 + room_between (standings_in c.args.setting.now) c.args.self.now.from c.args.end)
-    (c.in_ok-line_fragment.ensures.begins ∙ b) c.in_ok-line_fragment.ensures.reaches c.in_ok-line.ensures.within.0 c.in_ok-line.ensures.within.1 c.requires.block in
+    (c.in_ok-line_fragment.ensures.begins ∙ b) c.in_ok-line_fragment.ensures.reaches c.in_ok-line.ensures.placed.over_near c.in_ok-line.ensures.placed.under_near c.requires.block in
     subst P (sym c.in_ok-push.ensures.items) (All-push IsNearLine c.args.self.now.made.items f all near)
 
 pub returns-clause-spread : goal.returns-clause-spread
@@ -41,8 +41,8 @@ returns-clause-spread g c bound most held near = λ all.
     let i : c.len-index.result ≡ length c.args.self.now.made.items = search rules in
     let line : IsLineWithin bound c.in_ok-line_fragment.field-0 =
     subst Q (sym (c.in_ok-line_fragment.ensures.piece none
-    ∙ piece_is c.args.setting.now.container.now (length c.args.self.now.made.items) _ c.args.self.now.block _ _ _ _ none _ i b c.in_ok-line.ensures.over c.in_ok-line.ensures.under c.in_ok-line.ensures.parts))
-    (piece_within c.args.setting.now.container.now (length c.args.self.now.made.items) c.args.self.now.block _ _ _ _ (length c.args.setting.now.boxes.now.items.now)
-    (room_between (standings_in c.args.setting.now) c.args.self.now.from c.args.end) most bound c.in_ok-line.ensures.over c.in_ok-line.ensures.under c.in_ok-line.ensures.parts
-    c.requires.set.low c.requires.set.high c.in_ok-line.ensures.within.0 c.in_ok-line.ensures.within.1 (c.in_ok-line.ensures.spread most held) near) in
+    ∙ piece_is c.args.setting.now.container.now (length c.args.self.now.made.items) _ c.args.self.now.block _ _ _ _ none _ i b c.in_ok-line.ensures.placed.line_box.over_is c.in_ok-line.ensures.placed.line_box.under_is c.in_ok-line.ensures.placed.line_box.parts_are))
+    (piece_within c.args.setting.now.container.now (length c.args.self.now.made.items) c.args.self.now.block _ _ _ _ (length c.args.setting.now.boxes.now)
+    (room_between (standings_in c.args.setting.now) c.args.self.now.from c.args.end) most bound c.in_ok-line.ensures.placed.line_box.over_is c.in_ok-line.ensures.placed.line_box.under_is c.in_ok-line.ensures.placed.line_box.parts_are
+    c.requires.set.container.low c.requires.set.container.high c.in_ok-line.ensures.placed.over_near c.in_ok-line.ensures.placed.under_near (c.in_ok-line.ensures.placed.within most held) near) in
     subst P (sym c.in_ok-push.ensures.items) (All-push (IsLineWithin bound) c.args.self.now.made.items c.in_ok-line_fragment.field-0 all line)

@@ -1,5 +1,6 @@
 use Rattle.std.proofs.Common.{◌∙◌, ℕ, ◌+◌, ◌≤◌, ◌^◌, arith, ap, subst, List, [], length, drop, take}
 use Rattle.std.specs.List.{slice_range}
+use Rattle.fragment_types.specs.Fragment.{pieces_of}
 use Rattle.fragment_types.specs.Item.{Entry}
 use Rattle.line_place.specs.Line.{Line}
 use Rattle.line_place.specs.Placing.{line_over, line_under, parts}
@@ -7,7 +8,7 @@ use Rattle.line_place.specs.Reach.{line_reach, total}
 use Rattle.para_lines.specs.Line.{standing_of}
 use Rattle.para_lines.specs.Lines.{Standing, chain_of_first, chain_of_last}
 use Rattle.para_lines.specs.Reach.{standing_reach}
-use Rattle.para_lines.specs.Setting.{entries_in, reach_between, room_between, standings_in}
+use Rattle.para_lines.specs.Setting.{IsLineBox, entries_in, reach_between, room_between, standings_in}
 use Rattle.para_lines.proofs.SettingLaws.{total_range}
 use Rattle.para_lines.proofs.SpreadLaws.{between_spread, units_far}
 use Rattle.para_lines.proofs.StackLaws.{range_map}
@@ -24,52 +25,41 @@ unit_line-requires-clause-reach g c =
     let r = c.requires.set.reach in
     omega (arith, b, e, t, r)
 
-pub returns-in_ok-made-in-Some-clause-over : goal.returns-in_ok-made-in-Some-clause-over
-returns-in_ok-made-in-Some-clause-over g c =
+pub returns-in_ok-made-in-Some-clause-placed : goal.returns-in_ok-made-in-Some-clause-placed
+returns-in_ok-made-in-Some-clause-placed g c =
     let entries : List Entry = entries_in c.args.self.now in
     let all : List Standing = standings_in c.args.self.now in
-    c.in_ok-made-in-Some.ensures.over entries (chain_of_last [] (take c.args.from all)) (chain_of_first (drop c.args.end all)) c.in-Some.ensures
-    ∙ ap line_over (between_is _ c.args.self.now.container.now entries c.args.self.now.standings.now c.args.from c.args.end)
+    let made = c.in_ok-made-in-Some.ensures in
+    let before : List ℕ = chain_of_last [] (take c.args.from all) in
+    let after : List ℕ = chain_of_first (drop c.args.end all) in
+    let L : Line → Type 0 = λ line. IsLineBox line c.in_ok-made-in-Some.made.over c.in_ok-made-in-Some.made.under (pieces_of c.in_ok-made-in-Some.made.parts.items) in
+    let line_box = subst L (between_is _ c.args.self.now.container.now entries c.args.self.now.standings.now c.args.from c.args.end) (made.line_box entries before after c.in-Some.ensures) in
+    let count : ℕ = length c.args.self.now.boxes.now in
+    let far = units_far _ c.args.self.now.container.now entries c.args.self.now.standings.now c.args.from c.args.end count _ c.in-Some.ensures c.requires.set.container.low c.requires.set.container.high made.strut in
+    let over = made.near.0 in
+    let under = made.near.1 in
+    record {
+      line_box = line_box;
+      over_near = omega arith;
+      under_near = omega arith;
+      within = λ most held. between_spread _ c.args.self.now.container.now entries c.args.self.now.standings.now c.args.from c.args.end (reach_between count all c.args.from c.args.end) most _
+          c.requires.from c.requires.end line_box.parts_are far held;
+    }
 
-pub returns-in_ok-made-in-Some-clause-under : goal.returns-in_ok-made-in-Some-clause-under
-returns-in_ok-made-in-Some-clause-under g c =
+pub returns-in_ok-made-in-None-clause-placed : goal.returns-in_ok-made-in-None-clause-placed
+returns-in_ok-made-in-None-clause-placed g c =
     let entries : List Entry = entries_in c.args.self.now in
     let all : List Standing = standings_in c.args.self.now in
-    c.in_ok-made-in-Some.ensures.under entries (chain_of_last [] (take c.args.from all)) (chain_of_first (drop c.args.end all)) c.in-Some.ensures
-    ∙ ap line_under (between_is _ c.args.self.now.container.now entries c.args.self.now.standings.now c.args.from c.args.end)
-
-pub returns-in_ok-made-in-Some-clause-parts : goal.returns-in_ok-made-in-Some-clause-parts
-returns-in_ok-made-in-Some-clause-parts g c =
-    let entries : List Entry = entries_in c.args.self.now in
-    let all : List Standing = standings_in c.args.self.now in
-    c.in_ok-made-in-Some.ensures.parts entries (chain_of_last [] (take c.args.from all)) (chain_of_first (drop c.args.end all)) c.in-Some.ensures
-    ∙ ap parts (between_is _ c.args.self.now.container.now entries c.args.self.now.standings.now c.args.from c.args.end)
-
-pub returns-in_ok-made-in-None-clause-over : goal.returns-in_ok-made-in-None-clause-over
-returns-in_ok-made-in-None-clause-over g c = c.in_ok-made-in-None.ensures.over ∙ ap line_over c.in_ok-input-in-None.ensures.line
-
-pub returns-in_ok-made-in-None-clause-under : goal.returns-in_ok-made-in-None-clause-under
-returns-in_ok-made-in-None-clause-under g c = c.in_ok-made-in-None.ensures.under ∙ ap line_under c.in_ok-input-in-None.ensures.line
-
-pub returns-in_ok-made-in-None-clause-parts : goal.returns-in_ok-made-in-None-clause-parts
-returns-in_ok-made-in-None-clause-parts g c = c.in_ok-made-in-None.ensures.parts ∙ ap parts c.in_ok-input-in-None.ensures.line
-
-pub returns-in_ok-made-in-None-clause-within : goal.returns-in_ok-made-in-None-clause-within
-returns-in_ok-made-in-None-clause-within g c = c.in_ok-made-in-None.ensures.within (2 ^ 34 + room_between (standings_in c.args.self.now) c.args.from c.args.end) c.in_ok-input-in-None.ensures.limit
-
-pub returns-in_ok-made-in-Some-clause-spread : goal.returns-in_ok-made-in-Some-clause-spread
-returns-in_ok-made-in-Some-clause-spread g c most held =
-    let entries : List Entry = entries_in c.args.self.now in
-    let count : ℕ = length c.args.self.now.boxes.now.items.now in
-    let far = units_far _ c.args.self.now.container.now entries c.args.self.now.standings.now c.args.from c.args.end count _ c.in-Some.ensures c.requires.set.low c.requires.set.high
-    c.in_ok-made-in-Some.ensures.strut in
-    between_spread _ c.args.self.now.container.now entries c.args.self.now.standings.now c.args.from c.args.end (reach_between count (standings_in c.args.self.now) c.args.from c.args.end) most _
-    c.requires.from c.requires.end (returns-in_ok-made-in-Some-clause-parts g c) far held
-
-pub returns-in_ok-made-in-None-clause-spread : goal.returns-in_ok-made-in-None-clause-spread
-returns-in_ok-made-in-None-clause-spread g c most held =
-    let entries : List Entry = entries_in c.args.self.now in
-    let reach : ℕ = reach_between (length c.args.self.now.boxes.now.items.now) (standings_in c.args.self.now) c.args.from c.args.end in
+    let made = c.in_ok-made-in-None.ensures in
+    let input = c.in_ok-input-in-None.ensures in
+    let near = made.within (2 ^ 34 + room_between all c.args.from c.args.end) input.limit in
+    let parts_are = made.parts ∙ ap parts input.line in
+    let reach : ℕ = reach_between (length c.args.self.now.boxes.now) all c.args.from c.args.end in
     let L : Line → Type 0 = λ l. line_reach l ≤ reach in
-    between_spread _ c.args.self.now.container.now entries c.args.self.now.standings.now c.args.from c.args.end reach most _
-    c.requires.from c.requires.end (returns-in_ok-made-in-None-clause-parts g c) (subst L c.in_ok-input-in-None.ensures.line c.in_ok-input-in-None.ensures.far) held
+    record {
+      line_box = record { over_is = made.over ∙ ap line_over input.line; under_is = made.under ∙ ap line_under input.line; parts_are = parts_are };
+      over_near = near.0;
+      under_near = near.1;
+      within = λ most held. between_spread _ c.args.self.now.container.now entries c.args.self.now.standings.now c.args.from c.args.end reach most _
+          c.requires.from c.requires.end parts_are (subst L input.line input.far) held;
+    }

@@ -1,9 +1,0 @@
-use Rattle.std.proofs.Common.{◌≡◌, ◌≤◌, ◌+◌, ◌-◌, length, map, take}
-use Rattle.std.specs.Vec.{vec_capacity, vec_len}
-use Rattle.para_lines.proofs.lines.fills_of.Given as goal
-
-abbrev pub invariant-loop-atom : goal.invariant-loop-atom
-invariant-loop-atom l = record {
-  items : l.extents.items ≡ map (λ atom. atom.extent) (take l.atom-index l.atoms);
-  room : vec_len l.extents + (length l.atoms - l.atom-index) ≤ vec_capacity l.extents;
-}
