@@ -13,7 +13,8 @@ use Rattle.line_fill.specs.Filling.{best, ends, ends_at, fits, line_end}
 use Rattle.line_fill.specs.declared.forward.Piece.{Piece}
 use Rattle.line_fill.specs.declared.forward.Stop.{Stop}
 use Rattle.line_fill.specs.declared.sums.Place.{Place}
-use Rattle.line_fill.specs.Forward.{IsForward, content_after, last_or, piece_after, piece_at}
+use Rattle.line_fill.specs.Forward.{EndsLine, IsForward, IsNearPiece, content_after, last_or, piece_after, piece_at}
+use Rattle.line_fill.specs.Sizes.{is_allowed, is_forced}
 use Rattle.line_fill.specs.Sums.{place_after, place_before, solid_after, width_between}
 use Rattle.std.proofs.lemmas.List.{length-take-le, take_more}
 use Rattle.std.proofs.lemmas.List.Sums.{sum_by-take-le}
@@ -134,20 +135,38 @@ pub record Fitting (available : ℤ) (items : List FillItem) (from q : ℕ) (las
   pub on : line_end available items from ≡ best (fits available items from) (before last (ends items q))
   pub later : IfSome last (λ end. (from < end) × (end ≤ q))
 
-pub fitting_first : (available : ℤ) (items : List FillItem) (from : ℕ) → from < length items → Fitting available items from from None
+fitting_first : (available : ℤ) (items : List FillItem) (from : ℕ) → from < length items → Fitting available items from from None
 fitting_first available items from inside = record { inside = inside; order = omega arith; on = refl; later = tt }
 
 no_must : No ≡ Must → ⊥
 no_must e = cc
 
-pub may_no : May ≡ No → ⊥
-may_no e = cc
-
-pub must_no : Must ≡ No → ⊥
-must_no e = cc
-
 may_must : May ≡ Must → ⊥
 may_must e = cc
+
+-- what a test says of the break that it was asked of
+pub kind_there : (kind : Breaking → Bool) (asked there : Breaking) (told answer : Bool) → asked ≡ there → told ≡ kind asked → told ≡ answer → kind there ≡ answer
+kind_there kind asked there told answer same is so = ap kind (sym same) ∙ sym is ∙ so
+
+allowed_not : (end_ : Breaking) → is_allowed end_ ≡ true → end_ ≡ No → ⊥
+allowed_not No allowed e = absurd cc
+allowed_not May allowed e = cc
+allowed_not Must allowed e = cc
+
+unallowed_is : (end_ : Breaking) → is_allowed end_ ≡ false → end_ ≡ No
+unallowed_is No unallowed = refl
+unallowed_is May unallowed = absurd cc
+unallowed_is Must unallowed = absurd cc
+
+forced_is : (end_ : Breaking) → is_forced end_ ≡ true → end_ ≡ Must
+forced_is No forced = absurd cc
+forced_is May forced = absurd cc
+forced_is Must forced = refl
+
+unforced_is : (end_ : Breaking) → is_allowed end_ ≡ true → is_forced end_ ≡ false → end_ ≡ May
+unforced_is No allowed unforced = absurd cc
+unforced_is May allowed unforced = refl
+unforced_is Must allowed unforced = absurd cc
 
 still_inside : (items : List FillItem) (q : ℕ) (d : FillItem) (end_ : Breaking) → q < length items → break_at items q ≡ end_ → (end_ ≡ Must → ⊥) → q + 1 < length items
 still_inside items q d end_ inside is not_so =
@@ -157,7 +176,7 @@ still_inside items q d end_ inside is not_so =
     ]
 
 -- not_so end there
-pub fitting_on : (available : ℤ) (items : List FillItem) (from q : ℕ) (last : Option ℕ) (d : FillItem) → break_at items q ≡ No → Fitting available items from q last → Fitting available items from (q + 1) last
+fitting_on : (available : ℤ) (items : List FillItem) (from q : ℕ) (last : Option ℕ) (d : FillItem) → break_at items q ≡ No → Fitting available items from q last → Fitting available items from (q + 1) last
 fitting_on available items from q last d is f = record {
   inside = still_inside items q d No f.inside is no_must;
   order = let o = f.order in omega arith;
@@ -204,7 +223,7 @@ ends_there No place places not_so = absurd (not_so refl)
 ends_there May place places not_so = refl
 ends_there Must place places not_so = refl
 
-pub fitting_more : (available : ℤ) (items : List FillItem) (from q : ℕ) (last : Option ℕ) (d : FillItem) → break_at items q ≡ May → fits available items from (q + 1) ≡ true
+fitting_more : (available : ℤ) (items : List FillItem) (from q : ℕ) (last : Option ℕ) (d : FillItem) → break_at items q ≡ May → fits available items from (q + 1) ≡ true
     → Fitting available items from q last → Fitting available items from (q + 1) (Some (q + 1))
 fitting_more available items from q last d is fit f = record {
   inside = still_inside items q d May f.inside is may_must;
@@ -215,14 +234,15 @@ fitting_more available items from q last d is fit f = record {
   later = let o = f.order in (omega arith, omega arith);
 }
 
-pub fitting_stops : (available : ℤ) (items : List FillItem) (from q : ℕ) (last : Option ℕ) (d : FillItem) (end_ : Breaking) → All IsForward items → break_at items q ≡ end_ → (end_ ≡ No → ⊥)
+fitting_stops : (available : ℤ) (items : List FillItem) (from q : ℕ) (last : Option ℕ) (d : FillItem) → All IsForward items → is_allowed (break_at items q) ≡ true
     → fits available items from (q + 1) ≡ false → Fitting available items from q last → line_end available items from ≡ last_or last (q + 1)
-fitting_stops available items from q last d end_ forward is not_so out f =
+fitting_stops available items from q last d forward allowed out f =
+    let end_ : Breaking = break_at items q in
     f.on
-    ∙ ap (λ (ps : List ℕ). best (fits available items from) (before last ps)) (ends_more items q d f.inside ∙ ap (λ b. ends_at b (q + 1) (ends items (q + 1))) is ∙ ends_there end_ (q + 1) (ends items (q + 1)) not_so)
+    ∙ ap (λ (ps : List ℕ). best (fits available items from) (before last ps)) (ends_more items q d f.inside ∙ ends_there end_ (q + 1) (ends items (q + 1)) (allowed_not end_ allowed))
     ∙ stopped available items from q last (rest_at end_ (ends items (q + 1))) (each_forward items forward) f.order (rest_above end_ (q + 1) (ends items (q + 1)) (above_next items q)) f.later out
 
-pub fitting_ends : (available : ℤ) (items : List FillItem) (from q : ℕ) (last : Option ℕ) (d : FillItem) → break_at items q ≡ Must → fits available items from (q + 1) ≡ true
+fitting_ends : (available : ℤ) (items : List FillItem) (from q : ℕ) (last : Option ℕ) (d : FillItem) → break_at items q ≡ Must → fits available items from (q + 1) ≡ true
     → Fitting available items from q last → line_end available items from ≡ q + 1
 fitting_ends available items from q last d is fit f =
     f.on
@@ -230,7 +250,7 @@ fitting_ends available items from q last d is fit f =
     ∙ passed available items from q last [] tt f.later fit
     ∙ best_first (fits available items from) (q + 1) [] tt refl
 
-pub stop_within : (from q n : ℕ) (last : Option ℕ) → from ≤ q → q < n → IfSome last (λ end. (from < end) × (end ≤ q)) → (from < last_or last (q + 1)) × (last_or last (q + 1) ≤ n)
+stop_within : (from q n : ℕ) (last : Option ℕ) → from ≤ q → q < n → IfSome last (λ end. (from < end) × (end ≤ q)) → (from < last_or last (q + 1)) × (last_or last (q + 1) ≤ n)
 stop_within from q n None order inside later = (omega arith, omega arith)
 stop_within from q n (Some end) order inside later = let l = later.1 in (later.0, omega arith)
 
@@ -252,7 +272,7 @@ max_left a b h = omega arith
 max_right : (a b : ℕ) → a ≤ b → max a b ≡ b
 max_right a b h = omega arith
 
-pub piece_first : (items : List FillItem) (from : ℕ) (start : Place) → from < length items → start ≡ place_before items from → IsPiece items from from (piece_at start)
+piece_first : (items : List FillItem) (from : ℕ) (start : Place) → from < length items → start ≡ place_before items from → IsPiece items from from (piece_at start)
 piece_first items from start inside is =
     let s = solid-le (take from items) in
     let l = length-take-le from items (omega arith) in
@@ -278,7 +298,7 @@ content_more items from q d content inside order is = go (get_or items q d).spac
       ∙ ap (place_before items) (sym (max_right from (q + 1) (omega arith)))
       ∙ ap (λ n. place_before items (max from n)) (sym (told ∙ ap (λ (b : Bool). solid_after b (solid (take q items)) (suc q)) e ∙ n))
 
-pub piece_more : (items : List FillItem) (from q : ℕ) (d : FillItem) (piece : Piece) → q < length items → from ≤ q → IsPiece items from q piece → IsPiece items from (q + 1) (piece_after piece (get_or items q d) (q + 1))
+piece_more : (items : List FillItem) (from q : ℕ) (d : FillItem) (piece : Piece) → q < length items → from ≤ q → IsPiece items from q piece → IsPiece items from (q + 1) (piece_after piece (get_or items q d) (q + 1))
 piece_more items from q d piece inside order is =
     let n : suc q ≡ q + 1 = omega arith in
     let e : place_after piece.end (get_or items q d) (q + 1) ≡ place_before items (q + 1) =
@@ -290,7 +310,7 @@ piece_more items from q d piece inside order is =
     }
 
 -- what it tells of widths
-pub piece_fits : (available : ℤ) (items : List FillItem) (from q : ℕ) (piece : Piece) → from ≤ q → q ≤ length items → IsPiece items from q piece
+piece_fits : (available : ℤ) (items : List FillItem) (from q : ℕ) (piece : Piece) → from ≤ q → q ≤ length items → IsPiece items from q piece
     → int_le (width_between piece.start piece.end piece.content) available ≡ fits available items from q
 piece_fits available items from q piece order within is =
     ap (λ z. int_le z available)
@@ -300,7 +320,7 @@ piece_fits available items from q piece order within is =
     ∙ sym (width_is items from q order within))
 
 -- no place tells of more than the lengths before it
-pub told_near : (items : List FillItem) (k : ℕ) (place : Place) → place ≡ place_before items k → spread items ≤ 2 ^ 60 → unsigned_abs place.edges + unsigned_abs place.advances ≤ 2 ^ 60
+told_near : (items : List FillItem) (k : ℕ) (place : Place) → place ≡ place_before items k → spread items ≤ 2 ^ 60 → unsigned_abs place.edges + unsigned_abs place.advances ≤ 2 ^ 60
 told_near items k place is room =
     let n = place_near items k in
     let t = sum_by-take-le lengths_of items k in
@@ -315,43 +335,87 @@ pub record Running (available : ℤ) (items : List FillItem) (from q : ℕ) (las
 pub running_first : (available : ℤ) (items : List FillItem) (from : ℕ) (start : Place) → from < length items → start ≡ place_before items from → Running available items from from None (piece_at start)
 running_first available items from start inside is = record { fitting = fitting_first available items from inside; piece_is = piece_first items from start inside is; told = tt }
 
-pub last_told : (items : List FillItem) (last : Option Stop) (first : Stop) → IfSome last (λ stop. stop.place ≡ place_before items stop.end) → first.place ≡ place_before items first.end
+last_told : (items : List FillItem) (last : Option Stop) (first : Stop) → IfSome last (λ stop. stop.place ≡ place_before items stop.end) → first.place ≡ place_before items first.end
     → (last_or last first).place ≡ place_before items (last_or last first).end
 last_told items None first told is = is
 last_told items (Some stop) first told is = told
 
-pub last_end : (last : Option Stop) (first : Stop) → (last_or last first).end ≡ last_or (stop_end last) first.end
+last_end : (last : Option Stop) (first : Stop) → (last_or last first).end ≡ last_or (stop_end last) first.end
 last_end None first = refl
 last_end (Some stop) first = refl
 
--- one item more in a step of the loop
-pub piece_next : (items : List FillItem) (from q : ℕ) (d own : FillItem) (piece next : Piece) → q < length items → from ≤ q → IsPiece items from q piece → own ≡ get_or items q d → next ≡ piece_after piece own (q + 1)
-    → IsPiece items from (q + 1) next
-piece_next items from q d own piece next inside order is read made =
-    subst (IsPiece items from (q + 1)) (sym (made ∙ ap (λ (item : FillItem). piece_after piece item (q + 1)) read)) (piece_more items from q d piece inside order is)
+-- ---- a step of the loop
 
--- where the line stops at the last end that fits, or here
-module _ (available : ℤ) (items : List FillItem) (from q : ℕ) (last : Option Stop) (here stopped : Stop) (end_ : here.end ≡ q + 1) (is : stopped ≡ last_or last here) where
-  pub stopped_end : stopped.end ≡ last_or (stop_end last) (q + 1)
-  stopped_end = ap (λ (s : Stop). s.end) is ∙ last_end last here ∙ ap (last_or (stop_end last)) end_
+-- the piece with one item more; the line fits up to the last stop before it
+pub record Step (available : ℤ) (items : List FillItem) (from q : ℕ) (last : Option Stop) (next : Piece) : Type 0 where
+  pub fitting : Fitting available items from q (stop_end last)
+  pub piece_is : IsPiece items from (q + 1) next
+  pub told : IfSome last (λ stop. stop.place ≡ place_before items stop.end)
 
-  pub stopped_place : IfSome last (λ stop. stop.place ≡ place_before items stop.end) → here.place ≡ place_before items (q + 1) → stopped.place ≡ place_before items stopped.end
-  stopped_place told place =
-      ap (λ (s : Stop). s.place) is
-      ∙ last_told items last here told (place ∙ ap (place_before items) (sym end_))
-      ∙ ap (λ (s : Stop). place_before items s.end) (sym is)
+pub stepped : (available : ℤ) (items : List FillItem) (from q : ℕ) (last : Option Stop) (d own : FillItem) (piece next : Piece) → Running available items from q last piece → own ≡ get_or items q d
+    → next ≡ piece_after piece own (q + 1) → Step available items from q last next
+stepped available items from q last d own piece next running read made =
+    let f = running.fitting in
+    record {
+      fitting = f;
+      piece_is = subst (IsPiece items from (q + 1)) (sym (made ∙ ap (λ (item : FillItem). piece_after piece item (q + 1)) read)) (piece_more items from q d piece f.inside f.order running.piece_is);
+      told = running.told;
+    }
 
-  pub stopped_within : Fitting available items from q (stop_end last) → (from < stopped.end) × (stopped.end ≤ length items)
-  stopped_within f = let w = stop_within from q (length items) (stop_end last) f.order f.inside f.later in rw stopped_end w
+module _ (available : ℤ) (items : List FillItem) (from q : ℕ) (last : Option Stop) (next : Piece) (step : Step available items from q last next) where
+  pub step_near : spread items ≤ 2 ^ 60 → IsNearPiece next
+  step_near room =
+      let a = told_near items from next.start step.piece_is.start room in
+      let b = told_near items (q + 1) next.end step.piece_is.end_ room in
+      let c = told_near items (max from (solid (take (q + 1) items))) next.content step.piece_is.content room in
+      record { start = a; end_ = omega arith; content = omega arith }
 
--- the last end that fits is here
-pub running_stop : (available : ℤ) (items : List FillItem) (from q : ℕ) (stop : Stop) (piece : Piece) → stop.end ≡ q → stop.place ≡ place_before items q → Fitting available items from q (Some q) → IsPiece items from q piece
-    → Running available items from q (Some stop) piece
-running_stop available items from q stop piece end_ place fitting is = record {
-  fitting = subst (λ e. Fitting available items from q (Some e)) (sym end_) fitting;
-  piece_is = is;
-  told = place ∙ ap (place_before items) (sym end_);
-}
+  step_fits : int_le (width_between next.start next.end next.content) available ≡ fits available items from (q + 1)
+  step_fits =
+      let inside = step.fitting.inside in
+      let order = step.fitting.order in
+      piece_fits available items from (q + 1) next (omega arith) (omega arith) step.piece_is
+
+  module _ (d : FillItem) (fit : Bool) (told : fit ≡ int_le (width_between next.start next.end next.content) available) (here : Stop) (end_ : here.end ≡ q + 1) (place : here.place ≡ next.end) where
+    place_there : here.place ≡ place_before items here.end
+    place_there = place ∙ step.piece_is.end_ ∙ ap (place_before items) (sym end_)
+
+    -- the line doesn't fit up to here: it ends at the last stop before, else here
+    pub stops_before : All IsForward items → is_allowed (break_at items q) ≡ true → fit ≡ false → (stopped : Stop) → stopped ≡ last_or last here → EndsLine available items from stopped
+    stops_before forward allowed out stopped is =
+        let end_is : stopped.end ≡ last_or (stop_end last) (q + 1) = ap (λ (s : Stop). s.end) is ∙ last_end last here ∙ ap (last_or (stop_end last)) end_ in
+        let w = stop_within from q (length items) (stop_end last) step.fitting.order step.fitting.inside step.fitting.later in
+        record {
+          value = end_is ∙ sym (fitting_stops available items from q (stop_end last) d forward allowed (sym step_fits ∙ sym told ∙ out) step.fitting);
+          place = ap (λ (s : Stop). s.place) is ∙ last_told items last here step.told place_there ∙ ap (λ (s : Stop). place_before items s.end) (sym is);
+          later = rw end_is w.0;
+          within = rw end_is w.1;
+        }
+
+    -- it fits up to here, where a line ends whatever fits
+    pub stops_here : is_forced (break_at items q) ≡ true → fit ≡ true → EndsLine available items from here
+    stops_here forced fitting =
+        let inside = step.fitting.inside in
+        let order = step.fitting.order in
+        record {
+          value = end_ ∙ sym (fitting_ends available items from q (stop_end last) d (forced_is (break_at items q) forced) (sym step_fits ∙ sym told ∙ fitting) step.fitting);
+          place = place_there;
+          later = rw end_ (omega arith);
+          within = rw end_ (omega arith);
+        }
+
+    -- it fits up to here, and goes on
+    pub goes_past : is_allowed (break_at items q) ≡ true → is_forced (break_at items q) ≡ false → fit ≡ true → Running available items from (q + 1) (Some here) next
+    goes_past allowed unforced fitting = record {
+      fitting = subst (λ e. Fitting available items from (q + 1) (Some e)) (sym end_)
+          (fitting_more available items from q (stop_end last) d (unforced_is (break_at items q) allowed unforced) (sym step_fits ∙ sym told ∙ fitting) step.fitting);
+      piece_is = step.piece_is;
+      told = place_there;
+    }
+
+  -- no line may end here
+  pub goes_on : (d : FillItem) → is_allowed (break_at items q) ≡ false → Running available items from (q + 1) last next
+  goes_on d unallowed = record { fitting = fitting_on available items from q (stop_end last) d (unallowed_is (break_at items q) unallowed) step.fitting; piece_is = step.piece_is; told = step.told }
 
 -- the lines up to a stop are filled
 pub record Stopped (available : ℤ) (items : List FillItem) (ends : List ℕ) (stop : Stop) : Type 0 where

@@ -17,7 +17,7 @@ use Rattle.line_fill.specs.declared.ahead.Ahead.{Ahead}
 use Rattle.line_fill.specs.Item.{solid, edges, advances}
 use Rattle.line_fill.specs.Sums.{place_before, solid_after}
 use Rattle.line_fill.specs.Filling.{ends, ends_at, fits}
-use Rattle.line_fill.specs.Ahead.{Tells, AreAhead, Within, IsNearAhead, is_within, reaches, lesser, moved, with_end, behind, nothing, break_at}
+use Rattle.line_fill.specs.Ahead.{Tells, AreAhead, Within, IsNearAhead, is_within, reaches, lesser, moved, with_end, behind, break_at}
 use Rattle.line_fill.proofs.Widths.{place_more, width_is}
 
 lesser_least : (a b s v : ℤ) → int_le (int_min a b -ℤ s) v ≡ (int_le (a -ℤ s) v || int_le (b -ℤ s) v)

@@ -4,13 +4,13 @@
 ghost use Rattle.std.specs.Prelude.{◌≡◌, ◌+◌, ◌<◌, ◌≤◌, ◌^◌, int_le, length, slice_index_or, true, unsigned_abs};
 ghost use Rattle.std.specs.List.{All};
 ghost use Rattle.line_fill.specs.Ahead.{break_at};
-ghost use Rattle.line_fill.specs.Filling.{line_end};
 ghost use Rattle.line_fill.specs.declared.item.FillItem.{FillItem};
-ghost use Rattle.line_fill.specs.Forward.{IsForward, last_or, piece_after, piece_at};
+ghost use Rattle.line_fill.specs.Forward.{EndsLine, IsForward, IsNearPiece, last_or, piece_after, piece_at};
 ghost use Rattle.line_fill.specs.Item.{lengths_of, spread};
 ghost use Rattle.line_fill.specs.Sums.{place_before, width_between};
 
 use crate::FillItem;
+use crate::sizes::{is_allowed, is_forced};
 use crate::source::FillSource;
 use crate::sums::Place;
 use fragment_types::Breaking;
@@ -53,30 +53,23 @@ pub(crate) fn forward_end<S: FillSource>(
     requires room { spread (S.items source.now) ≤ 2 ^ 60 }
     requires from { from < length (S.items source.now) }
     requires start { start ≡ place_before (S.items source.now) from }
-    ensures value { result.end ≡ line_end available (S.items source.now) from }
-    ensures place { result.place ≡ place_before (S.items source.now) result.end }
-    ensures later { from < result.end }
-    ensures within { result.end ≤ length (S.items source.now) }
+    ensures { EndsLine available (S.items source.now) from result }
 {
     let mut last = None;
     let mut piece = Piece::from(start);
     for place in from..source.count() {
         let own = source.item(place);
         piece = piece.after(own, place + 1);
-        match break_behind(source, place, own) {
-            Breaking::No => {}
-            Breaking::May => {
-                if !piece.fits(available) {
-                    return last_or(last, piece.stop(place + 1));
-                }
-                last = Some(piece.stop(place + 1));
+        let end = break_behind(source, place, own);
+        if is_allowed(end) {
+            let stop = piece.stop(place + 1);
+            if !piece.fits(available) {
+                return last_or(last, stop);
             }
-            Breaking::Must => {
-                if !piece.fits(available) {
-                    return last_or(last, piece.stop(place + 1));
-                }
-                return piece.stop(place + 1);
+            if is_forced(end) {
+                return stop;
             }
+            last = Some(stop);
         }
     }
     piece.stop(source.count())
@@ -132,9 +125,7 @@ impl Piece {
 
     // Whether it is not wider than this.
     fn fits(self, available: i64) -> bool
-        requires start { unsigned_abs self.start.edges + unsigned_abs self.start.advances ≤ 2 ^ 60 }
-        requires end { unsigned_abs self.end.edges ≤ 2 ^ 60 }
-        requires content { unsigned_abs self.content.advances ≤ 2 ^ 60 }
+        requires { IsNearPiece self }
         ensures { result ≡ int_le (width_between self.start self.end self.content) available }
     {
         self.start.width(self.end, self.content) <= available

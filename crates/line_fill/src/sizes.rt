@@ -28,13 +28,15 @@ pub fn intrinsic(items: &[FillItem]) -> Intrinsic
     }
 }
 
-fn is_forced(end: Breaking) -> bool
+/// Whether a line ends there whatever fits.
+pub(crate) fn is_forced(end: Breaking) -> bool
     ensures { result ≡ sizes.is_forced end }
 {
     end == Breaking::Must
 }
 
-fn is_allowed(end: Breaking) -> bool
+/// Whether a line may end there.
+pub(crate) fn is_allowed(end: Breaking) -> bool
     ensures { result ≡ sizes.is_allowed end }
 {
     end != Breaking::No

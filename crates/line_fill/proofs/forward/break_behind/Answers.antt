@@ -1,4 +1,4 @@
-use Rattle.std.proofs.Common.{◌≡◌, ◌∙◌, ◌<◌, ◌+◌, ap, sym, arith, length, List}
+use Rattle.std.proofs.Common.{◌∙◌, ap, sym, arith, List}
 use Rattle.std.specs.Prelude.{pos, false}
 use Rattle.fragment_types.specs.declared.breaking.Breaking.TheVariants.{No}
 use Rattle.line_fill.specs.declared.item.FillItem.{FillItem}
