@@ -1,5 +1,5 @@
 -- Changes that are taken back.
-use Rattle.std.proofs.Common.{◌≡◌, ◌∙◌, ℕ, ◌+◌, ◌≤◌, List, [], ◌++◌, length, take, drop, refl, ap, sym, subst, arith, Option, Some, None, option_and_then, option_map, inl, inr}
+use Rattle.std.proofs.Common.{◌≡◌, ◌∙◌, ℕ, ◌≤◌, List, [], length, refl, ap, sym, subst, arith, Option, Some, None, option_and_then, option_map, inl, inr}
 use Rattle.std.specs.Prelude.{unwrap_or}
 use Rattle.std.specs.Ordering.{nat_cmp}
 use Rattle.std.specs.BTreeMap as keyed
@@ -8,8 +8,6 @@ use Rattle.slab.specs.Slab as slots
 use Rattle.slab.specs.Slab.{Slab}
 use Rattle.std.proofs.lemmas.Bool.{cases_lt, le-ltb, lt-ltb}
 use Rattle.std.proofs.lemmas.Bool.Decides.{eqb_tells}
-use Rattle.std.proofs.lemmas.List.{append_assoc, length-take-le, take-append-drop}
-use Rattle.std.proofs.Math.Seq.{drop-append-add, drop-append_seam, take-append_seam}
 use Rattle.std.proofs.lemmas.Option.{same_Some}
 use Rattle.css_types.specs.declared.value.Declaration.{Declaration}
 use Rattle.html_read.specs.Values.{Node}
@@ -17,11 +15,11 @@ use Rattle.dom_store.specs.declared.node.Node as code_node
 use Rattle.dom_store.specs.Building.{IsFilledFrom, added_under}
 use Rattle.dom_store.specs.Keys.{IsKeyed}
 use Rattle.dom_store.specs.State.{Entry, State, entry_of}
-use Rattle.dom_store.specs.Edits.{changed, changed_if, with_children, with_put, without}
+use Rattle.dom_store.specs.Edits.{changed, changed_if, with_children, with_put}
 use Rattle.dom_store.specs.Standing.{children_at, parent_at}
-use Rattle.dom_store.specs.Taking.{moved_from, parent_left, standing_in, taken_back, up_to, without_run}
-use Rattle.dom_store.proofs.RemoveLaws.{put_as_changed}
+use Rattle.dom_store.specs.Taking.{standing_in, up_to, without_run}
 use Rattle.dom_store.proofs.SameLaws.{are_equal}
+use Rattle.dom_store.proofs.TurnLaws.{taken_out}
 use Rattle.dom_store.proofs.WriteLaws.{none_written, put_under, state_with}
 
 module _ (state : State) (number : ℕ) (change back : Entry → Entry) (same : (entry : Entry) → state.node_at number ≡ Some entry → back (change entry) ≡ entry) where
@@ -39,25 +37,16 @@ module _ (state : State) (number : ℕ) (change back : Entry → Entry) (same : 
     next = refl;
   })
 
--- children that were put are taken out again
-taken_out : (index : ℕ) (tops children : List ℕ) → index ≤ length children → without_run index (length tops) (with_put index tops children) ≡ children
-taken_out index tops children within =
-    let front = take index children in
-    let rest = drop index children in
-    let long : length front ≡ index = length-take-le index children within in
-    let before : take index (front ++ (tops ++ rest)) ≡ front =
-    ap (λ (n : ℕ). take n (front ++ (tops ++ rest))) (sym long) ∙ take-append_seam front (tops ++ rest) in
-    let behind : drop (index + length tops) (front ++ (tops ++ rest)) ≡ rest =
-    ap (λ (n : ℕ). drop (n + length tops) (front ++ (tops ++ rest))) (sym long) ∙ (drop-append-add front (tops ++ rest) (length tops) ∙ drop-append_seam tops rest) in
-    ap (without_run index (length tops)) (append_assoc front tops rest)
-    ∙ (ap (λ (l : List ℕ). l ++ drop (index + length tops) (front ++ (tops ++ rest))) before
-    ∙ (ap (λ (l : List ℕ). front ++ l) behind ∙ take-append-drop index children))
+-- the children of a node that lives
+pub children_of_entry : (state : State) (number : ℕ) (entry : Entry) → state.node_at number ≡ Some entry → children_at state number ≡ entry.children
+children_of_entry state number entry at = ap (λ (o : Option Entry). unwrap_or (option_map (λ entry. entry.children) o) []) at
 
+-- children that were put are taken out again
 pub taken_out_at : (state : State) (parent index : ℕ) (tops : List ℕ) → index ≤ length (children_at state parent)
     → changed (changed state parent (with_children (with_put index tops))) parent (with_children (without_run index (length tops))) ≡ state
 taken_out_at state parent index tops within =
     changed_back state parent (with_children (with_put index tops)) (with_children (without_run index (length tops))) (λ entry at.
-    let same : children_at state parent ≡ entry.children = ap (λ (o : Option Entry). unwrap_or (option_map (λ entry. entry.children) o) []) at in
+    let same = children_of_entry state parent entry at in
     ap (λ (l : List ℕ). with_children (λ before. l) entry) (taken_out index tops entry.children (omega (arith, within, ap length same))))
 
 -- a node that stays what it was
@@ -95,30 +84,15 @@ module _ (change : List ℕ → List ℕ) where
   of_parent (Some entry) = refl
 
   -- where children change, parents stay
-  parent_stays : (state : State) (holder number : ℕ) → parent_at (changed state holder (with_children change)) number ≡ parent_at state number
+  pub parent_stays : (state : State) (holder number : ℕ) → parent_at (changed state holder (with_children change)) number ≡ parent_at state number
   parent_stays state holder number = elim (eqb_tells number holder) [
     | inl (here, same) ↦ rw here (of_parent (state.node_at number))
     | inr (there, apart) ↦ rw there refl
   ]
 
-  parent_stays_if : (state : State) (holder : Option ℕ) (number : ℕ) → parent_at (changed_if state holder (with_children change)) number ≡ parent_at state number
+  pub parent_stays_if : (state : State) (holder : Option ℕ) (number : ℕ) → parent_at (changed_if state holder (with_children change)) number ≡ parent_at state number
   parent_stays_if state None number = refl
   parent_stays_if state (Some holder) number = parent_stays state holder number
-
--- a node that was moved stands again where it stood
-pub moved_back : (old out put new : State) (number : ℕ) (from : Option ℕ) (parent : ℕ) (others children left before : List ℕ) → from ≡ parent_at old number
-    → out ≡ changed_if old (parent_left from parent) (with_children (λ before. others)) → changed_if out (parent_left from parent) (with_children (λ now. left)) ≡ old
-    → put ≡ changed out parent (with_children (λ before. children)) → changed put parent (with_children (λ now. before)) ≡ out
-    → changed new number (standing_in (parent_at put number)) ≡ put
-    → taken_back (moved_from number from left parent before) new ≡ old
-moved_back old out put new number from parent others children left before is went back came again stands =
-    let stood : parent_at put number ≡ from =
-    ap (λ (s : State). parent_at s number) came ∙ (parent_stays (λ before. children) out parent number
-    ∙ (ap (λ (s : State). parent_at s number) went ∙ (parent_stays_if (λ before. others) old (parent_left from parent) number ∙ sym is))) in
-    let again_in : State → State = λ s. changed s parent (with_children (λ now. before)) in
-    ap (λ (s : State). changed_if s (parent_left from parent) (with_children (λ now. left)))
-    (ap again_in (ap (λ (o : Option ℕ). changed new number (standing_in o)) (sym stood) ∙ stands) ∙ again)
-    ∙ back
 
 -- a number that has no node
 pub none_back : (keys : BTreeMap ℕ ℕ) (nodes : Slab code_node.Node) (next number : ℕ) (back : Entry → Entry) → keyed.get nat_cmp keys number ≡ None

@@ -1,8 +1,8 @@
 -- The depths of nodes, as they are found one after the other.
-use Rattle.std.proofs.Common.{◌≡◌, ◌∙◌, ℕ, zero, suc, ◌+◌, ◌<◌, ◌≤◌, Bool, true, false, List, [], ◌∷◌, ◌++◌, length, length-append, get_or, drop, refl, ap, sym, subst, arith, Option, Some, None, option_map, inl, inr, Result, Ok, Err}
+use Rattle.std.proofs.Common.{◌≡◌, ◌∙◌, ℕ, zero, suc, ◌+◌, ◌<◌, ◌≤◌, Bool, true, false, List, [], ◌∷◌, ◌++◌, length, length-append, get_or, drop, refl, ap, sym, subst, arith, Option, Some, None, option_map, Result, Ok, Err}
 use Rattle.std.specs.Prelude.{nat_lt, position, unwrap_or}
 use Rattle.std.specs.List.{All, position_or_len, slice_get}
-use Rattle.std.proofs.lemmas.Bool.{cases_lt, le-ltb, lt-ltb}
+use Rattle.std.proofs.lemmas.Bool.{le-ltb, lt-ltb}
 use Rattle.std.proofs.lemmas.Option.{get_or_from_slice_get, none-some, slice_get_within}
 use Rattle.html_read.specs.Values.{Node}
 use Rattle.css_types.specs.declared.value.Declaration.{Declaration}

@@ -1,5 +1,5 @@
 -- Lists from which a number goes.
-use Rattle.std.proofs.Common.{◌≡◌, ◌∙◌, ℕ, suc, ◌+◌, ◌<◌, Bool, true, false, cond, List, [], ◌∷◌, ◌++◌, ◌||◌, ◌≤◌, ◌-◌, length, length-append, get_or, take, drop, filter, refl, ap, sym, arith, Option, Some, None, option_map}
+use Rattle.std.proofs.Common.{◌≡◌, ◌∙◌, ℕ, zero, suc, ◌+◌, ◌<◌, Bool, true, false, cond, List, [], ◌∷◌, ◌++◌, ◌||◌, ◌≤◌, ◌-◌, length, length-append, get_or, take, drop, filter, refl, ap, sym, arith, Option, Some, None, option_map}
 use Rattle.std.specs.Prelude.{nat_eq, not}
 use Rattle.std.specs.List.{list_any, position, position_from, remove, slice_range}
 use Rattle.std.proofs.lemmas.Iterator.Adapters.{position_from-zero}
@@ -7,8 +7,10 @@ use Rattle.std.proofs.lemmas.List.{drop_more, length-drop, length-take-le, take-
 use Rattle.std.proofs.lemmas.List.Elements.{filter-append}
 use Rattle.std.proofs.lemmas.List.Folds.{drop_split}
 use Rattle.std.proofs.lemmas.List.Quantifiers.{position-Some}
+use Rattle.std.proofs.lemmas.Bool.Decides.{nat_tests}
 use Rattle.std.proofs.lemmas.Option.{none-some}
 use Rattle.dom_store.specs.Edits.{without}
+use Rattle.dom_store.specs.Taking.{without_run}
 
 abbrev is_it : (number : ℕ) → ℕ → Bool
 is_it number other = nat_eq other number
@@ -51,6 +53,42 @@ none_from number at (child ∷ children) none = more (nat_eq child number) refl 
 -- a number that is nowhere
 pub none_dropped : (number : ℕ) (children : List ℕ) → position (is_it number) children ≡ None → without number children ≡ children
 none_dropped number children none = none_from number 0 children (sym (position_from-zero (is_it number) children) ∙ none)
+
+-- ---- a number that stands at one place alone
+
+kept_before : (number : ℕ) (numbers : List ℕ) (place : ℕ) → ((k : ℕ) → k < place → is_it number (get_or numbers k number) ≡ false) → without number (take place numbers) ≡ take place numbers
+kept_before number numbers zero others = refl
+kept_before number [] (suc place) others = refl
+kept_before number (first ∷ numbers) (suc place) others =
+    let onward = kept_before number numbers place (λ k below. others (suc k) (omega (arith, below))) in
+    let apart = others 0 (omega arith) in
+    rw apart (ap (λ (l : List ℕ). first ∷ l) onward)
+
+-- a list in which it isn't
+kept_all : (number : ℕ) (numbers : List ℕ) → list_any (is_it number) numbers ≡ false → without number numbers ≡ numbers
+kept_all number [] none = refl
+kept_all number (first ∷ numbers) none = here (nat_eq first number) refl none (kept_all number numbers)
+  where
+    here : (b : Bool) → nat_eq first number ≡ b → (b || list_any (is_it number) numbers) ≡ false → (list_any (is_it number) numbers ≡ false → without number numbers ≡ numbers) → without number (first ∷ numbers) ≡ first ∷ numbers
+    here true is nothing onward = absurd cc
+    here false is nothing onward = rw is (ap (λ (l : List ℕ). first ∷ l) (onward nothing))
+
+-- the first place of a number behind which it isn't again
+pub alone_there : (number : ℕ) (numbers : List ℕ) (place : ℕ) → position (is_it number) numbers ≡ Some place → list_any (is_it number) (drop (place + 1) numbers) ≡ false
+    → (take 1 (drop place numbers) ≡ number ∷ []) × (without number numbers ≡ without_run place 1 numbers)
+alone_there number numbers place is none =
+    let found = position-Some (is_it number) numbers place number is in
+    let later = drop (place + 1) numbers in
+    let same : get_or numbers place number ≡ number = grind (arith, nat_tests, found.1) in
+    let parts : drop place numbers ≡ number ∷ later = drop_more numbers place number found.0 ∙ ap (λ (n : ℕ). n ∷ later) same in
+    let kept = kept_before number numbers place found.2 in
+    let away : without number (number ∷ later) ≡ later = dropped number later true refl number (grind (arith, nat_tests)) ∙ kept_all number later none in (
+      ap (take 1) parts,
+      ap (without number) (sym (take-append-drop place numbers))
+          ∙ (filter-append (λ (child : ℕ). not (nat_eq child number)) (take place numbers) (drop place numbers)
+          ∙ (ap (λ (l : List ℕ). l ++ without number (drop place numbers)) kept
+          ∙ ap (λ (l : List ℕ). take place numbers ++ l) (ap (without number) parts ∙ away))),
+    )
 
 -- ---- blocks
 

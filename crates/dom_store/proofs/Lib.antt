@@ -17,6 +17,7 @@ pub mod RootLaws
 pub mod SameLaws
 pub mod StandLaws
 pub mod TakeLaws
+pub mod TurnLaws
 pub mod WriteLaws
 mod Examples
 mod OpenElements

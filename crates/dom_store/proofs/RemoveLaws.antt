@@ -40,18 +40,18 @@ out_more numbers number state = are_equal _ _ (record {
 pub out_next : (numbers : List ℕ) (at : ℕ) (state : State) → at < length numbers → without_nodes (get_or numbers at 0 ∷ []) (without_nodes (take at numbers) state) ≡ without_nodes (take (at + 1) numbers) state
 out_next numbers at state within = out_more (take at numbers) (get_or numbers at 0) state ∙ ap (λ (l : List ℕ). without_nodes l state) (sym (take_more numbers at 0 within))
 
-module _ (state : State) (number : ℕ) (children : List ℕ) (change : List ℕ → List ℕ) (is : children ≡ change (children_at state number)) where
-  put_here : (o : Option Entry) → state.node_at number ≡ o → option_map (with_children (λ before. children)) o ≡ option_map (with_children change) o
-  put_here None at = refl
-  put_here (Some entry) at =
+module _ (state : State) (number : ℕ) (change other : List ℕ → List ℕ) (is : change (children_at state number) ≡ other (children_at state number)) where
+  alike_here : (o : Option Entry) → state.node_at number ≡ o → option_map (with_children change) o ≡ option_map (with_children other) o
+  alike_here None at = refl
+  alike_here (Some entry) at =
       let own : children_at state number ≡ entry.children = rw at refl in
-      ap (λ (l : List ℕ). Some (record entry { children = l })) (is ∙ ap change own)
+      ap (λ (l : List ℕ). Some (record entry { children = l })) (ap change (sym own) ∙ (is ∙ ap other own))
 
-  -- children that are put are those that the change makes of the node's own
-  pub put_as_changed : changed state number (with_children (λ before. children)) ≡ changed state number (with_children change)
-  put_as_changed = are_equal _ _ (record {
-    nodes = λ other. elim (eqb_tells other number) [
-      | inl (true_here, same) ↦ rw true_here (subst (λ (n : ℕ). option_map (with_children (λ before. children)) (state.node_at n) ≡ option_map (with_children change) (state.node_at n)) (sym same) (put_here (state.node_at number) refl))
+  -- changes that make the same of the node's own children
+  pub changed_alike : changed state number (with_children change) ≡ changed state number (with_children other)
+  changed_alike = are_equal _ _ (record {
+    nodes = λ one. elim (eqb_tells one number) [
+      | inl (true_here, same) ↦ rw true_here (subst (λ (n : ℕ). option_map (with_children change) (state.node_at n) ≡ option_map (with_children other) (state.node_at n)) (sym same) (alike_here (state.node_at number) refl))
       | inr (false_here, apart) ↦ rw false_here refl
     ];
     next = refl;

@@ -1,8 +1,6 @@
 -- Nodes above and below others, one level at a time.
-use Rattle.std.proofs.Common.{◌≡◌, ◌∙◌, ℕ, zero, suc, ◌+◌, ◌-◌, ◌<◌, List, [], ◌∷◌, ◌++◌, length, get_or, take, refl, ap, sym, arith, Option, Some, None}
+use Rattle.std.proofs.Common.{◌≡◌, ℕ, zero, suc, ◌-◌, ◌<◌, [], ◌∷◌, ◌++◌, refl, ap, arith, Option, Some, None}
 use Rattle.std.specs.Prelude.{flat_map}
-use Rattle.std.proofs.lemmas.Grind.{flat_map-append}
-use Rattle.std.proofs.lemmas.List.{append-nil, take_more}
 use Rattle.dom_store.specs.State.{State}
 use Rattle.dom_store.specs.Standing.{ancestors_to, below_levels, children_at, parent_at, unless_skipped}
 

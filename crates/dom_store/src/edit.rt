@@ -79,14 +79,26 @@ pub enum Before {
         count: usize,
         next: u32,
     },
-    /// The parent of the node, where it had one, and that one's children, where it isn't the new one; then those of the new one.
+    /// The parent of the node, where it had one, and that one's children, where it isn't the new one; then at which index
+    /// of the new one it came, and where it stood there before.
     Move {
         node: u32,
         from: Option<u32>,
         left: NodeNumbers,
         parent: u32,
-        children: NodeNumbers,
+        index: u32,
+        stood: Stood,
     },
     /// Nodes that went are not kept.
     Remove,
+}
+
+/// Where a node stood among the children of the parent into which it was moved.
+#[derive(Debug, Drop)]
+pub enum Stood {
+    Nowhere,
+    /// At this place alone.
+    At(usize),
+    /// More than once: these were the children.
+    Among(NodeNumbers),
 }

@@ -23,6 +23,6 @@ mod taking;
 mod writing;
 
 pub use document::Document;
-pub use edit::{Before, Change, Edit, NewNodes};
+pub use edit::{Before, Change, Edit, NewNodes, Stood};
 pub use error::EditError;
 pub use node::{Node, NodeKind, NodeNumbers};

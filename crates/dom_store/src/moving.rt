@@ -1,19 +1,19 @@
 //! Nodes are moved, with all below them (DOM, 4.2.3, narrowed).
 
-ghost use Rattle.std.specs.Prelude.{◌≡◌, ◌≤◌, if◌then◌else◌, length, nat_eq, None, Some, IfOk};
+ghost use Rattle.std.specs.Prelude.{◌≡◌, ◌≤◌, if◌then◌else◌, length, nat_eq, None, Some, IfOk, IfSome, OnErr, OnOk};
 ghost use Rattle.dom_store.specs.Edited.{Applies, Judges, refused_for};
-ghost use Rattle.dom_store.specs.Edits.{both, changed_if, move_to, with_children, without};
+ghost use Rattle.dom_store.specs.Edits.{both, changed, changed_if, move_to, with_children, with_moved, without};
 ghost use Rattle.dom_store.specs.Refusals.{first_of, may_hold, placing, refusal, too_deep_moved};
 ghost use Rattle.dom_store.specs.Standing.{children_at, parent_at};
 ghost use Rattle.dom_store.specs.State.{state_of, what_of};
-ghost use Rattle.dom_store.specs.Taking.{before_of, parent_left, taken_back};
+ghost use Rattle.dom_store.specs.Taking.{IsStanding, before_of, parent_left, stood_of, taken_back, unplaced};
 
 use crate::depths::GREATEST_DEPTH;
 use crate::document::Document;
-use crate::edit::{Before, Change};
+use crate::edit::{Before, Change, Stood};
 use crate::error::EditError;
 use crate::node::{NodeKind, NodeNumbers};
-use crate::siblings::{least, without};
+use crate::siblings::{Standing, least, put_one, standing_among, without};
 use html_tokens::Tag;
 use std::alloc::{AllocError, Global};
 
@@ -29,23 +29,55 @@ impl Document {
         ensures applies { Applies (state_of self.old) (state_of self.new) (move_to n parent index) result }
         ensures back { IfOk result (λ change. taken_back (before_of change.before) (state_of self.new) ≡ state_of self.old) }
     {
-        let mut children = self.check_move(alloc, n, parent, index)?;
+        let standing = self.check_move(alloc, n, parent, index)?;
         let elements = self.concerned_both(alloc, n, parent)?;
-        children.insert(index as usize, n)?;
         let from = self.parent(n);
         let old = parent_left(from, parent);
         let others = self.others_in(alloc, old, n)?;
+        let stood = self.enter(parent, index as usize, n, standing)?;
         let left = self.put_children_if(old, others);
-        let children = self.put_children(parent, children);
         self.put_parent(n, Some(parent));
         let before = Before::Move {
             node: n,
             from,
             left,
             parent,
-            children,
+            index,
+            stood,
         };
         Ok(Change { elements, before })
+    }
+
+    /// A node comes among this parent's children, at the index among the others, where it stands there so. It tells where
+    /// it stood. Where it stood once, the children between the two places move, and no memory is taken.
+    fn enter(
+        &mut self,
+        parent: u32,
+        index: usize,
+        n: u32,
+        standing: Standing,
+    ) -> Result<Stood, AllocError>
+        requires standing { IsStanding n (children_at (state_of self.old) parent) standing }
+        requires within { index ≤ length (without n (children_at (state_of self.old) parent)) }
+        ensures put { OnOk result (state_of self.new ≡ changed (state_of self.old) parent (with_children (with_moved n index))) }
+        ensures back { IfOk result (λ stood. changed (state_of self.new) parent (with_children (unplaced (stood_of stood) index)) ≡ state_of self.old) }
+        ensures same { OnErr result (state_of self.new ≡ state_of self.old) }
+    {
+        match standing {
+            Standing::Nowhere => {
+                self.put_child(parent, index, n)?;
+                Ok(Stood::Nowhere)
+            }
+            Standing::At(place) => {
+                self.turn_children(parent, place, index);
+                Ok(Stood::At(place))
+            }
+            Standing::Among(others) => {
+                let mut children = others;
+                put_one(&mut children, index, n)?;
+                Ok(Stood::Among(self.put_children(parent, children)))
+            }
+        }
     }
 
     /// The children of this node, where there is one, but for this child.
@@ -55,7 +87,7 @@ impl Document {
         parent: Option<u32>,
         child: u32,
     ) -> Result<NodeNumbers, AllocError>
-        ensures { IfOk result (λ others. changed_if (state_of self.now) parent (with_children (λ before. others.items)) ≡ changed_if (state_of self.now) parent (with_children (without child))) }
+        ensures { IfOk result (λ others. IfSome parent (λ p. others.items ≡ without child (children_at (state_of self.now) p))) }
     {
         match parent {
             Some(parent) => {
@@ -81,25 +113,26 @@ impl Document {
         }
     }
 
-    /// Whether a node may be moved there, and the children among which it would stand.
+    /// Whether a node may be moved there, and where it stands among the parent's children.
     fn check_move(
         &self,
         alloc: Global,
         n: u32,
         parent: u32,
         index: u32,
-    ) -> Result<NodeNumbers, EditError>
+    ) -> Result<Standing, EditError>
         ensures judges { Judges (refusal (state_of self.now) (move_to n parent index)) result }
-        ensures others { IfOk result (λ others. others.items ≡ without n (children_at (state_of self.now) parent)) }
-        ensures within { IfOk result (λ others. index ≤ length others.items) }
+        ensures standing { IfOk result (λ standing. IsStanding n (children_at (state_of self.now) parent) standing) }
+        ensures within { IfOk result (λ standing. index ≤ length (without n (children_at (state_of self.now) parent))) }
     {
         self.check_placing(n, parent)?;
-        let others = without(alloc, self.children(parent), n)?;
-        if index as usize > others.len() {
+        let children = self.children(parent);
+        let standing = standing_among(alloc, children, n)?;
+        if index as usize > standing.count_others(children.len()) {
             return Err(EditError::BadIndex);
         }
         self.check_move_depth(alloc, n, parent)?;
-        Ok(others)
+        Ok(standing)
     }
 
     /// Whether a node may stand in this parent, wherever in it, and however deep.

@@ -1,16 +1,58 @@
 //! Lists of nodes' numbers.
 
-ghost use Rattle.std.specs.Prelude.{◌≡◌, ◌≤◌, drop, length, nat_eq, Some, IfOk, OnErr, OnOk};
+ghost use Rattle.std.specs.Prelude.{◌≡◌, ◌≤◌, ◌∷◌, ℕ, List, [], drop, length, nat_eq, Some, IfOk, OnErr, OnOk};
 ghost use Rattle.std.specs.List.{list_any, position, position_from};
 ghost use Rattle.dom_store.specs.Edits.{with_put, without};
 ghost use Rattle.dom_store.specs.Refusals.{least, lesser};
-ghost use Rattle.dom_store.specs.Taking.{without_run};
+ghost use Rattle.dom_store.specs.Taking.{IsStanding, turned, without_run};
 
 use crate::node::NodeNumbers;
 use std::alloc::{AllocError, Global};
 
 /// How many numbers are looked at at once.
 const BLOCK: usize = 64;
+
+/// Where a number stands among others.
+#[derive(Drop)]
+pub(crate) enum Standing {
+    Nowhere,
+    /// At this place alone.
+    At(usize),
+    /// More than once: these are the others.
+    Among(NodeNumbers),
+}
+
+impl Standing {
+    /// How many the others are, where with the number there are so many.
+    pub(crate) fn count_others(&self, count: usize) -> usize
+        ensures { (number : ℕ) (numbers : List ℕ) → IsStanding number numbers self.now → length numbers ≡ count → result ≡ length (without number numbers) }
+    {
+        match self {
+            Standing::Nowhere => count,
+            Standing::At(_) => count.saturating_sub(1),
+            Standing::Among(others) => others.len(),
+        }
+    }
+}
+
+/// Where this number stands among the children. It takes memory only where it stands there more than once.
+pub(crate) fn standing_among(
+    alloc: Global,
+    children: &[u32],
+    number: u32,
+) -> Result<Standing, AllocError>
+    ensures { IfOk result (λ standing. IsStanding number children.now standing) }
+{
+    let Some(place) = place_of(children, number) else {
+        return Ok(Standing::Nowhere);
+    };
+    let (_, later) = children.split_at(place + 1);
+    if has(later, number) {
+        let others = without(alloc, children, number)?;
+        return Ok(Standing::Among(others));
+    }
+    Ok(Standing::At(place))
+}
 
 /// The children but for this one.
 pub(crate) fn without(
@@ -90,6 +132,35 @@ pub(crate) fn put_at(
 {
     children.splice(index..index, numbers)?;
     Ok(())
+}
+
+/// This number comes among the children, at the index. Where memory runs out, the children stay as they are.
+pub(crate) fn put_one(
+    children: &mut NodeNumbers,
+    index: usize,
+    number: u32,
+) -> Result<(), AllocError>
+    requires { index ≤ length children.old.items }
+    ensures put { OnOk result (children.new.items ≡ with_put index (number ∷ []) children.old.items) }
+    ensures same { OnErr result (children.new.items ≡ children.old.items) }
+{
+    children.insert(index, number)?;
+    Ok(())
+}
+
+/// The number at one place comes to another, and those between move up to where it was. It takes no memory.
+pub(crate) fn turn(children: &mut NodeNumbers, from: usize, to: usize)
+    ensures { children.new.items ≡ turned from to children.old.items }
+{
+    let count = children.len();
+    if from < count {
+        let to = to.min(count - 1);
+        if from < to {
+            children[from..to + 1].rotate_left(1);
+        } else {
+            children[to..from + 1].rotate_right(1);
+        }
+    }
 }
 
 /// Takes so many of the children out, from the index on, or as many as stand there. It takes no memory.

@@ -2,10 +2,11 @@
 
 ghost use Rattle.std.specs.Prelude.{◌≡◌};
 ghost use Rattle.dom_store.specs.State.{state_of};
-ghost use Rattle.dom_store.specs.Taking.{before_of, taken_back};
+ghost use Rattle.dom_store.specs.Edits.{changed, with_children};
+ghost use Rattle.dom_store.specs.Taking.{before_of, stood_of, taken_back, unplaced};
 
 use crate::document::Document;
-use crate::edit::{Before, Change};
+use crate::edit::{Before, Change, Stood};
 use crate::moving::parent_left;
 
 impl Document {
@@ -42,13 +43,31 @@ impl Document {
                 from,
                 left,
                 parent,
-                children,
+                index,
+                stood,
             } => {
                 self.put_parent(node, from);
-                self.put_children(parent, children);
                 self.put_children_if(parent_left(from, parent), left);
+                self.unplace(parent, index as usize, stood);
             }
             Before::Remove => {}
+        }
+    }
+
+    /// The children of a parent that a node entered at this index stand as before.
+    fn unplace(&mut self, parent: u32, index: usize, stood: Stood)
+        ensures { state_of self.new ≡ changed (state_of self.old) parent (with_children (unplaced (stood_of stood) index)) }
+    {
+        match stood {
+            Stood::Nowhere => {
+                self.drop_children(parent, index, 1);
+            }
+            Stood::At(place) => {
+                self.turn_children(parent, index, place);
+            }
+            Stood::Among(children) => {
+                self.put_children(parent, children);
+            }
         }
     }
 }

@@ -5,11 +5,11 @@ ghost use Rattle.std.specs.String.{string_bytes};
 ghost use Rattle.dom_store.specs.Edits.{changed, with_children, with_classes, with_own, with_put, with_what, without, without_nodes};
 ghost use Rattle.dom_store.specs.Standing.{children_at, parent_at};
 ghost use Rattle.dom_store.specs.State.{state_of, what_of};
-ghost use Rattle.dom_store.specs.Taking.{standing_in, without_run};
+ghost use Rattle.dom_store.specs.Taking.{standing_in, turned, without_run};
 
 use crate::document::Document;
 use crate::node::{NodeKind, NodeNumbers};
-use crate::siblings::{drop_from, drop_run, put_at};
+use crate::siblings::{drop_from, drop_run, put_at, put_one, turn};
 use css_types::Declarations;
 use letters::LetterList;
 use std::alloc::AllocError;
@@ -52,6 +52,27 @@ impl Document {
         match self.keys.get(&n) {
             Some(key) => put_at(&mut self.nodes[*key].children, index, numbers),
             None => Ok(()),
+        }
+    }
+
+    /// This one comes among the node's children, at the index, or nothing changes where memory runs out.
+    pub(crate) fn put_child(&mut self, n: u32, index: usize, child: u32) -> Result<(), AllocError>
+        requires within { index ≤ length (children_at (state_of self.old) n) }
+        ensures put { OnOk result (state_of self.new ≡ changed (state_of self.old) n (with_children (with_put index (child ∷ [])))) }
+        ensures same { OnErr result (state_of self.new ≡ state_of self.old) }
+    {
+        match self.keys.get(&n) {
+            Some(key) => put_one(&mut self.nodes[*key].children, index, child),
+            None => Ok(()),
+        }
+    }
+
+    /// The node's child at one place comes to another.
+    pub(crate) fn turn_children(&mut self, n: u32, from: usize, to: usize)
+        ensures { state_of self.new ≡ changed (state_of self.old) n (with_children (turned from to)) }
+    {
+        if let Some(key) = self.keys.get(&n) {
+            turn(&mut self.nodes[*key].children, from, to);
         }
     }
 

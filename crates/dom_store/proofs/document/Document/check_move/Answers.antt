@@ -1,4 +1,4 @@
-use Rattle.std.proofs.Common.{◌≡◌, ◌∙◌, ◌≤◌, [], ◌∷◌, length, ap, arith, inl, inr}
+use Rattle.std.proofs.Common.{◌≡◌, ◌∙◌, ◌≤◌, ℕ, List, [], ◌∷◌, length, refl, ap, arith, inl, inr}
 use Rattle.dom_store.specs.Edits.{move_to, without}
 use Rattle.dom_store.specs.Refusals.{bad_index, placing, refusal, too_deep_moved}
 use Rattle.dom_store.specs.Standing.{children_at}
@@ -23,9 +23,9 @@ returns-in_err-check_move_depth-clause-judges c =
     let index = c.args.index in
     let children = without n (children_at state parent) in
     let deep = too_deep_moved state n parent in
-    let others : c.in_ok-others.others.items ≡ children = c.in_ok-others.ensures ∙ ap (without n) c.children.ensures in
-    let counted : length c.in_ok-others.others.items ≡ length children = ap length others in
-    let within : index ≤ length children = omega (arith, c.if-index-len.false, c.len.ensures, counted) in
+    let many = c.count_others.ensures n c.children-children.result.now c.in_ok-standing.ensures refl in
+    let counted : length (without n c.children-children.result.now) ≡ length children = ap (λ (l : List ℕ). length (without n l)) c.children-children.ensures in
+    let within : index ≤ length children = omega (arith, c.if-index-count_others.false, many, counted) in
     let first : refusal state (move_to n parent index) ≡ deep =
     not_before (placing state n parent) (bad_index index children ∷ deep ∷ []) c.in_ok-check_placing.ensures ∙ (good_first index children (deep ∷ []) within ∙ alone deep) in
     judged (refusal state (move_to n parent index)) c.in_err-check_move_depth.field-0.0 c.from_residual-in_err-check_move_depth.result c.from_residual-in_err-check_move_depth.ensures.1 (elim c.in_err-check_move_depth.ensures [
