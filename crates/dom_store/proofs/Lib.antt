@@ -21,5 +21,6 @@ pub mod TurnLaws
 pub mod WriteLaws
 mod Examples
 mod OpenElements
+mod StepExamples
 mod TreeLaws
 mod WholeLaws

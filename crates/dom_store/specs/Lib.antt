@@ -2,11 +2,13 @@ pub mod Building
 pub mod Edited
 pub mod Edits
 pub mod Error
+pub mod Exact
 pub mod Keys
 pub mod Laws
 pub mod Opening
 pub mod Refusals
 pub mod Standing
 pub mod State
+pub mod Steps
 pub mod Taking
 pub mod Whole

@@ -194,7 +194,7 @@ module _ (state : State) (whole : IsWhole state) (number parent index : ℕ) (al
   number_lives : lives put number ≡ true
   number_lives = lives_changed (with_children (with_moved number index)) (nat_eq number parent) (away.node_at number) ∙ (left_lives state number (parent_at state number) number ∙ alive)
 
-  moved_parent : parent_at (moved state number parent index) number ≡ Some parent
+  pub moved_parent : parent_at (moved state number parent index) number ≡ Some parent
   moved_parent = rw (eq-eqb number number refl) (given_parent parent (put.node_at number) number_lives)
 
   other_parent : (child : ℕ) → child ≢ number → parent_at (moved state number parent index) child ≡ parent_at state child

@@ -26,14 +26,14 @@ contained_times numbers number some = by (list_any (nat_eq number) numbers) refl
     by false away = absurd (omega (arith, some, none_where number numbers away))
 
 module _ (f : ℕ → List ℕ) where
-  contained_flat : (numbers : List ℕ) (among number : ℕ) → Contains numbers among → Contains (f among) number → Contains (flat_map f numbers) number
+  pub contained_flat : (numbers : List ℕ) (among number : ℕ) → Contains numbers among → Contains (f among) number → Contains (flat_map f numbers) number
   contained_flat [] among number there inner = absurd (contains_none among there)
   contained_flat (first ∷ numbers) among number there inner = elim (Contains-append_cases (first ∷ []) numbers among there) [
     | inl here ↦ Contains-append_left (f first) (flat_map f numbers) number (subst (λ (n : ℕ). Contains (f n) number) (sym (contains_only first among here)) inner)
     | inr later ↦ Contains-append_right (f first) (flat_map f numbers) number (contained_flat numbers among number later inner)
   ]
 
-  flat_contained : (numbers : List ℕ) (number : ℕ) → Contains (flat_map f numbers) number → (among : ℕ) × Contains numbers among × Contains (f among) number
+  pub flat_contained : (numbers : List ℕ) (number : ℕ) → Contains (flat_map f numbers) number → (among : ℕ) × Contains numbers among × Contains (f among) number
   flat_contained [] number there = absurd (contains_none number there)
   flat_contained (first ∷ numbers) number there = elim (Contains-append_cases (f first) (flat_map f numbers) number there) [
     | inl here ↦ (first, contains_equal first first numbers refl, here)

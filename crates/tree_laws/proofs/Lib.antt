@@ -10,8 +10,14 @@ pub mod Parents
 pub mod Places
 pub mod Reaching
 pub mod Refusing
+pub mod Repeating
+pub mod Restoring
 pub mod Staying
+pub mod Stepped
+pub mod Stepping
 pub mod Sums
 pub mod Times
 pub mod Trees
+pub mod Uniqueness
 pub mod Weighing
+pub mod Withdrawing

@@ -14,7 +14,7 @@ use Rattle.dom_store.specs.declared.error.EditError.TheVariants.{Inside, NoNode,
 use Rattle.dom_store.specs.State.{Entry, State, greatest_depth}
 use Rattle.dom_store.specs.Opening.{depths}
 use Rattle.dom_store.specs.Standing.{below_levels, depth_at, inclusive_ancestors, lives}
-use Rattle.dom_store.specs.Edits.{insert, move_to}
+use Rattle.dom_store.specs.Edits.{insert, move_to, remove}
 use Rattle.dom_store.specs.Refusals.{first_of, least, lesser, no_node, reasons, refusal, room_left}
 use Rattle.tree_laws.specs.Wholeness.{IsWhole}
 
@@ -36,6 +36,13 @@ pub move_passes : (state : State) (number parent index : ℕ) → refusal state 
 move_passes state number parent index accepted =
     let none = all_none (reasons state (move_to number parent index)) accepted in (
       lives_named state number (parent ∷ []) none.0,
+      eqb-false number 0 (or_parts (nat_eq number 0) (nat_eq number 1) (not_refused (nat_eq number 0 || nat_eq number 1) IsRoot none.1.0)).0,
+    )
+
+pub remove_passes : (state : State) (number : ℕ) → refusal state (remove number) ≡ None → (lives state number ≡ true) × (number ≢ 0)
+remove_passes state number accepted =
+    let none = all_none (reasons state (remove number)) accepted in (
+      lives_named state number [] none.0,
       eqb-false number 0 (or_parts (nat_eq number 0) (nat_eq number 1) (not_refused (nat_eq number 0 || nat_eq number 1) IsRoot none.1.0)).0,
     )
 

@@ -57,7 +57,7 @@ module _ (state : State) (whole : IsWhole state) (reached : IsReached state) (nu
   mid = left state number (parent_at state number)
 
   -- below one that goes, all go
-  goes_on : (level parent child : ℕ) → suc level < greatest_depth → IsAtLevel state level parent → Contains (children_at state parent) child → Contains gone parent → Contains gone child
+  pub goes_on : (level parent child : ℕ) → suc level < greatest_depth → IsAtLevel state level parent → Contains (children_at state parent) child → Contains gone parent → Contains gone child
   goes_on level parent child low at there goes =
       let (levels, none, few, below) = chain_of_descendant state greatest_depth 0 number parent goes in
       let (above, sum, top) = level_above state whole levels level number parent at below in

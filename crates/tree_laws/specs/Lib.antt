@@ -1,4 +1,5 @@
 pub mod Laws
 pub mod Reached
+pub mod Stepped
 pub mod Weight
 pub mod Wholeness

@@ -2,6 +2,7 @@
 
 ghost use Rattle.tree_laws.specs.Laws.{AcceptedAreDone, ChildrenHaveParents, CountsAreTotals, EditsKeepWhole, EditsWeigh, OpenedAreWhole, TreesWeighNoMore};
 ghost use Rattle.tree_laws.specs.Reached.{EditsKeepReached, OpenedAreReached};
+ghost use Rattle.tree_laws.specs.Stepped.{StepsLeadBack, StepsLeadThere};
 
 /// Each child of a node of a whole document has that node as its parent.
 pub fn children_have_parents()
@@ -49,4 +50,15 @@ pub fn opened_documents_are_reached()
 /// own declarations.
 pub fn accepted_edits_keep_documents_reached()
     ensures { EditsKeepReached }
+{}
+
+/// The step of an edit that isn't refused leads back: done exactly after the edit, its one half leaves the state before, but for the next number, which
+/// stays as it is.
+pub fn steps_lead_back()
+    ensures { StepsLeadBack }
+{}
+
+/// And it leads there again: done exactly in the state before, its other half leaves the state after the edit.
+pub fn steps_lead_there_again()
+    ensures { StepsLeadThere }
 {}
