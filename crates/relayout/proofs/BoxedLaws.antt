@@ -42,11 +42,11 @@ handed_outer containing node c not = outer_by node.name.ordinal c.block (definit
 abbrev pub part_with : BoxName → FlowRect → Kind → Pieces → Part
 part_with name rect kind inner = record { name = name; rect = rect; kind = kind; inner = inner }
 
-pub measured_is : (containing : Containing) (node : Node) (asked : Intrinsic) (part : Part) (kind : Kind) (inner : Pieces) (i b along across edges : ℤ)
+pub measured_is : (containing : Containing) (node : Node) (content : Intrinsic) (part : Part) (kind : Kind) (inner : Pieces) (i b along across edges : ℤ)
     → part ≡ part_with node.name (record { i = i; b = b; inline = along; block = across }) kind inner → i ≡ pos 0 → b ≡ pos 0 → along ≡ pos 0 → across ≡ pos 0
-    → kind ≡ measure (asked.min +ℤ edges) (asked.max +ℤ edges) → edges ≡ around containing node.style → inner ≡ none → part ≡ (measured containing node asked).part
+    → kind ≡ measure (content.min +ℤ edges) (content.max +ℤ edges) → edges ≡ around containing node.style → inner ≡ none → part ≡ (measured containing node content).part
 unfolding measured
-measured_is containing node asked part kind inner i b along across edges is p q r s t u v = is ∙ rw (p, q, r, s, t, u, v) refl
+measured_is containing node content part kind inner i b along across edges is p q r s t u v = is ∙ rw (p, q, r, s, t, u, v) refl
 
 -- ---- its margins
 

@@ -28,9 +28,7 @@ use Rattle.wm_chars.specs.Pairs.{mirror, bracket}
 use Rattle.style_types.specs.declared.style.Align.TheVariants as aligns
 use Rattle.style_types.specs.declared.style.Baseline.TheVariants as bases
 use Rattle.style_types.specs.declared.style.Combine.TheVariants as combines
-use Rattle.style_types.specs.declared.style.LineHeight.TheVariants as heights
 use Rattle.style_types.specs.declared.style.TextOrientation.TheVariants as orientations
-use Rattle.style_types.specs.declared.style.UnicodeBidi.TheVariants as bidis
 use Rattle.fragment_types.specs.declared.unit_kind.UnitKind.TheVariants as kinds
 use Rattle.style_types.specs.Initial.{initial}
 use Rattle.fragment_types.specs.Item as item

@@ -1,236 +1,282 @@
 -- The boxes of a row, laid out one by one.
-use Rattle.std.proofs.Common.{◌≡◌, ◌∙◌, refl, sym, ap, subst, arith, ℕ, suc, ◌+◌, ◌*◌, ◌-◌, ◌≤◌, ◌^◌, Bool, true, false, List, [], ◌∷◌, ◌++◌, length, map, Option, Some, None, ℤ, pos}
-use Rattle.std.specs.Prelude.{All}
+use Rattle.std.proofs.Common.{◌≡◌, ◌∙◌, refl, sym, ap, subst, arith, ℕ, ◌+◌, ◌*◌, ◌-◌, ◌≤◌, ◌^◌, Bool, true, false, List, [], ◌∷◌, ◌++◌, length, map, Option, Some, None, ℤ, pos}
+use Rattle.std.specs.Prelude.{All, IsSome, option_copied}
 use Rattle.std.proofs.lemmas.List.Elements.{All-nil}
 use Rattle.std.proofs.lemmas.Option.{none-some, same_Some}
 use Rattle.fragment_types.specs.declared.constraint.Constraint.{Constraint}
-use Rattle.fragment_types.specs.declared.fragment.Fragment.{Fragment}
 use Rattle.fragment_types.specs.declared.item.BoxName.{BoxName}
 use Rattle.style_types.specs.declared.style.Style.{Style}
 use Rattle.fragment_types.specs.Fragment.{Pieces, none, piece, piece_of}
 use Rattle.line_place.specs.Spread.{spread}
 use Rattle.line_place.proofs.Fragments.{as_piece}
-use Rattle.box_arena.specs.At.{Node, Slots, first_at, kept_at, links_at, next_at, node_at, text_at}
+use Rattle.box_arena.specs.Arena.{Keeps, KeepsText}
+use Rattle.box_arena.specs.At.{Node, Slots, first_at, kept_at, links_at, next_at, node_at, node_of, text_at}
 use Rattle.box_arena.specs.Boxes.{StandFrom}
 use Rattle.box_arena.specs.Links.{IsLinked, first_of, next_of}
 use Rattle.box_gen.specs.Tree.{Boxes, Content, blocks, box, inline, none as no_boxes}
 use Rattle.para_prepare.specs.Preparation.{Preparation}
 use Rattle.relayout.specs.declared.flowed.LaidBox.{LaidBox}
+use Rattle.relayout.specs.declared.flowing.Begun.{Begun}
+use Rattle.relayout.specs.declared.flowing.SizedBox.{SizedBox}
+use Rattle.relayout.specs.declared.row.Row.{Row}
+use Rattle.relayout.specs.declared.row.RowBox.{RowBox}
 use Rattle.relayout.specs.declared.sizes.Containing.{Containing}
-use Rattle.relayout.specs.declared.step.Extent.{Extent}
-use Rattle.relayout.specs.declared.step.Extent.TheVariants as extents
-use Rattle.relayout.specs.declared.step.Step.{Step}
+use Rattle.relayout.specs.declared.step.FlowBox.{FlowBox}
+use Rattle.relayout.specs.declared.sizing.InlineSize.{InlineSize}
+use Rattle.relayout.specs.declared.sizing.InlineSize.TheVariants.{MinMax, Used}
+use Rattle.relayout.specs.declared.sizing.Sizing.{Sizing}
 use Rattle.relayout.specs.Boxed.{block_size, border_across, border_along, border_box, boxed, handed_on, measured, turned}
 use Rattle.relayout.specs.Content.{Filled}
-use Rattle.relayout.specs.Fit.{AreFit, IsFit, count, height, reach_of, room_in, siblings, weight}
+use Rattle.relayout.specs.Fit.{AreFit, count, height, reach_of, room_in, siblings, weight}
 use Rattle.relayout.specs.Flow.{flow_step, laid_under, members}
 use Rattle.relayout.specs.Flowed.{AreLaid, Flowed, Laid, Member, Part, at, part_of}
+use Rattle.relayout.specs.Flowing.{CanFlow, CanFlowBox, IsBegun, IsSeen, IsSized}
 use Rattle.relayout.specs.Inline.{Outside}
 use Rattle.relayout.specs.Intrinsic.{IsTextOf}
 use Rattle.relayout.specs.Kept.{AreRight, IsResultAt, IsResultOf, containing_at, inside as inside_of, result_of}
 use Rattle.relayout.specs.Near.{HasReach, IsNearLaid}
 use Rattle.relayout.specs.Paragraph.{HasAtoms, HasText, IsParagraphIn, IsReadyFor, IsReadyIn}
-use Rattle.relayout.specs.Row.{AreFlowed, HasBox, HasRow, IsFlowed, IsSteady, Lead, StandsIn}
+use Rattle.relayout.specs.Reach.{IsBase, IsBounded, IsPageView}
+use Rattle.relayout.specs.Row.{AreFlowed, HasBox, HasRow, IsBoxAt, IsFlowed, IsFlowedAt, IsSteady, Lead, StandsIn, box_in, row_in}
 use Rattle.relayout.specs.Sizes.{containing_of, is_parallel}
-use Rattle.relayout.specs.Step.{AreSetDown, AreUnder, HasChildren, extent_of, finished, size_of, step_of, to_ask, to_set_down, under}
+use Rattle.relayout.specs.Step.{AreInside, AreUnder, HasChildren, IsInlineSize, box_by, contributing, inline_size_of, laid_inside, sizing_of, under, used_in}
 use Rattle.relayout.proofs.KeptLaws.{same_containing}
-use Rattle.relayout.proofs.RowLaws.{Arena, few_siblings, inside_first, inside_next, inside_on, lead_count, lead_laid, lead_more, lead_near, lead_reach, lead_under, stands_on, steady_itself, steady_then, stood_from, weighty_siblings}
+use Rattle.relayout.proofs.RowLaws.{Arena, few_siblings, inside_first, inside_next, inside_on, lead_count, lead_laid, lead_more, lead_near, lead_reach, lead_under, some_of, stands_on, steady_itself, steady_kept, steady_text, steady_then, stood_from, weighty_siblings}
 use Rattle.relayout.proofs.StepLaws.{step_is}
 
--- ---- the first box of a row
+-- ---- the text of a paragraph
 
-pub record Head (slots : Slots Preparation) (key depth i : ℕ) (containing : Containing) : Type 0 where
-  pub node : Node
-  pub inner : Boxes
-  pub others : Boxes
-  pub is : node_at slots key ≡ Some node
-  pub within : StandFrom slots (first_at slots key) inner
-  pub behind : StandFrom slots (next_at slots key) others
-  pub low : suc (height inner) ≤ depth
-  pub low_behind : height others ≤ depth
-  pub few : suc (count inner + count others) + i ≤ 2 ^ 18
-  pub light : weight inner ≤ 2 ^ 60 - 2 ^ 38
-  pub light_behind : weight others ≤ 2 ^ 60 - 2 ^ 38
-  pub fit : IsFit node.style node.content inner
-  pub fit_within : AreFit inner
-  pub fit_behind : AreFit others
-  pub place : containing_at slots key node.style ≡ containing
+-- what is kept for a box is right: its text has what every such text has
+ready_in : (outside : Outside) (slots : Slots Preparation) (key : ℕ) (node : Node) → AreRight outside slots → node_at slots key ≡ Some node → IsParagraphIn node.content → (text : Option Preparation) → text_at slots key ≡ text
+    → IsReadyIn node.content text
+ready_in outside slots key node right is paragraph None at = by node.content paragraph where
+  by : (content : Content) → IsParagraphIn content → IsReadyIn content None
+  by blocks paragraph = tt
+  by (inline entries) paragraph = (paragraph, tt)
+ready_in outside slots key node right is paragraph (Some text) at = by node.content ((right key).text text at node is).ready paragraph where
+  by : (content : Content) → IsReadyFor content text → IsParagraphIn content → IsReadyIn content (Some text)
+  by blocks ready paragraph = tt
+  by (inline entries) ready paragraph = (paragraph, ready)
 
-pub head_of : (slots : Slots Preparation) (key depth i : ℕ) (containing : Containing) (next : Option ℕ) (rest : Boxes) → next ≡ Some key → StandFrom slots next rest → height rest ≤ depth → count rest + i ≤ 2 ^ 18
-    → weight rest ≤ 2 ^ 60 - 2 ^ 38 → AreFit rest → StandsIn slots next containing → Head slots key depth i containing
-head_of slots key depth i containing next no_boxes is stand low few light fit inside = absurd (none-some key (sym stand ∙ is))
-head_of slots key depth i containing next (box name style content inner others) is (k, at, node, within, behind) low few light fit inside =
-    let same : k ≡ key = same_Some k key (sym at ∙ is) in
-    let A : ℕ → Type 0 = λ n. node_at slots n ≡ Some (record { name = name; style = style; content = content }) in
-    let B : ℕ → Type 0 = λ n. StandFrom slots (first_at slots n) inner in
-    let C : ℕ → Type 0 = λ n. StandFrom slots (next_at slots n) others in
-    let D : Option ℕ → Type 0 = λ o. StandsIn slots o containing in
+-- and it is the paragraph's, where it is there
+text_in : (outside : Outside) (slots : Slots Preparation) (key : ℕ) (node : Node) → AreRight outside slots → node_at slots key ≡ Some node → (text : Option Preparation) → text_at slots key ≡ text → HasText node.content text
+    → IsTextOf outside.faces node.style node.content text
+text_in outside slots key node right is None at has = by node.content has where
+  by : (content : Content) → HasText content None → IsTextOf outside.faces node.style content None
+  by blocks has = tt
+  by (inline entries) has = absurd (cc)
+text_in outside slots key node right is (Some text) at has = ((right key).text text at node is).value
+
+-- it stays
+text_on : (outside : Outside) (old new : Arena) (key : ℕ) (node : Node) → IsSteady outside old new → node_at new.slots key ≡ Some node → IsTextOf outside.faces node.style node.content (text_at old.slots key)
+    → IsTextOf outside.faces node.style node.content (text_at new.slots key)
+text_on outside old new key node steady is text = text_in outside new.slots key node steady.right is (text_at new.slots key) refl (by node.content text) where
+  by : (content : Content) → IsTextOf outside.faces node.style content (text_at old.slots key) → HasText content (text_at new.slots key)
+  by blocks text = tt
+  by (inline entries) text = steady.texts key (some_of _ (text_at old.slots key) text refl)
+
+-- ---- where the same boxes stand
+
+abbrev box_on : (outside : Outside) (old new : Arena) (own : RowBox) → IsSteady outside old new → HasBox old.slots own → HasBox new.slots own
+box_on outside old new own steady has =
+    let P : Option ℕ → Type 0 = λ o. StandFrom new.slots o has.inner in
     record {
-      node = record { name = name; style = style; content = content };
-      inner = inner;
-      others = others;
-      is = subst A same node;
-      within = subst B same within;
-      behind = subst C same behind;
-      low = omega (arith, low);
-      low_behind = omega (arith, low);
-      few = few;
-      light = omega (arith, light);
-      light_behind = omega (arith, light);
-      fit = fit.0;
-      fit_within = fit.1;
-      fit_behind = fit.2;
-      place = (subst D is inside) (record { name = name; style = style; content = content }) (subst A same node);
+      node = has.node;
+      inner = has.inner;
+      is = steady.nodes own.key ∙ has.is;
+      within = subst P (sym (ap first_of (steady.links own.key))) (stands_on outside old new steady (first_at old.slots own.key) has.inner has.within);
+      low = has.low;
+      few = has.few;
+      light = has.light;
+      fit = has.fit;
+      fit_within = has.fit_within;
+      place = same_containing old.slots new.slots steady.links steady.nodes own.key has.node.style ∙ has.place;
+      sizes = has.sizes;
+      ready = ready_in outside new.slots own.key has.node steady.right (steady.nodes own.key ∙ has.is) has.fit.paragraph (text_at new.slots own.key) refl;
     }
 
-pub head_on : (outside : Outside) (old new : Arena) (key depth i : ℕ) (containing : Containing) → IsSteady outside old new → Head old.slots key depth i containing → Head new.slots key depth i containing
-head_on outside old new key depth i containing steady head =
-    let P : Option ℕ → Type 0 = λ o. StandFrom new.slots o head.inner in
-    let Q : Option ℕ → Type 0 = λ o. StandFrom new.slots o head.others in
-    record {
-      node = head.node;
-      inner = head.inner;
-      others = head.others;
-      is = steady.nodes key ∙ head.is;
-      within = subst P (sym (ap first_of (steady.links key))) (stands_on outside old new steady (first_at old.slots key) head.inner head.within);
-      behind = subst Q (sym (ap next_of (steady.links key))) (stands_on outside old new steady (next_at old.slots key) head.others head.behind);
-      low = head.low;
-      low_behind = head.low_behind;
-      few = head.few;
-      light = head.light;
-      light_behind = head.light_behind;
-      fit = head.fit;
-      fit_within = head.fit_within;
-      fit_behind = head.fit_behind;
-      place = same_containing old.slots new.slots steady.links steady.nodes key head.node.style ∙ head.place;
-    }
+module _ (outside : Outside) (old new : Arena) (own : RowBox) (steady : IsSteady outside old new) where
+  same_first : first_at old.slots own.key ≡ first_at new.slots own.key
+  same_first = sym (ap first_of (steady.links own.key))
 
-module _ (slots : Slots Preparation) (key depth i : ℕ) (containing : Containing) (head : Head slots key depth i containing) where
-  pub head_box : HasBox slots key
-  head_box = record { node = head.node; is = head.is; bounded = head.fit.bounded }
+  abbrev seen_on : IsSeen outside old.slots own → IsSeen outside new.slots own
+  seen_on seen = record {
+    view = seen.view;
+    box = box_on outside old new own steady seen.box;
+    right = steady.right;
+    text = text_on outside old new own.key seen.box.node steady (steady.nodes own.key ∙ seen.box.is) seen.text;
+  }
 
-  pub head_node : (node : Node) → node_at slots key ≡ Some node → head.node ≡ node
-  head_node node is = same_Some head.node node (sym head.is ∙ is)
+  pub begun_on : (begun : Begun) → IsBegun outside old.slots own begun → IsBegun outside new.slots own begun
+  begun_on begun is = record {
+    seen = seen_on is.seen;
+    sizing = is.sizing;
+    handed = is.handed;
+    definite = is.definite;
+    row = is.row ∙ ap (λ (o : Option ℕ). row_in own begun.sizing (contributing begun.sizing.definite o) None) same_first;
+  }
 
-  pub head_paragraph : (node : Node) → node_at slots key ≡ Some node → IsParagraphIn node.content
-  head_paragraph node is = let P : Node → Type 0 = λ n. IsParagraphIn n.content in subst P (head_node node is) head.fit.paragraph
+  pub sized_on : (sized : SizedBox) → IsSized outside old.slots own sized → IsSized outside new.slots own sized
+  sized_on sized is =
+      record {
+        seen = seen_on is.seen;
+        size = λ inner within. let P : Option ℕ → Type 0 = λ o. StandFrom old.slots o inner in is.size inner (subst P (sym same_first) (stood_from outside old new steady (first_at new.slots own.key) inner within));
+        near = is.near;
+        row = is.row ∙ ap (λ (o : Option ℕ). row_in own (sizing_of own.containing is.seen.box.node own.c) (laid_inside sized.size o) (used_in sized.size)) same_first;
+      }
 
-  row_within : (d : ℕ) → d + 1 ≡ depth → HasRow slots (first_at slots key) d
-  row_within d less = let few = head.few in let low = head.low in record { tree = head.inner; stand = head.within; low = omega arith; few = omega arith; light = head.light; fit = head.fit_within }
+-- what has been laid out
+pub flowed_on : (outside : Outside) (old new : Arena) (row : Row) (laid : List LaidBox) → IsSteady outside old new → AreFlowed outside old.slots row.from row.containing row.c laid
+    → AreFlowed outside new.slots row.from row.containing row.c laid
+flowed_on outside old new row laid steady flowed tree stand = flowed tree (stood_from outside old new steady row.from tree stand)
 
-  no_row : (d : ℕ) → HasRow slots None d
-  no_row d = record { tree = no_boxes; stand = refl; low = omega arith; few = omega arith; light = omega arith; fit = tt }
+flowed_at_on : (outside : Outside) (old new : Arena) (own : RowBox) (laid : LaidBox) → IsSteady outside old new → IsFlowedAt outside old.slots own laid → IsFlowedAt outside new.slots own laid
+flowed_at_on outside old new own laid steady flowed name style content inner is within =
+    let P : Option ℕ → Type 0 = λ o. StandFrom old.slots o inner in
+    flowed name style content inner (sym (steady.nodes own.key) ∙ is) (subst P (ap first_of (steady.links own.key)) (stood_from outside old new steady (first_at new.slots own.key) inner within))
 
-  inside_within : (own : Containing) → IsLinked (links_at slots) → own ≡ containing_of head.node.style → StandsIn slots (first_at slots key) own
-  inside_within own linked is = let P : Containing → Type 0 = λ x. StandsIn slots (first_at slots key) x in subst P (sym is) (inside_first slots key head.node linked head.is)
+-- ---- the children of a box
 
-  -- its children, where they are asked
-  pub row_to_ask : (known : Option ℤ) (o : Option ℕ) (d : ℕ) → o ≡ to_ask known (first_at slots key) → d + 1 ≡ depth → HasRow slots o d
-  row_to_ask known o d is less = let P : Option ℕ → Type 0 = λ n. HasRow slots n d in subst P (sym is) (by known) where
-    by : (known : Option ℤ) → HasRow slots (to_ask known (first_at slots key)) d
-    by None = row_within d less
-    by (Some size) = no_row d
+sizing_own : (containing : Containing) (node : Node) (c : Constraint) → (sizing_of containing node c).own ≡ containing_of node.style
+unfolding sizing_of
+sizing_own containing node c = refl
 
-  pub inside_to_ask : (known : Option ℤ) (o : Option ℕ) (own : Containing) → o ≡ to_ask known (first_at slots key) → IsLinked (links_at slots) → own ≡ containing_of head.node.style → StandsIn slots o own
-  inside_to_ask known o own is linked same = let P : Option ℕ → Type 0 = λ n. StandsIn slots n own in subst P (sym is) (by known) where
-    by : (known : Option ℤ) → StandsIn slots (to_ask known (first_at slots key)) own
-    by None = inside_within own linked same
-    by (Some size) = tt
+sizing_handed : (containing : Containing) (node : Node) (c : Constraint) → (sizing_of containing node c).handed ≡ handed_on containing node c
+unfolding sizing_of
+sizing_handed containing node c = refl
 
-  -- and where they are set down
-  pub row_to_set_down : (extent : Extent) (o : Option ℕ) (d : ℕ) → o ≡ to_set_down extent (first_at slots key) → d + 1 ≡ depth → HasRow slots o d
-  row_to_set_down extent o d is less = let P : Option ℕ → Type 0 = λ n. HasRow slots n d in subst P (sym is) (by extent) where
-    by : (extent : Extent) → HasRow slots (to_set_down extent (first_at slots key)) d
-    by (extents.Size size) = row_within d less
-    by (extents.Asked asked) = no_row d
+module _ (slots : Slots Preparation) (own : RowBox) (has : HasBox slots own) where
+  box_is : (node : Node) → node_at slots own.key ≡ Some node → has.node ≡ node
+  box_is node is = same_Some has.node node (sym has.is ∙ is)
 
-  pub inside_to_set_down : (extent : Extent) (o : Option ℕ) (own : Containing) → o ≡ to_set_down extent (first_at slots key) → IsLinked (links_at slots) → own ≡ containing_of head.node.style → StandsIn slots o own
-  inside_to_set_down extent o own is linked same = let P : Option ℕ → Type 0 = λ n. StandsIn slots n own in subst P (sym is) (by extent) where
-    by : (extent : Extent) → StandsIn slots (to_set_down extent (first_at slots key)) own
-    by (extents.Size size) = inside_within own linked same
-    by (extents.Asked asked) = tt
+  box_stands : StandsIn slots (Some own.key) own.containing
+  box_stands node is = let P : Node → Type 0 = λ n. containing_at slots own.key n.style ≡ own.containing in subst P (box_is node is) has.place
+
+  row_within : HasRow slots (first_at slots own.key) (own.depth - 1)
+  row_within = let low = has.low in record { tree = has.inner; stand = has.within; low = omega (arith, low); few = has.few; light = has.light; fit = has.fit_within }
+
+  no_row : HasRow slots None (own.depth - 1)
+  no_row = record { tree = no_boxes; stand = refl; low = omega arith; few = omega arith; light = omega arith; fit = tt }
+
+  module _ (outside : Outside) (sizing : Sizing) (view : IsPageView outside.view) (right : AreRight outside slots) (linked : IsLinked (links_at slots)) (is : sizing ≡ sizing_of own.containing has.node own.c)
+      (handed : IsBase sizing.handed) where
+    can_from : (from : Option ℕ) (size : Option ℤ) → IsBase size → HasRow slots from (own.depth - 1) → StandsIn slots from sizing.own → CanFlow outside slots (row_in own sizing from size)
+    can_from from size near boxes inside = record { view = view; sizes = record { inline = near; block = handed }; boxes = boxes; inside = inside; right = right }
+
+    inside_within : StandsIn slots (first_at slots own.key) sizing.own
+    inside_within =
+        let P : Containing → Type 0 = λ x. StandsIn slots (first_at slots own.key) x in
+        subst P (sym (ap (λ (s : Sizing). s.own) is ∙ sizing_own own.containing has.node own.c)) (inside_first slots own.key has.node linked has.is)
+
+    -- they can be laid out for their contributions
+    pub can_contribute : (definite : Option ℤ) → CanFlow outside slots (row_in own sizing (contributing definite (first_at slots own.key)) None)
+    can_contribute None = can_from (first_at slots own.key) None tt row_within inside_within
+    can_contribute (Some size) = can_from None None tt no_row tt
+
+    -- and inside the box
+    pub can_be_inside : (size : InlineSize) → IsInlineSize size → CanFlow outside slots (row_in own sizing (laid_inside size (first_at slots own.key)) (used_in size))
+    can_be_inside (Used size) near = can_from (first_at slots own.key) (Some size) near row_within inside_within
+    can_be_inside (MinMax content) near = can_from None None tt no_row tt
 
   -- what has been laid out of them
-  none_near : (outside : Outside) (c : Constraint) (own : Containing) (laid : List LaidBox) → AreFlowed outside slots None own c laid → All IsNearLaid laid × (length laid ≤ 2 ^ 18)
-  none_near outside c own [] flowed = (All-nil IsNearLaid, omega arith)
-  none_near outside c own (b ∷ laid) flowed = absurd (flowed no_boxes refl)
+  module _ (outside : Outside) (containing : Containing) (c : Constraint) (laid : List LaidBox) where
+    none_near : (boxes : List LaidBox) → AreFlowed outside slots None containing c boxes → All IsNearLaid boxes × (length boxes ≤ 2 ^ 18)
+    none_near [] flowed = (All-nil IsNearLaid, omega arith)
+    none_near (b ∷ boxes) flowed = absurd (flowed no_boxes refl)
 
-  all_near : (outside : Outside) (c : Constraint) (own : Containing) (laid : List LaidBox) → AreFlowed outside slots (first_at slots key) own c laid → All IsNearLaid laid × (length laid ≤ 2 ^ 18)
-  all_near outside c own laid flowed =
-      let lead = flowed head.inner head.within in
-      let few = head.few in
-      let many = lead_count outside own c laid head.inner no_boxes lead in
-      let some = few_siblings head.inner in
-      (lead_near outside own c laid head.inner lead head.fit_within head.light, omega arith)
+    all_near : AreFlowed outside slots (first_at slots own.key) containing c laid → All IsNearLaid laid × (length laid ≤ 2 ^ 18)
+    all_near flowed =
+        let lead = flowed has.inner has.within in
+        let few = has.few in
+        let many = lead_count outside containing c laid has.inner no_boxes lead in
+        let some = few_siblings has.inner in
+        (lead_near outside containing c laid has.inner lead has.fit_within has.light, omega arith)
 
-  pub asked_near : (outside : Outside) (c : Constraint) (own : Containing) (known : Option ℤ) (o : Option ℕ) (laid : List LaidBox) → o ≡ to_ask known (first_at slots key) → AreFlowed outside slots o own c laid
-      → All IsNearLaid laid × (length laid ≤ 2 ^ 18)
-  asked_near outside c own known o laid is flowed = by known (let P : Option ℕ → Type 0 = λ n. AreFlowed outside slots n own c laid in subst P is flowed) where
-    by : (known : Option ℤ) → AreFlowed outside slots (to_ask known (first_at slots key)) own c laid → All IsNearLaid laid × (length laid ≤ 2 ^ 18)
-    by None flowed = all_near outside c own laid flowed
-    by (Some size) flowed = none_near outside c own laid flowed
+    pub contributing_near : (definite : Option ℤ) → AreFlowed outside slots (contributing definite (first_at slots own.key)) containing c laid → All IsNearLaid laid × (length laid ≤ 2 ^ 18)
+    contributing_near None flowed = all_near flowed
+    contributing_near (Some size) flowed = none_near laid flowed
 
-  pub set_near : (outside : Outside) (c : Constraint) (own : Containing) (extent : Extent) (o : Option ℕ) (laid : List LaidBox) → o ≡ to_set_down extent (first_at slots key) → AreFlowed outside slots o own c laid
-      → All IsNearLaid laid × (length laid ≤ 2 ^ 18)
-  set_near outside c own extent o laid is flowed = by extent (let P : Option ℕ → Type 0 = λ n. AreFlowed outside slots n own c laid in subst P is flowed) where
-    by : (extent : Extent) → AreFlowed outside slots (to_set_down extent (first_at slots key)) own c laid → All IsNearLaid laid × (length laid ≤ 2 ^ 18)
-    by (extents.Size size) flowed = all_near outside c own laid flowed
-    by (extents.Asked asked) flowed = none_near outside c own laid flowed
+    pub inside_near : (size : InlineSize) → AreFlowed outside slots (laid_inside size (first_at slots own.key)) containing c laid → All IsNearLaid laid × (length laid ≤ 2 ^ 18)
+    inside_near (Used size) flowed = all_near flowed
+    inside_near (MinMax content) flowed = none_near laid flowed
 
-  -- its inline-blocks are all there
-  pub has_children : (outside : Outside) (c : Constraint) (own : Containing) (extent : Extent) (o : Option ℕ) (laid : List LaidBox) → o ≡ to_set_down extent (first_at slots key) → AreFlowed outside slots o own c laid
-      → (node : Node) → node_at slots key ≡ Some node → HasChildren extent node.content (length laid)
-  has_children outside c own extent o laid is flowed node there = by extent (let P : Option ℕ → Type 0 = λ n. AreFlowed outside slots n own c laid in subst P is flowed) where
-    all : AreFlowed outside slots (first_at slots key) own c laid → HasAtoms node.content (length laid)
-    all flowed =
-        let many : length laid + 0 ≡ siblings head.inner = lead_count outside own c laid head.inner no_boxes (flowed head.inner head.within) in
-        let same : siblings head.inner ≡ length laid = omega (arith, many) in
-        let P : ℕ → Type 0 = λ n. HasAtoms node.content n in
-        let Q : Node → Type 0 = λ n. HasAtoms n.content (siblings head.inner) in
-        subst P same (subst Q (head_node node there) head.fit.atoms)
-
-    by : (extent : Extent) → AreFlowed outside slots (to_set_down extent (first_at slots key)) own c laid → HasChildren extent node.content (length laid)
-    by (extents.Size size) flowed = all flowed
-    by (extents.Asked asked) flowed = tt
+    -- its inline-blocks are all there
+    pub inside_children : (size : InlineSize) → AreFlowed outside slots (laid_inside size (first_at slots own.key)) containing c laid → HasChildren size has.node.content (length laid)
+    inside_children (Used size) flowed =
+        let many : length laid + 0 ≡ siblings has.inner = lead_count outside containing c laid has.inner no_boxes (flowed has.inner has.within) in
+        let same : siblings has.inner ≡ length laid = omega (arith, many) in
+        let P : ℕ → Type 0 = λ n. HasAtoms has.node.content n in
+        subst P same has.fit.atoms
+    inside_children (MinMax content) flowed = tt
 
 -- ---- its text
 
-text_in : (outside : Outside) (slots : Slots Preparation) (key : ℕ) (node : Node) → AreRight outside slots → node_at slots key ≡ Some node → (text : Option Preparation) → text_at slots key ≡ text
-    → HasText node.content text → IsParagraphIn node.content → IsTextOf outside.faces node.style node.content text × IsReadyIn node.content text
-text_in outside slots key node right is None at has paragraph = by node.content has where
-  by : (content : Content) → HasText content None → IsTextOf outside.faces node.style content None × IsReadyIn content None
-  by blocks has = (tt, tt)
-  by (inline entries) has = absurd (cc)
-text_in outside slots key node right is (Some text) at has paragraph = let own = (right key).text text at node is in by node.content own.value own.ready paragraph where
-  by : (content : Content) → IsTextOf outside.faces node.style content (Some text) → IsReadyFor content text → IsParagraphIn content → IsTextOf outside.faces node.style content (Some text) × IsReadyIn content (Some text)
-  by blocks value ready paragraph = (tt, tt)
-  by (inline entries) value ready paragraph = (value, (paragraph, ready))
+pub has_paragraph : (slots : Slots Preparation) (own : RowBox) (has : HasBox slots own) (node : Node) → node_at slots own.key ≡ Some node → IsParagraphIn node.content
+has_paragraph slots own has node is = let P : Node → Type 0 = λ n. IsParagraphIn n.content in subst P (box_is slots own has node is) has.fit.paragraph
 
--- the text of a box's paragraph is there, and right
-pub text_there : (outside : Outside) (slots : Slots Preparation) (key depth i : ℕ) (containing : Containing) → Head slots key depth i containing → AreRight outside slots
-    → ((node : Node) → node_at slots key ≡ Some node → HasText node.content (text_at slots key)) → (node : Node) → node_at slots key ≡ Some node
-    → IsTextOf outside.faces node.style node.content (text_at slots key) × IsReadyIn node.content (text_at slots key)
-text_there outside slots key depth i containing head right has node is =
-    text_in outside slots key node right is (text_at slots key) refl (has node is) (head_paragraph slots key depth i containing head node is)
+module _ (outside : Outside) (slots : Slots Preparation) (own : RowBox) (can : CanFlowBox outside slots own) where
+  seen_with : HasText can.box.node.content (text_at slots own.key) → IsSeen outside slots own
+  seen_with has = record {
+    view = can.view;
+    box = can.box;
+    right = can.right;
+    text = text_in outside slots own.key can.box.node can.right can.box.is (text_at slots own.key) refl has;
+  }
 
--- it stays
-pub text_stays_there : (outside : Outside) (old new : Arena) (key : ℕ) → IsSteady outside old new → ((node : Node) → node_at old.slots key ≡ Some node → HasText node.content (text_at old.slots key))
-    → (node : Node) → node_at new.slots key ≡ Some node → HasText node.content (text_at new.slots key)
-text_stays_there outside old new key steady has node is = by node.content (has node (sym (steady.nodes key) ∙ is)) where
-  by : (content : Content) → HasText content (text_at old.slots key) → HasText content (text_at new.slots key)
-  by blocks there = tt
-  by (inline entries) there = steady.texts key there
+  pub seen_there : IsSome (text_at slots own.key) → IsSeen outside slots own
+  seen_there there = seen_with (by can.box.node.content) where
+    by : (content : Content) → HasText content (text_at slots own.key)
+    by blocks = tt
+    by (inline entries) = there
+
+  -- there is no text where it holds no paragraph
+  pub seen_none : (node : Node) → node_at slots own.key ≡ Some node → IsTextOf outside.faces node.style node.content None → IsSeen outside slots own
+  seen_none node is none_is =
+      let P : Node → Type 0 = λ n. HasText n.content (text_at slots own.key) in
+      seen_with (subst P (sym (box_is slots own can.box node is)) (by node.content none_is)) where
+        by : (content : Content) → IsTextOf outside.faces node.style content None → HasText content (text_at slots own.key)
+        by blocks is = tt
+        by (inline entries) is = absurd (cc)
+
+seen_kept : (outside : Outside) (old new : Arena) (own : RowBox) (text : Preparation) → CanFlowBox outside old.slots own → IsSteady outside old new → KeepsText old new own.key text → IsSeen outside new.slots own
+seen_kept outside old new own text can steady keeps =
+    seen_there outside new.slots own (record { view = can.view; box = box_on outside old new own steady can.box; right = steady.right }) (some_of (Some text) (text_at new.slots own.key) keeps.put.here refl)
+
+-- a text that was prepared for it is kept
+pub text_kept : (outside : Outside) (old new : Arena) (own : RowBox) (node : Node) (text : Preparation) → CanFlowBox outside old.slots own → node_at old.slots own.key ≡ Some node
+    → IsTextOf outside.faces node.style node.content (Some text) → IsReadyIn node.content (Some text) → KeepsText old new own.key text → IsSteady outside old new × IsSeen outside new.slots own
+text_kept outside old new own node text can there is ready keeps =
+    let steady = steady_text outside old new own.key node text can.right there is ready keeps in
+    (steady, seen_kept outside old new own text can steady keeps)
+
+-- ---- a box as the code has it
+
+-- what holds of it as the code has it holds of the box under its key, and the other way round
+module _ (slots : Slots Preparation) (own : RowBox) (has : HasBox slots own) (code : FlowBox) (is : IsBoxAt slots own code) (P : Containing → Node → Constraint → Option Preparation → Type 0) where
+  node_is : has.node ≡ node_of code.node.now
+  node_is = box_is slots own has (node_of code.node.now) is.node
+
+  pub from_code : P code.containing (node_of code.node.now) code.c (option_copied code.text) → P own.containing has.node own.c (text_at slots own.key)
+  from_code holds =
+      let A : Containing → Type 0 = λ x. P x (node_of code.node.now) code.c (option_copied code.text) in
+      let B : Constraint → Type 0 = λ x. P own.containing (node_of code.node.now) x (option_copied code.text) in
+      let C : Option Preparation → Type 0 = λ x. P own.containing (node_of code.node.now) own.c x in
+      let D : Node → Type 0 = λ x. P own.containing x own.c (text_at slots own.key) in
+      subst D (sym node_is) (subst C is.text (subst B is.sizes (subst A is.containing holds)))
+
+  pub to_code : P own.containing has.node own.c (text_at slots own.key) → P code.containing (node_of code.node.now) code.c (option_copied code.text)
+  to_code holds =
+      let A : Containing → Type 0 = λ x. P x (node_of code.node.now) code.c (option_copied code.text) in
+      let B : Constraint → Type 0 = λ x. P own.containing (node_of code.node.now) x (option_copied code.text) in
+      let C : Option Preparation → Type 0 = λ x. P own.containing (node_of code.node.now) own.c x in
+      let D : Node → Type 0 = λ x. P own.containing x own.c (text_at slots own.key) in
+      subst A (sym is.containing) (subst B (sym is.sizes) (subst C (sym is.text) (subst D node_is holds)))
+
+-- its children from one on
+pub same_row : (row : Row) (own : RowBox) (sizing : Sizing) (from other : Option ℕ) (size along : Option ℤ) → row ≡ row_in own sizing from size → from ≡ other → size ≡ along → row ≡ row_in own sizing other along
+same_row row own sizing from other size along is one two = is ∙ ap (λ (o : Option ℕ). row_in own sizing o size) one ∙ ap (row_in own sizing other) two
 
 -- ---- what a box comes to
-
--- whatever tree stands inside it
-abbrev pub IsDone : Outside → Slots Preparation → (key : ℕ) → Containing → Constraint → LaidBox → Type 0
-IsDone outside slots key containing c own =
-    (name : BoxName) (style : Style) (content : Content) (inner : Boxes) → node_at slots key ≡ Some (record { name = name; style = style; content = content }) → StandFrom slots (first_at slots key) inner
-    → IsFlowed outside containing c own name style content inner
-
-abbrev pub own_of : Style → Fragment → LaidBox
-own_of style fragment = record { style = style; fragment = fragment }
 
 -- a border box stands at 0
 turned_from : (parallel : Bool) (along across : ℤ) → (turned parallel (pos 0) (pos 0) along across).i ≡ pos 0
@@ -251,10 +297,10 @@ boxed_at_zero containing node c size content =
     let across = border_across node.style c (block_size containing node.style c content.extent) in
     (turned_from (is_parallel containing node.style) along across, turned_down (is_parallel containing node.style) along across)
 
-finished_at_zero : (outside : Outside) (containing : Containing) (node : Node) (c : Constraint) (extent : Extent) (ms : List Member) → at_zero (finished outside containing node c extent ms).part
-unfolding finished measured
-finished_at_zero outside containing node c (extents.Asked asked) ms = (refl, refl)
-finished_at_zero outside containing node c (extents.Size size) ms = boxed_at_zero containing node c size _
+box_by_at_zero : (outside : Outside) (containing : Containing) (node : Node) (c : Constraint) (size : InlineSize) (ms : List Member) → at_zero (box_by outside containing node c size ms).part
+unfolding box_by measured
+box_by_at_zero outside containing node c (MinMax content) ms = (refl, refl)
+box_by_at_zero outside containing node c (Used used) ms = boxed_at_zero containing node c used _
 
 at_there : (part : Part) → at_zero part → at (pos 0) (pos 0) part none ≡ piece part.name part.rect part.kind part.inner none
 at_there part is = ap (λ (i : ℤ). piece part.name (record { i = i; b = pos 0; inline = part.rect.inline; block = part.rect.block }) part.kind part.inner none) (sym is.0)
@@ -263,7 +309,7 @@ at_there part is = ap (λ (i : ℤ). piece part.name (record { i = i; b = pos 0;
 step_at_zero : (outside : Outside) (containing : Containing) (node : Node) (ms : List Member) (c : Constraint) → at_zero (flow_step outside containing node ms c).part
 step_at_zero outside containing node ms c =
     let P : Part → Type 0 = λ p. at_zero p in
-    subst P (sym (ap (λ (f : Flowed). f.part) (step_is outside containing node ms c))) (finished_at_zero outside containing node c (extent_of outside containing node c ms) ms)
+    subst P (sym (ap (λ (f : Flowed). f.part) (step_is outside containing node ms c))) (box_by_at_zero outside containing node c (inline_size_of outside containing node c ms) ms)
 
 abbrev whole : Part → Pieces
 whole part = piece part.name part.rect part.kind part.inner none
@@ -280,43 +326,66 @@ result_is outside containing name style content inner c =
     let node : Node = record { name = name; style = style; content = content } in
     at_there (flow_step outside containing node (members outside (containing_of style) inner) c).part (step_at_zero outside containing node (members outside (containing_of style) inner) c)
 
-pub done_result : (outside : Outside) (slots : Slots Preparation) (key : ℕ) (containing : Containing) (c : Constraint) (style : Style) (fragment : Fragment) → StandsIn slots (Some key) containing
-    → IsDone outside slots key containing c (own_of style fragment) → IsResultAt outside slots key c (piece_of fragment)
-done_result outside slots key containing c style fragment inside done name own content inner (is, within, alone) =
-    let node : Node = record { name = name; style = own; content = content } in
-    let flowed = done name own content inner is within in
-    let same : containing_at slots key own ≡ containing = inside node is in
-    let made : piece_of fragment ≡ whole (part_of fragment) = as_piece fragment none in
-    let P : Containing → Type 0 = λ x. IsResultOf outside x name own content inner c (piece_of fragment) in
+-- a box that is laid out may be kept
+flowed_result : (outside : Outside) (slots : Slots Preparation) (own : RowBox) (laid : LaidBox) → HasBox slots own → IsFlowedAt outside slots own laid → IsResultAt outside slots own.key own.c (piece_of laid.fragment)
+flowed_result outside slots own laid has flowed name style content inner (is, within, alone) =
+    let node : Node = record { name = name; style = style; content = content } in
+    let here = flowed name style content inner is within in
+    let same : containing_at slots own.key style ≡ own.containing = box_stands slots own has node is in
+    let made : piece_of laid.fragment ≡ whole (part_of laid.fragment) = as_piece laid.fragment none in
+    let P : Containing → Type 0 = λ x. IsResultOf outside x name style content inner own.c (piece_of laid.fragment) in
     let Q : Pieces → Type 0 = λ p. spread (inside_of p) ≤ reach_of content inner in
     subst P (sym same) (record {
-      value = made ∙ ap whole flowed.part ∙ sym (result_is outside containing name own content inner c);
-      reach = subst Q (sym made) flowed.reach;
+      value = made ∙ ap whole here.part ∙ sym (result_is outside own.containing name style content inner own.c);
+      reach = subst Q (sym made) here.reach;
     })
 
-pub kept_done : (outside : Outside) (slots : Slots Preparation) (key : ℕ) (containing : Containing) (c : Constraint) (node : Node) (style : Style) (fragment : Fragment) → StandsIn slots (Some key) containing
-    → AreRight outside slots → node_at slots key ≡ Some node → style ≡ node.style → kept_at slots key c ≡ Some (piece_of fragment) → IsDone outside slots key containing c (own_of style fragment)
-kept_done outside slots key containing c node style fragment inside right there same kept name own content inner is within =
-    let result = (right key).results c (piece_of fragment) kept name own content inner (is, within, refl) in
-    let P : Containing → Type 0 = λ x. IsResultOf outside x name own content inner c (piece_of fragment) in
-    let here = subst P (inside (record { name = name; style = own; content = content }) is) result in
-    let made : piece_of fragment ≡ whole (part_of fragment) = as_piece fragment none in
+-- one that is kept is laid out
+pub kept_flowed : (outside : Outside) (slots : Slots Preparation) (own : RowBox) (laid : LaidBox) (here : Node) → CanFlowBox outside slots own → node_at slots own.key ≡ Some here → laid.style ≡ here.style → kept_at slots own.key own.c ≡ Some (piece_of laid.fragment)
+    → IsFlowedAt outside slots own laid
+kept_flowed outside slots own laid here can there same kept name style content inner is within =
+    let node : Node = record { name = name; style = style; content = content } in
+    let result = (can.right own.key).results own.c (piece_of laid.fragment) kept name style content inner (is, within, refl) in
+    let P : Containing → Type 0 = λ x. IsResultOf outside x name style content inner own.c (piece_of laid.fragment) in
+    let right = subst P (box_stands slots own can.box node is) result in
+    let made : piece_of laid.fragment ≡ whole (part_of laid.fragment) = as_piece laid.fragment none in
     let Q : Pieces → Type 0 = λ p. spread (inside_of p) ≤ reach_of content inner in
     record {
-      same = same ∙ ap (λ (n : Node). n.style) (same_Some node (record { name = name; style = own; content = content }) (sym there ∙ is));
-      part = ap (front (part_of fragment)) (sym made ∙ here.value ∙ result_is outside containing name own content inner c);
-      reach = subst Q made here.reach;
+      same = same ∙ ap (λ (n : Node). n.style) (same_Some here node (sym there ∙ is));
+      part = ap (front (part_of laid.fragment)) (sym made ∙ right.value ∙ result_is outside own.containing name style content inner own.c);
+      reach = subst Q made right.reach;
     }
 
--- ---- one that is laid out
+-- ---- its inline size
 
-pub step_own : (containing : Containing) (node : Node) (c : Constraint) (step : Step) → step ≡ step_of containing node c → step.own ≡ containing_of node.style
-unfolding step_of
-step_own containing node c step is = ap (λ (s : Step). s.own) is
+-- the children of a box that is begun
+pub begun_flowed : (outside : Outside) (slots : Slots Preparation) (own : RowBox) (begun : Begun) (laid : List LaidBox) → IsBegun outside slots own begun
+    → AreFlowed outside slots begun.contributing.from begun.contributing.containing begun.contributing.c laid
+    → AreFlowed outside slots (contributing begun.sizing.definite (first_at slots own.key)) begun.sizing.own (under None begun.sizing.handed) laid
+begun_flowed outside slots own begun laid is flowed = let P : Row → Type 0 = λ r. AreFlowed outside slots r.from r.containing r.c laid in subst P is.row flowed
 
-step_handed : (containing : Containing) (node : Node) (c : Constraint) (step : Step) → step ≡ step_of containing node c → step.handed ≡ handed_on containing node c
-unfolding step_of
-step_handed containing node c step is = ap (λ (s : Step). s.handed) is
+-- what it comes to by the contributions of these
+abbrev pub Sizes : Outside → Sizing → List LaidBox → InlineSize → Containing → Node → Constraint → Option Preparation → Type 0
+Sizes outside sizing laid size containing node c text =
+    (ms : List Member) → IsTextOf outside.faces node.style node.content text → (sizing.definite ≡ None → AreUnder (under None sizing.handed) laid ms) → size ≡ inline_size_of outside containing node c ms
+
+pub size_is : (outside : Outside) (slots : Slots Preparation) (own : RowBox) (begun : Begun) (laid : List LaidBox) (size : InlineSize) (is : IsBegun outside slots own begun)
+    → AreFlowed outside slots begun.contributing.from begun.contributing.containing begun.contributing.c laid
+    → Sizes outside begun.sizing laid size own.containing is.seen.box.node own.c (text_at slots own.key)
+    → (inner : Boxes) → StandFrom slots (first_at slots own.key) inner → size ≡ inline_size_of outside own.containing is.seen.box.node own.c (members outside (containing_of is.seen.box.node.style) inner)
+size_is outside slots own begun laid size is flowed sizes inner within = sizes (members outside (containing_of node.style) inner) is.seen.text under_none where
+  node : Node
+  node = is.seen.box.node
+
+  under_none : begun.sizing.definite ≡ None → AreUnder (under None begun.sizing.handed) laid (members outside (containing_of node.style) inner)
+  under_none unknown =
+      let P : Option ℤ → Type 0 = λ d. AreFlowed outside slots (contributing d (first_at slots own.key)) begun.sizing.own (under None begun.sizing.handed) laid in
+      let Q : Containing → Type 0 = λ x. Lead outside x (under None begun.sizing.handed) laid inner no_boxes in
+      let lead = subst P unknown (begun_flowed outside slots own begun laid is flowed) inner within in
+      lead_under outside (containing_of node.style) (under None begun.sizing.handed) laid inner
+      (subst Q (ap (λ (s : Sizing). s.own) is.sizing ∙ sizing_own own.containing node own.c) lead)
+
+-- ---- a box by its children
 
 abbrev Reaches : (r : ℕ) → Content → List LaidBox → Type 0
 Reaches r content laid = (list : List Laid) (reach : ℕ) → AreLaid laid list → All (HasReach reach) laid → r ≤ reach + room_in content + (length laid + 1) * 2 ^ 38
@@ -334,154 +403,190 @@ done_reach outside own c (b ∷ laid) list content inner r lead are reaches =
     let near = reaches list n are (lead_reach outside own c (b ∷ laid) inner n lead (omega arith)) in
     omega arith
 
-pub new_done : (outside : Outside) (slots : Slots Preparation) (key : ℕ) (containing : Containing) (c : Constraint) (step : Step) (extent : Extent) (asking below : List LaidBox) (fragment : Fragment) (style : Style) (here : Node)
-    → node_at slots key ≡ Some here → style ≡ here.style
-    → ((node : Node) → node_at slots key ≡ Some node → step ≡ step_of containing node c)
-    → AreFlowed outside slots (to_ask step.known (first_at slots key)) step.own (under None step.handed) asking
-    → ((node : Node) (ms : List Member) → node_at slots key ≡ Some node → (step.known ≡ None → AreUnder (under None step.handed) asking ms) → extent ≡ extent_of outside containing node c ms)
-    → AreFlowed outside slots (to_set_down extent (first_at slots key)) step.own (under (size_of extent) step.handed) below
-    → ((node : Node) (ms : List Member) → node_at slots key ≡ Some node → AreSetDown containing node c extent below ms → part_of fragment ≡ (finished outside containing node c extent ms).part)
-    → ((node : Node) → node_at slots key ≡ Some node → Reaches (spread (part_of fragment).inner) node.content below)
-    → IsDone outside slots key containing c (own_of style fragment)
-new_done outside slots key containing c step extent asking below fragment style here there same steps asked extends set finishes reaches name own content inner is within =
+-- the children of a box that is sized
+pub sized_flowed : (outside : Outside) (slots : Slots Preparation) (own : RowBox) (sized : SizedBox) (laid : List LaidBox) (is : IsSized outside slots own sized)
+    → AreFlowed outside slots sized.inside.from sized.inside.containing sized.inside.c laid
+    → AreFlowed outside slots (laid_inside sized.size (first_at slots own.key)) (containing_of is.seen.box.node.style) (under (used_in sized.size) (handed_on own.containing is.seen.box.node own.c)) laid
+sized_flowed outside slots own sized laid is flowed =
+    let node = is.seen.box.node in
+    let P : Row → Type 0 = λ r. AreFlowed outside slots r.from r.containing r.c laid in
+    let Q : Containing → Type 0 = λ x. AreFlowed outside slots (laid_inside sized.size (first_at slots own.key)) x (under (used_in sized.size) (sizing_of own.containing node own.c).handed) laid in
+    let R : Option ℤ → Type 0 = λ h. AreFlowed outside slots (laid_inside sized.size (first_at slots own.key)) (containing_of node.style) (under (used_in sized.size) h) laid in
+    subst R (sizing_handed own.containing node own.c) (subst Q (sizing_own own.containing node own.c) (subst P is.row flowed))
+
+-- what is known of a box when it is finished
+record Finished (outside : Outside) (slots : Slots Preparation) (own : RowBox) (size : InlineSize) (below : List LaidBox) (laid : LaidBox) (node : Node) : Type 0 where
+  pub same : laid.style ≡ node.style
+  pub along : (inner : Boxes) → StandFrom slots (first_at slots own.key) inner → size ≡ inline_size_of outside own.containing node own.c (members outside (containing_of node.style) inner)
+  pub flowed : AreFlowed outside slots (laid_inside size (first_at slots own.key)) (containing_of node.style) (under (used_in size) (handed_on own.containing node own.c)) below
+  pub part : (ms : List Member) → AreInside own.containing node own.c size below ms → part_of laid.fragment ≡ (box_by outside own.containing node own.c size ms).part
+  pub reach : Reaches (spread (part_of laid.fragment).inner) node.content below
+
+finished_is : (outside : Outside) (slots : Slots Preparation) (own : RowBox) (size : InlineSize) (below : List LaidBox) (laid : LaidBox) (name : BoxName) (style : Style) (content : Content) (inner : Boxes)
+    → Finished outside slots own size below laid (record { name = name; style = style; content = content }) → StandFrom slots (first_at slots own.key) inner → IsFlowed outside own.containing own.c laid name style content inner
+finished_is outside slots own size below laid name style content inner finished within =
     record {
-      same = same ∙ ap (λ (n : Node). n.style) (same_Some here node (sym there ∙ is));
-      part = finishes node ms is (set_down extent set) ∙ ap (λ (e : Extent). (finished outside containing node c e ms).part) (extends node ms is asked_under) ∙ sym (ap (λ (f : Flowed). f.part) (step_is outside containing node ms c));
-      reach = reach extent set (reaches node is);
+      same = finished.same;
+      part = finished.part ms (are_inside size finished.flowed) ∙ ap (λ (e : InlineSize). (box_by outside own.containing node own.c e ms).part) (finished.along inner within)
+          ∙ sym (ap (λ (f : Flowed). f.part) (step_is outside own.containing node ms own.c));
+      reach = reach size finished.flowed finished.reach;
     } where
       node : Node
-      node = record { name = name; style = own; content = content }
+      node = record { name = name; style = style; content = content }
 
       ms : List Member
-      ms = members outside (containing_of own) inner
+      ms = members outside (containing_of style) inner
 
-      own_is : step.own ≡ containing_of own
-      own_is = step_own containing node c step (steps node is)
+      handed : Option ℤ
+      handed = handed_on own.containing node own.c
 
-      handed_is : step.handed ≡ handed_on containing node c
-      handed_is = step_handed containing node c step (steps node is)
+      are_inside : (e : InlineSize) → AreFlowed outside slots (laid_inside e (first_at slots own.key)) (containing_of style) (under (used_in e) handed) below → AreInside own.containing node own.c e below ms
+      are_inside (MinMax sizes) flowed = tt
+      are_inside (Used used) flowed = lead_laid outside (containing_of style) used handed below inner (flowed inner within)
 
-      lead_own : (d : Constraint) (laid : List LaidBox) → Lead outside step.own d laid inner no_boxes → Lead outside (containing_of own) d laid inner no_boxes
-      lead_own d laid lead = let P : Containing → Type 0 = λ x. Lead outside x d laid inner no_boxes in subst P own_is lead
+      no_below : (boxes : List LaidBox) → AreFlowed outside slots None (containing_of style) (under None handed) boxes → Reaches (spread (part_of laid.fragment).inner) content boxes
+          → spread (part_of laid.fragment).inner ≤ reach_of content inner
+      no_below [] flowed reaches = none_reach content inner (spread (part_of laid.fragment).inner) reaches
+      no_below (b ∷ boxes) flowed reaches = absurd (flowed no_boxes refl)
 
-      asked_under : step.known ≡ None → AreUnder (under None step.handed) asking ms
-      asked_under unknown =
-          let P : Option ℤ → Type 0 = λ k. AreFlowed outside slots (to_ask k (first_at slots key)) step.own (under None step.handed) asking in
-          let flowed : AreFlowed outside slots (first_at slots key) step.own (under None step.handed) asking = subst P unknown asked in
-          lead_under outside (containing_of own) (under None step.handed) asking inner (lead_own (under None step.handed) asking (flowed inner within))
+      reach : (e : InlineSize) → AreFlowed outside slots (laid_inside e (first_at slots own.key)) (containing_of style) (under (used_in e) handed) below → Reaches (spread (part_of laid.fragment).inner) content below
+          → spread (part_of laid.fragment).inner ≤ reach_of content inner
+      reach (MinMax sizes) flowed reaches = no_below below flowed reaches
+      reach (Used used) flowed reaches =
+          done_reach outside (containing_of style) (under (Some used) handed) below (map (laid_under (under (Some used) handed)) ms) content inner (spread (part_of laid.fragment).inner) (flowed inner within)
+          (are_inside (Used used) flowed) reaches
 
-      set_down : (e : Extent) → AreFlowed outside slots (to_set_down e (first_at slots key)) step.own (under (size_of e) step.handed) below → AreSetDown containing node c e below ms
-      set_down (extents.Asked sizes) flowed = tt
-      set_down (extents.Size size) flowed =
-          let P : Option ℤ → Type 0 = λ h. Lead outside (containing_of own) (under (Some size) h) below inner no_boxes in
-          lead_laid outside (containing_of own) size (handed_on containing node c) below inner (subst P handed_is (lead_own (under (Some size) step.handed) below (flowed inner within)))
+-- what it comes to by these children
+abbrev pub Finishes : Outside → InlineSize → List LaidBox → LaidBox → Containing → Node → Constraint → Option Preparation → Type 0
+Finishes outside size below laid containing node c text =
+    (laid.style ≡ node.style)
+    × ((ms : List Member) → IsTextOf outside.faces node.style node.content text → AreInside containing node c size below ms → part_of laid.fragment ≡ (box_by outside containing node c size ms).part)
+    × Reaches (spread (part_of laid.fragment).inner) node.content below
 
-      no_below : (laid : List LaidBox) (d : Constraint) → AreFlowed outside slots None step.own d laid → Reaches (spread (part_of fragment).inner) content laid → spread (part_of fragment).inner ≤ reach_of content inner
-      no_below [] d flowed reaches = none_reach content inner (spread (part_of fragment).inner) reaches
-      no_below (b ∷ laid) d flowed reaches = absurd (flowed no_boxes refl)
+finished_flowed : (outside : Outside) (slots : Slots Preparation) (own : RowBox) (sized : SizedBox) (below : List LaidBox) (laid : LaidBox) (is : IsSized outside slots own sized)
+    → AreFlowed outside slots sized.inside.from sized.inside.containing sized.inside.c below → Finishes outside sized.size below laid own.containing is.seen.box.node own.c (text_at slots own.key) → IsFlowedAt outside slots own laid
+finished_flowed outside slots own sized below laid is flowed (same, part, reach) name style content inner there within =
+    let P : Node → Type 0 = λ n. Finished outside slots own sized.size below laid n in
+    let here : P is.seen.box.node = record { same = same; along = is.size; flowed = sized_flowed outside slots own sized below is flowed; part = λ ms. part ms is.seen.text; reach = reach } in
+    finished_is outside slots own sized.size below laid name style content inner (subst P (box_is slots own is.seen.box (record { name = name; style = style; content = content }) there) here) within
 
-      reach : (e : Extent) → AreFlowed outside slots (to_set_down e (first_at slots key)) step.own (under (size_of e) step.handed) below → Reaches (spread (part_of fragment).inner) content below
-          → spread (part_of fragment).inner ≤ reach_of content inner
-      reach (extents.Asked sizes) flowed reaches = no_below below (under None step.handed) flowed reaches
-      reach (extents.Size size) flowed reaches =
-          done_reach outside step.own (under (Some size) step.handed) below (map (laid_under (under (Some size) (handed_on containing node c))) ms) content inner (spread (part_of fragment).inner) (flowed inner within)
-          (set_down (extents.Size size) flowed) reaches
-
--- where the same trees stand
-pub flowed_on : (outside : Outside) (old new : Arena) (o : Option ℕ) (own : Containing) (c : Constraint) (laid : List LaidBox) → IsSteady outside old new → AreFlowed outside old.slots o own c laid → AreFlowed outside new.slots o own c laid
-flowed_on outside old new o own c laid steady flowed tree stand = flowed tree (stood_from outside old new steady o tree stand)
-
--- what is said of a box before its children are laid out holds after
-flowed_at : (outside : Outside) (old new : Arena) (key : ℕ) (o : Option ℕ) (choose : Option ℕ → Option ℕ) (own : Containing) (c d : Constraint) (laid : List LaidBox) → IsSteady outside old new
-    → o ≡ choose (first_at old.slots key) → d ≡ c → AreFlowed outside old.slots o own d laid → AreFlowed outside new.slots (choose (first_at new.slots key)) own c laid
-flowed_at outside old new key o choose own c d laid steady is same flowed =
-    let first : first_at new.slots key ≡ first_at old.slots key = ap first_of (steady.links key) in
-    let P : Option ℕ → Type 0 = λ n. AreFlowed outside new.slots n own c laid in
-    let Q : Constraint → Type 0 = λ x. AreFlowed outside new.slots o own x laid in
-    subst P (is ∙ ap choose (sym first)) (subst Q same (flowed_on outside old new o own d laid steady flowed))
-
-pub done_at_last : (outside : Outside) (a b z : Arena) (key : ℕ) (containing : Containing) (c : Constraint) (step : Step) (extent : Extent) (asking below : List LaidBox) (fragment : Fragment) (style : Style) (here : Node)
-    (first second : Option ℕ) (one other : Constraint) → IsSteady outside a b → IsSteady outside b z
-    → node_at a.slots key ≡ Some here → style ≡ here.style
-    → ((node : Node) → node_at a.slots key ≡ Some node → step ≡ step_of containing node c)
-    → first ≡ to_ask step.known (first_at a.slots key) → one ≡ under None step.handed → AreFlowed outside a.slots first step.own one asking
-    → ((node : Node) (ms : List Member) → node_at b.slots key ≡ Some node → (step.known ≡ None → AreUnder (under None step.handed) asking ms) → extent ≡ extent_of outside containing node c ms)
-    → second ≡ to_set_down extent (first_at b.slots key) → other ≡ under (size_of extent) step.handed → AreFlowed outside b.slots second step.own other below
-    → ((node : Node) (ms : List Member) → node_at z.slots key ≡ Some node → AreSetDown containing node c extent below ms → part_of fragment ≡ (finished outside containing node c extent ms).part)
-    → ((node : Node) → node_at z.slots key ≡ Some node → Reaches (spread (part_of fragment).inner) node.content below)
-    → IsDone outside z.slots key containing c (own_of style fragment)
-done_at_last outside a b z key containing c step extent asking below fragment style here first second one other to_b to_z there same steps first_is one_is asked extends second_is other_is set finishes reaches =
-    let whole = steady_then outside a b z to_b to_z in
-    new_done outside z.slots key containing c step extent asking below fragment style here (whole.nodes key ∙ there) same
-    (λ node is. steps node (sym (whole.nodes key) ∙ is))
-    (flowed_at outside a z key first (to_ask step.known) step.own (under None step.handed) one asking whole first_is one_is asked)
-    (λ node ms is. extends node ms (sym (to_z.nodes key) ∙ is))
-    (flowed_at outside b z key second (to_set_down extent) step.own (under (size_of extent) step.handed) other below to_z second_is other_is set)
-    finishes reaches
-
-pub done_on : (outside : Outside) (old new : Arena) (key : ℕ) (containing : Containing) (c : Constraint) (own : LaidBox) → IsSteady outside old new → IsDone outside old.slots key containing c own → IsDone outside new.slots key containing c own
-done_on outside old new key containing c own steady done name style content inner is within =
-    let P : Option ℕ → Type 0 = λ o. StandFrom old.slots o inner in
-    done name style content inner (sym (steady.nodes key) ∙ is) (subst P (ap first_of (steady.links key)) (stood_from outside old new steady (first_at new.slots key) inner within))
+-- it is kept
+pub finished : (outside : Outside) (old new : Arena) (own : RowBox) (sized : SizedBox) (below : List LaidBox) (laid : LaidBox) (copy : Pieces) (is : IsSized outside old.slots own sized)
+    → AreFlowed outside old.slots sized.inside.from sized.inside.containing sized.inside.c below → Finishes outside sized.size below laid own.containing is.seen.box.node own.c (text_at old.slots own.key)
+    → copy ≡ piece_of laid.fragment → Keeps old new own.key own.c copy → IsSteady outside old new × IsFlowedAt outside new.slots own laid
+finished outside old new own sized below laid copy is flowed finishes same keeps =
+    let here = finished_flowed outside old.slots own sized below laid is flowed finishes in
+    let P : Pieces → Type 0 = λ p. IsResultAt outside old.slots own.key own.c p in
+    let steady = steady_kept outside old new own.key own.c copy is.seen.right (subst P (sym same) (flowed_result outside old.slots own laid is.seen.box here)) keeps in
+    (steady, flowed_at_on outside old new own laid steady here)
 
 -- ---- the row
 
-pub record Going (outside : Outside) (old now : Arena) (from next : Option ℕ) (depth i : ℕ) (containing : Containing) (c : Constraint) (laid : List LaidBox) : Type 0 where
+pub record Going (outside : Outside) (old now : Arena) (row : Row) (next : Option ℕ) (i : ℕ) (laid : List LaidBox) : Type 0 where
+  pub view : IsPageView outside.view
+  pub sizes : IsBounded row.c
   pub steady : IsSteady outside old now
   pub rest : Boxes
   pub stand : StandFrom now.slots next rest
-  pub low : height rest ≤ depth
+  pub low : height rest ≤ row.depth
   pub few : count rest + i ≤ 2 ^ 18
   pub light : weight rest ≤ 2 ^ 60 - 2 ^ 38
   pub fit : AreFit rest
-  pub inside : StandsIn now.slots next containing
-  pub flowed : (tree : Boxes) → StandFrom old.slots from tree → (left : Boxes) × StandFrom old.slots next left × Lead outside containing c laid tree left
+  pub inside : StandsIn now.slots next row.containing
+  pub flowed : (tree : Boxes) → StandFrom old.slots row.from tree → (left : Boxes) × StandFrom old.slots next left × Lead outside row.containing row.c laid tree left
 
-pub going_first : (outside : Outside) (old : Arena) (from : Option ℕ) (depth : ℕ) (containing : Containing) (c : Constraint) → AreRight outside old.slots → HasRow old.slots from depth → StandsIn old.slots from containing
-    → Going outside old old from from depth 0 containing c []
-going_first outside old from depth containing c right row inside = record {
-  steady = steady_itself outside old right;
-  rest = row.tree;
-  stand = row.stand;
-  low = row.low;
-  few = let few = row.few in omega arith;
-  light = row.light;
-  fit = row.fit;
-  inside = inside;
+pub going_first : (outside : Outside) (old : Arena) (row : Row) → CanFlow outside old.slots row → Going outside old old row row.from 0 []
+going_first outside old row can = record {
+  view = can.view;
+  sizes = can.sizes;
+  steady = steady_itself outside old can.right;
+  rest = can.boxes.tree;
+  stand = can.boxes.stand;
+  low = can.boxes.low;
+  few = let few = can.boxes.few in omega (arith, few);
+  light = can.boxes.light;
+  fit = can.boxes.fit;
+  inside = can.inside;
   flowed = λ tree stand. (tree, stand, refl);
 }
 
-pub going_head : (outside : Outside) (old now : Arena) (from next : Option ℕ) (key depth i : ℕ) (containing : Containing) (c : Constraint) (laid : List LaidBox) → Going outside old now from next depth i containing c laid
-    → next ≡ Some key → Head now.slots key depth i containing
-going_head outside old now from next key depth i containing c laid going is = head_of now.slots key depth i containing next going.rest is going.stand going.low going.few going.light going.fit going.inside
+-- the next box, and those behind it
+record Head (slots : Slots Preparation) (row : Row) (key i : ℕ) : Type 0 where
+  pub has : HasBox slots (box_in row key)
+  pub others : Boxes
+  pub behind : StandFrom slots (next_at slots key) others
+  pub low : height others ≤ row.depth
+  pub few : count others + (i + 1) ≤ 2 ^ 18
+  pub light : weight others ≤ 2 ^ 60 - 2 ^ 38
+  pub fit : AreFit others
 
-pub going_inside : (outside : Outside) (old now : Arena) (from next : Option ℕ) (key depth i : ℕ) (containing : Containing) (c : Constraint) (laid : List LaidBox) → Going outside old now from next depth i containing c laid
-    → next ≡ Some key → StandsIn now.slots (Some key) containing
-going_inside outside old now from next key depth i containing c laid going is = let P : Option ℕ → Type 0 = λ o. StandsIn now.slots o containing in subst P is going.inside
+going_head : (outside : Outside) (old now : Arena) (row : Row) (next : Option ℕ) (i : ℕ) (laid : List LaidBox) (key : ℕ) → Going outside old now row next i laid → next ≡ Some key → Head now.slots row key i
+going_head outside old now row next i laid key going is = by going.rest going.stand going.low going.few going.light going.fit where
+  by : (rest : Boxes) → StandFrom now.slots next rest → height rest ≤ row.depth → count rest + i ≤ 2 ^ 18 → weight rest ≤ 2 ^ 60 - 2 ^ 38 → AreFit rest → Head now.slots row key i
+  by no_boxes stand low few light fit = absurd (none-some key (sym stand ∙ is))
+  by (box name style content inner others) (k, at, node, within, behind) low few light fit =
+      let same : k ≡ key = same_Some k key (sym at ∙ is) in
+      let here : Node = record { name = name; style = style; content = content } in
+      let A : ℕ → Type 0 = λ n. node_at now.slots n ≡ Some here in
+      let B : ℕ → Type 0 = λ n. StandFrom now.slots (first_at now.slots n) inner in
+      let C : ℕ → Type 0 = λ n. StandFrom now.slots (next_at now.slots n) others in
+      let D : Option ℕ → Type 0 = λ o. StandsIn now.slots o row.containing in
+      let there = subst A same node in
+      record {
+        has = record {
+          node = here;
+          inner = inner;
+          is = there;
+          within = subst B same within;
+          low = omega (arith, low);
+          few = omega (arith, few);
+          light = omega (arith, light);
+          fit = fit.0;
+          fit_within = fit.1;
+          place = (subst D is going.inside) here there;
+          sizes = going.sizes;
+          ready = ready_in outside now.slots key here going.steady.right there fit.0.paragraph (text_at now.slots key) refl;
+        };
+        others = others;
+        behind = subst C same behind;
+        low = omega (arith, low);
+        few = omega (arith, few);
+        light = omega (arith, light);
+        fit = fit.2;
+      }
+
+pub going_box : (outside : Outside) (old now : Arena) (row : Row) (next : Option ℕ) (i : ℕ) (laid : List LaidBox) (key : ℕ) (own : RowBox) → Going outside old now row next i laid → next ≡ Some key → own ≡ box_in row key
+    → CanFlowBox outside now.slots own
+going_box outside old now row next i laid key own going is own_is =
+    let P : RowBox → Type 0 = λ b. CanFlowBox outside now.slots b in
+    subst P (sym own_is) (record { view = going.view; box = (going_head outside old now row next i laid key going is).has; right = going.steady.right })
 
 -- one more
-pub going_next : (outside : Outside) (old now new : Arena) (from next after : Option ℕ) (key depth i : ℕ) (containing : Containing) (c : Constraint) (laid : List LaidBox) (own : LaidBox)
-    → Going outside old now from next depth i containing c laid → next ≡ Some key → after ≡ next_at now.slots key → IsLinked (links_at now.slots) → IsSteady outside now new → IsDone outside new.slots key containing c own
-    → Going outside old new from after depth (i + 1) containing c (laid ++ own ∷ [])
-going_next outside old now new from next after key depth i containing c laid own going is follows linked steady done = record {
+pub going_next : (outside : Outside) (old now new : Arena) (row : Row) (next after : Option ℕ) (i : ℕ) (laid : List LaidBox) (key : ℕ) (own : RowBox) (made : LaidBox)
+    → Going outside old now row next i laid → next ≡ Some key → own ≡ box_in row key → after ≡ next_at now.slots key → IsLinked (links_at now.slots) → IsSteady outside now new → IsFlowedAt outside new.slots own made
+    → Going outside old new row after (i + 1) (laid ++ made ∷ [])
+going_next outside old now new row next after i laid key own made going is own_is follows linked steady flowed = record {
+  view = going.view;
+  sizes = going.sizes;
   steady = steady_then outside old now new going.steady steady;
   rest = head.others;
   stand = let P : Option ℕ → Type 0 = λ o. StandFrom new.slots o head.others in subst P (sym follows) (stands_on outside now new steady (next_at now.slots key) head.others head.behind);
-  low = head.low_behind;
-  few = let few = head.few in omega arith;
-  light = head.light_behind;
-  fit = head.fit_behind;
-  inside = let P : Option ℕ → Type 0 = λ o. StandsIn new.slots o containing in subst P (sym follows) (inside_on outside now new steady (next_at now.slots key) containing (inside_next now.slots key head.node containing linked head.is inside));
+  low = head.low;
+  few = head.few;
+  light = head.light;
+  fit = head.fit;
+  inside = let P : Option ℕ → Type 0 = λ o. StandsIn new.slots o row.containing in
+      subst P (sym follows) (inside_on outside now new steady (next_at now.slots key) row.containing (inside_next now.slots key head.has.node row.containing linked head.has.is (box_stands now.slots (box_in row key) head.has)));
   flowed = λ tree stand. more tree (going.flowed tree stand);
 } where
-  head : Head now.slots key depth i containing
-  head = going_head outside old now from next key depth i containing c laid going is
+  head : Head now.slots row key i
+  head = going_head outside old now row next i laid key going is
 
-  inside : StandsIn now.slots (Some key) containing
-  inside = going_inside outside old now from next key depth i containing c laid going is
+  here : IsFlowedAt outside new.slots (box_in row key) made
+  here = let P : RowBox → Type 0 = λ b. IsFlowedAt outside new.slots b made in subst P own_is flowed
 
-  more : (tree : Boxes) → ((left : Boxes) × StandFrom old.slots next left × Lead outside containing c laid tree left)
-      → ((left : Boxes) × StandFrom old.slots after left × Lead outside containing c (laid ++ own ∷ []) tree left)
+  more : (tree : Boxes) → ((left : Boxes) × StandFrom old.slots next left × Lead outside row.containing row.c laid tree left)
+      → ((left : Boxes) × StandFrom old.slots after left × Lead outside row.containing row.c (laid ++ made ∷ []) tree left)
   more tree (no_boxes, stand, lead) = absurd (none-some key (sym stand ∙ is))
   more tree (box name style content inner others, (k, at, node, within, behind), lead) =
       let same : k ≡ key = same_Some k key (sym at ∙ is) in
@@ -495,21 +600,20 @@ going_next outside old now new from next after key depth i containing c laid own
       let stands = subst E (sym (ap first_of (whole.links key))) (stands_on outside old new whole (first_at old.slots key) inner (subst B same within)) in (
         others,
         subst D (sym (follows ∙ ap next_of (going.steady.links key))) (subst C same behind),
-        lead_more outside containing c laid tree own name style content inner others lead (done name style content inner there stands),
+        lead_more outside row.containing row.c laid tree made name style content inner others lead (here name style content inner there stands),
       )
 
 -- none is left
-pub going_ends : (outside : Outside) (old now : Arena) (from next : Option ℕ) (depth i : ℕ) (containing : Containing) (c : Constraint) (laid : List LaidBox) → Going outside old now from next depth i containing c laid → next ≡ None
-    → AreFlowed outside old.slots from containing c laid
-going_ends outside old now from next depth i containing c laid going is tree stand = by (going.flowed tree stand) where
-  by : ((left : Boxes) × StandFrom old.slots next left × Lead outside containing c laid tree left) → Lead outside containing c laid tree no_boxes
+pub going_ends : (outside : Outside) (old now : Arena) (row : Row) (next : Option ℕ) (i : ℕ) (laid : List LaidBox) → Going outside old now row next i laid → next ≡ None
+    → AreFlowed outside old.slots row.from row.containing row.c laid
+going_ends outside old now row next i laid going is tree stand = by (going.flowed tree stand) where
+  by : ((left : Boxes) × StandFrom old.slots next left × Lead outside row.containing row.c laid tree left) → Lead outside row.containing row.c laid tree no_boxes
   by (no_boxes, stand, lead) = lead
   by (box name style content inner others, (k, there, node, within, behind), lead) = absurd (none-some k (sym is ∙ there))
 
-pub going_ends_late : (outside : Outside) (old now : Arena) (from next : Option ℕ) (depth i : ℕ) (containing : Containing) (c : Constraint) (laid : List LaidBox) → Going outside old now from next depth i containing c laid → 2 ^ 18 ≤ i
-    → AreFlowed outside old.slots from containing c laid
-going_ends_late outside old now from next depth i containing c laid going late =
-    going_ends outside old now from next depth i containing c laid going (by going.rest going.stand going.few) where
-      by : (rest : Boxes) → StandFrom now.slots next rest → count rest + i ≤ 2 ^ 18 → next ≡ None
-      by no_boxes stand few = stand
-      by (box name style content inner others) stand few = absurd (omega (arith, few, late))
+pub going_ends_late : (outside : Outside) (old now : Arena) (row : Row) (next : Option ℕ) (i : ℕ) (laid : List LaidBox) → Going outside old now row next i laid → 2 ^ 18 ≤ i
+    → AreFlowed outside old.slots row.from row.containing row.c laid
+going_ends_late outside old now row next i laid going late = going_ends outside old now row next i laid going (by going.rest going.stand going.few) where
+  by : (rest : Boxes) → StandFrom now.slots next rest → count rest + i ≤ 2 ^ 18 → next ≡ None
+  by no_boxes stand few = stand
+  by (box name style content inner others) stand few = absurd (omega (arith, few, late))

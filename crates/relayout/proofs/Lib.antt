@@ -1,7 +1,7 @@
-pub mod AskedLaws
 pub mod AtomLaws
 pub mod BoxedLaws
 pub mod ContentLaws
+pub mod ContributionLaws
 mod Examples
 pub mod FlowLaws
 pub mod FlowingLaws

@@ -5,7 +5,6 @@ use Rattle.std.proofs.lemmas.List.Elements.{All-cons, All-nil}
 use Rattle.std.proofs.lemmas.Bool.{cases_eq}
 use Rattle.std.proofs.lemmas.Option.{none-some, same_Some}
 use Rattle.slab.specs.Slab.{Slab, ContainsKey, get}
-use Rattle.face_api.specs.Table.{Table}
 use Rattle.fragment_types.specs.declared.constraint.Constraint.{Constraint}
 use Rattle.fragment_types.specs.declared.fragment.Fragment.{Fragment}
 use Rattle.fragment_types.specs.declared.item.BoxName.{BoxName}
@@ -27,10 +26,10 @@ use Rattle.relayout.specs.Fit.{AreFit, count, reach_of, room_in, siblings, weigh
 use Rattle.relayout.specs.Flow.{flow_step, laid_under, members}
 use Rattle.relayout.specs.Flowed.{AreLaid, Member, Part, at, part_of}
 use Rattle.relayout.specs.Inline.{Outside}
-use Rattle.relayout.specs.Intrinsic.{IsTextOf, prepared}
+use Rattle.relayout.specs.Intrinsic.{IsTextOf}
 use Rattle.relayout.specs.Kept.{AreRight, IsResultAt, IsTextAt, IsTextIn, containing_by, inside}
 use Rattle.relayout.specs.Near.{AreBounded, HasReach, IsNearLaid, IsNearMember, IsNearPart}
-use Rattle.relayout.specs.Paragraph.{HasText, IsReadyFor, IsReadyIn}
+use Rattle.relayout.specs.Paragraph.{IsReadyFor, IsReadyIn}
 use Rattle.relayout.specs.Row.{IsFlowed, IsSteady, Lead, StandsIn}
 use Rattle.relayout.specs.Sizes.{containing_of}
 use Rattle.relayout.specs.Step.{AreUnder, under}
@@ -105,7 +104,7 @@ steady_then outside old mid new one other = record {
   right = other.right;
 }
 
-some_of : (text one : Option Preparation) → one ≡ text → IsSome text → IsSome one
+pub some_of : (text one : Option Preparation) → one ≡ text → IsSome text → IsSome one
 some_of text one is there = let P : Option Preparation → Type 0 = λ t. IsSome t in subst P (sym is) there
 
 -- a result that is right is kept

@@ -2,7 +2,6 @@
 use Rattle.std.proofs.Common.{◌≡◌, ◌∙◌, ◌+◌, ◌-◌, ◌*◌, ◌≤◌, ◌^◌, refl, sym, ap, subst, arith, unsigned_abs, ℕ, Bool, true, false, List, [], ◌∷◌, length, get_or, Option, Some, None}
 use Rattle.std.specs.Prelude.{All, option_and_then}
 use Rattle.std.proofs.lemmas.Option.{same_Some}
-use Rattle.slab.specs.Slab.{ContainsKey}
 use Rattle.face_api.specs.Table.{Table}
 use Rattle.wm_modes.specs.declared.mode.WritingMode.{WritingMode}
 use Rattle.wm_modes.specs.declared.mode.WritingMode.TheVariants.{HorizontalTb, VerticalRl, VerticalLr, SidewaysRl, SidewaysLr}
@@ -13,29 +12,30 @@ use Rattle.fragment_types.specs.Fragment.{Pieces, none}
 use Rattle.style_types.specs.Style.{IsBounded}
 use Rattle.line_place.specs.Spread.{spread}
 use Rattle.wm_modes.specs.Sides.{block_start}
-use Rattle.box_arena.specs.At.{Node, Slots, links_at, next_at, node_at, parent_at}
+use Rattle.box_arena.specs.At.{Node, Slots, next_at, node_at, parent_at}
 use Rattle.box_arena.specs.Boxes.{StandFrom, Stands}
-use Rattle.box_arena.specs.Links.{IsLinked}
 use Rattle.box_gen.specs.Tree.{Boxes, box, none as no_boxes}
 use Rattle.para_prepare.specs.Preparation.{Preparation}
 use Rattle.relayout.specs.declared.flowed.LaidBox.{LaidBox}
 use Rattle.relayout.specs.declared.inline.PageView.{PageView}
-use Rattle.relayout.specs.declared.sizes.Containing.{Containing}
+use Rattle.relayout.specs.declared.row.Row.{Row}
 use Rattle.relayout.specs.Edges.{margin_or_zero}
 use Rattle.relayout.specs.Fit.{reach_of, room_in, siblings, weight}
 use Rattle.relayout.specs.Flow.{layout, on_page}
 use Rattle.relayout.specs.Flowed.{Part, at, part_of}
+use Rattle.relayout.specs.Flowing.{CanFlow}
 use Rattle.relayout.specs.Inline.{Outside, equation_of, inline_place, inline_place_by}
 use Rattle.relayout.specs.Kept.{AreRight, containing_by}
 use Rattle.relayout.specs.Near.{HasReach, IsNearLaid, IsNearPart}
-use Rattle.relayout.specs.Relayout.{AreRightUnder, HasTree, IsLayout, IsView, in_view}
-use Rattle.relayout.specs.Row.{AreFlowed, HasRow, Lead, StandsIn, from_outside}
+use Rattle.relayout.specs.Reach.{IsPageView}
+use Rattle.relayout.specs.Relayout.{AreRightUnder, HasTree, IsLayout, IsView, in_view, root_row}
+use Rattle.relayout.specs.Row.{AreFlowed, Lead, from_outside}
 use Rattle.relayout.specs.Sizes.{containing_of, is_parallel}
 use Rattle.relayout.specs.Step.{under}
 use Rattle.relayout.proofs.FlowLaws.{margin_near}
 use Rattle.relayout.proofs.InlineLaws.{along_place_near}
 use Rattle.relayout.proofs.LaidLaws.{placed_spread}
-use Rattle.relayout.proofs.RowLaws.{Arena, lead_count, lead_near, lives_there}
+use Rattle.relayout.proofs.RowLaws.{lead_count, lead_near}
 
 tree_node : (slots : Slots Preparation) (root : ℕ) (tree : Boxes) → Stands slots root tree → (node : Node) × (node_at slots root ≡ Some node)
 tree_node slots root no_boxes stands = absurd stands
@@ -73,8 +73,21 @@ stands_alone slots root (box name style content inner next) alone (node, within,
 
 module _ (faces : List (Option Table)) (view : View) (page : PageView) (slots : Slots Preparation) (root : ℕ) (own : Node) (there : node_at slots root ≡ Some own)
     (is : from_outside faces page ≡ on_page (is_horizontal own.style.mode) faces view.inline view.block) where
-  pub root_right : AreRightUnder faces view slots root → AreRight (from_outside faces page) slots
-  root_right right = let P : Outside → Type 0 = λ o. AreRight o slots in subst P (sym is) (right own there)
+  -- the row of the root can be laid out
+  pub root_can : IsPageView page → IsView view → parent_at slots root ≡ None → next_at slots root ≡ None → HasTree slots root → AreRightUnder faces view slots root
+      → CanFlow (from_outside faces page) slots (root_row root own.style view)
+  root_can near sizes free alone has right = record {
+    view = near;
+    sizes = record { inline = sizes.along; block = sizes.across };
+    boxes = record { tree = has.tree; stand = stands_alone slots root has.tree alone has.stands; low = has.low; few = has.few; light = has.light; fit = has.fit };
+    inside = λ node at. ap (λ (p : Option ℕ). containing_by (option_and_then (node_at slots) p) node.style) free ∙ ap (λ (n : Node). containing_of n.style) (same_Some node own (sym at ∙ there));
+    right = let P : Outside → Type 0 = λ o. AreRight o slots in subst P (sym is) (right own there);
+  }
+
+  -- what has been laid out of it is the root alone
+  pub root_flowed : (row : Row) (laid : List LaidBox) → row ≡ root_row root own.style view → AreFlowed (from_outside faces page) slots row.from row.containing row.c laid
+      → AreFlowed (from_outside faces page) slots (Some root) (containing_of own.style) (under (Some view.inline) (Some view.block)) laid
+  root_flowed row laid same flowed = let P : Row → Type 0 = λ r. AreFlowed (from_outside faces page) slots r.from r.containing r.c laid in subst P same flowed
 
   pub root_alone : (laid : List LaidBox) → AreFlowed (from_outside faces page) slots (Some root) (containing_of own.style) (under (Some view.inline) (Some view.block)) laid → next_at slots root ≡ None → HasTree slots root
       → (length laid ≡ 1) × All IsNearLaid laid

@@ -30,18 +30,18 @@ handed_by (suc _) outer definite = outer
 unfoldable pub handed_on : Containing → Node → Constraint → Option ℤ
 handed_on containing node c = handed_by node.name.ordinal c.block (definite containing node.style c)
 
--- ---- under an inline size that isn't known: a box whose content area asks for these sizes
+-- ---- under an inline size that isn't known: a box whose content area has these min-content and max-content sizes
 
 abbrev pub around : Containing → Style → ℤ
 around containing style = margins_along style None containing.mode +ℤ inner_edges_along style None containing.mode
 
-unfoldable pub measured : Containing → Node → (asked : Intrinsic) → Flowed
-measured containing node asked =
+unfoldable pub measured : Containing → Node → (content : Intrinsic) → Flowed
+measured containing node content =
     record {
       part = record {
         name = node.name;
         rect = record { i = pos 0; b = pos 0; inline = pos 0; block = pos 0 };
-        kind = measure (asked.min +ℤ around containing node.style) (asked.max +ℤ around containing node.style);
+        kind = measure (content.min +ℤ around containing node.style) (content.max +ℤ around containing node.style);
         inner = none;
       };
       starts = [];

@@ -20,7 +20,7 @@ use Rattle.relayout.specs.Inline.{Outside, inline_place, inline_size}
 use Rattle.relayout.specs.Intrinsic.{inner}
 use Rattle.relayout.specs.Sizes.{containing_of, given, hold_both, is_parallel, sizes_along}
 
--- what its content area asks for under an inline size that isn't known: a given size, or what its content comes to, held
+-- the min-content and the max-content size of its content area, under an inline size that isn't known: a given size, or those of its content, held
 abbrev pub asked_by : Option ℤ → Sizes → Outside → Node → (handed : Option ℤ) → List Member → Intrinsic
 asked_by (Some size) sizes outside node handed members = record { min = size; max = size }
 asked_by None sizes outside node handed members = hold_both sizes (inner outside.faces node.style node.content handed members)

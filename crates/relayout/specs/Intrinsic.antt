@@ -1,4 +1,5 @@
--- Intrinsic sizes: what a box asks of its containing block's inline axis, and what its content comes to at least and at most.
+-- Intrinsic sizes: the min-content and max-content contributions of a box to its containing block's inline axis, and those sizes of its
+-- content.
 -- CSS 2, 10.3.5; CSS Writing Modes 4, 7.3.
 use Rattle.std.specs.Prelude.{◌≡◌, ℕ, ⊤, List, map, fold, Option, Some, None, ℤ, pos}
 use Rattle.std.specs.Int.{int_max}
@@ -22,21 +23,21 @@ use Rattle.para_lines.specs.Filling.{paragraph_sizes}
 use Rattle.relayout.specs.Edges.{inner_edges_across, margins_along}
 use Rattle.relayout.specs.Flowed.{Member}
 
--- what an orthogonal child with this content area asks in a containing block of this mode: its margin box, which its block size makes
-abbrev pub orthogonal_asks : WritingMode → Style → (content : FlowRect) → Intrinsic
-orthogonal_asks mode style content =
+-- the contribution of an orthogonal child with this content area to a containing block of this mode: its margin box, which its block size makes
+abbrev pub orthogonal_contribution : WritingMode → Style → (content : FlowRect) → Intrinsic
+orthogonal_contribution mode style content =
     let extent = orthogonal.contribution content.inline (inner_edges_across style None style.mode) (margins_along style None mode) in
     record { min = extent; max = extent }
 
--- a parallel child asks as it was measured, an orthogonal one as it is laid out; there are no other children
+-- a parallel child contributes as it was measured, an orthogonal one as it is laid out; there are no other children
 abbrev pub contributed : WritingMode → Style → Kind → Intrinsic
 contributed mode style (measure min max) = record { min = min; max = max }
-contributed mode style (block own dir content definite start end_ through) = orthogonal_asks mode style content
+contributed mode style (block own dir content definite start end_ through) = orthogonal_contribution mode style content
 contributed mode style (line index base own baseline) = record { min = pos 0; max = pos 0 }
 contributed mode style span = record { min = pos 0; max = pos 0 }
 contributed mode style (run form level natural units) = record { min = pos 0; max = pos 0 }
 
--- what a child asks in a containing block of this mode, whose inline size isn't known
+-- the contribution of a child to a containing block of this mode, whose inline size isn't known
 unfoldable pub contribution : WritingMode → (handed : Option ℤ) → Member → Intrinsic
 contribution mode handed member =
     let part = (member.flow (record { inline = None; block = handed })).part in
@@ -57,23 +58,23 @@ prepared faces style entries = preparation faces (base_by style.bidi (used_direc
 abbrev pub greater : Intrinsic → Intrinsic → Intrinsic
 greater one other = record { min = int_max one.min other.min; max = int_max one.max other.max }
 
--- the greatest of what block-level children ask
+-- the greatest contributions of block-level children
 abbrev pub greatest : List Intrinsic → Intrinsic
-greatest asked = fold greater (record { min = pos 0; max = pos 0 }) asked
+greatest contributions = fold greater (record { min = pos 0; max = pos 0 }) contributions
 
--- of a paragraph, the widths of its pieces, with what its inline-blocks ask
-abbrev pub paragraph_asks : List Entry → Preparation → List Intrinsic → Intrinsic
-paragraph_asks entries text asked = paragraph_sizes entries text (map (λ a. a.min) asked) (map (λ a. a.max) asked)
+-- of a paragraph, by the widths of its pieces and the contributions of its inline-blocks
+abbrev pub paragraph_content : List Entry → Preparation → List Intrinsic → Intrinsic
+paragraph_content entries text contributions = paragraph_sizes entries text (map (λ a. a.min) contributions) (map (λ a. a.max) contributions)
 
 abbrev pub together : List (Option Table) → Style → Content → List Intrinsic → Intrinsic
-together faces style blocks asked = greatest asked
-together faces style (inline entries) asked = paragraph_asks entries (prepared faces style entries) asked
+together faces style blocks contributions = greatest contributions
+together faces style (inline entries) contributions = paragraph_content entries (prepared faces style entries) contributions
 
 abbrev pub cap_both : Intrinsic → Intrinsic
 cap_both sizes = record { min = cap_size sizes.min; max = cap_size sizes.max }
 
 abbrev pub inner_by : List (Option Table) → Style → Content → List Intrinsic → Intrinsic
-inner_by faces style content asked = cap_both (together faces style content asked)
+inner_by faces style content contributions = cap_both (together faces style content contributions)
 
 -- the min-content and the max-content size of a box's content
 unfoldable pub inner : List (Option Table) → Style → Content → (handed : Option ℤ) → List Member → Intrinsic

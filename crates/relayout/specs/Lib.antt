@@ -5,6 +5,7 @@ pub mod Edges
 pub mod Fit
 pub mod Flow
 pub mod Flowed
+pub mod Flowing
 pub mod Inline
 pub mod Intrinsic
 pub mod Kept

@@ -31,7 +31,7 @@ pub record IsContent (content : Intrinsic) : Type 0 where
   pub max_low : pos 0 ≤ℤ content.max
   pub max_high : content.max ≤ℤ pos (2 ^ 32)
 
--- what a child asks
-pub record IsAsked (asked : Intrinsic) : Type 0 where
-  pub min : unsigned_abs asked.min ≤ 2 ^ 37
-  pub max : unsigned_abs asked.max ≤ 2 ^ 37
+-- the contribution of a child
+pub record IsContribution (contribution : Intrinsic) : Type 0 where
+  pub min : unsigned_abs contribution.min ≤ 2 ^ 37
+  pub max : unsigned_abs contribution.max ≤ 2 ^ 37

@@ -12,6 +12,7 @@ use Rattle.box_arena.specs.At.{Node, Slots, node_at}
 use Rattle.box_arena.specs.Boxes.{Stands}
 use Rattle.box_gen.specs.Tree.{Boxes}
 use Rattle.para_prepare.specs.Preparation.{Preparation}
+use Rattle.relayout.specs.declared.row.Row.{Row}
 use Rattle.relayout.specs.Edges.{margin_or_zero}
 use Rattle.relayout.specs.Fit.{AreFit, count, height, weight}
 use Rattle.relayout.specs.Flow.{layout, on_page}
@@ -21,6 +22,7 @@ use Rattle.relayout.specs.Kept.{AreRight}
 use Rattle.relayout.specs.Reach.{IsBase}
 use Rattle.relayout.specs.Row.{IsSteady}
 use Rattle.relayout.specs.Sizes.{containing_of}
+use Rattle.relayout.specs.Step.{under}
 
 -- the sizes of a view
 pub record IsView (view : View) : Type 0 where
@@ -39,6 +41,10 @@ pub record HasTree (slots : Slots Preparation) (root : ℕ) : Type 0 where
   pub few : count tree ≤ 2 ^ 18
   pub light : weight tree ≤ 2 ^ 60 - 2 ^ 38
   pub fit : AreFit tree
+
+-- the row of the root, which stands alone in the view
+abbrev pub root_row : (root : ℕ) → Style → View → Row
+root_row root style view = record { from = Some root; containing = containing_of style; c = under (Some view.inline) (Some view.block); depth = most_deep }
 
 -- the root in the view, which has its mode and its direction
 abbrev pub in_view : Style → View → Part → Pieces

@@ -12,6 +12,7 @@ ghost use Rattle.relayout.specs.Content.{IsFilled};
 ghost use Rattle.relayout.specs.Flowed.{pair_of, part_of};
 ghost use Rattle.relayout.specs.Reach as reach;
 ghost use Rattle.relayout.specs.Reach.{IsBase, IsContent};
+ghost use Rattle.relayout.specs.Step.{IsFlowBox};
 
 use crate::content::Filling;
 use crate::edges::{
@@ -19,6 +20,7 @@ use crate::edges::{
     padding, side_in,
 };
 use crate::sizes::{Containing, block_sizes, definite, is_atom, is_flow_root};
+use crate::step::FlowBox;
 use block_flow::{BlockBox, Edge};
 use box_gen::BoxNode;
 use fragment_types::{BoxName, BoxPart, Constraint, Fragment, FragmentKind, Fragments};
@@ -43,25 +45,24 @@ pub(crate) fn handed_on(containing: Containing, node: &BoxNode, c: Constraint) -
     }
 }
 
-/// A box under an inline size that isn't known, whose content area asks for these sizes.
+/// A box under an inline size that isn't known, whose content area has these min-content and max-content sizes.
 pub(crate) fn measured(
     alloc: Global,
-    containing: Containing,
-    node: &BoxNode,
-    asked: Intrinsic,
+    own: &FlowBox,
+    content: Intrinsic,
 ) -> Result<Fragment, AllocError>
-    requires style { IsBounded node.now.style }
-    requires asked { IsContent asked }
-    ensures { IfOk result (λ made. part_of made ≡ (rule.measured containing (node_of node.now) asked).part) }
+    requires own { IsFlowBox own.now }
+    requires content { IsContent content }
+    ensures { IfOk result (λ made. part_of made ≡ (rule.measured own.now.containing (node_of own.now.node.now) content).part) }
 {
-    let kind = measure(asked, around(containing, &node.style));
+    let kind = measure(content, around(own.containing, &own.node.style));
     let rect = FlowRect {
         i: 0,
         b: 0,
         inline: 0,
         block: 0,
     };
-    let made = fragment_of(alloc, node.name, rect, kind, Vec::new(alloc))?;
+    let made = fragment_of(alloc, own.node.name, rect, kind, Vec::new(alloc))?;
     Ok(made)
 }
 
@@ -83,15 +84,15 @@ fn fragment_of(
     })
 }
 
-// What a content area asks, with so much around it.
-fn measure(asked: Intrinsic, around: i64) -> FragmentKind
-    requires asked { IsContent asked }
+// The contribution of a content area of these sizes, with so much around it.
+fn measure(content: Intrinsic, around: i64) -> FragmentKind
+    requires content { IsContent content }
     requires around { unsigned_abs around ≤ 2 ^ 35 }
-    ensures { kind_of result ≡ kinds.measure (asked.min +ℤ around) (asked.max +ℤ around) }
+    ensures { kind_of result ≡ kinds.measure (content.min +ℤ around) (content.max +ℤ around) }
 {
     FragmentKind::Measure {
-        min: asked.min + around,
-        max: asked.max + around,
+        min: content.min + around,
+        max: content.max + around,
     }
 }
 
@@ -306,33 +307,32 @@ fn end_margins(
 /// A box of this inline size and with this content.
 pub(crate) fn boxed(
     alloc: Global,
-    containing: Containing,
-    node: &BoxNode,
-    c: Constraint,
+    own: &FlowBox,
     size: i64,
     content: Filling,
 ) -> Result<Fragment, AllocError>
-    requires style { IsBounded node.now.style }
-    requires constraint { reach.IsBounded c }
+    requires own { IsFlowBox own.now }
     requires size { IsBase (Some size) }
-    ensures part { IfOk result (λ made. (filled : contents.Filled) → IsFilled content filled → part_of made ≡ (rule.boxed containing (node_of node.now) c size filled).part) }
+    ensures part { IfOk result (λ made. (filled : contents.Filled) → IsFilled content filled → part_of made ≡ (rule.boxed own.now.containing (node_of own.now.node.now) own.now.c size filled).part) }
     ensures inner { IfOk result (λ made. (part_of made).inner ≡ pieces_of content.parts.items) }
 {
-    let style = &node.style;
-    let extent = block_size(containing, style, c, content.extent);
-    let through = block_box(containing, style, c, content.lines).is_through(content.through);
+    let style = &own.node.style;
+    let extent = block_size(own.containing, style, own.c, content.extent);
+    let through = block_box(own.containing, style, own.c, content.lines).is_through(
+        content.through,
+    );
     let part = BoxPart {
         mode: style.mode,
         dir: style.used_direction(),
-        content: content_area(containing, style, c, size, extent),
-        definite: handed_on(containing, node, c),
-        start: start_margins(containing, style, c, content.start),
-        end: end_margins(containing, style, c, through, content.end),
+        content: content_area(own.containing, style, own.c, size, extent),
+        definite: handed_on(own.containing, own.node, own.c),
+        start: start_margins(own.containing, style, own.c, content.start),
+        end: end_margins(own.containing, style, own.c, through, content.end),
         through,
     };
-    let rect = border_box(containing, style, c, size, extent);
+    let rect = border_box(own.containing, style, own.c, size, extent);
     let shared = Rc::new(alloc, part)?;
     let kind = FragmentKind::Box(shared);
-    let made = fragment_of(alloc, node.name, rect, kind, content.parts)?;
+    let made = fragment_of(alloc, own.node.name, rect, kind, content.parts)?;
     Ok(made)
 }

@@ -1,32 +1,37 @@
 //! The content of a box: block-level children one under the other, or the lines of a paragraph (CSS 2, 8.3.1, 9.4.1 and 9.4.2).
 
-ghost use Rattle.std.specs.Prelude.{◌≡◌, ◌+◌, ◌*◌, ◌≤◌, ◌^◌, ℕ, List, All, IfOk, OnOk, Some, length, map, option_copied, pos};
+ghost use Rattle.std.specs.Prelude.{◌≡◌, ◌+◌, ◌*◌, ◌≤◌, ◌^◌, ℕ, List, All, IfOk, OnOk, Some, false, length, map, option_copied, pos};
 ghost use Rattle.face_api.specs.Faces.{faces_of};
 ghost use Rattle.fragment_types.specs.Fragment.{Pieces, before, pieces_of};
 ghost use Rattle.fragment_types.specs.Item.{entries_of};
 ghost use Rattle.style_types.specs.Style.{IsBounded};
+ghost use Rattle.block_flow.specs.Adjoining.{edges};
 ghost use Rattle.box_gen.specs.Tree.{content_of, inline};
 ghost use Rattle.line_place.specs.Spread.{spread};
 ghost use Rattle.para_lines.specs.Paragraph.{atom_of};
 ghost use Rattle.para_lines.specs.Reach.{IsNearLine, atom_reach};
 ghost use Rattle.para_prepare.specs.Preparation.{atoms_of};
 ghost use Rattle.relayout.specs.Atoms as atoms;
+ghost use Rattle.relayout.specs.Boxed.{block_box};
 ghost use Rattle.relayout.specs.Content as rule;
 ghost use Rattle.relayout.specs.Content.{AreStacked, IsFilled, child_box};
 ghost use Rattle.relayout.specs.Flowed.{AreLaid, Laid, as_laid};
 ghost use Rattle.relayout.specs.Fit.{room_in};
 ghost use Rattle.relayout.specs.Near.{HasReach, IsNearLaid};
 ghost use Rattle.relayout.specs.Intrinsic.{IsTextOf};
-ghost use Rattle.relayout.specs.Paragraph.{HasAtoms, IsParagraph, IsReady, IsReadyIn};
+ghost use Rattle.relayout.specs.Paragraph.{HasAtoms, IsParagraph, IsReady};
 ghost use Rattle.relayout.specs.Reach.{IsBase};
 ghost use Rattle.relayout.specs.Sizes.{containing_of};
+ghost use Rattle.relayout.specs.Step.{IsFlowBox};
 
 use crate::atoms::atom_in;
+use crate::boxed::block_box;
 use crate::flowed::LaidBox;
 use crate::inline::inline_place;
 use crate::sizes::Containing;
+use crate::step::FlowBox;
 use block_flow::{ChildBox, ParentEdges, stack as stack_of};
-use box_gen::{BoxNode, Content};
+use box_gen::Content;
 use face_api::{Face, Faces};
 use fragment_types::{Fragment, FragmentKind, Fragments, Item};
 use margin_collapse::Margins;
@@ -221,30 +226,28 @@ pub(crate) fn paragraph<L: Ledger>(
     })
 }
 
-/// What stands in a box. `text` is the prepared text of the paragraph that it holds, if it holds one. Counts one step, and none
-/// where memory runs out before.
+/// What stands in a box of this inline size. Counts one step, and none where memory runs out before.
 pub(crate) fn filled<L: Ledger>(
     alloc: Global,
-    node: &BoxNode,
-    text: Option<&Prepared>,
-    joins: ParentEdges,
+    own: &FlowBox,
     size: i64,
     laid: &[LaidBox],
     faces: &Faces,
     arranged: &mut Steps<L>,
 ) -> Result<Filling, AllocError>
-    requires style { IsBounded node.now.style }
+    requires own { IsFlowBox own.now }
     requires size { IsBase (Some size) }
     requires near { All IsNearLaid laid.now }
     requires count { length laid.now ≤ 2 ^ 18 }
-    requires ready { IsReadyIn (content_of node.now.content) (option_copied text) }
-    requires atoms { HasAtoms (content_of node.now.content) (length laid.now) }
+    requires atoms { HasAtoms (content_of own.now.node.now.content) (length laid.now) }
     ensures ticks { OnOk result (arranged.new ≡ arranged.old + 1) }
     ensures most { (arranged.old ≤ arranged.new) × (arranged.new ≤ arranged.old + 1) }
-    ensures filled { IfOk result (λ made. (list : List Laid) → AreLaid laid.now list → IsTextOf (faces_of ⟦<dyn Face as Face>⟧ faces.now) node.now.style (content_of node.now.content) (option_copied text.entry) → IsFilled made (rule.filled (faces_of ⟦<dyn Face as Face>⟧ faces.now) node.now.name node.now.style joins size (content_of node.now.content) list)) }
-    ensures reach { IfOk result (λ made. (list : List Laid) (reach : ℕ) → AreLaid laid.now list → All (HasReach reach) laid.now → spread (pieces_of made.parts.items) ≤ reach + room_in (content_of node.now.content) + (length laid.now + 1) * 2 ^ 38) }
+    ensures filled { IfOk result (λ made. (list : List Laid) → AreLaid laid.now list → IsTextOf (faces_of ⟦<dyn Face as Face>⟧ faces.now) own.now.node.now.style (content_of own.now.node.now.content) (option_copied own.now.text) → IsFilled made (rule.filled (faces_of ⟦<dyn Face as Face>⟧ faces.now) own.now.node.now.name own.now.node.now.style (edges (block_box own.now.containing own.now.node.now.style own.now.c false)) size (content_of own.now.node.now.content) list)) }
+    ensures reach { IfOk result (λ made. (list : List Laid) (reach : ℕ) → AreLaid laid.now list → All (HasReach reach) laid.now → spread (pieces_of made.parts.items) ≤ reach + room_in (content_of own.now.node.now.content) + (length laid.now + 1) * 2 ^ 38) }
 {
-    match (&node.content, text) {
+    let node = own.node;
+    let joins = block_box(own.containing, &node.style, own.c, false).edges();
+    match (&node.content, own.text) {
         (Content::Inline(items), Some(text)) => {
             let container = Container {
                 name: node.name,

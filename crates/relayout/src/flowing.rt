@@ -1,21 +1,29 @@
-//! Flow layout over an arena of boxes (CSS 2, 9.4). What is kept for a box and a constraint is used, all else laid out and kept. It
-//! goes down from a box to its children, twice where its extent hangs on them, and side by side without a recursion.
+//! Flow layout over an arena of boxes (CSS 2, 9.4). What is kept for a box and the sizes of its containing block is used, all else laid
+//! out and kept. It goes down from a box to its children, twice where its inline size depends on them, and side by side without a
+//! recursion.
 
-ghost use Rattle.std.specs.Prelude.{IfOk};
+ghost use Rattle.std.specs.Prelude.{◌≡◌, ◌+◌, ◌≤◌, IfOk, IfSome, OnOk, option_map};
 ghost use Rattle.face_api.specs.Faces.{faces_of};
-ghost use Rattle.relayout.specs.Kept.{AreRight};
-ghost use Rattle.relayout.specs.Reach as reach;
-ghost use Rattle.relayout.specs.Reach.{IsPageView};
-ghost use Rattle.relayout.specs.Row.{AreFlowed, HasRow, IsSteady, StandsIn, from_outside};
+ghost use Rattle.fragment_types.specs.Fragment.{piece_of};
+ghost use Rattle.box_arena.specs.At.{kept_at, links_at};
+ghost use Rattle.box_arena.specs.Links.{IsLinked};
+ghost use Rattle.box_gen.specs.Tree.{content_of};
+ghost use Rattle.relayout.specs.Flowing.{CanFlow, CanFlowBox, IsBegun, IsSeen, IsSized};
+ghost use Rattle.relayout.specs.Inline.{Outside};
+ghost use Rattle.relayout.specs.Intrinsic.{IsTextOf};
+ghost use Rattle.relayout.specs.Paragraph.{IsParagraphIn, IsReadyIn};
+ghost use Rattle.relayout.specs.Row.{AreFlowed, HasBox, IsFlowedAt, IsSteady, outside_of};
 
 use crate::flowed::{LaidBox, LaidBoxes};
-use crate::in_arena::{extent_at, finished_at, keep, kept, see_text, step_at, to_ask, to_set_down};
-use crate::inline::PageView;
-use crate::sizes::Containing;
-use box_arena::{BoxArena, BoxKey};
+use crate::intrinsic::prepared;
+use crate::row::{Page, Row, RowBox};
+use crate::sizing::{InlineSize, Sizing};
+use crate::step::FlowBox;
+use box_arena::BoxArena;
+use box_gen::{BoxNode, Content};
 use bumpalo::Bump;
 use face_api::{Face, Faces};
-use fragment_types::Constraint;
+use fragment_types::Fragment;
 use para_prepare::Prepared;
 use std::alloc::{AllocError, Global};
 use std::sync::ledger::Ledger;
@@ -24,75 +32,196 @@ use wm_units::Steps;
 /// The greatest count of boxes under one root.
 const MOST_BOXES: u32 = 1 << 18;
 
-/// The boxes that stand from there on side by side in such a containing block, laid out under one constraint. At most `depth` stand one
-/// inside the other.
-pub(crate) fn flow<L: Ledger, M: Ledger>(
+/// What travels along: the arena of the boxes, room for what is made ready of a text, and the counters of texts that are prepared and
+/// of contents that are arranged.
+#[derive(Drop)]
+pub(crate) struct Flow<'a, 's, 't, 'm, L: Ledger, M: Ledger> {
+    pub(crate) arena: &'a mut BoxArena<Prepared>,
+    pub(crate) scratch: &'s mut Bump,
+    pub(crate) texts: &'t mut Steps<L>,
+    pub(crate) arranged: &'m mut Steps<M>,
+}
+
+/// A box whose text is prepared: how it is sized, and the children whose contributions its inline size depends on.
+#[derive(Clone, Copy, Debug, PartialEq, Eq)]
+pub(crate) struct Begun {
+    pub(crate) sizing: Sizing,
+    pub(crate) contributing: Row,
+}
+
+/// A box whose inline size is known: that, and the children that are put in it.
+#[derive(Clone, Copy, Debug, PartialEq, Eq)]
+pub(crate) struct SizedBox {
+    pub(crate) size: InlineSize,
+    pub(crate) inside: Row,
+}
+
+// A copy of the fragment, which shares what is below it.
+fn shared(fragment: &Fragment) -> Result<Fragment, AllocError>
+    ensures { IfOk result (λ own. piece_of own ≡ piece_of fragment.now) }
+{
+    let own = fragment.moved_to(fragment.rect)?;
+    Ok(own)
+}
+
+// The prepared text of the paragraph that a box holds, if it holds one.
+fn text_of<L: Ledger>(
     alloc: Global,
-    view: PageView,
+    node: &BoxNode,
     faces: &Faces,
-    arena: &mut BoxArena<Prepared>,
     scratch: &mut Bump,
     texts: &mut Steps<L>,
-    arranged: &mut Steps<M>,
-    from: Option<BoxKey>,
-    containing: Containing,
-    c: Constraint,
-    depth: u32,
-) -> Result<LaidBoxes, AllocError>
-    requires view { IsPageView view }
-    requires constraint { reach.IsBounded c }
-    requires row { HasRow arena.old.slots from depth }
-    requires inside { StandsIn arena.old.slots from containing }
-    requires right { AreRight (from_outside (faces_of ⟦<dyn Face as Face>⟧ faces.now) view) arena.old.slots }
-    ensures steady { IsSteady (from_outside (faces_of ⟦<dyn Face as Face>⟧ faces.now) view) arena.old arena.new }
-    ensures flowed { IfOk result (λ laid. AreFlowed (from_outside (faces_of ⟦<dyn Face as Face>⟧ faces.now) view) arena.old.slots from containing c laid.items) }
+) -> Result<Option<Prepared>, AllocError>
+    requires { IsParagraphIn (content_of node.now.content) }
+    ensures most { (texts.old ≤ texts.new) × (texts.new ≤ texts.old + 1) }
+    ensures text { IfOk result (λ text. IsTextOf (faces_of ⟦<dyn Face as Face>⟧ faces.now) node.now.style (content_of node.now.content) text) }
+    ensures ready { IfOk result (λ text. IsReadyIn (content_of node.now.content) text) }
 {
-    let mut laid = Vec::new(alloc);
-    let mut next = from;
-    for _ in 0..MOST_BOXES {
-        let Some(key) = next else {
-            break;
-        };
-        next = arena.next(key);
-        let style = arena.node(key).style;
-        if let Some(fragment) = kept(arena, key, c)? {
-            laid.push(LaidBox { style, fragment })?;
-            continue;
+    match &node.content {
+        Content::Inline(items) => {
+            let text = prepared(alloc, &node.style, items, faces, scratch, texts)?;
+            Ok(Some(text))
         }
-        see_text(alloc, arena, key, faces, scratch, texts)?;
-        let step = step_at(arena, key, containing, c);
-        let asking = flow(
-            alloc,
-            view,
-            faces,
-            arena,
-            scratch,
-            texts,
-            arranged,
-            to_ask(arena, key, step),
-            step.own,
-            step.under(None),
-            depth - 1,
-        )?;
-        let extent = extent_at(alloc, view, arena, key, containing, c, step, &asking)?;
-        let inside = flow(
-            alloc,
-            view,
-            faces,
-            arena,
-            scratch,
-            texts,
-            arranged,
-            to_set_down(arena, key, extent),
-            step.own,
-            step.under(extent.size()),
-            depth - 1,
-        )?;
-        let fragment = finished_at(
-            alloc, arena, key, containing, c, extent, &inside, faces, arranged,
-        )?;
-        keep(arena, key, c, &fragment)?;
-        laid.push(LaidBox { style, fragment })?;
+        Content::Blocks => Ok(None),
     }
-    Ok(laid)
+}
+
+impl<L: Ledger, M: Ledger> Flow<'_, '_, '_, '_, L, M> {
+    /// The boxes of a row, laid out.
+    pub(crate) fn flow(
+        &mut self,
+        alloc: Global,
+        page: Page,
+        row: &Row,
+    ) -> Result<LaidBoxes, AllocError>
+        requires can { CanFlow (outside_of ⟦<dyn Face as Face>⟧ page) self.old.arena.now.slots row.now }
+        ensures arena { self.new.arena.ghost_name ≡ self.old.arena.ghost_name }
+        ensures steady { IsSteady (outside_of ⟦<dyn Face as Face>⟧ page.entry) self.old.arena.now self.new.arena.now }
+        ensures flowed { IfOk result (λ laid. AreFlowed (outside_of ⟦<dyn Face as Face>⟧ page.entry) self.old.arena.now.slots row.now.from row.now.containing row.now.c laid.items) }
+    {
+        let mut laid = Vec::new(alloc);
+        let mut next = row.from;
+        for _ in 0..MOST_BOXES {
+            let Some(key) = next else {
+                break;
+            };
+            next = self.arena.next(key);
+            let own = row.at(key);
+            if let Some(kept) = self.kept_box(&own)? {
+                laid.push(kept)?;
+                continue;
+            }
+            let begun = self.begin_box(alloc, page, &own)?;
+            let contributing = self.flow(alloc, page, &begun.contributing)?;
+            let sized = self.size_box(alloc, page, &own, &begun, &contributing)?;
+            let inside = self.flow(alloc, page, &sized.inside)?;
+            let made = self.finish_box(alloc, page, &own, &sized, &inside)?;
+            laid.push(made)?;
+        }
+        Ok(laid)
+    }
+
+    // A box that is kept, with what is inside it shared.
+    fn kept_box(&self, own: &RowBox) -> Result<Option<LaidBox>, AllocError>
+        requires { HasBox self.now.arena.now.slots own.now }
+        ensures linked { IsLinked (links_at self.now.arena.now.slots) }
+        ensures kept { IfOk result (λ found. option_map (λ laid. piece_of laid.fragment) found ≡ kept_at self.now.arena.now.slots own.now.key own.now.c) }
+        ensures flowed { IfOk result (λ found. IfSome found (λ laid. (outside : Outside) → CanFlowBox outside self.now.arena.now.slots own.now → IsFlowedAt outside self.now.arena.now.slots own.now laid)) }
+    {
+        let style = self.arena.node(own.key).style;
+        match self.arena.kept(own.key, own.c) {
+            Some(fragment) => {
+                let fragment = shared(fragment)?;
+                Ok(Some(LaidBox { style, fragment }))
+            }
+            None => Ok(None),
+        }
+    }
+
+    // Begins a box: sees that the text of its paragraph is there, and finds how it is sized.
+    fn begin_box(&mut self, alloc: Global, page: Page, own: &RowBox) -> Result<Begun, AllocError>
+        requires can { CanFlowBox (outside_of ⟦<dyn Face as Face>⟧ page) self.old.arena.now.slots own.now }
+        ensures arena { self.new.arena.ghost_name ≡ self.old.arena.ghost_name }
+        ensures most { (self.old.texts.now ≤ self.new.texts.now) × (self.new.texts.now ≤ self.old.texts.now + 1) }
+        ensures steady { IsSteady (outside_of ⟦<dyn Face as Face>⟧ page.entry) self.old.arena.now self.new.arena.now }
+        ensures begun { IfOk result (λ begun. IsBegun (outside_of ⟦<dyn Face as Face>⟧ page.entry) self.new.arena.now.slots own.now begun) }
+        ensures can { IfOk result (λ begun. CanFlow (outside_of ⟦<dyn Face as Face>⟧ page.entry) self.new.arena.now.slots begun.contributing) }
+    {
+        self.see_text(alloc, page, own)?;
+        let sizing = FlowBox::at(self.arena, own).sizing();
+        let from = sizing.contributing(self.arena.first(own.key));
+        Ok(Begun {
+            sizing,
+            contributing: own.children(&sizing, from, None),
+        })
+    }
+
+    // Sees that the text of the paragraph that a box holds is there. Counts one step where it is prepared.
+    fn see_text(&mut self, alloc: Global, page: Page, own: &RowBox) -> Result<(), AllocError>
+        requires can { CanFlowBox (outside_of ⟦<dyn Face as Face>⟧ page) self.old.arena.now.slots own.now }
+        ensures arena { self.new.arena.ghost_name ≡ self.old.arena.ghost_name }
+        ensures most { (self.old.texts.now ≤ self.new.texts.now) × (self.new.texts.now ≤ self.old.texts.now + 1) }
+        ensures steady { IsSteady (outside_of ⟦<dyn Face as Face>⟧ page.entry) self.old.arena.now self.new.arena.now }
+        ensures seen { OnOk result (IsSeen (outside_of ⟦<dyn Face as Face>⟧ page.entry) self.new.arena.now.slots own.now) }
+    {
+        if self.arena.text(own.key).is_some() {
+            return Ok(());
+        }
+        let node = self.arena.node(own.key);
+        match text_of(alloc, node, page.faces, self.scratch, self.texts)? {
+            Some(text) => {
+                self.arena.keep_text(own.key, text);
+                Ok(())
+            }
+            None => Ok(()),
+        }
+    }
+
+    // Sizes a box by the contributions of its children.
+    fn size_box(
+        &self,
+        alloc: Global,
+        page: Page,
+        own: &RowBox,
+        begun: &Begun,
+        contributing: &[LaidBox],
+    ) -> Result<SizedBox, AllocError>
+        requires begun { IsBegun (outside_of ⟦<dyn Face as Face>⟧ page) self.now.arena.now.slots own.now begun.now }
+        requires flowed { AreFlowed (outside_of ⟦<dyn Face as Face>⟧ page) self.now.arena.now.slots begun.now.contributing.from begun.now.contributing.containing begun.now.contributing.c contributing.now }
+        ensures sized { IfOk result (λ sized. IsSized (outside_of ⟦<dyn Face as Face>⟧ page.entry) self.now.arena.now.slots own.now sized) }
+        ensures can { IfOk result (λ sized. CanFlow (outside_of ⟦<dyn Face as Face>⟧ page.entry) self.now.arena.now.slots sized.inside) }
+    {
+        let flow_box = FlowBox::at(self.arena, own);
+        let size = flow_box.inline_size(alloc, page.view, begun.sizing, contributing)?;
+        let from = size.laid_inside(self.arena.first(own.key));
+        Ok(SizedBox {
+            size,
+            inside: own.children(&begun.sizing, from, size.used()),
+        })
+    }
+
+    // Finishes a box by its children, and keeps it: the one place where a box is laid out under the sizes of its containing block. Counts
+    // one step where its content is arranged.
+    fn finish_box(
+        &mut self,
+        alloc: Global,
+        page: Page,
+        own: &RowBox,
+        sized: &SizedBox,
+        inside: &[LaidBox],
+    ) -> Result<LaidBox, AllocError>
+        requires sized { IsSized (outside_of ⟦<dyn Face as Face>⟧ page) self.old.arena.now.slots own.now sized.now }
+        requires flowed { AreFlowed (outside_of ⟦<dyn Face as Face>⟧ page) self.old.arena.now.slots sized.now.inside.from sized.now.inside.containing sized.now.inside.c inside.now }
+        ensures arena { self.new.arena.ghost_name ≡ self.old.arena.ghost_name }
+        ensures most { (self.old.arranged.now ≤ self.new.arranged.now) × (self.new.arranged.now ≤ self.old.arranged.now + 1) }
+        ensures steady { IsSteady (outside_of ⟦<dyn Face as Face>⟧ page.entry) self.old.arena.now self.new.arena.now }
+        ensures flowed { IfOk result (λ laid. IsFlowedAt (outside_of ⟦<dyn Face as Face>⟧ page.entry) self.new.arena.now.slots own.now laid) }
+    {
+        let flow_box = FlowBox::at(self.arena, own);
+        let style = flow_box.node.style;
+        let fragment = flow_box.laid(alloc, page.faces, sized.size, inside, self.arranged)?;
+        let copy = shared(&fragment)?;
+        self.arena.keep(own.key, own.c, copy)?;
+        Ok(LaidBox { style, fragment })
+    }
 }

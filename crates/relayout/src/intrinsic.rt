@@ -1,4 +1,4 @@
-//! Intrinsic sizes: what a box asks of its containing block's inline axis, and what its content comes to at least and at most
+//! Intrinsic sizes: the min-content and max-content contributions of a box to its containing block's inline axis, and the sizes of its content
 //! (CSS 2, 10.3.5; CSS Writing Modes 4, 7.3).
 
 ghost use Rattle.std.specs.Prelude.{◌≡◌, ◌+◌, ◌≤◌, ◌^◌, List, Option, All, IfOk, IfSome, OnOk, length, map, option_copied, unsigned_abs};
@@ -16,7 +16,7 @@ ghost use Rattle.relayout.specs.Intrinsic as rule;
 ghost use Rattle.relayout.specs.Intrinsic.{IsTextOf};
 ghost use Rattle.relayout.specs.Near.{IsNearPart};
 ghost use Rattle.relayout.specs.Paragraph.{IsParagraph, IsReady, IsReadyIn};
-ghost use Rattle.relayout.specs.Reach.{IsAsked, IsContent};
+ghost use Rattle.relayout.specs.Reach.{IsContribution, IsContent};
 
 use crate::edges::{inner_edges_across, margins_along};
 use box_gen::Content;
@@ -36,20 +36,20 @@ use wm_units::{Steps, cap_size};
 /// Lengths in units of 1/64 px.
 type Lengths = Vec<i64>;
 
-/// What a child asks in a containing block of this mode: as it was measured where it is parallel, as it was laid out where it is
+/// The contribution of a child to a containing block of this mode: as it was measured where it is parallel, as it was laid out where it is
 /// orthogonal.
 pub(crate) fn contributed(mode: WritingMode, style: &Style, child: &Fragment) -> Intrinsic
     requires style { IsBounded style.now }
     requires near { IsNearPart (part_of child.now) }
     ensures value { result ≡ rule.contributed mode style.now (kind_of (out-Fragment child.now).kind) }
-    ensures near { IsAsked result }
+    ensures near { IsContribution result }
 {
     match &child.kind {
         FragmentKind::Measure { min, max } => Intrinsic {
             min: *min,
             max: *max,
         },
-        FragmentKind::Box(part) => orthogonal_asks(mode, style, part.content),
+        FragmentKind::Box(part) => orthogonal_contribution(mode, style, part.content),
         FragmentKind::Line { .. } | FragmentKind::Span | FragmentKind::Run { .. } => {
             Intrinsic { min: 0, max: 0 }
         }
@@ -57,11 +57,11 @@ pub(crate) fn contributed(mode: WritingMode, style: &Style, child: &Fragment) ->
 }
 
 // The margin box of an orthogonal child with this content area, which its block size makes (CSS Writing Modes 4, 7.3.2).
-fn orthogonal_asks(mode: WritingMode, style: &Style, content: FlowRect) -> Intrinsic
+fn orthogonal_contribution(mode: WritingMode, style: &Style, content: FlowRect) -> Intrinsic
     requires style { IsBounded style.now }
     requires near { unsigned_abs content.inline ≤ 2 ^ 36 }
-    ensures value { result ≡ rule.orthogonal_asks mode style.now content }
-    ensures near { IsAsked result }
+    ensures value { result ≡ rule.orthogonal_contribution mode style.now content }
+    ensures near { IsContribution result }
 {
     let edges = inner_edges_across(style, None, style.mode);
     let extent = contribution(content.inline, edges, margins_along(style, None, mode));
@@ -175,53 +175,53 @@ fn greater(one: Intrinsic, other: Intrinsic) -> Intrinsic
     }
 }
 
-// The greatest of what block-level children ask.
-fn greatest(asked: &[Intrinsic]) -> Intrinsic
-    ensures { result ≡ rule.greatest asked.now }
+// The greatest contributions of block-level children.
+fn greatest(contributions: &[Intrinsic]) -> Intrinsic
+    ensures { result ≡ rule.greatest contributions.now }
 {
     let mut greatest = Intrinsic { min: 0, max: 0 };
-    for one in asked {
+    for one in contributions {
         greatest = greater(greatest, *one);
     }
     greatest
 }
 
-fn mins_of(alloc: Global, asked: &[Intrinsic]) -> Result<Lengths, AllocError>
-    ensures { IfOk result (λ made. made.items ≡ map (λ a. a.min) asked.now) }
+fn mins_of(alloc: Global, contributions: &[Intrinsic]) -> Result<Lengths, AllocError>
+    ensures { IfOk result (λ made. made.items ≡ map (λ a. a.min) contributions.now) }
 {
-    let mut made = Vec::with_capacity(alloc, asked.len())?;
-    for one in asked {
+    let mut made = Vec::with_capacity(alloc, contributions.len())?;
+    for one in contributions {
         made.push(one.min)?;
     }
     Ok(made)
 }
 
-fn maxs_of(alloc: Global, asked: &[Intrinsic]) -> Result<Lengths, AllocError>
-    ensures { IfOk result (λ made. made.items ≡ map (λ a. a.max) asked.now) }
+fn maxs_of(alloc: Global, contributions: &[Intrinsic]) -> Result<Lengths, AllocError>
+    ensures { IfOk result (λ made. made.items ≡ map (λ a. a.max) contributions.now) }
 {
-    let mut made = Vec::with_capacity(alloc, asked.len())?;
-    for one in asked {
+    let mut made = Vec::with_capacity(alloc, contributions.len())?;
+    for one in contributions {
         made.push(one.max)?;
     }
     Ok(made)
 }
 
 // What a paragraph with these inline-blocks comes to.
-#[tactic(auto, using(crate::proofs::AskedLaws::mins_near, crate::proofs::AskedLaws::maxs_near))]
-fn paragraph_asks(
+#[tactic(auto, using(crate::proofs::ContributionLaws::mins_near, crate::proofs::ContributionLaws::maxs_near))]
+fn paragraph_content(
     alloc: Global,
     items: &[Item],
     text: &Prepared,
-    asked: &[Intrinsic],
+    contributions: &[Intrinsic],
 ) -> Result<Intrinsic, AllocError>
     requires paragraph { IsParagraph (entries_of items.now) }
     requires ready { IsReady (entries_of items.now) text.now }
-    requires count { length asked.now ≤ 2 ^ 20 }
-    requires near { All IsAsked asked.now }
-    ensures { IfOk result (λ sizes. sizes ≡ rule.paragraph_asks (entries_of items.now) text.now asked.now) }
+    requires count { length contributions.now ≤ 2 ^ 20 }
+    requires near { All IsContribution contributions.now }
+    ensures { IfOk result (λ sizes. sizes ≡ rule.paragraph_content (entries_of items.now) text.now contributions.now) }
 {
-    let mins = mins_of(alloc, asked)?;
-    let maxs = maxs_of(alloc, asked)?;
+    let mins = mins_of(alloc, contributions)?;
+    let maxs = maxs_of(alloc, contributions)?;
     let sizes = paragraph_sizes(alloc, items, text, &mins, &maxs)?;
     Ok(sizes)
 }
@@ -241,36 +241,36 @@ fn together(
     alloc: Global,
     content: &Content,
     text: Option<&Prepared>,
-    asked: &[Intrinsic],
+    contributions: &[Intrinsic],
 ) -> Result<Intrinsic, AllocError>
     requires ready { IsReadyIn (content_of content.now) (option_copied text) }
-    requires count { length asked.now ≤ 2 ^ 20 }
-    requires near { All IsAsked asked.now }
-    ensures { IfOk result (λ sizes. (faces : List (Option Table)) (style : styles.Style) → IsTextOf faces style (content_of content.now) (option_copied text.entry) → sizes ≡ rule.together faces style (content_of content.now) asked.now) }
+    requires count { length contributions.now ≤ 2 ^ 20 }
+    requires near { All IsContribution contributions.now }
+    ensures { IfOk result (λ sizes. (faces : List (Option Table)) (style : styles.Style) → IsTextOf faces style (content_of content.now) (option_copied text.entry) → sizes ≡ rule.together faces style (content_of content.now) contributions.now) }
 {
     match (content, text) {
         (Content::Inline(items), Some(text)) => {
-            let sizes = paragraph_asks(alloc, items, text, asked)?;
+            let sizes = paragraph_content(alloc, items, text, contributions)?;
             Ok(sizes)
         }
-        (Content::Blocks, _) | (Content::Inline(_), None) => Ok(greatest(asked)),
+        (Content::Blocks, _) | (Content::Inline(_), None) => Ok(greatest(contributions)),
     }
 }
 
-/// The min-content and the max-content size of a box's content, from what its children ask. `text` is the prepared text of the
+/// The min-content and the max-content size of a box's content, by the contributions of its children. `text` is the prepared text of the
 /// paragraph that it holds, if it holds one.
 pub(crate) fn inner(
     alloc: Global,
     content: &Content,
     text: Option<&Prepared>,
-    asked: &[Intrinsic],
+    contributions: &[Intrinsic],
 ) -> Result<Intrinsic, AllocError>
     requires ready { IsReadyIn (content_of content.now) (option_copied text) }
-    requires count { length asked.now ≤ 2 ^ 20 }
-    requires near { All IsAsked asked.now }
-    ensures value { IfOk result (λ sizes. (faces : List (Option Table)) (style : styles.Style) → IsTextOf faces style (content_of content.now) (option_copied text.entry) → sizes ≡ rule.inner_by faces style (content_of content.now) asked.now) }
+    requires count { length contributions.now ≤ 2 ^ 20 }
+    requires near { All IsContribution contributions.now }
+    ensures value { IfOk result (λ sizes. (faces : List (Option Table)) (style : styles.Style) → IsTextOf faces style (content_of content.now) (option_copied text.entry) → sizes ≡ rule.inner_by faces style (content_of content.now) contributions.now) }
     ensures near { IfOk result IsContent }
 {
-    let sizes = together(alloc, content, text, asked)?;
+    let sizes = together(alloc, content, text, contributions)?;
     Ok(cap_both(sizes))
 }

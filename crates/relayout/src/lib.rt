@@ -7,11 +7,12 @@ mod content;
 mod edges;
 mod flowed;
 mod flowing;
-mod in_arena;
 mod inline;
 mod intrinsic;
 pub mod laws;
+mod row;
 mod sizes;
+mod sizing;
 mod step;
 mod whole;
 

@@ -3,7 +3,6 @@
 ghost use Rattle.std.specs.Prelude.{◌≡◌, ◌≤◌, ◌-◌, ◌^◌, List, IfOk, None, Option, Some};
 ghost use Rattle.face_api.specs.Faces.{faces_of};
 ghost use Rattle.face_api.specs.Table.{Table};
-ghost use Rattle.slab.specs.Slab.{ContainsKey};
 ghost use Rattle.fragment_types.specs.Fragment.{piece_of};
 ghost use Rattle.wm_modes.specs.Mode.{is_horizontal};
 ghost use Rattle.box_arena.specs.At.{parent_at};
@@ -18,8 +17,9 @@ ghost use Rattle.relayout.specs.Row.{from_outside};
 
 use crate::edges::{margin_or_zero, side_in};
 use crate::flowed::LaidBox;
-use crate::flowing::flow;
+use crate::flowing::Flow;
 use crate::inline::{PageView, inline_place};
+use crate::row::{Page, Row};
 use crate::sizes::Containing;
 use box_arena::{BoxArena, BoxKey};
 use bumpalo::Bump;
@@ -28,6 +28,7 @@ use fragment_types::{Constraint, Fragment};
 use para_prepare::Prepared;
 use std::alloc::{AllocError, Global};
 use std::sync::ledger::Ledger;
+use style_types::Style;
 use wm_modes::{FlowRect, FlowSide, WritingMode};
 use wm_units::{Steps, View};
 
@@ -70,6 +71,21 @@ fn in_view(root: &LaidBox, view: View) -> Result<Fragment, AllocError>
     Ok(made)
 }
 
+// The row of the root, which stands alone in the view.
+fn root_row(root: BoxKey, style: &Style, view: View) -> Row
+    ensures { result ≡ rule.root_row root style.now view }
+{
+    Row {
+        from: Some(root),
+        containing: Containing::of(style),
+        c: Constraint {
+            inline: Some(view.inline),
+            block: Some(view.block),
+        },
+        depth: MOST_DEEP,
+    }
+}
+
 /// The layout of the tree of boxes under a root, in a view of these sizes, which are told in the root's mode. What is kept in the arena
 /// is used, and all that is laid out is kept, also where memory runs out before the end. The fragment reaches, with all that stands
 /// inside it and whichever edges that is measured from, at most 2^60 - 2^37 units of 1/64 px.
@@ -92,22 +108,18 @@ pub fn relayout<L: Ledger, M: Ledger>(
 {
     let style = arena.node(root).style;
     let mut scratch = Bump::new(alloc);
-    let laid = flow(
-        alloc,
-        page_of(style.mode, view),
+    let page = Page {
+        view: page_of(style.mode, view),
         faces,
+    };
+    let row = root_row(root, &style, view);
+    let mut flow = Flow {
         arena,
-        &mut scratch,
-        prepared,
+        scratch: &mut scratch,
+        texts: prepared,
         arranged,
-        Some(root),
-        Containing::of(&style),
-        Constraint {
-            inline: Some(view.inline),
-            block: Some(view.block),
-        },
-        MOST_DEEP,
-    )?;
+    };
+    let laid = flow.flow(alloc, page, &row)?;
     let made = in_view(&laid[0], view)?;
     Ok(made)
 }

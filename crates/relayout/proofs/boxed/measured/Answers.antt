@@ -6,5 +6,5 @@ use Rattle.relayout.proofs.boxed.measured.Goals as goal
 
 pub returns : goal.returns
 returns c =
-    measured_is c.args.containing (node_of c.args.node.now) c.args.asked _ _ _ _ _ _ _ _ c.in_ok-made.ensures refl refl refl refl c.measure-kind.ensures
+    measured_is c.args.own.now.containing (node_of c.args.own.now.node.now) c.args.content _ _ _ _ _ _ _ _ c.in_ok-made.ensures refl refl refl refl c.measure-kind.ensures
     (to_z-of_z w64 c.around.result (search rules) ∙ c.around.ensures.value) (search rules)

@@ -3,4 +3,4 @@ use Rattle.relayout.specs.Intrinsic.{greater, greatest}
 use Rattle.relayout.proofs.intrinsic.greatest.Given as goal
 
 abbrev pub invariant-loop-one : goal.invariant-loop-one
-invariant-loop-one l = fold greater l.greatest (drop l.one-index l.asked) ≡ greatest l.asked
+invariant-loop-one l = fold greater l.greatest (drop l.one-index l.contributions) ≡ greatest l.contributions
