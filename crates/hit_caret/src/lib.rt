@@ -1,0 +1,17 @@
+//! Which character of a page stands at a point, and where the caret stands at a place of a text (CSS Writing Modes 4, 6.2).
+#![tactic(auto)]
+
+mod carets;
+mod cells;
+mod finding;
+mod hits;
+pub mod laws;
+mod rects;
+mod visiting;
+
+pub use carets::{caret, caret_point};
+pub use cells::Cell;
+pub use finding::hit;
+pub use hits::Hit;
+pub use rects::Point;
+pub use visiting::{CellVisitor, visit_cells};

@@ -1,0 +1,114 @@
+//! The way over the cells of a page, in the order of its listing.
+
+ghost use Rattle.std.specs.Prelude.{◌≡◌, fold, pos};
+ghost use Rattle.fragment_types.specs.Fragment.{kind_of};
+ghost use Rattle.hit_caret.specs.Cells as spec;
+ghost use Rattle.hit_caret.specs.Near.{AreNearRuns, AreNearUnits, IsNearCell, IsNearPage, IsNearRun};
+ghost use Rattle.place_map.specs.Near.{AreNearParts};
+ghost use Rattle.place_map.specs.Placed.{parts_of, placed_of};
+ghost use Rattle.place_map.specs.declared.placed.PlacedPart.{out-PlacedPart};
+ghost use Rattle.wm_modes.specs.Near.{IsNear};
+
+use crate::cells::{Cell, Run};
+use fragment_types::{FragmentKind, RunUnit, UnitKind};
+use place_map::{Placed, PlacedPart};
+use std::slice;
+use wm_modes::WritingMode;
+
+/// What looks at cells one after the other.
+pub trait CellVisitor {
+    ghost use Rattle.hit_caret.specs.declared.cells.Cell.{Cell};
+
+    /// What it is after it has seen a cell.
+    ghost seen: { Self → Cell → Self };
+
+    /// Sees a cell. No coordinate of it is further than 2^62 from 0.
+    fn see(&mut self, cell: Cell)
+        requires near { IsNearCell cell.rect }
+        ensures { self.new ≡ seen self.old cell };
+}
+
+/// Shows all cells of a page to a visitor, in the order of the listing. All coordinates of the page lie within 2^60 units of
+/// 0, and so do the extents and the distances from line-left of the units of its runs. Takes no memory.
+pub fn visit_cells<V: CellVisitor>(placed: &Placed, visitor: &mut V)
+    requires near { IsNearPage (placed_of placed.now) }
+    ensures { visitor.new ≡ fold V.seen visitor.old (spec.cells (placed_of placed.now)) }
+{
+    visit_parts(placed.mode(), slice::from_ref(&placed.root), visitor);
+}
+
+// The cells of fragments one after the other, each before those inside it, in text of this mode.
+fn visit_parts<V: CellVisitor>(mode: WritingMode, parts: &[PlacedPart], visitor: &mut V)
+    requires near { AreNearParts (parts_of parts.now) }
+    requires units { AreNearRuns (parts_of parts.now) }
+    ensures { visitor.new ≡ fold V.seen visitor.old (spec.cells_in mode (parts_of parts.now)) }
+{
+    for part in parts {
+        visit_part(mode, part, visitor);
+        visit_parts(mode_inside(mode, &part.kind), &part.children, visitor);
+    }
+}
+
+// The cells of a fragment itself.
+fn visit_part<V: CellVisitor>(mode: WritingMode, part: &PlacedPart, visitor: &mut V)
+    requires rect { IsNear (out-PlacedPart part.now).rect }
+    requires units { IsNearRun (kind_of (out-PlacedPart part.now).kind) }
+    ensures { visitor.new ≡ fold V.seen visitor.old (spec.own_cells mode (out-PlacedPart part.now).name.node (out-PlacedPart part.now).rect (kind_of (out-PlacedPart part.now).kind)) }
+{
+    match &part.kind {
+        FragmentKind::Run {
+            form,
+            level,
+            units,
+            ..
+        } => {
+            let run = Run {
+                node: part.name.node,
+                level: *level,
+                mode,
+                rect: part.rect,
+            };
+            visit_run(*form, &run, units, visitor);
+        }
+        FragmentKind::Box(_)
+        | FragmentKind::Line { .. }
+        | FragmentKind::Span
+        | FragmentKind::Measure { .. } => {}
+    }
+}
+
+// The cells of a run: one for each unit, but a single one of a combined run.
+fn visit_run<V: CellVisitor>(form: UnitKind, run: &Run, units: &[RunUnit], visitor: &mut V)
+    requires rect { IsNear run.now.rect }
+    requires units { AreNearUnits (pos 0) units.now }
+    ensures { visitor.new ≡ fold V.seen visitor.old (spec.run_cells form run.now units.now) }
+{
+    match form {
+        UnitKind::Along | UnitKind::Turned | UnitKind::Upright => visit_units(run, units, visitor),
+        UnitKind::Combined => visitor.see(run.combined_cell(units)),
+    }
+}
+
+// The cells of units one after the other.
+fn visit_units<V: CellVisitor>(run: &Run, units: &[RunUnit], visitor: &mut V)
+    requires rect { IsNear run.now.rect }
+    requires units { AreNearUnits (pos 0) units.now }
+    ensures { visitor.new ≡ fold V.seen visitor.old (spec.cells_from run.now (pos 0) units.now) }
+{
+    let mut distance = 0;
+    for unit in units {
+        visitor.see(run.cell_of(distance, unit));
+        distance += unit.extent();
+    }
+}
+
+// The mode of the text in a fragment of this kind.
+fn mode_inside(mode: WritingMode, kind: &FragmentKind) -> WritingMode
+    ensures { result ≡ spec.mode_inside mode (kind_of kind.now) }
+{
+    match kind {
+        FragmentKind::Box(part) => part.mode,
+        FragmentKind::Line { mode: own, .. } => *own,
+        FragmentKind::Span | FragmentKind::Run { .. } | FragmentKind::Measure { .. } => mode,
+    }
+}
