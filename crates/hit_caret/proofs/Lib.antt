@@ -1,7 +1,12 @@
 mod CaretLaws
 mod Examples
 mod HitLaws
+mod Lines
 mod Nearness
+mod ProbeExamples
+mod ProbeLineLaws
+mod ProbingLaws
+mod Reading
 mod Tests
 mod TileLaws
 mod Trees

@@ -1,6 +1,11 @@
+pub mod Answered
 pub mod Carets
 pub mod Cells
+pub mod Error
+pub mod Grammar
 pub mod Hits
 pub mod Laws
 pub mod Near
+pub mod ProbeLine
+pub mod Probing
 pub mod Rects
