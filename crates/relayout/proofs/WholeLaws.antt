@@ -84,15 +84,16 @@ module _ (faces : List (Option Table)) (view : View) (page : PageView) (slots : 
     right = let P : Outside → Type 0 = λ o. AreRight o slots in subst P (sym is) (right own there);
   }
 
-  -- what has been laid out of it is the root alone
-  pub root_flowed : (row : Row) (laid : List LaidBox) → row ≡ root_row root own.style view → AreFlowed (from_outside faces page) slots row.from row.containing row.c laid
+  -- what has been laid out of it
+  root_flowed : (row : Row) (laid : List LaidBox) → row ≡ root_row root own.style view → AreFlowed (from_outside faces page) slots row.from row.containing row.c laid
       → AreFlowed (from_outside faces page) slots (Some root) (containing_of own.style) (under (Some view.inline) (Some view.block)) laid
   root_flowed row laid same flowed = let P : Row → Type 0 = λ r. AreFlowed (from_outside faces page) slots r.from r.containing r.c laid in subst P same flowed
 
-  pub root_alone : (laid : List LaidBox) → AreFlowed (from_outside faces page) slots (Some root) (containing_of own.style) (under (Some view.inline) (Some view.block)) laid → next_at slots root ≡ None → HasTree slots root
+  -- it is the root alone
+  pub root_alone : (row : Row) (laid : List LaidBox) → row ≡ root_row root own.style view → AreFlowed (from_outside faces page) slots row.from row.containing row.c laid → next_at slots root ≡ None → HasTree slots root
       → (length laid ≡ 1) × All IsNearLaid laid
-  root_alone laid flowed alone has = by has.tree has.stands (lead_near (from_outside faces page) (containing_of own.style) (under (Some view.inline) (Some view.block)) laid has.tree
-      (flowed has.tree (stands_alone slots root has.tree alone has.stands)) has.fit has.light) (flowed has.tree (stands_alone slots root has.tree alone has.stands)) where
+  root_alone row laid same flowed alone has = by has.tree has.stands (lead_near (from_outside faces page) (containing_of own.style) (under (Some view.inline) (Some view.block)) laid has.tree
+      (root_flowed row laid same flowed has.tree (stands_alone slots root has.tree alone has.stands)) has.fit has.light) (root_flowed row laid same flowed has.tree (stands_alone slots root has.tree alone has.stands)) where
         by : (tree : Boxes) → Stands slots root tree → All IsNearLaid laid → Lead (from_outside faces page) (containing_of own.style) (under (Some view.inline) (Some view.block)) laid tree no_boxes
             → (length laid ≡ 1) × All IsNearLaid laid
         by no_boxes stands near lead = absurd stands
@@ -101,11 +102,11 @@ module _ (faces : List (Option Table)) (view : View) (page : PageView) (slots : 
             let none_next : siblings next ≡ 0 = ap siblings last in
             (omega arith, near)
 
-  pub root_layout : (laid : List LaidBox) (first : LaidBox) (made : Pieces) → AreFlowed (from_outside faces page) slots (Some root) (containing_of own.style) (under (Some view.inline) (Some view.block)) laid → next_at slots root ≡ None
+  pub root_layout : (row : Row) (laid : List LaidBox) (first : LaidBox) (made : Pieces) → row ≡ root_row root own.style view → AreFlowed (from_outside faces page) slots row.from row.containing row.c laid → next_at slots root ≡ None
       → first ≡ get_or laid 0 first → made ≡ in_view first.style view (part_of first.fragment) → IsLayout faces view slots root made
-  root_layout laid first made flowed alone at shown no_boxes stands = absurd stands
-  root_layout laid first made flowed alone at shown (box name style content inner next) (node, within, last) =
-      by laid at (flowed (box name style content inner no_boxes) (stands_alone slots root (box name style content inner no_boxes) alone (node, within, refl))) where
+  root_layout row laid first made are flowed alone at shown no_boxes stands = absurd stands
+  root_layout row laid first made are flowed alone at shown (box name style content inner next) (node, within, last) =
+      by laid at (root_flowed row laid are flowed (box name style content inner no_boxes) (stands_alone slots root (box name style content inner no_boxes) alone (node, within, refl))) where
         same : own ≡ record { name = name; style = style; content = content }
         same = same_Some own (record { name = name; style = style; content = content }) (sym there ∙ node)
 
@@ -121,17 +122,18 @@ module _ (faces : List (Option Table)) (view : View) (page : PageView) (slots : 
             shown ∙ ap (λ (x : LaidBox). in_view x.style view (part_of x.fragment)) at
             ∙ ap (λ (s : Style). in_view s view (part_of b.fragment)) here.0.same ∙ ap (in_view style view) here.0.part
 
-  pub root_near : (laid : List LaidBox) (first : LaidBox) (made : Pieces) → IsView view → AreFlowed (from_outside faces page) slots (Some root) (containing_of own.style) (under (Some view.inline) (Some view.block)) laid
+  pub root_near : (row : Row) (laid : List LaidBox) (first : LaidBox) (made : Pieces) → IsView view → row ≡ root_row root own.style view → AreFlowed (from_outside faces page) slots row.from row.containing row.c laid
       → next_at slots root ≡ None → HasTree slots root → first ≡ get_or laid 0 first → made ≡ in_view first.style view (part_of first.fragment) → spread made ≤ 2 ^ 60 - 2 ^ 37
-  root_near laid first made sizes flowed alone has at shown = by has.tree laid has.stands has.light at (flowed has.tree (stands_alone slots root has.tree alone has.stands)) (root_alone laid flowed alone has).1 where
-    by : (tree : Boxes) (boxes : List LaidBox) → Stands slots root tree → weight tree ≤ 2 ^ 60 - 2 ^ 38 → first ≡ get_or boxes 0 first
-        → Lead (from_outside faces page) (containing_of own.style) (under (Some view.inline) (Some view.block)) boxes tree no_boxes → All IsNearLaid boxes → spread made ≤ 2 ^ 60 - 2 ^ 37
-    by no_boxes boxes stands light at lead near = absurd stands
-    by (box name style content inner next) [] stands light at lead near = absurd (cc)
-    by (box name style content inner next) (b ∷ boxes) stands light at lead near =
-        let n : IsNearLaid b = near 0 b (omega arith) in
-        let deep : HasReach (reach_of content inner) b = lead.0.reach in
-        let whole = root_spread b.style view (part_of b.fragment) (reach_of content inner) sizes n.style n.part deep in
-        let lighter : 2 ^ 39 + room_in content + weight inner + weight next ≤ 2 ^ 60 - 2 ^ 38 = light in
-        let P : Pieces → Type 0 = λ ps. spread ps ≤ 2 ^ 60 - 2 ^ 37 in
-        subst P (sym (shown ∙ ap (λ (x : LaidBox). in_view x.style view (part_of x.fragment)) at)) (omega (arith, whole, lighter))
+  root_near row laid first made sizes same flowed alone has at shown =
+      by has.tree laid has.stands has.light at (root_flowed row laid same flowed has.tree (stands_alone slots root has.tree alone has.stands)) (root_alone row laid same flowed alone has).1 where
+        by : (tree : Boxes) (boxes : List LaidBox) → Stands slots root tree → weight tree ≤ 2 ^ 60 - 2 ^ 38 → first ≡ get_or boxes 0 first
+            → Lead (from_outside faces page) (containing_of own.style) (under (Some view.inline) (Some view.block)) boxes tree no_boxes → All IsNearLaid boxes → spread made ≤ 2 ^ 60 - 2 ^ 37
+        by no_boxes boxes stands light at lead near = absurd stands
+        by (box name style content inner next) [] stands light at lead near = absurd (cc)
+        by (box name style content inner next) (b ∷ boxes) stands light at lead near =
+            let n : IsNearLaid b = near 0 b (omega arith) in
+            let deep : HasReach (reach_of content inner) b = lead.0.reach in
+            let whole = root_spread b.style view (part_of b.fragment) (reach_of content inner) sizes n.style n.part deep in
+            let lighter : 2 ^ 39 + room_in content + weight inner + weight next ≤ 2 ^ 60 - 2 ^ 38 = light in
+            let P : Pieces → Type 0 = λ ps. spread ps ≤ 2 ^ 60 - 2 ^ 37 in
+            subst P (sym (shown ∙ ap (λ (x : LaidBox). in_view x.style view (part_of x.fragment)) at)) (omega (arith, whole, lighter))

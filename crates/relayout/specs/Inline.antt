@@ -42,7 +42,7 @@ equation_of containing style inline =
     equation inline (inner_edges_along style (Some inline) containing.mode) sizes.size sizes.min sizes.max
     (start_margin containing style inline) (end_margin containing style inline)
 
--- what another box with an auto size has available on its inline axis: of the containing block's inline size, or, for an orthogonal one, of
+-- the available size on the inline axis of another box with an auto size: of the containing block's inline size, or, for an orthogonal one, of
 -- its block size or the view's
 abbrev pub room : PageView → (parallel : Bool) → Constraint → (mode : WritingMode) → (around : ℤ) → ℤ
 room view true c mode around = available c.inline (pos 0) around
@@ -64,7 +64,7 @@ abbrev pub known_by : (fills : Bool) → Containing → Style → Constraint →
 known_by true containing style c = Some (equation_of containing style (unwrap_or c.inline (pos 0))).size
 known_by false containing style c = given (inline_sizes containing style c)
 
--- the inline size that doesn't hang on the content: that of a box that fills its containing block, or one that is given
+-- the inline size that is definite, as it doesn't depend on the content: that of a box that fills its containing block, or one that is given
 unfoldable pub known_size : Containing → Style → Constraint → Option ℤ
 known_size containing style c = known_by (fills containing style) containing style c
 

@@ -109,7 +109,7 @@ pub(crate) fn margins_over(style: &Style, inline: Option<i64>, mode: WritingMode
         + margin_or_zero(style, inline, side_in(mode, FlowSide::LineUnder))
 }
 
-/// Which side of the page a side of a line or of a block is in this mode. It hangs on no direction.
+/// Which side of the page a side of a line or of a block is in this mode. It depends on no direction.
 pub(crate) fn side_in(mode: WritingMode, side: FlowSide) -> Side
     ensures { result ≡ modes.side_of mode Ltr side }
 {

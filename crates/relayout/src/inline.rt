@@ -74,7 +74,7 @@ pub(crate) fn equation_of(containing: Containing, style: &Style, inline: i64) ->
     inline_equation(inline, edges, sizes.size, sizes.min, sizes.max, start, end)
 }
 
-// What another box with an auto size has available on its inline axis (CSS 2, 10.3.9; CSS Writing Modes 4, 7.3.1).
+// The available size on the inline axis of another box with an auto size (CSS 2, 10.3.9; CSS Writing Modes 4, 7.3.1).
 fn room(view: PageView, parallel: bool, c: Constraint, mode: WritingMode, around: i64) -> i64
     requires view { IsPageView view }
     requires constraint { reach.IsBounded c }
@@ -98,7 +98,7 @@ fn around(style: &Style, c: Constraint) -> i64
     inner_edges_along(style, c.inline, style.mode) + margins_along(style, c.inline, style.mode)
 }
 
-/// The inline size that doesn't hang on the content: that of a box that fills its containing block, or one that is given.
+/// The inline size that is definite, as it doesn't depend on the content: that of a box that fills its containing block, or one that is given.
 #[tactic(auto, unfolding(crate::specs::Inline::known_size))]
 pub(crate) fn known_size(containing: Containing, style: &Style, c: Constraint) -> Option<i64>
     requires style { IsBounded style.now }
