@@ -1,13 +1,15 @@
 -- Lists from which a number goes.
-use Rattle.std.proofs.Common.{◌≡◌, ◌∙◌, ℕ, zero, suc, ◌+◌, ◌<◌, Bool, true, false, cond, List, [], ◌∷◌, ◌++◌, ◌||◌, ◌≤◌, ◌-◌, length, length-append, get_or, take, drop, filter, refl, ap, sym, arith, Option, Some, None, option_map}
-use Rattle.std.specs.Prelude.{nat_eq, not}
-use Rattle.std.specs.List.{list_any, position, position_from, remove, slice_range}
+use Rattle.std.proofs.Common.{◌≡◌, ◌∙◌, ℕ, zero, suc, ◌+◌, ◌<◌, Bool, true, false, cond, List, [], ◌∷◌, ◌++◌, ◌||◌, ◌≤◌, ◌-◌, length, length-append, get_or, take, drop, filter, refl, ap, sym, arith, Option, Some, None, option_map, inl, inr}
+use Rattle.std.specs.Prelude.{nat_eq, not, unwrap_or}
+use Rattle.std.specs.List.{list_any, position, position_from, position_or_len, remove, slice_range}
 use Rattle.std.proofs.lemmas.Iterator.Adapters.{position_from-zero}
 use Rattle.std.proofs.lemmas.List.{drop_more, length-drop, length-take-le, take-append-drop}
 use Rattle.std.proofs.lemmas.List.Elements.{filter-append}
 use Rattle.std.proofs.lemmas.List.Folds.{drop_split}
 use Rattle.std.proofs.lemmas.List.Quantifiers.{position-Some}
+use Rattle.std.proofs.lemmas.Bool.{cases_lt, le-ltb, lt-ltb}
 use Rattle.std.proofs.lemmas.Bool.Decides.{nat_tests}
+use Rattle.std.proofs.lemmas.List.Sums.{prefix_len-le-length}
 use Rattle.std.proofs.lemmas.Option.{none-some}
 use Rattle.dom_store.specs.Edits.{without}
 use Rattle.dom_store.specs.Taking.{without_run}
@@ -124,6 +126,15 @@ block_passed number start size numbers within none =
     let long : length block ≡ size = length-take-le (start + size - start) (drop start numbers) (let left = length-drop start numbers in omega (arith, left, within)) ∙ omega arith in
     ap (position_from (is_it number) start) (drop_split numbers start (start + size) (omega arith))
     ∙ (passed_over number start block (drop (start + size) numbers) none ∙ ap (λ (n : ℕ). position_from (is_it number) (start + n) (drop (start + size) numbers)) long)
+
+-- the first place of a number, or the end
+pub place_known : (number : ℕ) (numbers : List ℕ) → unwrap_or (position (is_it number) numbers) (length numbers) ≡ position_or_len (is_it number) numbers
+place_known number numbers =
+    let most : ℕ = position_or_len (is_it number) numbers in
+    elim (cases_lt most (length numbers)) [
+      | inl within ↦ rw (lt-ltb most (length numbers) within) refl
+      | inr past ↦ rw (le-ltb most (length numbers) past) (omega (arith, past, prefix_len-le-length (λ (other : ℕ). not (nat_eq other number)) numbers))
+    ]
 
 -- a place behind those that are passed over
 pub place_behind : (number start : ℕ) (numbers : List ℕ) (place : Option ℕ) → position (is_it number) numbers ≡ position_from (is_it number) start (drop start numbers) → place ≡ position (is_it number) (drop start numbers)

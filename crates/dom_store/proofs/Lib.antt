@@ -16,6 +16,7 @@ pub mod RemoveLaws
 pub mod RootLaws
 pub mod SameLaws
 pub mod StandLaws
+pub mod StepLaws
 pub mod TakeLaws
 pub mod TurnLaws
 pub mod WriteLaws

@@ -1,9 +1,12 @@
 -- Exact edits: steps of a history down and up again, in which each node has the number that it had. DOM, 4.2.3, narrowed.
-use Rattle.std.specs.Prelude.{ℕ, List, [], ◌∷◌, map, filter, flat_map, not, nat_eq, Option, Some, option_map}
+use Rattle.std.specs.Prelude.{ℕ, List, [], ◌∷◌, map, filter, flat_map, not, nat_eq, string_bytes, Option, Some, option_map}
 use Rattle.std.specs.List.{find, list_any}
 use Rattle.std.specs.Option.{option_or}
 use Rattle.css_types.specs.declared.value.Declaration.{Declaration}
-use Rattle.dom_store.specs.State.{What, Entry, State}
+use Rattle.dom_store.specs.declared.exact.ExactEdit as code
+use Rattle.dom_store.specs.declared.exact.ExactEdit.TheVariants as exacts
+use Rattle.dom_store.specs.declared.exact.Numbered as code_numbered
+use Rattle.dom_store.specs.State.{What, Entry, State, what_of}
 use Rattle.dom_store.specs.Standing.{inclusive_descendants}
 use Rattle.dom_store.specs.Edits.{set_text, set_style, set_class, move_to, after, changed, concerned, with_children, with_put, without_nodes}
 
@@ -65,3 +68,16 @@ concerned_exactly state (exact_class number words) = concerned state (set_class 
 concerned_exactly state (exact_move number parent index) = concerned state (move_to number parent index)
 concerned_exactly state (take_nodes parent numbers) = parent ∷ []
 concerned_exactly state (restore parent index nodes) = parent ∷ []
+
+-- ---- without where it lies in memory
+
+abbrev pub numbered_as : code_numbered.Numbered → NumberedOf
+numbered_as node = record { number = node.number; parent = node.parent; what = what_of node.kind }
+
+abbrev pub exact_of : code.ExactEdit → ExactEditOf
+exact_of (exacts.Text number letters) = exact_text number (string_bytes letters)
+exact_of (exacts.Style number own) = exact_style number own.items
+exact_of (exacts.Class number words) = exact_class number (map (λ word. string_bytes word) words.items)
+exact_of (exacts.Move number parent index) = exact_move number parent index
+exact_of (exacts.Take parent numbers) = take_nodes parent numbers.items
+exact_of (exacts.Restore parent index nodes) = restore parent index (map numbered_as nodes.items)

@@ -1,17 +1,24 @@
 -- The step of an edit that isn't refused: what leads back from it, and what leads there again.
-use Rattle.std.specs.Prelude.{ℕ, ◌+◌, List, [], ◌∷◌, drop, get_or, nat_eq, Option, option_map, unwrap_or, filter_map}
+use Rattle.std.specs.Prelude.{◌≡◌, ◌⊎◌, ℕ, ◌+◌, List, [], ◌∷◌, drop, get_or, nat_eq, Option, None, Some, Result, Ok, Err, option_map, unwrap_or, filter_map}
 use Rattle.std.specs.List.{position_or_len}
 use Rattle.css_types.specs.declared.value.Declaration.{Declaration}
 use Rattle.html_read.specs.Values.{Node}
+use Rattle.dom_store.specs.declared.error.EditError.{EditError}
+use Rattle.dom_store.specs.declared.error.EditError.TheVariants.{Memory}
+use Rattle.dom_store.specs.declared.exact.Step as code
 use Rattle.dom_store.specs.State.{What, element, text, State}
 use Rattle.dom_store.specs.Opening.{children_from, what_of}
 use Rattle.dom_store.specs.Standing.{children_at, inclusive_descendants, parent_at}
 use Rattle.dom_store.specs.Edits.{EditOf, set_text, set_style, set_class, insert, remove, move_to, under}
-use Rattle.dom_store.specs.Exact.{NumberedOf, ExactEditOf, exact_text, exact_style, exact_class, exact_move, take_nodes, restore}
+use Rattle.dom_store.specs.Refusals.{refusal}
+use Rattle.dom_store.specs.Exact.{NumberedOf, ExactEditOf, exact_text, exact_style, exact_class, exact_move, take_nodes, restore, exact_of}
 
 pub record StepOf : Type 0 where
   pub back : ExactEditOf
   pub again : ExactEditOf
+
+abbrev pub step_as : code.Step → StepOf
+step_as step = record { back = exact_of step.back; again = exact_of step.again }
 
 -- ---- what stands under a number
 
@@ -68,3 +75,8 @@ step_of state (remove number) =
     let parent = holder state number in
     record { back = restore parent (place state number) (numbered_below state number); again = take_nodes parent (number ∷ []) }
 step_of state (move_to number parent index) = record { back = exact_move number (holder state number) (place state number); again = exact_move number parent index }
+
+-- an edit that isn't refused gives its step
+abbrev pub GivesStep : State → EditOf → Result code.Step EditError → Type 0
+GivesStep state edit (Ok step) = (refusal state edit ≡ None) × (step_as step ≡ step_of state edit)
+GivesStep state edit (Err error) = (error ≡ Memory) ⊎ (refusal state edit ≡ Some error)

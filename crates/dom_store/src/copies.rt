@@ -42,7 +42,8 @@ pub(crate) fn copy_of_node(alloc: Global, node: &Node) -> Result<Node, AllocErro
     })
 }
 
-fn copy_of_what(alloc: Global, kind: &NodeKind) -> Result<NodeKind, AllocError>
+/// A copy of what a node is.
+pub(crate) fn copy_of_what(alloc: Global, kind: &NodeKind) -> Result<NodeKind, AllocError>
     ensures { IfOk result (λ copy. what_of copy ≡ what_of kind.now) }
 {
     match kind {
@@ -65,7 +66,12 @@ fn copy_of_what(alloc: Global, kind: &NodeKind) -> Result<NodeKind, AllocError>
     }
 }
 
-fn copy_of_kind(alloc: Global, kind: &ReadKind, own: &[Declaration]) -> Result<NodeKind, AllocError>
+/// What was read, with these own declarations.
+pub(crate) fn copy_of_kind(
+    alloc: Global,
+    kind: &ReadKind,
+    own: &[Declaration],
+) -> Result<NodeKind, AllocError>
     ensures { IfOk result (λ copy. what_of copy ≡ opening.what_of (kind_of kind.now) own.now) }
 {
     match kind {

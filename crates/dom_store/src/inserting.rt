@@ -133,7 +133,7 @@ impl Document {
     }
 
     /// Whether these nodes may be inserted there.
-    fn check_insert(
+    pub(crate) fn check_insert(
         &self,
         alloc: Global,
         parent: u32,
@@ -208,7 +208,7 @@ impl Document {
 }
 
 /// The number of the node in which an inserted one stands.
-fn parent_under(parent: u32, first: u32, place: Option<usize>) -> u32
+pub(crate) fn parent_under(parent: u32, first: u32, place: Option<usize>) -> u32
     requires { IfSome place (λ p. first + p < 2 ^ 32) }
     ensures { result ≡ parent_under parent first place }
 {

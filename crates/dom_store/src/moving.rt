@@ -114,7 +114,7 @@ impl Document {
     }
 
     /// Whether a node may be moved there, and where it stands among the parent's children.
-    fn check_move(
+    pub(crate) fn check_move(
         &self,
         alloc: Global,
         n: u32,

@@ -4,6 +4,7 @@ ghost use Rattle.std.specs.Prelude.{◌≡◌, ◌≤◌, ◌∷◌, ℕ, List, 
 ghost use Rattle.std.specs.List.{list_any, position, position_from};
 ghost use Rattle.dom_store.specs.Edits.{with_put, without};
 ghost use Rattle.dom_store.specs.Refusals.{least, lesser};
+ghost use Rattle.dom_store.specs.Steps.{place_in};
 ghost use Rattle.dom_store.specs.Taking.{IsStanding, turned, without_run};
 
 use crate::node::NodeNumbers;
@@ -85,6 +86,13 @@ fn place_of(numbers: &[u32], number: u32) -> Option<usize>
     let (_, rest) = numbers.split_at(start);
     let place = place_in(rest, number)?;
     Some(start + place)
+}
+
+/// The first place of this number, or behind the last where it isn't there.
+pub(crate) fn place_or_end(numbers: &[u32], number: u32) -> usize
+    ensures { result ≡ place_in number numbers.now }
+{
+    place_of(numbers, number).unwrap_or(numbers.len())
 }
 
 /// The first place of this number, looked for number by number.
