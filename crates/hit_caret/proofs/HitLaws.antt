@@ -1,6 +1,7 @@
 -- The last of the cells that pass a test.
-use Rattle.std.proofs.Common.{◌≡◌, ◌⊎◌, inl, inr, refl, sym, ap, ◌∙◌, suc, Bool, true, false, cond, List, [], ◌∷◌, ◌++◌, filter, Contains, All, Option, Some, None, option_map, arith}
+use Rattle.std.proofs.Common.{◌≡◌, ◌⊎◌, inl, inr, refl, sym, ap, ◌∙◌, suc, Bool, true, false, cond, List, [], ◌∷◌, ◌++◌, filter, Contains, All, Option, Some, None, option_map, ℤ, pos, negsuc, ◌≤ℤ◌, ◌<ℤ◌, int_div, arith}
 use Rattle.std.specs.List.{last_or}
+use Rattle.std.proofs.lemmas.Int.{ints}
 use Rattle.std.proofs.lemmas.Option.{same_Some}
 use Rattle.std.proofs.lemmas.List.Elements.{All-cons, All-nil, filter-append}
 use Rattle.basic_laws.proofs.Lists.{contains_cases, contains_equal, contains_first, contains_other}
@@ -10,8 +11,9 @@ use Rattle.hit_caret.specs.declared.hits.Hit.{Hit}
 use Rattle.hit_caret.specs.declared.rects.Point.{Point}
 use Rattle.hit_caret.specs.Cells.{cells}
 use Rattle.hit_caret.specs.Hits.{hit, hit_in}
-use Rattle.hit_caret.specs.Laws.{HeldPointsAreHit, HitsAreHeld}
+use Rattle.hit_caret.specs.Laws.{HeldPointsAreHit, HitsAreHeld, MiddlesAreHit, middle}
 use Rattle.hit_caret.specs.Rects.{holds}
+use Rattle.hit_caret.proofs.Tests.{held}
 
 abbrev NonePass : (Cell → Bool) → List Cell → Type 0
 NonePass test cs = All (λ c. test c ≡ false) cs
@@ -129,6 +131,17 @@ held_points_are_hit page p earlier later c here held =
       among = among.among;
       is = ap (option_map (hit_in p)) (ap (λ (cs : List Cell). last_or None (filter (at p) cs)) here ∙ last_from (at p) earlier later c held ∙ among.is);
     }
+
+half_within : (extent : ℤ) → pos 0 <ℤ extent → (pos 0 ≤ℤ int_div extent (pos 2)) × (int_div extent (pos 2) <ℤ extent)
+half_within (pos n) some = (omega (arith, ints), omega (arith, ints))
+half_within (negsuc n) some = absurd (omega (arith, ints))
+
+pub middles_are_hit : MiddlesAreHit
+middles_are_hit page earlier later c here wide high =
+    let x = half_within c.rect.w wide in
+    let y = half_within c.rect.h high in
+    held_points_are_hit page (middle c.rect) earlier later c here
+    (held c.rect (middle c.rect) (omega (arith, ints, x.0)) (omega (arith, ints, x.1)) (omega (arith, ints, y.0)) (omega (arith, ints, y.1)))
 
 -- the hit of a point that a cell holds and no later one
 pub last_is_hit : (page : Page) (p : Point) (earlier later : List Cell) (c : Cell) → cells page ≡ earlier ++ c ∷ later → holds c.rect p ≡ true → All (λ c. holds c.rect p ≡ false) later

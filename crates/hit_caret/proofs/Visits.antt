@@ -10,7 +10,7 @@ use Rattle.hit_caret.specs.declared.cells.Run.{Run}
 use Rattle.hit_caret.specs.declared.finding.LastHit.{LastHit}
 use Rattle.hit_caret.specs.declared.hits.Hit.{Hit}
 use Rattle.hit_caret.specs.declared.rects.Point.{Point}
-use Rattle.hit_caret.specs.Carets.{begins_at, ends_at, first_of}
+use Rattle.hit_caret.specs.Carets.{begins_at, ends_at, found_first}
 use Rattle.hit_caret.specs.Cells.{cell_of, cells_from}
 use Rattle.hit_caret.specs.Hits.{hit_in}
 use Rattle.hit_caret.specs.Near.{AreNearUnits, IsNearNumber}
@@ -75,14 +75,14 @@ abbrev first_cells : (node place : ℕ) → (beginning ending : Option Cell) →
 first_cells node place beginning ending = record { node = node; place = place; beginning = beginning; ending = ending }
 
 abbrev first_step : FirstCells → Cell → FirstCells
-first_step s c = first_cells s.node s.place (first_of s.beginning (begins_at s.node s.place c) c) (first_of s.ending (ends_at s.node s.place c) c)
+first_step s c = first_cells s.node s.place (found_first s.beginning (begins_at s.node s.place c) c) (found_first s.ending (ends_at s.node s.place c) c)
 
 or_none : (o : Option Cell) → o ≡ option_or o None
 or_none None = refl
 or_none (Some c) = refl
 
 -- a cell more is the first one, unless one was found before
-first_more : (before : Option Cell) (c : Cell) (others : Option Cell) (b : Bool) → option_or (first_of before b c) others ≡ option_or before (cond b (Some c) others)
+first_more : (before : Option Cell) (c : Cell) (others : Option Cell) (b : Bool) → option_or (found_first before b c) others ≡ option_or before (cond b (Some c) others)
 first_more (Some d) c others b = refl
 first_more None c others true = refl
 first_more None c others false = refl
@@ -94,7 +94,7 @@ firsts_seen : (node place : ℕ) (a b : Option Cell) (cs : List Cell)
     → fold first_step (first_cells node place a b) cs ≡ first_cells node place (option_or a (find (begins_at node place) cs)) (option_or b (find (ends_at node place) cs))
 firsts_seen node place a b [] = both node place a b _ _ (or_none a) (or_none b)
 firsts_seen node place a b (c ∷ cs) =
-    firsts_seen node place (first_of a (begins_at node place c) c) (first_of b (ends_at node place c) c) cs
+    firsts_seen node place (found_first a (begins_at node place c) c) (found_first b (ends_at node place c) c) cs
     ∙ both node place _ _ _ _ (first_more a c (find (begins_at node place) cs) (begins_at node place c)) (first_more b c (find (ends_at node place) cs) (ends_at node place c))
 
 pub beginning_seen : (node place : ℕ) (cs : List Cell) (end_ : FirstCells) → end_ ≡ fold first_step (first_cells node place None None) cs → end_.beginning ≡ find (begins_at node place) cs

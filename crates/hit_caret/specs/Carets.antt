@@ -22,11 +22,11 @@ leading_edge c = edge (leading c) c.rect
 abbrev pub trailing_edge : Cell → Rect
 trailing_edge c = edge (trailing c) c.rect
 
--- the first of a cell that was found before and one that may be found now
-abbrev pub first_of : Option Cell → (is_found : Bool) → Cell → Option Cell
-first_of (Some before) is_found c = Some before
-first_of None true c = Some c
-first_of None false c = None
+-- the first cell that was found, of those before this one and this one
+abbrev pub found_first : (before : Option Cell) → (is_found : Bool) → Cell → Option Cell
+found_first (Some before) is_found c = Some before
+found_first None true c = Some c
+found_first None false c = None
 
 abbrev pub first_beginning : Page → (node place : ℕ) → Option Cell
 first_beginning page node place = find (begins_at node place) (cells page)

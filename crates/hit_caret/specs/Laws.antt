@@ -1,5 +1,5 @@
 -- What holds of the cells, the hits and the carets of every page.
-use Rattle.std.specs.Prelude.{◌≡◌, ◌⊎◌, ℕ, true, false, cond, List, ◌∷◌, ◌++◌, count_by, find, fold, Contains, All, Some, None, ℤ, pos, ◌+ℤ◌, ◌≤ℤ◌}
+use Rattle.std.specs.Prelude.{◌≡◌, ◌⊎◌, ℕ, true, false, cond, List, ◌∷◌, ◌++◌, count_by, find, fold, Contains, All, Some, None, ℤ, pos, ◌+ℤ◌, ◌≤ℤ◌, ◌<ℤ◌, int_div}
 use Rattle.wm_modes.specs.Near.{IsNear}
 use Rattle.wm_modes.specs.declared.rects.Rect.{Rect}
 use Rattle.wm_modes.specs.declared.sides.FlowSide.TheVariants.{LineLeft}
@@ -41,6 +41,14 @@ pub record HitsFrom (page : Page) (p : Point) (cs : List Cell) : Type 0 where
 
 abbrev pub HeldPointsAreHit : Type 0
 HeldPointsAreHit = (page : Page) (p : Point) (earlier later : List Cell) (c : Cell) → cells page ≡ earlier ++ c ∷ later → holds c.rect p ≡ true → HitsFrom page p (c ∷ later)
+
+-- as the point in the middle of a cell that isn't empty does
+abbrev pub middle : Rect → Point
+middle r = record { x = r.x +ℤ int_div r.w (pos 2); y = r.y +ℤ int_div r.h (pos 2) }
+
+abbrev pub MiddlesAreHit : Type 0
+MiddlesAreHit = (page : Page) (earlier later : List Cell) (c : Cell) → cells page ≡ earlier ++ c ∷ later → pos 0 <ℤ c.rect.w → pos 0 <ℤ c.rect.h
+    → HitsFrom page (middle c.rect) (c ∷ later)
 
 -- ---- cells
 

@@ -26,7 +26,7 @@ abbrev pub AreNearRuns : Parts → Type 0
 AreNearRuns none = ⊤
 AreNearRuns (part name rect kind inner next) = IsNearRun kind × AreNearRuns inner × AreNearRuns next
 
--- a page of which all this is near, and all its rectangles
+-- a page whose rectangles and whose units are near
 pub record IsNearPage (page : Page) : Type 0 where
   pub parts : AreNearParts page.parts
   pub units : AreNearRuns page.parts

@@ -86,13 +86,13 @@ fn first_cells(placed: &Placed, node: u32, place: u32) -> FirstCells
 }
 
 impl CellVisitor for FirstCells {
-    ghost use Rattle.hit_caret.specs.Carets.{begins_at, ends_at, first_of};
+    ghost use Rattle.hit_caret.specs.Carets.{begins_at, ends_at, found_first};
 
     ghost seen = { λ s c. record {
       node = s.node;
       place = s.place;
-      beginning = first_of s.beginning (begins_at s.node s.place c) c;
-      ending = first_of s.ending (ends_at s.node s.place c) c;
+      beginning = found_first s.beginning (begins_at s.node s.place c) c;
+      ending = found_first s.ending (ends_at s.node s.place c) c;
     } };
 
     fn see(&mut self, cell: Cell) {

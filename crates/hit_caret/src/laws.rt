@@ -1,15 +1,20 @@
 //! Laws of cells, hits and carets. These functions do nothing: their contracts are the laws.
 
-ghost use Rattle.hit_caret.specs.Laws.{CaretPointsHit, CaretsStandOnEdges, CellsTileRuns, FilledRunsAreNear, HeldPointsAreHit, HitsAreHeld};
+ghost use Rattle.hit_caret.specs.Laws.{CaretPointsHit, CaretsStandOnEdges, CellsTileRuns, FilledRunsAreNear, HeldPointsAreHit, HitsAreHeld, MiddlesAreHit};
 
 /// A hit is of a cell that holds the point; no later cell holds it.
 pub fn hits_are_held()
     ensures { HitsAreHeld }
 {}
 
-/// A point that a cell holds, as the one in its middle, hits that cell or a later one.
+/// A point that a cell holds hits that cell or a later one.
 pub fn held_points_are_hit()
     ensures { HeldPointsAreHit }
+{}
+
+/// The point in the middle of a cell that isn't empty hits that cell or a later one.
+pub fn middles_are_hit()
+    ensures { MiddlesAreHit }
 {}
 
 /// The cells of a run tile its rectangle, where its units fill it: each of its points lies in one of them, and no other point
