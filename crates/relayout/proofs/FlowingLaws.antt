@@ -192,16 +192,16 @@ module _ (slots : Slots Preparation) (own : RowBox) (has : HasBox slots own) whe
         let some = few_siblings has.inner in
         (lead_near outside containing c laid has.inner lead has.fit_within has.light, omega arith)
 
-    pub contributing_near : (definite : Option ℤ) → AreFlowed outside slots (contributing definite (first_at slots own.key)) containing c laid → All IsNearLaid laid × (length laid ≤ 2 ^ 18)
+    contributing_near : (definite : Option ℤ) → AreFlowed outside slots (contributing definite (first_at slots own.key)) containing c laid → All IsNearLaid laid × (length laid ≤ 2 ^ 18)
     contributing_near None flowed = all_near flowed
     contributing_near (Some size) flowed = none_near laid flowed
 
-    pub inside_near : (size : InlineSize) → AreFlowed outside slots (laid_inside size (first_at slots own.key)) containing c laid → All IsNearLaid laid × (length laid ≤ 2 ^ 18)
+    inside_near : (size : InlineSize) → AreFlowed outside slots (laid_inside size (first_at slots own.key)) containing c laid → All IsNearLaid laid × (length laid ≤ 2 ^ 18)
     inside_near (Used size) flowed = all_near flowed
     inside_near (MinMax content) flowed = none_near laid flowed
 
     -- its inline-blocks are all there
-    pub inside_children : (size : InlineSize) → AreFlowed outside slots (laid_inside size (first_at slots own.key)) containing c laid → HasChildren size has.node.content (length laid)
+    inside_children : (size : InlineSize) → AreFlowed outside slots (laid_inside size (first_at slots own.key)) containing c laid → HasChildren size has.node.content (length laid)
     inside_children (Used size) flowed =
         let many : length laid + 0 ≡ siblings has.inner = lead_count outside containing c laid has.inner no_boxes (flowed has.inner has.within) in
         let same : siblings has.inner ≡ length laid = omega (arith, many) in
@@ -359,10 +359,15 @@ kept_flowed outside slots own laid here can there same kept name style content i
 -- ---- its inline size
 
 -- the children of a box that is begun
-pub begun_flowed : (outside : Outside) (slots : Slots Preparation) (own : RowBox) (begun : Begun) (laid : List LaidBox) → IsBegun outside slots own begun
+begun_flowed : (outside : Outside) (slots : Slots Preparation) (own : RowBox) (begun : Begun) (laid : List LaidBox) → IsBegun outside slots own begun
     → AreFlowed outside slots begun.contributing.from begun.contributing.containing begun.contributing.c laid
     → AreFlowed outside slots (contributing begun.sizing.definite (first_at slots own.key)) begun.sizing.own (under None begun.sizing.handed) laid
 begun_flowed outside slots own begun laid is flowed = let P : Row → Type 0 = λ r. AreFlowed outside slots r.from r.containing r.c laid in subst P is.row flowed
+
+pub begun_near : (outside : Outside) (slots : Slots Preparation) (own : RowBox) (begun : Begun) (laid : List LaidBox) → IsBegun outside slots own begun
+    → AreFlowed outside slots begun.contributing.from begun.contributing.containing begun.contributing.c laid → All IsNearLaid laid × (length laid ≤ 2 ^ 18)
+begun_near outside slots own begun laid is flowed =
+    contributing_near slots own is.seen.box outside begun.sizing.own (under None begun.sizing.handed) laid begun.sizing.definite (begun_flowed outside slots own begun laid is flowed)
 
 -- what it comes to by the contributions of these
 abbrev pub Sizes : Outside → Sizing → List LaidBox → InlineSize → Containing → Node → Constraint → Option Preparation → Type 0
@@ -404,7 +409,7 @@ done_reach outside own c (b ∷ laid) list content inner r lead are reaches =
     omega arith
 
 -- the children of a box that is sized
-pub sized_flowed : (outside : Outside) (slots : Slots Preparation) (own : RowBox) (sized : SizedBox) (laid : List LaidBox) (is : IsSized outside slots own sized)
+sized_flowed : (outside : Outside) (slots : Slots Preparation) (own : RowBox) (sized : SizedBox) (laid : List LaidBox) (is : IsSized outside slots own sized)
     → AreFlowed outside slots sized.inside.from sized.inside.containing sized.inside.c laid
     → AreFlowed outside slots (laid_inside sized.size (first_at slots own.key)) (containing_of is.seen.box.node.style) (under (used_in sized.size) (handed_on own.containing is.seen.box.node own.c)) laid
 sized_flowed outside slots own sized laid is flowed =
@@ -413,6 +418,14 @@ sized_flowed outside slots own sized laid is flowed =
     let Q : Containing → Type 0 = λ x. AreFlowed outside slots (laid_inside sized.size (first_at slots own.key)) x (under (used_in sized.size) (sizing_of own.containing node own.c).handed) laid in
     let R : Option ℤ → Type 0 = λ h. AreFlowed outside slots (laid_inside sized.size (first_at slots own.key)) (containing_of node.style) (under (used_in sized.size) h) laid in
     subst R (sizing_handed own.containing node own.c) (subst Q (sizing_own own.containing node own.c) (subst P is.row flowed))
+
+module _ (outside : Outside) (slots : Slots Preparation) (own : RowBox) (sized : SizedBox) (laid : List LaidBox) (is : IsSized outside slots own sized)
+    (flowed : AreFlowed outside slots sized.inside.from sized.inside.containing sized.inside.c laid) where
+  pub sized_near : All IsNearLaid laid × (length laid ≤ 2 ^ 18)
+  sized_near = inside_near slots own is.seen.box outside _ _ laid sized.size (sized_flowed outside slots own sized laid is flowed)
+
+  pub sized_children : HasChildren sized.size is.seen.box.node.content (length laid)
+  sized_children = inside_children slots own is.seen.box outside _ _ laid sized.size (sized_flowed outside slots own sized laid is flowed)
 
 -- what is known of a box when it is finished
 record Finished (outside : Outside) (slots : Slots Preparation) (own : RowBox) (size : InlineSize) (below : List LaidBox) (laid : LaidBox) (node : Node) : Type 0 where

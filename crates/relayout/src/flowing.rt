@@ -2,9 +2,10 @@
 //! out and kept. It goes down from a box to its children, twice where its inline size depends on them, and side by side without a
 //! recursion.
 
-ghost use Rattle.std.specs.Prelude.{◌≡◌, ◌+◌, ◌≤◌, IfOk, IfSome, OnOk, option_map};
+ghost use Rattle.std.specs.Prelude.{◌≡◌, ◌+◌, ◌≤◌, IfOk, IfSome, OnErr, OnOk, option_map};
 ghost use Rattle.face_api.specs.Faces.{faces_of};
 ghost use Rattle.fragment_types.specs.Fragment.{piece_of};
+ghost use Rattle.box_arena.specs.Arena.{Keeps};
 ghost use Rattle.box_arena.specs.At.{kept_at, links_at};
 ghost use Rattle.box_arena.specs.Links.{IsLinked};
 ghost use Rattle.box_gen.specs.Tree.{content_of};
@@ -214,6 +215,8 @@ impl<L: Ledger, M: Ledger> Flow<'_, '_, '_, '_, L, M> {
         requires flowed { AreFlowed (outside_of ⟦<dyn Face as Face>⟧ page) self.old.arena.now.slots sized.now.inside.from sized.now.inside.containing sized.now.inside.c inside.now }
         ensures arena { self.new.arena.ghost_name ≡ self.old.arena.ghost_name }
         ensures most { (self.old.arranged.now ≤ self.new.arranged.now) × (self.new.arranged.now ≤ self.old.arranged.now + 1) }
+        ensures keeps { IfOk result (λ laid. Keeps self.old.arena.now self.new.arena.now own.now.key own.now.c (piece_of laid.fragment)) }
+        ensures unchanged { OnErr result (self.new.arena.now ≡ self.old.arena.now) }
         ensures steady { IsSteady (outside_of ⟦<dyn Face as Face>⟧ page.entry) self.old.arena.now self.new.arena.now }
         ensures flowed { IfOk result (λ laid. IsFlowedAt (outside_of ⟦<dyn Face as Face>⟧ page.entry) self.new.arena.now.slots own.now laid) }
     {

@@ -1,4 +1,4 @@
-use Rattle.std.proofs.Common.{◌≡◌, ◌<◌, sym, subst, arith, length, None}
+use Rattle.std.proofs.Common.{◌≡◌, ◌<◌, sym, subst, arith, length}
 use Rattle.std.specs.Prelude.{All}
 use Rattle.face_api.specs.Faces.{faces_of}
 use Rattle.box_arena.specs.At.{node_of}

@@ -1,12 +1,14 @@
 use Rattle.std.proofs.Common.{refl, sym, subst, length, Option}
 use Rattle.fragment_types.specs.declared.constraint.Constraint.{Constraint}
+use Rattle.fragment_types.specs.Fragment.{Pieces}
+use Rattle.box_arena.specs.Arena.{Keeps}
 use Rattle.box_arena.specs.At.{Node}
 use Rattle.para_prepare.specs.Preparation.{Preparation}
 use Rattle.relayout.specs.declared.flowed.LaidBox.{LaidBox}
 use Rattle.relayout.specs.declared.sizes.Containing.{Containing}
 use Rattle.relayout.specs.Row.{IsSteady, outside_of}
 use Rattle.relayout.specs.Step.{HasChildren}
-use Rattle.relayout.proofs.FlowingLaws.{Finishes, finished, from_code, inside_children, inside_near, sized_flowed, to_code}
+use Rattle.relayout.proofs.FlowingLaws.{Finishes, finished, from_code, sized_children, sized_near, to_code}
 use Rattle.relayout.proofs.RowLaws.{Arena, lives_there, steady_itself}
 use Rattle.relayout.proofs.flowing.Flow.finish_box.Goals as goal
 
@@ -14,24 +16,15 @@ pub at-flow_box-requires : goal.at-flow_box-requires
 at-flow_box-requires g c = c.requires.sized.seen.box
 
 pub laid-requires-clause-near : goal.laid-requires-clause-near
-laid-requires-clause-near g c =
-    let outside = outside_of (λ vtable. (g.dyn-1.0.entry vtable).1) c.args.page in
-    let is = c.requires.sized in
-    (inside_near _ c.args.own.now is.seen.box outside _ _ c.args.inside.now c.args.sized.now.size (sized_flowed outside _ c.args.own.now c.args.sized.now c.args.inside.now is c.requires.flowed)).0
+laid-requires-clause-near g c = (sized_near _ _ _ _ _ c.requires.sized c.requires.flowed).0
 
 pub laid-requires-clause-count : goal.laid-requires-clause-count
-laid-requires-clause-count g c =
-    let outside = outside_of (λ vtable. (g.dyn-1.0.entry vtable).1) c.args.page in
-    let is = c.requires.sized in
-    (inside_near _ c.args.own.now is.seen.box outside _ _ c.args.inside.now c.args.sized.now.size (sized_flowed outside _ c.args.own.now c.args.sized.now c.args.inside.now is c.requires.flowed)).1
+laid-requires-clause-count g c = (sized_near _ _ _ _ _ c.requires.sized c.requires.flowed).1
 
 pub laid-requires-clause-children : goal.laid-requires-clause-children
 laid-requires-clause-children g c =
-    let outside = outside_of (λ vtable. (g.dyn-1.0.entry vtable).1) c.args.page in
-    let is = c.requires.sized in
     let P : Containing → Node → Constraint → Option Preparation → Type 0 = λ containing node sizes text. HasChildren c.args.sized.now.size node.content (length c.args.inside.now) in
-    to_code _ c.args.own.now is.seen.box c.at-flow_box.result c.at-flow_box.ensures P
-    (inside_children _ c.args.own.now is.seen.box outside _ _ c.args.inside.now c.args.sized.now.size (sized_flowed outside _ c.args.own.now c.args.sized.now c.args.inside.now is c.requires.flowed))
+    to_code _ c.args.own.now c.requires.sized.seen.box c.at-flow_box.result c.at-flow_box.ensures P (sized_children _ _ _ _ _ c.requires.sized c.requires.flowed)
 
 pub keep-requires : goal.keep-requires
 keep-requires g c = lives_there c.args.self.now.arena.now c.args.own.now.key c.requires.sized.seen.box.node c.requires.sized.seen.box.is
@@ -41,6 +34,11 @@ returns-in_err-keep-clause-steady g c =
     let outside = outside_of (λ vtable. (g.dyn-1.0.entry vtable).1) c.args.page in
     let P : Arena → Type 0 = λ boxes. IsSteady outside c.args.self.now.arena.now boxes in
     subst P (sym c.in_err-keep.ensures.err) (steady_itself outside c.args.self.now.arena.now c.requires.sized.seen.right)
+
+pub returns-clause-keeps : goal.returns-clause-keeps
+returns-clause-keeps g c =
+    let P : Pieces → Type 0 = λ p. Keeps c.args.self.now.arena.now c.keep.new.self c.args.own.now.key c.args.own.now.c p in
+    subst P c.in_ok-copy.ensures c.in_ok-keep.ensures.ok
 
 pub returns-clause-steady : goal.returns-clause-steady
 returns-clause-steady g c =

@@ -9,7 +9,7 @@ use Rattle.relayout.specs.Fit.{height}
 use Rattle.relayout.specs.Flowing.{CanFlow}
 use Rattle.relayout.specs.Row.{outside_of, row_in}
 use Rattle.relayout.specs.Step.{laid_inside, sizing_of, used_in}
-use Rattle.relayout.proofs.FlowingLaws.{Sizes, begun_flowed, can_be_inside, contributing_near, from_code, same_row, size_is, to_code}
+use Rattle.relayout.proofs.FlowingLaws.{Sizes, begun_near, can_be_inside, from_code, same_row, size_is, to_code}
 use Rattle.relayout.proofs.RowLaws.{lives_there}
 use Rattle.relayout.proofs.flowing.Flow.size_box.Goals as goal
 
@@ -22,20 +22,10 @@ inline_size-requires-clause-sizing g c =
     to_code _ c.args.own.now c.requires.begun.seen.box c.at-flow_box.result c.at-flow_box.ensures P c.requires.begun.sizing
 
 pub inline_size-requires-clause-near : goal.inline_size-requires-clause-near
-inline_size-requires-clause-near g c =
-    let outside = outside_of (λ vtable. (g.dyn-1.0.entry vtable).1) c.args.page in
-    let is = c.requires.begun in
-    let begun = c.args.begun.now in
-    (contributing_near _ c.args.own.now is.seen.box outside begun.sizing.own _ c.args.contributing.now begun.sizing.definite
-    (begun_flowed outside _ c.args.own.now begun c.args.contributing.now is c.requires.flowed)).0
+inline_size-requires-clause-near g c = (begun_near _ _ _ _ _ c.requires.begun c.requires.flowed).0
 
 pub inline_size-requires-clause-count : goal.inline_size-requires-clause-count
-inline_size-requires-clause-count g c =
-    let outside = outside_of (λ vtable. (g.dyn-1.0.entry vtable).1) c.args.page in
-    let is = c.requires.begun in
-    let begun = c.args.begun.now in
-    (contributing_near _ c.args.own.now is.seen.box outside begun.sizing.own _ c.args.contributing.now begun.sizing.definite
-    (begun_flowed outside _ c.args.own.now begun c.args.contributing.now is c.requires.flowed)).1
+inline_size-requires-clause-count g c = (begun_near _ _ _ _ _ c.requires.begun c.requires.flowed).1
 
 pub first-requires : goal.first-requires
 first-requires g c = lives_there c.args.self.now.arena.now c.args.own.now.key c.requires.begun.seen.box.node c.requires.begun.seen.box.is
