@@ -171,8 +171,12 @@ few_near boxes children is near few =
 abbrev filled_with : Vec Fragment → ℤ → Margins → Margins → Bool → Bool → code.Filling
 filled_with parts extent start finish lines through = record { parts = parts; extent = extent; start = start; end = finish; lines = lines; through = through }
 
+-- the children of a parent with these edges come to such a stack
+abbrev pub Stacks : ParentEdges → List ChildBox → Stacked → Type 0
+Stacks joins children stacked = (list : List Child) → AreChildren children list → IsStackOf joins list stacked
+
 pub stack_is : (own : Containing) (joins : ParentEdges) (size : ℤ) (boxes : List LaidBox) (laid : List Laid) (children : List ChildBox) (stacked : Stacked) (places : List ℤ) (parts : Vec Fragment) (extent : ℤ) (start finish : Margins) (through : Bool)
-    → AreLaid boxes laid → children ≡ map child_box boxes → ((list : List Child) → AreChildren children list → IsStackOf joins list stacked)
+    → AreLaid boxes laid → children ≡ map child_box boxes → Stacks joins children stacked
     → places ≡ stacked.places → pieces_of parts.items ≡ set_down own size (map as_laid boxes) places → extent ≡ stacked.extent → start ≡ stacked.start → finish ≡ stacked.end_ → through ≡ stacked.through
     → IsFilled (filled_with parts extent start finish false through) (stack own joins size laid)
 unfolding stack

@@ -30,7 +30,7 @@ use crate::flowed::LaidBox;
 use crate::inline::inline_place;
 use crate::sizes::Containing;
 use crate::step::FlowBox;
-use block_flow::{ChildBox, ParentEdges, stack as stack_of};
+use block_flow::{ChildBox, stack as stack_of};
 use box_gen::Content;
 use face_api::{Face, Faces};
 use fragment_types::{Fragment, FragmentKind, Fragments, Item};
@@ -134,27 +134,30 @@ fn set_down(
     Ok(made)
 }
 
-/// Children one under the other. Counts one step, and none where memory runs out before they are stacked.
+/// The children of a box of this inline size, one under the other. Counts one step, and none where memory runs out before they are
+/// stacked.
 pub(crate) fn stack<L: Ledger>(
     alloc: Global,
-    style: &Style,
-    joins: ParentEdges,
+    own: &FlowBox,
     size: i64,
     laid: &[LaidBox],
     arranged: &mut Steps<L>,
 ) -> Result<Filling, AllocError>
+    requires own { IsFlowBox own.now }
     requires near { All IsNearLaid laid.now }
     requires count { length laid.now ≤ 2 ^ 18 }
     requires size { IsBase (Some size) }
     ensures ticks { OnOk result (arranged.new ≡ arranged.old + 1) }
     ensures most { (arranged.old ≤ arranged.new) × (arranged.new ≤ arranged.old + 1) }
-    ensures filled { IfOk result (λ made. (list : List Laid) → AreLaid laid.now list → IsFilled made (rule.stack (containing_of style.now) joins size list)) }
+    ensures filled { IfOk result (λ made. (list : List Laid) → AreLaid laid.now list → IsFilled made (rule.stack (containing_of own.now.node.now.style) (edges (block_box own.now.containing own.now.node.now.style own.now.c false)) size list)) }
     ensures reach { IfOk result (λ made. (reach : ℕ) → All (HasReach reach) laid.now → spread (pieces_of made.parts.items) ≤ reach + (length laid.now + 1) * 2 ^ 38) }
 {
+    let style = &own.node.style;
+    let joins = block_box(own.containing, style, own.c, false).edges();
     let children = children_of(alloc, laid)?;
     let stacked = stack_of(alloc, joins, &children, arranged)?;
-    let own = Containing::of(style);
-    let parts = set_down(alloc, own, size, laid, stacked.places())?;
+    let inside = Containing::of(style);
+    let parts = set_down(alloc, inside, size, laid, stacked.places())?;
     Ok(Filling {
         parts,
         extent: stacked.extent(),
@@ -246,7 +249,6 @@ pub(crate) fn filled<L: Ledger>(
     ensures reach { IfOk result (λ made. (list : List Laid) (reach : ℕ) → AreLaid laid.now list → All (HasReach reach) laid.now → spread (pieces_of made.parts.items) ≤ reach + room_in (content_of own.now.node.now.content) + (length laid.now + 1) * 2 ^ 38) }
 {
     let node = own.node;
-    let joins = block_box(own.containing, &node.style, own.c, false).edges();
     match (&node.content, own.text) {
         (Content::Inline(items), Some(text)) => {
             let container = Container {
@@ -258,11 +260,11 @@ pub(crate) fn filled<L: Ledger>(
             Ok(made)
         }
         (Content::Inline(_), None) => {
-            let made = stack(alloc, &node.style, joins, size, laid, arranged)?;
+            let made = stack(alloc, own, size, laid, arranged)?;
             Ok(made)
         }
         (Content::Blocks, _) => {
-            let made = stack(alloc, &node.style, joins, size, laid, arranged)?;
+            let made = stack(alloc, own, size, laid, arranged)?;
             Ok(made)
         }
     }

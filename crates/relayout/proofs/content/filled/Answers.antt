@@ -1,15 +1,13 @@
-use Rattle.std.proofs.Common.{◌≡◌, ◌∙◌, ◌+◌, ◌*◌, ◌≤◌, ◌^◌, ap, arith, sym, subst, length, List, w64}
+use Rattle.std.proofs.Common.{◌≡◌, ◌∙◌, ◌+◌, ◌*◌, ◌≤◌, ◌^◌, ap, arith, sym, subst, false, length, List, w64}
 use Rattle.std.specs.Prelude.{option_copied}
 use Rattle.std.proofs.lemmas.Int.{to_z-of_z}
-use Rattle.face_api.specs.Faces.{faces_of}
 use Rattle.fragment_types.specs.declared.item.Item.{Item}
 use Rattle.fragment_types.specs.Item.{entries_of}
 use Rattle.fragment_types.specs.Fragment.{pieces_of}
-use Rattle.block_flow.specs.declared.boxes.ParentEdges.{ParentEdges}
 use Rattle.block_flow.specs.Adjoining.{edges}
 use Rattle.box_gen.specs.Tree.{Content, content_of, inline}
 use Rattle.line_place.specs.Spread.{spread}
-use Rattle.relayout.specs.Content.{IsFilled, filled}
+use Rattle.relayout.specs.Boxed.{block_box}
 use Rattle.relayout.specs.Fit.{room_in}
 use Rattle.relayout.proofs.ContentLaws.{filled_blocks, filled_paragraph}
 use Rattle.relayout.proofs.content.filled.Goals as goal
@@ -18,11 +16,8 @@ pub returns-in_ok-made-in-Inline-Some-clause-filled : goal.returns-in_ok-made-in
 returns-in_ok-made-in-Inline-Some-clause-filled g c = λ list are ready.
     let entries = entries_of c.deref.result.now in
     let content : content_of c.args.own.now.node.now.content ≡ inline entries = ap content_of c.in-Inline-Some.is-0 ∙ sym (ap (λ (is : List Item). inline (entries_of is)) c.deref.ensures.value) in
-    let faces = faces_of (λ vtable. (g.dyn-1.0.entry vtable).1) c.args.faces.now in
-    let P : ParentEdges → Type 0 = λ joins. IsFilled c.in_ok-made-in-Inline-Some.made (filled faces c.args.own.now.node.now.name c.args.own.now.node.now.style joins c.args.size (content_of c.args.own.now.node.now.content) list) in
-    subst P (c.edges-joins.ensures ∙ ap edges c.block_box.ensures)
-    (filled_paragraph faces c.args.own.now.node.now.name c.args.own.now.node.now.style c.edges-joins.result c.args.size _ (content_of c.args.own.now.node.now.content) entries (option_copied c.args.own.now.text) c.in-Inline-Some.text.now list
-    c.in_ok-made-in-Inline-Some.made content (to_z-of_z w64 c.args.size c.ranges.size) (ap option_copied c.in-Inline-Some.is-1) ready (c.in_ok-made-in-Inline-Some.ensures.filled list are))
+    filled_paragraph _ c.args.own.now.node.now.name c.args.own.now.node.now.style (edges (block_box c.args.own.now.containing c.args.own.now.node.now.style c.args.own.now.c false)) c.args.size _ (content_of c.args.own.now.node.now.content) entries (option_copied c.args.own.now.text) c.in-Inline-Some.text.now list
+    c.in_ok-made-in-Inline-Some.made content (to_z-of_z w64 c.args.size c.ranges.size) (ap option_copied c.in-Inline-Some.is-1) ready (c.in_ok-made-in-Inline-Some.ensures.filled list are)
 
 pub returns-in_ok-made-in-Inline-Some-clause-reach : goal.returns-in_ok-made-in-Inline-Some-clause-reach
 returns-in_ok-made-in-Inline-Some-clause-reach g c = λ list reach are deep.
@@ -37,11 +32,8 @@ returns-in_ok-made-in-Inline-None-clause-reach g c = λ list reach are deep. let
 
 pub returns-in_ok-made-in-Blocks-default-clause-filled : goal.returns-in_ok-made-in-Blocks-default-clause-filled
 returns-in_ok-made-in-Blocks-default-clause-filled g c = λ list are ready.
-    let faces = faces_of (λ vtable. (g.dyn-1.0.entry vtable).1) c.args.faces.now in
-    let P : ParentEdges → Type 0 = λ joins. IsFilled c.in_ok-made-in-Blocks-default.made (filled faces c.args.own.now.node.now.name c.args.own.now.node.now.style joins c.args.size (content_of c.args.own.now.node.now.content) list) in
-    subst P (c.edges-joins.ensures ∙ ap edges c.block_box.ensures)
-    (filled_blocks faces c.args.own.now.node.now.name c.args.own.now.node.now.style c.edges-joins.result c.args.size _ (content_of c.args.own.now.node.now.content) list c.in_ok-made-in-Blocks-default.made
-    (ap content_of c.in-Blocks-default.is-0) (to_z-of_z w64 c.args.size c.ranges.size) (c.in_ok-made-in-Blocks-default.ensures.filled list are))
+    filled_blocks _ c.args.own.now.node.now.name c.args.own.now.node.now.style (edges (block_box c.args.own.now.containing c.args.own.now.node.now.style c.args.own.now.c false)) c.args.size _ (content_of c.args.own.now.node.now.content) list c.in_ok-made-in-Blocks-default.made
+    (ap content_of c.in-Blocks-default.is-0) (to_z-of_z w64 c.args.size c.ranges.size) (c.in_ok-made-in-Blocks-default.ensures.filled list are)
 
 pub returns-in_ok-made-in-Blocks-default-clause-reach : goal.returns-in_ok-made-in-Blocks-default-clause-reach
 returns-in_ok-made-in-Blocks-default-clause-reach g c = λ list reach are deep. let near = c.in_ok-made-in-Blocks-default.ensures.reach reach deep in omega arith
