@@ -1,4 +1,5 @@
-/* A library to preload: it refuses one request for memory of a program, and counts all of them.
+/* A library to preload: it refuses one request for memory of a program, and counts all of them. A request is a call of malloc,
+   calloc or realloc; what a program asks for in other ways (aligned_alloc, mmap) is neither counted nor refused.
    REFUSED_REQUEST is the number of the request that is refused, the first being 1; 0 refuses none. REQUESTS_COUNTED, where it is
    set, is a file of eight bytes in which the requests so far are counted. */
 #include <errno.h>
