@@ -97,6 +97,16 @@ class WrongBodies(support.ToolCase):
         ):
             self.same((self.script.is_of(half, line), self.script.is_of(down, line)), (of_half, of_down), line)
 
+    def test_what_is_not_proved(self) -> None:
+        for line, due in (
+            ("logic=not-proved", True),
+            ("logic=proved functions=12", False),
+            ("only=12 proved=11", True),
+            ("only=12 proved=12", False),
+            ("only=10 proved=1", True),
+        ):
+            self.same(bool(self.script.NOT_PROVED.match(line)), due, line)
+
     def test_verdicts(self) -> None:
         open_goal = "note: src/size.rt:10:9: this goal is open"
         name = "proofs/size/Size/half/Answers.antt:3:1: error: `c` has no field `double`"
