@@ -6,8 +6,7 @@ import subprocess
 from tools.tests import support
 from tools.tests.support import TOOLS, TOP
 
-# The name of `json` is that of a module of Python, so it is read by itself; `names`, of the gate, says no types.
-WITHOUT_TYPES = frozenset(("names",))
+# The name of `json` is that of a module of Python, so it is read by itself.
 ALONE = "json"
 
 
@@ -17,7 +16,7 @@ class Types(support.ToolCase):
     def test_types(self) -> None:
         if shutil.which("mypy") is None:
             self.skipTest("types: there is no package mypy")
-        names = [name for name in sorted(os.listdir(TOOLS)) if is_python(name) and name not in WITHOUT_TYPES]
+        names = [name for name in sorted(os.listdir(TOOLS)) if is_python(name)]
         self.hold(len(names) > 40, f"the scripts and modules of tools/: {names}")
         together = [os.path.join("tools", name) for name in names if name != ALONE]
         for words in (["--scripts-are-modules", *together], ["-p", "tools.tests"], [os.path.join("tools", ALONE)]):
