@@ -1,0 +1,5 @@
+mod HistoryLaws
+mod LogLaws
+mod NextLaws
+mod RingLaws
+mod Examples
