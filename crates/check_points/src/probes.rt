@@ -30,6 +30,11 @@ const WRONG: [(&str, usize); 8] = [
     ("caret 1 2\r\r\n", 68),
 ];
 
+/// How many lines that ask something are read at most.
+const MOST: usize = 10_000;
+
+const LINE: &str = "caret 3 1\n";
+
 #[test]
 fn probes_are_read(rt: HostRuntime) -> Result<(), Fail> {
     let probes = read_probe(rt.alloc(), PROBE, START)?;
@@ -50,6 +55,29 @@ fn wrong_lines_are_refused_with_their_places(rt: HostRuntime) -> Result<(), Fail
             }
             Ok(_) => return Err("a wrong probe is read".into()),
         }
+    }
+    Ok(())
+}
+
+#[test]
+fn so_many_lines_are_read_and_no_more(rt: HostRuntime) -> Result<(), Fail> {
+    let mut text = String::new(rt.alloc());
+    for _ in 0..MOST {
+        text.push_str(LINE)?;
+    }
+    let probes = read_probe(rt.alloc(), text.as_str(), START)?;
+    assert_eq!(rt; probes.len(), MOST);
+    let place = START + text.len();
+    text.push_str(LINE)?;
+    match read_probe(rt.alloc(), text.as_str(), START) {
+        Err(error) => {
+            let refused = ProbeError::Refused {
+                kind: Refusal::TooManyEdits,
+                place,
+            };
+            assert_eq!(rt; error, refused);
+        }
+        Ok(_) => return Err("one line too many is read".into()),
     }
     Ok(())
 }
