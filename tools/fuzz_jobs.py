@@ -1,0 +1,165 @@
+"""The jobs of tools/fuzz. A seed and a number make the same job again, as long as the files that jobs are made of are the same."""
+import functools
+import glob
+import json
+import os
+import re
+from random import Random
+from typing import NamedTuple
+
+import listing
+from fuzz_documents import EDGES, TOP, Edit, Maker, Tree, script_of
+from stored import bytes_of, lines_of
+
+COMMANDS = ("layout", "edit", "gen")
+OPTIONS = {"--view-inline": 16_384, "--view-block": 16_384, "--count": 1_000}
+# Each makes that good words give no job, where it stands before them.
+BAD_WORDS = (
+    ["", "modes", "--help", "-h", "-", "page.html", "Layout", "layout ", "edit", "\udcff", "-x", "--none", "--view=5", "--count"]
+    + ["--count=0", "--count=1001", "--count=1.5", "--count=000001", "--count=+1", "--count=1 ", "--count=\u0663", "--count="]
+    + ["--view-inline=0", "--view-inline=16385", "--view-block=-1", "--view-block=99999999999999999999"]
+)
+# The longest input that others are made of, and how often a mutated one is grown.
+LONGEST_PART, GROWN = 16_384, 0.002
+PIECE = re.compile(rb"<[^>]*>|[^<;\n]+[;\n]?|.", re.DOTALL)
+
+
+class Job(NamedTuple):
+    """A job: its words and its input; and where it is of the grammar, its document, the script behind it, and edits that undo one
+    another. Where a stream is to fail is told by a number from 0 to 1."""
+
+    kind: str
+    words: list[str]
+    input: bytes
+    is_usage: bool = False
+    tree: Tree | None = None
+    steps: tuple[Edit, ...] = ()
+    undone: tuple[Edit, ...] = ()
+    failing: float = 0.0
+
+    @property
+    def command(self) -> str:
+        """The command, of words that give a job."""
+        return "" if self.is_usage else next(word for word in self.words if word in COMMANDS)
+
+    def words_of(self, command: str) -> list[str]:
+        """The same words with another command."""
+        return [command if word == self.command else word for word in self.words]
+
+    def option(self, name: str, otherwise: int) -> int:
+        found = re.search(rf"{name}[ =]([0-9]+)", " ".join(self.words))
+        return int(found[1]) if found else otherwise
+
+
+@functools.cache
+def corpus() -> list[Job]:
+    """The stored cases and the examples, but for the longest."""
+    found = []
+    for name in ("document-cases.txt", "script-cases.txt"):
+        for _, line in lines_of(os.path.join(TOP, "tools", name)):
+            words, data, status = line.split("\t")[:3]
+            found.append(Job(name, json.loads(words) if words.startswith("[") else words.split(), bytes_of(data), status == "1"))
+    for command, end in ("layout", "html"), ("edit", "script"):
+        for path in sorted(glob.glob(os.path.join(TOP, "examples", f"*.{end}"))):
+            with open(path, "rb") as file:
+                found.append(Job("examples", [command], file.read()))
+    return [job for job in found if len(job.input) <= LONGEST_PART]
+
+
+def pieces_of(data: bytes) -> list[bytes]:
+    """Tags, declarations, lines and what stands between them; at least one."""
+    return PIECE.findall(data) or [b""]
+
+
+class JobMaker(Maker):
+    """Makes jobs by chance: each kind by a method of its name."""
+
+    def good_words(self, command: str) -> list[str]:
+        groups = [[command]]
+        for name, most in OPTIONS.items():
+            value = str(self.choice((1, 50, 100, 320, most, self.random.randint(1, most)))).zfill(self.choice((1, 5)))
+            forms: list[list[str]] = [[], [], [f"{name}={value}"], [name, value]]
+            groups.append(self.choice(forms))
+        self.random.shuffle(groups)
+        return [word for group in groups for word in group] + ["--"] * self.is_so(0.03)
+
+    def change_part(self, data: bytes) -> bytes:
+        """Cuts or doubles a part, mostly a short one, or puts a byte in its place."""
+        start = self.random.randrange(len(data) + 1)
+        part = data[start : start + int(self.random.expovariate(0.05))]
+        changed = self.choice((b"", part * 2, part * 9, part * 70, bytes([self.random.randrange(256)])))
+        return data[:start] + changed + data[start + len(part) :]
+
+    def flip_bit(self, data: bytes) -> bytes:
+        at = self.random.randrange(len(data) + 1)
+        return data[:at] + bytes(byte ^ 1 << self.random.randrange(8) for byte in data[at : at + 1]) + data[at + 1 :]
+
+    def replace_number(self, data: bytes) -> bytes:
+        at = self.choice(list(re.finditer(rb"[0-9.]+", data)) or list(re.finditer(rb"\Z", data)))
+        return data[: at.start()] + self.choice(EDGES).encode() + data[at.end() :]
+
+    def change_pieces(self, data: bytes) -> bytes:
+        """Swaps two pieces, or puts one of the grammar beside another or in its place."""
+        pieces = pieces_of(data)
+        one, other = self.random.randrange(len(pieces)), self.random.randrange(len(pieces))
+        if self.is_so(0.5):
+            pieces[one], pieces[other] = pieces[other], pieces[one]
+        else:
+            made = self.choice((self.declaration, self.rule, self.text, lambda: self.nodes(2, 0.5)[0].written()))()
+            pieces[one] = made.encode() + pieces[one] * self.random.randrange(2)
+        return b"".join(pieces)
+
+    def grow(self, data: bytes) -> bytes:
+        """One piece so many times that the input is about as long as it may be, or half as long."""
+        pieces = pieces_of(data or b"a")
+        at = self.random.randrange(len(pieces))
+        room = self.choice((listing.MOST_INPUT, listing.MOST_INPUT // 2)) - len(data) + self.choice((0, 1, len(pieces[at])))
+        pieces[at] *= 1 + room // len(pieces[at])
+        return b"".join(pieces)
+
+    def mutated(self) -> Job:
+        job = self.choice(corpus()) if self.is_so(0.8) else self.script_job()
+        data = job.input
+        for _ in range(self.choice((1, 1, 2, 3, 8))):
+            data = self.choice((self.change_part, self.flip_bit, self.replace_number, self.change_pieces))(data)
+        return Job("mutated", job.words, self.grow(data) if self.is_so(GROWN) else data, job.is_usage)
+
+    def spliced(self) -> Job:
+        one, other = self.choice(corpus()), self.choice(corpus())
+        front, back = pieces_of(one.input), pieces_of(other.input)
+        data = front[: self.random.randint(0, len(front))] + back[self.random.randint(0, len(back)) :]
+        return Job("spliced", one.words, b"".join(data), one.is_usage)
+
+    def document_job(self) -> Job:
+        tree = self.tree()
+        return Job("document", self.good_words("layout"), tree.written(), tree=tree, undone=tuple(self.undone(tree)))
+
+    def script_job(self) -> Job:
+        tree = self.tree()
+        steps = tuple(self.script(tree))
+        return Job("script", self.good_words("edit"), tree.written() + script_of(steps), tree=tree, steps=steps)
+
+    def words_job(self) -> Job:
+        words = [self.choice(BAD_WORDS), *self.good_words(self.choice(COMMANDS))]
+        return Job("words", words if self.is_so(0.95) else [], self.choice(corpus()).input, is_usage=True)
+
+    def made_job(self) -> Job:
+        return Job("gen", self.good_words("gen"), self.choice((b"", self.choice(corpus()).input)))
+
+
+# How often each kind comes.
+KINDS = {
+    JobMaker.mutated: 40,
+    JobMaker.spliced: 12,
+    JobMaker.document_job: 22,
+    JobMaker.script_job: 18,
+    JobMaker.words_job: 5,
+    JobMaker.made_job: 3,
+}
+
+
+def job_of(seed: int, number: int) -> Job:
+    """The job of this number."""
+    random = Random(f"{seed} {number}")
+    make = random.choices(list(KINDS), list(KINDS.values()))[0]
+    return make(JobMaker(random))._replace(failing=random.random())

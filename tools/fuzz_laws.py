@@ -1,0 +1,267 @@
+"""Runs the jobs of tools/fuzz, and holds what is true of every job: each law yields what is wrong, in words."""
+import collections
+import contextlib
+import dataclasses
+import re
+import resource
+import subprocess
+from collections.abc import Iterator
+from subprocess import PIPE
+from typing import NamedTuple
+
+import listing
+import refusals
+from fuzz_documents import SHOW, Edit, Tree, read_page, script_of
+from fuzz_jobs import Job
+
+FACTS = refusals.read_facts(refusals.read_page())
+BYTES, NODES, LINES = ({fact.kind for fact in FACTS if fact.number == number} for number in ("byte", "node", "line"))
+OF_SCRIPTS = {"ScriptSyntax", "TooManyEdits", "TooManyShows"}
+USAGE = b"".join(re.findall(rb"^usage: .*\n", read_page("commands.md").encode(), re.MULTILINE))
+COUNTED = re.compile(rb"gen [0-9]+ bytes [0-9]+ lines [0-9]+\n")
+DOCUMENT_ENDS = re.compile(rb"</html[ \t\n\f\r]*>[ \t\n\f\r]*\Z", re.IGNORECASE)
+# After how many seconds by the clock a run is ended, whatever it did in them.
+LONGEST = 120
+
+
+class Limits(NamedTuple):
+    """What a run may take: seconds of processor time and bytes of memory, each with more of it for each byte of the input."""
+
+    seconds: float = 0.5
+    seconds_a_byte: float = 1 / 100_000
+    memory: int = 64 << 20
+    memory_a_byte: int = 512
+
+    def seconds_of(self, data: bytes) -> float:
+        return self.seconds + len(data) * self.seconds_a_byte
+
+    def told(self) -> str:
+        more = f"1 more for each {1 / self.seconds_a_byte:,.0f} bytes of its input", f"{self.memory_a_byte} more for each"
+        return f"{self.seconds} seconds, with {more[0]}, and {self.memory:,} bytes of memory, with {more[1]}"
+
+
+class Ended(NamedTuple):
+    """How a run ended: its status, what it wrote, what stands on standard error, and its seconds of processor time."""
+
+    status: int
+    out: bytes
+    said: bytes
+    seconds: float
+
+    def parts(self) -> list[listing.Part]:
+        return listing.read_listing_bytes(self.out) if self.out else []
+
+    def told(self) -> str:
+        return f"status {self.status}, output {self.out[:80]!r}, error {self.said[:80]!r}"
+
+
+@dataclasses.dataclass(frozen=True)
+class Program:
+    """The program, and the library that shortens its streams, where there is one."""
+
+    path: str
+    library: str | None
+    limits: Limits
+
+    def run(self, words: list[str], data: bytes, **streams: int) -> Ended:
+        names = {"LD_PRELOAD": self.library or "", **{name: str(number) for name, number in streams.items()}} if streams else {}
+        memory, before = self.limits.memory + len(data) * self.limits.memory_a_byte, spent()
+        process = subprocess.Popen([self.path, *words], env=names, stdin=PIPE, stdout=PIPE, stderr=PIPE)
+        with contextlib.suppress(ProcessLookupError):
+            resource.prlimit(process.pid, resource.RLIMIT_AS, (memory, memory))
+        try:
+            out, said = process.communicate(data, LONGEST)
+        except subprocess.TimeoutExpired:
+            process.kill()
+            out, said = process.communicate()
+        return Ended(process.returncode, out, said, spent() - before)
+
+
+def spent() -> float:
+    """The processor time of all runs that ended, in seconds."""
+    used = resource.getrusage(resource.RUSAGE_CHILDREN)
+    return used.ru_utime + used.ru_stime
+
+
+class Trial:
+    """A job that ran, how it ended, and what is wrong with that."""
+
+    def __init__(self, program: Program, job: Job) -> None:
+        self.program, self.job = program, job
+        self.due = program.run(job.words, job.input)
+        self.share = self.due.seconds / program.limits.seconds_of(job.input)
+        self.wrong = list(self.wrong_end())
+        for law in (self.streamed, self.shown, self.undone, self.followed) if not self.wrong else ():
+            self.wrong += law()
+
+    def again(self, command: str, data: bytes) -> Ended:
+        """How another job with the same options ends."""
+        return self.program.run(self.job.words_of(command), data)
+
+    # ---- one run
+
+    def wrong_end(self) -> Iterator[str]:
+        """What is wrong with the end of the run."""
+        due, ended = self.due_at_once(), self.due
+        if self.share > 1:
+            yield f"it took {ended.seconds:.2f} seconds, {self.share:.1f} times what it may take"
+        if ended.said or ended.status not in (0, 1, 2) or due and due != ended[:2]:
+            yield f"it ended with {ended.told()}; due is {due or 'a page or a refusal'}"
+        elif not due:
+            try:
+                yield from self.wrong_output()
+            except listing.ListingError as error:
+                yield f"the output is no listing: {error}"
+
+    def due_at_once(self) -> tuple[int, bytes] | None:
+        """Status and output that are due by the words alone, or by the length and the encoding of the input."""
+        if self.job.is_usage:
+            return 1, USAGE
+        if self.job.command == "gen":
+            return None
+        if len(self.job.input) > listing.MOST_INPUT:
+            return 2, b"refused TooLong %d\n" % listing.MOST_INPUT
+        valid = re.split("[\udc80-\udcff]", self.job.input.decode("utf-8", "surrogateescape"), 1)
+        return (2, b"refused Utf8 %d\n" % len(valid[0].encode())) if len(valid) > 1 else None
+
+    def wrong_output(self) -> Iterator[str]:
+        """What is wrong with what was written, by the command and the status."""
+        status, is_edit = self.due.status, self.job.command == "edit"
+        if self.job.command == "gen":
+            if status or not COUNTED.fullmatch(self.due.out):
+                yield f"`gen` ended with {self.due.told()}"
+            return
+        parts, last = self.due.parts(), 0
+        shape = "".join("p" if isinstance(part, listing.Page) else "r" for part in parts)
+        due = {0: "[pr]*" if is_edit else "p", 2: "r"}.get(status, "nothing")
+        if not re.fullmatch(due, shape) or "".join(part.text() for part in parts).encode() != self.due.out:
+            yield f"with the status {status} pages and refusals are {shape[:40]}"
+        for part in parts:
+            if isinstance(part, listing.Page):
+                yield from self.wrong_page(part)
+            elif status == 2:
+                # What the grammar made can be refused by its nodes alone.
+                kinds = NODES if self.job.tree else NODES | BYTES if is_edit else NODES | BYTES - OF_SCRIPTS
+                if part.kind not in kinds or part.number > len(self.job.input):
+                    yield f"no such input is refused so: {part}"
+            elif part.kind not in LINES or not last < part.number <= self.job.input.count(b"\n"):
+                yield f"no line of a script is refused so: {part}"
+            else:
+                last = part.number
+
+    def wrong_page(self, page: listing.Page) -> Iterator[str]:
+        """What is wrong with a page by itself: its size, and what stands before what."""
+        sizes = self.job.option("--view-inline", 800) * 64, self.job.option("--view-block", 600) * 64
+        if (page.width, page.height) != (sizes if page.mode == "horizontal-tb" else sizes[::-1]):
+            yield f"the page is {page.width} by {page.height}"
+        # For each box how many lines it has so far; for each text the places of its runs.
+        lines: dict[tuple[int, int], int] = {}
+        places: dict[int, list[tuple[int, int]]] = {}
+        has_line = False
+        for each in page.fragments:
+            name, is_right = (each.node, 0 if each.kind == "run" else each.box), has_line
+            if each.kind == "box":
+                is_right = name not in lines and ((name[0], 0) in lines if name[1] else bool(lines) or name == (0, 0))
+                lines[name] = 0
+            elif each.kind == "line":
+                is_right = lines.get(name) == each.line
+                lines[name], has_line = each.line + 1, True
+            elif each.kind == "run":
+                places.setdefault(each.node, []).append((each.begin, each.end))
+            if not is_right:
+                yield f"what should stand before it doesn't, or stands twice: {each}"
+        for node, found in places.items():
+            flat = [place for pair in sorted(found) for place in pair]
+            if flat != sorted(flat) or any(begin == end for begin, end in found):
+                yield f"runs of the text {node} have characters in common, or none"
+
+    @staticmethod
+    def wrong_in_tree(tree: Tree, page: listing.Page) -> Iterator[str]:
+        """What is wrong with the page of a tree: a fragment stands behind one of its node's parent, a run has the letters of its text."""
+        living, seen = tree.living(), set()
+        for each in page.fragments:
+            node = living.get(each.node)
+            if not node or (each.kind == "run") == bool(node.tag) or node.parent and node.parent.number not in seen:
+                yield f"the node is another, or its parent doesn't stand before it: {each}"
+            elif each.kind == "run" and each.natural is None:
+                text = iter(node.text[each.begin : each.end])
+                if each.end > len(node.text) or not all(letter in text for letter in each.logical() if not letter.isspace()):
+                    yield f"the text is {node.text!r}: {each}"
+            seen.add(each.node)
+
+    # ---- the same in other ways
+
+    def streamed(self) -> Iterator[str]:
+        """One byte a read and few bytes a write change nothing; where a call fails that is told, after a front of what is due."""
+        if not self.program.library:
+            return
+        words, data, chance, due = self.job.words, self.job.input, self.job.failing, self.due[:3]
+        again = self.program.run(words, data, SHORT_READ=1, SHORT_WRITE=1 + int(chance * 20))
+        if again[:3] != due:
+            yield f"with one byte a read it ended with {again.told()}"
+        failed = 1 + int(chance * (len(data) + 1))
+        if self.job.command in ("layout", "edit") and len(data) <= listing.MOST_INPUT:
+            again = self.program.run(words, data, SHORT_READ=1, FAILED_READ=failed)
+            if again[:3] != (4, b"", b""):
+                yield f"where read {failed} fails it ended with {again.told()}"
+        front = int(chance * min(len(due[1]), 5000))
+        again = self.program.run(words, data, SHORT_WRITE=1, FAILED_WRITE=front + 1)
+        if again[:3] != ((5, due[1][:front], b"") if due[1] else due):
+            yield f"where write {front + 1} fails it ended with {again.told()}"
+
+    def shown(self) -> Iterator[str]:
+        """What `edit` shows before any edit is the page of `layout`, the second time too; what is refused in the document is so there."""
+        data = self.job.input.rstrip() + script_of([SHOW, SHOW])
+        if self.job.command != "layout" or not DOCUMENT_ENDS.search(self.job.input) or len(data) > listing.MOST_INPUT:
+            return
+        status, again = self.due.status, self.again("edit", data)
+        is_due = status == 0 or int(self.due.out.split()[2]) < data.lower().find(b"</html")
+        if is_due and again[:3] != (status, self.due.out * (1 if status else 2), b""):
+            yield f"`edit` shows another page, or refuses otherwise: {again.told()}"
+
+    def undone(self) -> Iterator[str]:
+        """An edit that is undone leaves the page as it was."""
+        if self.job.tree and self.job.undone and not self.due.status:
+            yield from self.wrong_in_tree(self.job.tree, listing.pages_of(self.due.parts())[0])
+            again = self.again("edit", self.job.input + script_of([*self.job.undone, SHOW]))
+            if again.status or again.parts()[-1:] != self.due.parts():
+                yield f"after {script_of(self.job.undone)!r} `edit` shows another page: {again.told()}"
+
+    def followed(self) -> Iterator[str]:
+        """Each page of a script is that of the document as the edits left it, and what is refused would be so in a document."""
+        if not self.job.tree or not self.job.steps or self.due.status:
+            return
+        tree, parts = self.job.tree.copied(), collections.deque(self.due.parts())
+        for line, step in enumerate(self.job.steps, 1):
+            if step == SHOW and parts and isinstance(page := parts.popleft(), listing.Page):
+                yield from self.wrong_show(tree, page)
+            elif step == SHOW:
+                yield f"line {line} shows no page"
+            elif step.numbers:
+                is_told = bool(parts) and isinstance(parts[0], listing.Refusal) and parts[0].number == line
+                yield from self.wrong_edit(tree, step, parts.popleft() if is_told else None)
+                if not is_told and not tree.refusal(step):
+                    tree.apply(step)
+        if parts:
+            yield f"behind the page of the last line stands {parts[0].text()[:80]!r}"
+
+    def wrong_show(self, tree: Tree, page: listing.Page) -> Iterator[str]:
+        """What is wrong with a page of a script: `layout` of the same document lists it otherwise, but for the numbers of nodes."""
+        yield from self.wrong_in_tree(tree, page)
+        if tree.is_writable():
+            ended, numbers = self.again("layout", tree.written()), list(tree.living())
+            parts = [part for part in ended.parts() if isinstance(part, listing.Page)]
+            fragments = (dataclasses.replace(each, node=numbers[each.node]) for part in parts for each in part.fragments)
+            if not parts or dataclasses.replace(parts[0], fragments=tuple(fragments)) != page:
+                yield f"`edit` shows another page than `layout` of {tree.written()!r}, which ends with {ended.told()}"
+
+    def wrong_edit(self, tree: Tree, step: Edit, told: listing.Part | None) -> Iterator[str]:
+        """What is wrong with what is told of an edit: it is refused by its numbers, or as `layout` refuses the document that it makes."""
+        due, kind = tree.refusal(step), told.kind if isinstance(told, listing.Refusal) else None
+        if kind and not due:
+            other = tree.copied()
+            other.apply(step)
+            ended = self.again("layout", other.written())
+            due = ended.out.decode().split()[1] if ended.status == 2 else None
+        if kind != due:
+            yield f"`{step.line()[:80]}` is refused by {kind}, due is {due}"

@@ -1,0 +1,94 @@
+"""Tests of tools/fuzz: what its jobs are made of, and that it finds what wrong programs do."""
+import os
+import re
+import shutil
+from collections.abc import Sequence
+
+import fuzz_documents
+from fuzz_documents import Edit, Node, Tree
+from fuzz_jobs import Job, job_of
+from fuzz_laws import Limits, Program, Trial
+
+from tools.tests import support
+from tools.tests.support import tried
+
+# Programs that are wrong: what is to be held of them, and the shell's lines by which they run the program $P.
+WRONG = (
+    ("is no listing", '"$P" "$@" >"$0.out"; status=$?; head -c -1 "$0.out"; exit $status'),
+    ("error b'oh", 'echo oh >&2; exec "$P" "$@"'),
+    ("status -11", '"$P" "$@"; kill -SEGV $$'),
+    ("status 3", 'ulimit -v 3000; exec "$P" "$@"'),
+    ("seconds", 'i=0; while [ $i -lt 200000 ]; do i=$((i+1)); done; exec "$P" "$@"'),
+    ("stands twice", '"$P" "$@" >"$0.out"; status=$?; sed "/^box 1 0 /d" "$0.out"; exit $status'),
+    ("have characters in common", '"$P" "$@" >"$0.out"; status=$?; sed "s/^\\(run .*\\)/\\1\\n\\1/" "$0.out"; exit $status'),
+    ("due is (2, b'refused Utf8", '[ "$1" = edit ] || exec "$P" "$@"; tr -d "\\200-\\377" | "$P" "$@"'),
+    ("shows another page, or", 'case "$*" in *edit*) sed "s/^show/#/" | "$P" "$@";; *) exec "$P" "$@";; esac'),
+    ("shows another page than", 'case "$*" in *edit*) sed "s/^text .*/#/" | "$P" "$@";; *) exec "$P" "$@";; esac'),
+    ("shows another page: ", 'case "$*" in *edit*) sed "s/^remove .*/#/" | "$P" "$@";; *) exec "$P" "$@";; esac'),
+    ("is refused by None, due is", '"$P" "$@" >"$0.out"; status=$?; sed "/^refused No/d" "$0.out"; exit $status'),
+)
+
+
+class Fuzz(support.ToolCase):
+    """Jobs are made again, edits of documents are those of the pages, and wrong programs are found."""
+
+    def wrong_program(self, lines: str) -> str:
+        path = os.path.join(self.folder(), "wrong")
+        with open(path, "w", encoding="utf-8") as file:
+            file.write(f"#!/bin/sh\nP='{self.program}'\n{lines}\n")
+        os.chmod(path, 0o755)
+        return path
+
+    def found(self, path: str, jobs: Sequence[Job]) -> str:
+        """What is wrong with a program in these jobs, in its own streams alone."""
+        program = Program(path, None, Limits(seconds=0.15))
+        return "\n".join(wrong for job in jobs for wrong in Trial(program, job).wrong)
+
+    def test_tables(self) -> None:
+        properties, characters = fuzz_documents.PROPERTIES, fuzz_documents.REPERTOIRE
+        self.same((len(properties), sum(map(len, characters))), (55 + 23, 33048), "properties with shorthands, and characters")
+        self.same(properties["margin-block"], (properties["margin-top"][0],) * 2, "the values of a shorthand")
+        self.same(properties["text-combine-upright"], (["none", "all", "initial", "inherit"],), "the values of a property")
+
+    def test_jobs_are_made_again(self) -> None:
+        for number in range(40):
+            one, other = job_of(7, number), job_of(7, number)
+            self.same((one.words, one.input), (other.words, other.input), f"job {number}")
+
+    def test_edits(self) -> None:
+        """The examples of docs/PROFILE/edits.md that are refused, and edits that are undone."""
+        tree = Tree("", Node("body", children=[Node("p", children=[Node(text="a")]), Node("br")]))
+        page = fuzz_documents.read_page("edits.md")
+        examples = re.findall(r"^\| `(\w+) ([0-9 ]+)( \w)?` \| `(\w+)` \|", page, re.MULTILINE)
+        for word, numbers, rest, kind in examples:
+            edit = Edit(word, tuple(map(int, numbers.split())), nodes=(Node(text=rest.strip()),) if rest else ())
+            self.same(tree.refusal(edit), kind, edit.line())
+        self.same(len(examples), 5, "examples of docs/PROFILE/edits.md that are refused")
+        before = tree.written()
+        for edit in (Edit("text", (3,), "<&"), Edit("style", (2,), "a:b"), Edit("move", (4, 2, 0)), Edit("insert", (1, 0), nodes=(Node("b"),))):
+            back = tree.undoing(edit)
+            tree.apply(edit)
+            self.hold(tree.written() != before and tree.refusal(edit) in (None, "Inside"), f"{edit.line()} changes the document")
+            for each in back:
+                tree.apply(each)
+            self.same(tree.written().replace(b' style=""', b""), before, f"{edit.line()} is undone")
+
+    def test_wrong_programs(self) -> None:
+        self.needs(self.program, "what tools/fuzz finds")
+        jobs = [job_of(1, number) for number in range(150)]
+        self.same(self.found(self.program, jobs), "", "what is wrong with the program")
+        for due, lines in WRONG:
+            self.hold(due in self.found(self.wrong_program(lines), jobs), f"`{due}` is found of a program that runs {lines}")
+
+    def test_command_line(self) -> None:
+        self.hold(tried("fuzz", "--help").out.startswith("usage: "), "fuzz --help")
+        self.refuses("fuzz", ("--program", "none"), "")
+        self.needs(self.program, "what tools/fuzz says")
+        words = ("--seed", "1", "--count", "8", "--at-once", "1")
+        ended = tried("fuzz", "--program", self.program, *words)
+        self.hold(ended.status == 0 and "\nfuzz: 8 jobs of the seed 1, 0 failed, " in ended.out, f"fuzz: {ended}")
+        # A program that reads by itself passes over what fails.
+        ended = tried("fuzz", "--program", self.wrong_program('cat | "$P" "$@"'), *words)
+        self.hold(ended.status == 1 and (shutil.which("cc") is None or "fails it ended with" in ended.out), f"fuzz of a wrong program: {ended}")
+        for path in re.findall(r"(/\S+)/1-\d+$", ended.out, re.MULTILINE):
+            shutil.rmtree(path, ignore_errors=True)
