@@ -8,7 +8,8 @@ from random import Random
 from typing import NamedTuple
 
 import listing
-from fuzz_documents import EDGES, TOP, Edit, Maker, Tree, script_of
+from fuzz_grammar import EDGES, TOP, Maker
+from fuzz_trees import Edit, Tree, script_of
 from stored import bytes_of, lines_of
 
 COMMANDS = ("layout", "edit", "gen")

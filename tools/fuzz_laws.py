@@ -11,8 +11,9 @@ from typing import NamedTuple
 
 import listing
 import refusals
-from fuzz_documents import SHOW, Edit, Tree, read_page, script_of
+from fuzz_grammar import read_page
 from fuzz_jobs import Job
+from fuzz_trees import SHOW, Edit, Tree, script_of
 
 FACTS = refusals.read_facts(refusals.read_page())
 BYTES, NODES, LINES = ({fact.kind for fact in FACTS if fact.number == number} for number in ("byte", "node", "line"))
@@ -210,14 +211,18 @@ class Trial:
             yield f"where write {front + 1} fails it ended with {again.told()}"
 
     def shown(self) -> Iterator[str]:
-        """What `edit` shows before any edit is the page of `layout`, the second time too; what is refused in the document is so there."""
-        data = self.job.input.rstrip() + script_of([SHOW, SHOW])
-        if self.job.command != "layout" or not DOCUMENT_ENDS.search(self.job.input) or len(data) > listing.MOST_INPUT:
-            return
-        status, again = self.due.status, self.again("edit", data)
-        is_due = status == 0 or int(self.due.out.split()[2]) < data.lower().find(b"</html")
-        if is_due and again[:3] != (status, self.due.out * (1 if status else 2), b""):
-            yield f"`edit` shows another page, or refuses otherwise: {again.told()}"
+        """A page that is shown twice is the same; before any edit it is that of `layout`, which refuses a document as `edit` does."""
+        status, out, data, command = self.due.status, self.due.out, self.job.input, self.job.command
+        if command == "edit" and not status:
+            again = self.again("edit", data + script_of([SHOW, SHOW]))
+            pages = again.out[len(out) :]
+            if not again.status and (again.out[: len(out)] != out or not pages or pages[: len(pages) // 2] * 2 != pages):
+                yield f"what is shown twice is shown otherwise: {again.told()}"
+        elif command == "layout" and DOCUMENT_ENDS.search(data) and len(data) + 10 <= listing.MOST_INPUT:
+            again = self.again("edit", data.rstrip() + script_of([SHOW, SHOW]))
+            is_due = not status or int(out.split()[2]) < data.lower().find(b"</html")
+            if is_due and again[:3] != (status, out * (1 if status else 2), b""):
+                yield f"`edit` shows another page, or refuses otherwise: {again.told()}"
 
     def undone(self) -> Iterator[str]:
         """An edit that is undone leaves the page as it was."""

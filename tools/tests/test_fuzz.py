@@ -4,10 +4,10 @@ import re
 import shutil
 from collections.abc import Sequence
 
-import fuzz_documents
-from fuzz_documents import Edit, Node, Tree
+import fuzz_grammar
 from fuzz_jobs import Job, job_of
 from fuzz_laws import Limits, Program, Trial
+from fuzz_trees import Edit, Node, Tree
 
 from tools.tests import support
 from tools.tests.support import tried
@@ -45,7 +45,7 @@ class Fuzz(support.ToolCase):
         return "\n".join(wrong for job in jobs for wrong in Trial(program, job).wrong)
 
     def test_tables(self) -> None:
-        properties, characters = fuzz_documents.PROPERTIES, fuzz_documents.REPERTOIRE
+        properties, characters = fuzz_grammar.PROPERTIES, fuzz_grammar.REPERTOIRE
         self.same((len(properties), sum(map(len, characters))), (55 + 23, 33048), "properties with shorthands, and characters")
         self.same(properties["margin-block"], (properties["margin-top"][0],) * 2, "the values of a shorthand")
         self.same(properties["text-combine-upright"], (["none", "all", "initial", "inherit"],), "the values of a property")
@@ -58,7 +58,7 @@ class Fuzz(support.ToolCase):
     def test_edits(self) -> None:
         """The examples of docs/PROFILE/edits.md that are refused, and edits that are undone."""
         tree = Tree("", Node("body", children=[Node("p", children=[Node(text="a")]), Node("br")]))
-        page = fuzz_documents.read_page("edits.md")
+        page = fuzz_grammar.read_page("edits.md")
         examples = re.findall(r"^\| `(\w+) ([0-9 ]+)( \w)?` \| `(\w+)` \|", page, re.MULTILINE)
         for word, numbers, rest, kind in examples:
             edit = Edit(word, tuple(map(int, numbers.split())), nodes=(Node(text=rest.strip()),) if rest else ())

@@ -1,19 +1,11 @@
-"""Documents and scripts by the grammar, for tools/fuzz.
-
-Their tags, characters, properties and values are those of the tables in docs/PROFILE, so all of them are read. What edits make of
-such a document is known: a `Tree` is edited as docs/PROFILE/edits.md says, and is written down as a document again.
+"""Documents and scripts by the grammar, for tools/fuzz: their tags, characters, properties and values are those of the tables in
+docs/PROFILE, so that all of them are read.
 """
-import copy
-import dataclasses
-import html
-import itertools
 import os
 import re
-from collections.abc import Iterator, Sequence
 from random import Random
-from typing import NamedTuple, Optional
 
-import listing
+from fuzz_trees import SHOW, Edit, Node, Tree
 
 TOP = os.path.dirname(os.path.dirname(os.path.abspath(__file__)))
 KEPT = re.compile(r"\| (`.*?) \| (.*?) \| [^|]* \| (yes|no) \| .*\|")
@@ -65,158 +57,6 @@ EDGES = (
     "-1 -0.001 .005 0.01 00 63 64 65 255 256 1023 1024 4096 4097 9999 10000 10001 16384 16385 65535 65536 65537 1048575 1048576"
     " 9999999 9999999.99 10000000 67108864 2147483648 4294967295 4294967296 18446744073709551616"
 ).split()
-
-
-# ---- a document and its edits
-
-
-@dataclasses.dataclass(eq=False)
-class Node:
-    """An element, or a text, which has no tag."""
-
-    tag: str = ""
-    text: str = ""
-    attributes: dict[str, str] = dataclasses.field(default_factory=dict)
-    children: list["Node"] = dataclasses.field(default_factory=list)
-    parent: Optional["Node"] = None
-    number: int = 0
-
-    def written(self, front: str = "") -> str:
-        """The node as it is written, with something in front of its content."""
-        if not self.tag:
-            return letters_of(self.text)
-        attributes = "".join(f' {name}="{html.escape(value)}"' for name, value in self.attributes.items())
-        content = front + "".join(child.written() for child in self.children)
-        return f"<br{attributes}>" if self.tag == "br" else f"<{self.tag}{attributes}>{content}</{self.tag}>"
-
-    def below(self) -> Iterator["Node"]:
-        """The node and all below it, in document order."""
-        yield self
-        for child in self.children:
-            yield from child.below()
-
-    def above(self) -> Iterator["Node"]:
-        """The node and all above it."""
-        yield self
-        if self.parent:
-            yield from self.parent.above()
-
-    def height(self) -> int:
-        return 1 + max((child.height() for child in self.children), default=0)
-
-    def hold(self, index: int, nodes: list["Node"]) -> None:
-        self.children[index:index] = nodes
-        for node in nodes:
-            node.parent = self
-
-    def copied(self) -> "Node":
-        made = Node(self.tag, self.text, dict(self.attributes), number=self.number)
-        made.hold(0, [child.copied() for child in self.children])
-        return made
-
-
-def letters_of(text: str) -> str:
-    """A text as it is written: what can't stand in a line of a script, and some other characters, by references."""
-    return "".join(f"&#x{ord(each):X};" if each in "<&" or each < " " or ord(each) % 5 == 0 else each for each in text)
-
-
-class Edit(NamedTuple):
-    """A line of a script: its word, its numbers, and what follows them."""
-
-    word: str
-    numbers: tuple[int, ...] = ()
-    text: str = ""
-    nodes: tuple[Node, ...] = ()
-
-    def line(self) -> str:
-        rest = letters_of(self.text) if self.word == "text" else self.text + "".join(node.written() for node in self.nodes)
-        return " ".join((self.word, *map(str, self.numbers))) + (f" {rest}" if rest else "")
-
-
-SHOW = Edit("show")
-
-
-def script_of(steps: Sequence[Edit]) -> bytes:
-    """A script as it stands behind a document."""
-    return "".join(f"\n{step.line()}" for step in steps).encode()
-
-
-class Tree:
-    """A document, whose nodes keep their numbers under edits."""
-
-    def __init__(self, sheet: str, body: Node) -> None:
-        self.sheet, self.root, self.next = sheet, Node("html", children=[body]), 0
-        self.number([self.root])
-
-    def number(self, nodes: Sequence[Node]) -> None:
-        """Gives new nodes their numbers, and those in them their parents."""
-        for each in (below for node in nodes for below in node.below()):
-            each.number, self.next = self.next, self.next + 1
-            for child in each.children:
-                child.parent = each
-
-    def copied(self) -> "Tree":
-        made = copy.copy(self)
-        made.root = self.root.copied()
-        return made
-
-    def written(self) -> bytes:
-        return self.root.written(f"<head><style>{self.sheet}</style></head>").encode()
-
-    def is_writable(self) -> bool:
-        """Whether a document has this tree: no text is empty, and none stands directly behind another."""
-        pairs = ((one, other) for node in self.root.below() for one, other in zip(node.children, node.children[1:]))
-        return all(node.tag or node.text for node in self.root.below()) and all(one.tag or other.tag for one, other in pairs)
-
-    def living(self) -> dict[int, Node]:
-        """All nodes by their numbers, in document order."""
-        return {node.number: node for node in self.root.below()}
-
-    def refusal(self, edit: Edit) -> str | None:
-        """Why an edit is refused whatever boxes there are: the first reason in the order of docs/PROFILE/edits.md."""
-        living, word, numbers, is_move = self.living(), edit.word, edit.numbers, edit.word == "move"
-        if not all(number in living for number in numbers[: 1 + is_move]):
-            return "NoNode"
-        target, holder = living[numbers[0]], living[numbers[is_move]] if word in ("insert", "move") else None
-        above, height = list(holder.above()) if holder else [], max(node.height() for node in edit.nodes or (target,))
-        reasons = {
-            "IsRoot": word in ("remove", "move") and target.number < 2 or holder is self.root,
-            "NotText": word == "text" and target.tag,
-            "NotElement": word in ("style", "class") and not target.tag or holder and holder.tag in ("", "br"),
-            "Inside": is_move and target in above,
-            "BadIndex": holder and numbers[-1] > sum(child is not target for child in holder.children),
-            "TooDeep": holder and len(above) + height > listing.DEEPEST,
-        }
-        return next((kind for kind, is_refused in reasons.items() if is_refused), None)
-
-    def apply(self, edit: Edit) -> None:
-        """Does an edit that isn't refused."""
-        living, new = self.living(), [node.copied() for node in edit.nodes]
-        node = living[edit.numbers[0]]
-        if edit.word == "text":
-            node.text = edit.text
-        elif edit.word in ("style", "class"):
-            node.attributes[edit.word] = edit.text
-        elif edit.word == "insert":
-            self.number(new)
-            node.hold(edit.numbers[1], new)
-        elif node.parent:
-            node.parent.children.remove(node)
-            if edit.word == "move":
-                living[edit.numbers[1]].hold(edit.numbers[2], [node])
-
-    def undoing(self, edit: Edit) -> list[Edit]:
-        """What leads back from an edit, also where that is refused; there is nothing for a removal."""
-        node = self.living().get(edit.numbers[0], Node())
-        if edit.word == "insert":
-            sizes = (len(list(new.below())) for new in edit.nodes)
-            return [Edit("remove", (number,)) for number in list(itertools.accumulate(sizes, initial=self.next))[:-1]]
-        if edit.word == "move" and node.parent:
-            return [Edit("move", (node.number, node.parent.number, node.parent.children.index(node)))]
-        return [edit._replace(text=node.text if edit.word == "text" else node.attributes.get(edit.word, ""))]
-
-
-# ---- by chance
 
 
 class Maker:
