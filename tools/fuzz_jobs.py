@@ -22,7 +22,9 @@ BAD_WORDS = (
 )
 # The longest input that others are made of, and how often a mutated one is grown.
 LONGEST_PART, GROWN = 16_384, 0.002
-PIECE = re.compile(rb"<[^>]*>|[^<;\n]+[;\n]?|.", re.DOTALL)
+BODY = re.compile(rb"<body[^>]*>(.*)</body", re.DOTALL)
+TAG, ELEMENT = rb"(<[^>]*>)", rb"(<[a-z0-9]+[^>]*>[^<]*</[a-z0-9]+>)"
+DECLARATION, LINE = rb"([a-z-]+:[^;\"{}<>]+)", rb"(\n[^\n]*)"
 
 
 class Job(NamedTuple):
@@ -54,22 +56,17 @@ class Job(NamedTuple):
 
 @functools.cache
 def corpus() -> list[Job]:
-    """The stored cases and the examples, but for the longest."""
+    """The stored cases, each under its status, and the examples; but for the longest."""
     found = []
     for name in ("document-cases.txt", "script-cases.txt"):
         for _, line in lines_of(os.path.join(TOP, "tools", name)):
             words, data, status = line.split("\t")[:3]
-            found.append(Job(name, json.loads(words) if words.startswith("[") else words.split(), bytes_of(data), status == "1"))
+            found.append(Job(status, json.loads(words) if words.startswith("[") else words.split(), bytes_of(data), status == "1"))
     for command, end in ("layout", "html"), ("edit", "script"):
         for path in sorted(glob.glob(os.path.join(TOP, "examples", f"*.{end}"))):
             with open(path, "rb") as file:
-                found.append(Job("examples", [command], file.read()))
+                found.append(Job("", [command], file.read()))
     return [job for job in found if len(job.input) <= LONGEST_PART]
-
-
-def pieces_of(data: bytes) -> list[bytes]:
-    """Tags, declarations, lines and what stands between them; at least one."""
-    return PIECE.findall(data) or [b""]
 
 
 class JobMaker(Maker):
@@ -88,7 +85,7 @@ class JobMaker(Maker):
         """Cuts or doubles a part, mostly a short one, or puts a byte in its place."""
         start = self.random.randrange(len(data) + 1)
         part = data[start : start + int(self.random.expovariate(0.05))]
-        changed = self.choice((b"", part * 2, part * 9, part * 70, bytes([self.random.randrange(256)])))
+        changed = self.choice((b"", part * 2, part * 9, part * 70, bytes([self.random.randrange(128)])))
         return data[:start] + changed + data[start + len(part) :]
 
     def flip_bit(self, data: bytes) -> bytes:
@@ -99,37 +96,51 @@ class JobMaker(Maker):
         at = self.choice(list(re.finditer(rb"[0-9.]+", data)) or list(re.finditer(rb"\Z", data)))
         return data[: at.start()] + self.choice(EDGES).encode() + data[at.end() :]
 
-    def change_pieces(self, data: bytes) -> bytes:
-        """Swaps two pieces, or puts one of the grammar beside another or in its place."""
-        pieces = pieces_of(data)
-        one, other = self.random.randrange(len(pieces)), self.random.randrange(len(pieces))
-        if self.is_so(0.5):
-            pieces[one], pieces[other] = pieces[other], pieces[one]
-        else:
-            made = self.choice((self.declaration, self.rule, self.text, lambda: self.nodes(2, 0.5)[0].written()))()
-            pieces[one] = made.encode() + pieces[one] * self.random.randrange(2)
+    def pieces_of(self, data: bytes, *patterns: bytes) -> tuple[bytes, list[bytes], int, int]:
+        """An input cut by one of these patterns that is found in it, with the places of two pieces that it finds, if any."""
+        pattern = self.choice([each for each in patterns if re.search(each, data)] or [LINE])
+        pieces = re.split(pattern, data)
+        places = range(1, len(pieces), 2) or [0]
+        return pattern, pieces, self.choice(places), self.choice(places)
+
+    def swap_pieces(self, data: bytes) -> bytes:
+        _, pieces, one, other = self.pieces_of(data, TAG, ELEMENT, DECLARATION, LINE)
+        pieces[one], pieces[other] = pieces[other], pieces[one]
+        return b"".join(pieces)
+
+    def put_piece(self, data: bytes) -> bytes:
+        """A piece of the grammar behind another one, or in its place."""
+        pattern, pieces, at, _ = self.pieces_of(data, ELEMENT, DECLARATION, LINE)
+        made = {DECLARATION: f";{self.declaration()}", LINE: f"\n{self.edit(self.tree()).line()}"}.get(pattern)
+        pieces[at] = pieces[at] * self.random.randrange(2) + (made or self.nodes(2, 0.5)[0].written()).encode()
         return b"".join(pieces)
 
     def grow(self, data: bytes) -> bytes:
         """One piece so many times that the input is about as long as it may be, or half as long."""
-        pieces = pieces_of(data or b"a")
-        at = self.random.randrange(len(pieces))
-        room = self.choice((listing.MOST_INPUT, listing.MOST_INPUT // 2)) - len(data) + self.choice((0, 1, len(pieces[at])))
-        pieces[at] *= 1 + room // len(pieces[at])
+        _, pieces, at, _ = self.pieces_of(data, TAG, ELEMENT, DECLARATION, LINE)
+        piece, most = pieces[at] or b"a", self.choice((listing.MOST_INPUT, listing.MOST_INPUT // 2))
+        pieces[at] = piece * (1 + (most - len(data) + self.choice((0, 1, len(piece)))) // len(piece))
         return b"".join(pieces)
 
+    def stored(self) -> Job:
+        """A job of the corpus, most often one that isn't refused."""
+        jobs = [self.choice(corpus()) for _ in range(3)]
+        return next((job for job in jobs if job.kind == "0"), jobs[0])
+
     def mutated(self) -> Job:
-        job = self.choice(corpus()) if self.is_so(0.8) else self.script_job()
+        job = self.stored() if self.is_so(0.8) else self.script_job()
         data = job.input
-        for _ in range(self.choice((1, 1, 2, 3, 8))):
-            data = self.choice((self.change_part, self.flip_bit, self.replace_number, self.change_pieces))(data)
+        for _ in range(self.choice((1, 1, 1, 2, 3, 8))):
+            data = self.choice((self.change_part, self.flip_bit, self.replace_number, self.swap_pieces, self.put_piece))(data)
         return Job("mutated", job.words, self.grow(data) if self.is_so(GROWN) else data, job.is_usage)
 
     def spliced(self) -> Job:
-        one, other = self.choice(corpus()), self.choice(corpus())
-        front, back = pieces_of(one.input), pieces_of(other.input)
-        data = front[: self.random.randint(0, len(front))] + back[self.random.randint(0, len(back)) :]
-        return Job("spliced", one.words, b"".join(data), one.is_usage)
+        """The front of an input with the back of another, or the content of a body in another document."""
+        one, other = self.stored(), self.stored().input
+        (_, front, at, _), (_, back, start, _) = self.pieces_of(one.input, ELEMENT), self.pieces_of(other, TAG)
+        body = BODY.search(other)
+        middle = [body[1], *front[at + 1 :]] if body and self.is_so(0.6) else back[start:]
+        return Job("spliced", one.words, b"".join(front[: at + 1] + middle), one.is_usage)
 
     def document_job(self) -> Job:
         tree = self.tree()
@@ -142,10 +153,10 @@ class JobMaker(Maker):
 
     def words_job(self) -> Job:
         words = [self.choice(BAD_WORDS), *self.good_words(self.choice(COMMANDS))]
-        return Job("words", words if self.is_so(0.95) else [], self.choice(corpus()).input, is_usage=True)
+        return Job("words", words if self.is_so(0.95) else [], self.stored().input, is_usage=True)
 
     def made_job(self) -> Job:
-        return Job("gen", self.good_words("gen"), self.choice((b"", self.choice(corpus()).input)))
+        return Job("gen", self.good_words("gen"), self.choice((b"", self.stored().input)))
 
 
 # How often each kind comes.

@@ -90,6 +90,7 @@ class Trial:
     def __init__(self, program: Program, job: Job) -> None:
         self.program, self.job = program, job
         self.due = program.run(job.words, job.input)
+        self.parts: list[listing.Part] = []
         self.share = self.due.seconds / program.limits.seconds_of(job.input)
         self.wrong = list(self.wrong_end())
         for law in (self.streamed, self.shown, self.undone, self.followed) if not self.wrong else ():
@@ -132,12 +133,12 @@ class Trial:
             if status or not COUNTED.fullmatch(self.due.out):
                 yield f"`gen` ended with {self.due.told()}"
             return
-        parts, last = self.due.parts(), 0
-        shape = "".join("p" if isinstance(part, listing.Page) else "r" for part in parts)
+        self.parts, last = self.due.parts(), 0
+        shape = "".join("p" if isinstance(part, listing.Page) else "r" for part in self.parts)
         due = {0: "[pr]*" if is_edit else "p", 2: "r"}.get(status, "nothing")
-        if not re.fullmatch(due, shape) or "".join(part.text() for part in parts).encode() != self.due.out:
+        if not re.fullmatch(due, shape) or "".join(part.text() for part in self.parts).encode() != self.due.out:
             yield f"with the status {status} pages and refusals are {shape[:40]}"
-        for part in parts:
+        for part in self.parts:
             if isinstance(part, listing.Page):
                 yield from self.wrong_page(part)
             elif status == 2:
@@ -227,16 +228,16 @@ class Trial:
     def undone(self) -> Iterator[str]:
         """An edit that is undone leaves the page as it was."""
         if self.job.tree and self.job.undone and not self.due.status:
-            yield from self.wrong_in_tree(self.job.tree, listing.pages_of(self.due.parts())[0])
+            yield from self.wrong_in_tree(self.job.tree, listing.pages_of(self.parts)[0])
             again = self.again("edit", self.job.input + script_of([*self.job.undone, SHOW]))
-            if again.status or again.parts()[-1:] != self.due.parts():
+            if again.status or again.parts()[-1:] != self.parts:
                 yield f"after {script_of(self.job.undone)!r} `edit` shows another page: {again.told()}"
 
     def followed(self) -> Iterator[str]:
         """Each page of a script is that of the document as the edits left it, and what is refused would be so in a document."""
         if not self.job.tree or not self.job.steps or self.due.status:
             return
-        tree, parts = self.job.tree.copied(), collections.deque(self.due.parts())
+        tree, parts = self.job.tree.copied(), collections.deque(self.parts)
         for line, step in enumerate(self.job.steps, 1):
             if step == SHOW and parts and isinstance(page := parts.popleft(), listing.Page):
                 yield from self.wrong_show(tree, page)

@@ -30,9 +30,11 @@ class Node:
 
     def below(self) -> Iterator["Node"]:
         """The node and all below it, in document order."""
-        yield self
-        for child in self.children:
-            yield from child.below()
+        waiting = [self]
+        while waiting:
+            node = waiting.pop()
+            yield node
+            waiting += reversed(node.children)
 
     def above(self) -> Iterator["Node"]:
         """The node and all above it."""
