@@ -59,6 +59,13 @@ EDGES = (
 ).split()
 
 
+def is_fitting(word: str, node: Node) -> bool:
+    """Whether an edit of this word is likely one of this node, or puts others into it."""
+    if word in ("text", "remove"):
+        return not node.tag if word == "text" else node.number > 1
+    return bool(node.tag) and (word in ("style", "class") or node.number > 0 and node.tag != "br")
+
+
 class Maker:
     """Makes documents and edits by chance."""
 
@@ -122,16 +129,16 @@ class Maker:
         sheet = "\n".join(self.rule() for _ in range(self.choice((0, 0, 1, 2, 5))))
         return Tree(sheet, Node("body", attributes=self.attributes(), children=content))
 
-    def edit(self, tree: Tree) -> Edit:
-        """An edit, most often one that the tree doesn't refuse."""
-        word, living = self.choice(("text", "text", "style", "class", "insert", "remove", "move")), tree.living()
-        fitting = [number for number, each in living.items() if bool(each.tag) != (word == "text")]
+    def edit(self, tree: Tree, words: str = "text text style class insert remove move") -> Edit:
+        """An edit of one of these words, most often one that the tree doesn't refuse."""
+        word, living = self.choice(words.split()), tree.living()
+        fitting = [number for number, node in living.items() if is_fitting(word, node)]
         number = self.choice(fitting) if fitting and self.is_so(0.95) else self.random.randrange(tree.next + 2)
         index = self.random.randint(0, len(living[number].children) if number in living else 1)
         if word == "insert":
             return Edit(word, (number, index), nodes=tuple(self.nodes(3, 0.5)))
         if word == "move":
-            return Edit(word, (self.choice(list(living)), number, index))
+            return Edit(word, (self.choice([*living][2:] or [1]), number, index))
         return Edit(word, (number,), {"text": self.text(), "style": self.declarations(), "class": "b a"}.get(word, ""))
 
     def script(self, tree: Tree) -> list[Edit]:
@@ -144,6 +151,6 @@ class Maker:
         return [*steps, SHOW]
 
     def undone(self, tree: Tree) -> list[Edit]:
-        """An edit, and what leads back from it."""
-        edit = self.edit(tree)
-        return [edit, *tree.undoing(edit)] if edit.word != "remove" else []
+        """Edits of a document, each with what leads back from it; an insertion draws numbers, where it isn't refused, so it is the last."""
+        edits = [self.edit(tree, words) for words in ("text style class move", "style move", "insert")]
+        return [step for edit in edits for step in (edit, *tree.undoing(edit))]

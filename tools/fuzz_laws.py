@@ -66,10 +66,11 @@ class Program:
 
     def run(self, words: list[str], data: bytes, **streams: int) -> Ended:
         names = {"LD_PRELOAD": self.library or "", **{name: str(number) for name, number in streams.items()}} if streams else {}
-        memory, before = self.limits.memory + len(data) * self.limits.memory_a_byte, spent()
+        before, hard = spent(), resource.getrlimit(resource.RLIMIT_AS)[1]
+        memory = self.limits.memory + len(data) * self.limits.memory_a_byte
         process = subprocess.Popen([self.path, *words], env=names, stdin=PIPE, stdout=PIPE, stderr=PIPE)
         with contextlib.suppress(ProcessLookupError):
-            resource.prlimit(process.pid, resource.RLIMIT_AS, (memory, memory))
+            resource.prlimit(process.pid, resource.RLIMIT_AS, (memory, hard))
         try:
             out, said = process.communicate(data, LONGEST)
         except subprocess.TimeoutExpired:
@@ -226,7 +227,7 @@ class Trial:
                 yield f"`edit` shows another page, or refuses otherwise: {again.told()}"
 
     def undone(self) -> Iterator[str]:
-        """An edit that is undone leaves the page as it was."""
+        """Edits that are undone leave the page as it was."""
         if self.job.tree and self.job.undone and not self.due.status:
             yield from self.wrong_in_tree(self.job.tree, listing.pages_of(self.parts)[0])
             again = self.again("edit", self.job.input + script_of([*self.job.undone, SHOW]))
