@@ -137,7 +137,7 @@ class Trial:
         self.parts, last = self.due.parts(), 0
         shape = "".join("p" if isinstance(part, listing.Page) else "r" for part in self.parts)
         due = {0: "[pr]*" if is_edit else "p", 2: "r"}.get(status, "nothing")
-        if not re.fullmatch(due, shape) or "".join(part.text() for part in self.parts).encode() != self.due.out:
+        if not re.fullmatch(due, shape):
             yield f"with the status {status} pages and refusals are {shape[:40]}"
         for part in self.parts:
             if isinstance(part, listing.Page):
