@@ -242,3 +242,23 @@ carets-12-4 = refl
 
 points-12-4 : caret_points page-12 4 (0 ∷ 1 ∷ 2 ∷ 99 ∷ []) ≡ (Some (point (pos 512) (pos 672))) ∷ (Some (point (pos 1024) (pos 672))) ∷ None ∷ None ∷ []
 points-12-4 = refl
+
+-- two characters in a paragraph from left to right: points in each, at the edge between them, at the far corner and past it
+abbrev page-13 : Page
+page-13 = page (part (name 0 0) (rect (pos 0) (pos 0) (pos 12800) (pos 1024)) (box_of modes.HorizontalTb directions.Ltr) (part (name 1 0) (rect (pos 0) (pos 0) (pos 12800) (pos 1024)) (box_of modes.HorizontalTb directions.Ltr) (part (name 2 0) (rect (pos 0) (pos 0) (pos 12800) (pos 1024)) (box_of modes.HorizontalTb directions.Ltr) (part (name 2 0) (rect (pos 0) (pos 0) (pos 12800) (pos 1024)) (line_of modes.HorizontalTb) (part (name 3 0) (rect (pos 0) (pos 0) (pos 1024) (pos 1024)) (run kinds.Along 0 None ((unit 0 1 (pos 512) []) ∷ (unit 1 2 (pos 512) []) ∷ [])) none none) none) none) none) none)
+
+hits-13 : hits page-13 ((point (pos 100) (pos 5)) ∷ (point (pos 300) (pos 5)) ∷ (point (pos 600) (pos 1023)) ∷ (point (pos 1024) (pos 0)) ∷ []) ≡ (Some (hit_of 3 0 1 0)) ∷ (Some (hit_of 3 0 1 1)) ∷ (Some (hit_of 3 1 2 1)) ∷ None ∷ []
+hits-13 = refl
+
+carets-13-3 : carets page-13 3 (1 ∷ 2 ∷ 3 ∷ []) ≡ (Some (rect (pos 512) (pos 0) (pos 0) (pos 1024))) ∷ (Some (rect (pos 1024) (pos 0) (pos 0) (pos 1024))) ∷ None ∷ []
+carets-13-3 = refl
+
+-- the same in a line that goes up: its text begins at the bottom
+abbrev page-14 : Page
+page-14 = page (part (name 0 0) (rect (pos 0) (pos 0) (pos 3072) (pos 6400)) (box_of modes.SidewaysLr directions.Ltr) (part (name 1 0) (rect (pos 1024) (pos 512) (pos 1024) (pos 5376)) (box_of modes.SidewaysLr directions.Ltr) (part (name 2 0) (rect (pos 1024) (pos 512) (pos 1024) (pos 5376)) (box_of modes.SidewaysLr directions.Ltr) (part (name 2 0) (rect (pos 1024) (pos 512) (pos 1024) (pos 5376)) (line_of modes.SidewaysLr) (part (name 3 0) (rect (pos 1024) (pos 4864) (pos 1024) (pos 1024)) (run kinds.Along 0 None ((unit 0 1 (pos 512) []) ∷ (unit 1 2 (pos 512) []) ∷ [])) none none) none) none) none) none)
+
+hits-14 : hits page-14 ((point (pos 1100) (pos 5880)) ∷ []) ≡ (Some (hit_of 3 0 1 0)) ∷ []
+hits-14 = refl
+
+carets-14-3 : carets page-14 3 (0 ∷ []) ≡ (Some (rect (pos 1024) (pos 5888) (pos 1024) (pos 0))) ∷ []
+carets-14-3 = refl
