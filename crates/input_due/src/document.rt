@@ -39,7 +39,7 @@ struct Behind<'a> {
     start: usize,
 }
 
-/// What is due for an input that isn't too long. Where nothing follows the document, the page is listed once.
+/// What is due for an input that isn't too long. Where no script may follow the document, the page is listed once.
 pub fn due_of_document(
     alloc: Global,
     view: View,

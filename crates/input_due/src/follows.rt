@@ -6,9 +6,9 @@ ghost use Rattle.input_due.specs.Input.{has_script};
 /// What stands after the document in an input.
 #[derive(Clone, Copy, Debug, PartialEq, Eq)]
 pub enum Follows {
-    /// Nothing: the page is listed once.
+    /// No script: white space and comments alone, and the page is listed once.
     Nothing,
-    /// A script of edits, from the next line on.
+    /// A script of edits, from the next line on, which may be empty: then nothing is listed.
     Script,
 }
 

@@ -21,7 +21,7 @@ use wm_units::View;
 const LONGEST_INPUT: usize = 1_048_576;
 
 /// Reads an input to its end, and finds out what is due for it: of more than 1,048,576 bytes its refusal. Behind the document
-/// stands a script, or nothing; where nothing stands the page is listed once. `ReadFault` comes only where the source's count
+/// stands a script, or no script may stand; then the page is listed once. `ReadFault` comes only where the source's count
 /// of faults rose in this call. The source has none left where steps are due, and where a shorter input is refused.
 pub fn due_of_input<S: Source>(
     alloc: Global,
