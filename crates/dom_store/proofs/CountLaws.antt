@@ -28,17 +28,6 @@ count_past at low (suc high) none above = elim (cases_lt high low) [
       omega (arith, before, nothing)
 ]
 
-count_next_one : {X : Type 0} (at : ℕ → Option X) (limit : ℕ) → count_below at (limit + 1) ≡ count_below at limit + one_if (at limit)
-unfolding count_below
-count_next_one at limit = let same : limit + 1 ≡ suc limit = omega arith in ap (count_below at) same
-
--- one number more has something
-pub count_more : {X : Type 0} (at at' : ℕ → Option X) (limit : ℕ) (x : X) → at' limit ≡ Some x → ((n : ℕ) → n ≢ limit → at' n ≡ at n) → count_below at' (limit + 1) ≡ count_below at limit + 1
-count_more at at' limit x here others =
-    let before = count_same at' at limit (λ n low. ap one_if (others n (λ same. omega (arith, same)))) in
-    let last : one_if (at' limit) ≡ 1 = ap one_if here in
-    omega (arith, before, last, count_next_one at' limit)
-
 -- one number has nothing any more
 pub count_less : {X : Type 0} (at at' : ℕ → Option X) (number limit : ℕ) (x : X) → number < limit → at number ≡ Some x → at' number ≡ None → ((n : ℕ) → n ≢ number → at' n ≡ at n)
     → count_below at' limit + 1 ≡ count_below at limit
@@ -69,12 +58,12 @@ unfolding count_below
 count_empty at = refl
 
 -- a map has one entry more
-pub counted_more : (key_of key_of' : ℕ → Option ℕ) (next key before after : ℕ) (was : Option ℕ) → was ≡ None → after ≡ before + (if is_some was then 0 else 1) → before ≡ count_below key_of next
-    → key_of' next ≡ Some key → ((n : ℕ) → n ≢ next → key_of' n ≡ key_of n) → after ≡ count_below key_of' (next + 1)
-counted_more key_of key_of' next key before after was none longer counted here others =
+pub counted_more : (key_of key_of' : ℕ → Option ℕ) (number key next before after : ℕ) (was : Option ℕ) → was ≡ None → after ≡ before + (if is_some was then 0 else 1) → before ≡ count_below key_of next
+    → number < next → key_of number ≡ None → key_of' number ≡ Some key → ((n : ℕ) → n ≢ number → key_of' n ≡ key_of n) → after ≡ count_below key_of' next
+counted_more key_of key_of' number key next before after was none longer counted low free here others =
     let extra : ℕ = if is_some was then 0 else 1 in
     let one : extra ≡ 1 = rw none refl in
-    omega (arith, one, longer, counted, count_more key_of key_of' next key here others)
+    omega (arith, one, longer, counted, count_less key_of' key_of number next key low here free (λ n apart. sym (others n apart)))
 
 -- or one less
 pub counted_less : (key_of key_of' : ℕ → Option ℕ) (number key next before after : ℕ) → after + 1 ≡ before → before ≡ count_below key_of next

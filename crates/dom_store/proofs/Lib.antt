@@ -6,6 +6,7 @@ pub mod CopyLaws
 pub mod CountLaws
 pub mod DepthLaws
 pub mod DropLaws
+pub mod ExactlyLaws
 pub mod FillLaws
 pub mod InsertLaws
 pub mod JudgeLaws
@@ -13,6 +14,7 @@ pub mod KeepLaws
 pub mod MoveLaws
 pub mod Places
 pub mod RemoveLaws
+pub mod RestoreLaws
 pub mod RootLaws
 pub mod SameLaws
 pub mod StandLaws
@@ -21,6 +23,7 @@ pub mod TakeLaws
 pub mod TurnLaws
 pub mod WriteLaws
 mod Examples
+mod ExactlyExamples
 mod OpenElements
 mod StepExamples
 mod TreeLaws

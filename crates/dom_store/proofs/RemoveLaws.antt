@@ -19,7 +19,7 @@ swapped true false c = refl
 swapped false true c = refl
 swapped false false c = refl
 
-any_more : (test : ℕ → Bool) (numbers : List ℕ) (number : ℕ) → list_any test (numbers ++ number ∷ []) ≡ (test number || list_any test numbers)
+pub any_more : (test : ℕ → Bool) (numbers : List ℕ) (number : ℕ) → list_any test (numbers ++ number ∷ []) ≡ (test number || list_any test numbers)
 any_more test [] number = refl
 any_more test (first ∷ numbers) number = ap (λ (b : Bool). test first || b) (any_more test numbers number) ∙ swapped (test first) (test number) (list_any test numbers)
 

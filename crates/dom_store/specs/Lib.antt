@@ -3,6 +3,7 @@ pub mod Edited
 pub mod Edits
 pub mod Error
 pub mod Exact
+pub mod Exactly
 pub mod Keys
 pub mod Laws
 pub mod Opening

@@ -1,5 +1,5 @@
 -- Edits that are taken back.
-use Rattle.std.specs.Prelude.{◌≡◌, ℕ, ◌+◌, List, [], ◌∷◌, ◌++◌, map, take, drop, nat_eq, nat_lt, if◌then◌else◌, Option, Some, None, string_bytes, ⊤}
+use Rattle.std.specs.Prelude.{◌≡◌, ℕ, ◌+◌, List, [], ◌∷◌, ◌++◌, map, take, drop, nat_eq, nat_lt, if◌then◌else◌, Option, Some, None, string_bytes}
 use Rattle.css_types.specs.declared.value.Declaration.{Declaration}
 use Rattle.dom_store.specs.declared.edit.Before as code_before
 use Rattle.dom_store.specs.declared.edit.Before.TheVariants as stood
@@ -37,7 +37,7 @@ before_of (stood.Style number own) = style_was number own.items
 before_of (stood.Class number words) = class_was number (map (λ word. string_bytes word) words.items)
 before_of (stood.Insert parent index count next) = inserted_in parent index count next
 before_of (stood.Move number from left parent index place) = moved_from number from left.items parent index (stood_of place)
-before_of stood.Remove = not_kept
+before_of stood.NotKept = not_kept
 
 -- the parent that a node leaves where it moves into this one
 abbrev pub parent_left : (from : Option ℕ) → (parent : ℕ) → Option ℕ
@@ -77,13 +77,13 @@ taken_back (moved_from number from left parent index stood) state =
     changed (changed_if standing (parent_left from parent) (with_children (λ now. left))) parent (with_children (unplaced stood index))
 taken_back not_kept state = state
 
--- what is kept of an edit leads back to the state before, but for a removal
+-- what is kept of an edit leads back to the state before; of a removal nothing is kept
 abbrev pub LeadsBack : EditOf → BeforeOf → (new old : State) → Type 0
 LeadsBack (set_text number letters) before new old = taken_back before new ≡ old
 LeadsBack (set_style number own) before new old = taken_back before new ≡ old
 LeadsBack (set_class number words) before new old = taken_back before new ≡ old
 LeadsBack (insert parent index nodes own) before new old = taken_back before new ≡ old
-LeadsBack (remove number) before new old = ⊤
+LeadsBack (remove number) before new old = before ≡ not_kept
 LeadsBack (move_to number parent index) before new old = taken_back before new ≡ old
 
 -- ---- within the crate

@@ -89,8 +89,8 @@ pub enum Before {
         index: u32,
         stood: Stood,
     },
-    /// Nodes that went are not kept.
-    Remove,
+    /// Nodes that went, and what an exact edit did to the tree, are not kept.
+    NotKept,
 }
 
 /// Where a node stood among the children of the parent into which it was moved.

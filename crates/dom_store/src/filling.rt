@@ -2,6 +2,7 @@
 
 ghost use Rattle.std.specs.Prelude.{◌≡◌, ◌+◌, ◌<◌, ◌≤◌, ◌^◌, ℕ, None, OnErr, OnOk};
 ghost use Rattle.dom_store.specs.Building.{Adds, IsFilledFrom, with_next};
+ghost use Rattle.dom_store.specs.Exactly.{with_node};
 ghost use Rattle.dom_store.specs.State.{entry_of, state_of};
 
 use crate::document::Document;
@@ -29,11 +30,26 @@ impl Document {
         ensures adds { OnOk result (Adds (state_of self.old) (state_of self.new) (entry_of node)) }
         ensures same { OnErr result (state_of self.new ≡ state_of self.old) }
     {
+        let number = self.next;
+        self.set_next(number + 1);
+        let put = self.put(number, node);
+        if put.is_err() {
+            self.set_next(number);
+        }
+        put
+    }
+
+    /// Puts a node under this number, which was drawn and under which none lives.
+    pub(crate) fn put(&mut self, number: u32, node: Node) -> Result<(), AllocError>
+        requires drawn { number < self.old.next }
+        requires free { (state_of self.old).node_at number ≡ None }
+        ensures put { OnOk result (state_of self.new ≡ with_node number (entry_of node) (state_of self.old)) }
+        ensures same { OnErr result (state_of self.new ≡ state_of self.old) }
+    {
         self.nodes.reserve(1)?;
         let key = self.nodes.vacant_key();
-        self.keys.insert(self.next, key)?;
+        self.keys.insert(number, key)?;
         self.nodes.insert_reserved(node);
-        self.next += 1;
         Ok(())
     }
 

@@ -1,10 +1,11 @@
 //! Nodes go, with all below them (DOM, 4.2.3, narrowed).
 
-ghost use Rattle.std.specs.Prelude.{◌≡◌};
+ghost use Rattle.std.specs.Prelude.{◌≡◌, IfOk};
 ghost use Rattle.dom_store.specs.Edited.{Applies};
 ghost use Rattle.dom_store.specs.Edits.{changed_if, remove, with_children, without, without_nodes};
 ghost use Rattle.dom_store.specs.Standing.{parent_at};
 ghost use Rattle.dom_store.specs.State.{state_of};
+ghost use Rattle.dom_store.specs.Taking.{before_of, not_kept};
 
 use crate::document::Document;
 use crate::edit::{Before, Change};
@@ -14,7 +15,8 @@ use std::alloc::Global;
 impl Document {
     /// Takes a node out, with all below it.
     pub(crate) fn remove(&mut self, alloc: Global, n: u32) -> Result<Change, EditError>
-        ensures { Applies (state_of self.old) (state_of self.new) (remove n) result }
+        ensures applies { Applies (state_of self.old) (state_of self.new) (remove n) result }
+        ensures back { IfOk result (λ change. before_of change.before ≡ not_kept) }
     {
         self.check_removal(n)?;
         let elements = self.concerned_above(alloc, n)?;
@@ -23,7 +25,7 @@ impl Document {
         self.take_all_out(&gone);
         Ok(Change {
             elements,
-            before: Before::Remove,
+            before: Before::NotKept,
         })
     }
 
@@ -36,7 +38,8 @@ impl Document {
         }
     }
 
-    fn take_all_out(&mut self, numbers: &[u32])
+    /// These nodes go. The children of others stay as they are.
+    pub(crate) fn take_all_out(&mut self, numbers: &[u32])
         ensures { state_of self.new ≡ without_nodes numbers.now (state_of self.old) }
     {
         for n in numbers {

@@ -1,14 +1,16 @@
 //! Lists of nodes' numbers.
 
-ghost use Rattle.std.specs.Prelude.{◌≡◌, ◌≤◌, ◌∷◌, ℕ, List, [], drop, length, nat_eq, Some, IfOk, OnErr, OnOk};
+ghost use Rattle.std.specs.Prelude.{◌≡◌, ◌≤◌, ◌++◌, ◌∷◌, ℕ, List, [], drop, length, nat_eq, Some, IfOk, OnErr, OnOk};
 ghost use Rattle.std.specs.List.{list_any, position, position_from};
 ghost use Rattle.dom_store.specs.Edits.{with_put, without};
+ghost use Rattle.dom_store.specs.Exact.{without_each};
 ghost use Rattle.dom_store.specs.Refusals.{least, lesser};
 ghost use Rattle.dom_store.specs.Steps.{place_in};
 ghost use Rattle.dom_store.specs.Taking.{IsStanding, turned, without_run};
 
 use crate::node::NodeNumbers;
 use std::alloc::{AllocError, Global};
+use std::collections::BTreeSet;
 
 /// How many numbers are looked at at once.
 const BLOCK: usize = 64;
@@ -66,6 +68,27 @@ pub(crate) fn without(
     let mut rest = Vec::new(alloc);
     rest.extend_from_slice(children)?;
     drop_from(&mut rest, number);
+    Ok(rest)
+}
+
+/// The children but for each of these.
+pub(crate) fn without_each(
+    alloc: Global,
+    children: &[u32],
+    numbers: &[u32],
+) -> Result<NodeNumbers, AllocError>
+    ensures { IfOk result (λ rest. rest.items ≡ without_each numbers.now children.now) }
+{
+    let mut gone = BTreeSet::new(alloc);
+    for number in numbers {
+        gone.insert(*number)?;
+    }
+    let mut rest = Vec::new(alloc);
+    for child in children {
+        if !gone.contains(child) {
+            rest.push(*child)?;
+        }
+    }
     Ok(rest)
 }
 
@@ -153,6 +176,15 @@ pub(crate) fn put_one(
     ensures same { OnErr result (children.new.items ≡ children.old.items) }
 {
     children.insert(index, number)?;
+    Ok(())
+}
+
+/// This number comes last. Where memory runs out, the children stay as they are.
+pub(crate) fn put_end(children: &mut NodeNumbers, number: u32) -> Result<(), AllocError>
+    ensures put { OnOk result (children.new.items ≡ children.old.items ++ number ∷ []) }
+    ensures same { OnErr result (children.new.items ≡ children.old.items) }
+{
+    children.push(number)?;
     Ok(())
 }
 

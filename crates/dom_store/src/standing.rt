@@ -104,7 +104,8 @@ impl Document {
     }
 
     #[cycle(collect)]
-    fn collect_all(
+    /// Puts each of these nodes and those below it last, in the same way.
+    pub(crate) fn collect_all(
         &self,
         skipped: usize,
         levels: usize,

@@ -50,7 +50,7 @@ impl Document {
                 self.put_children_if(parent_left(from, parent), left);
                 self.unplace(parent, index as usize, stood);
             }
-            Before::Remove => {}
+            Before::NotKept => {}
         }
     }
 

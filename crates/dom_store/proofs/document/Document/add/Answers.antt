@@ -1,33 +1,37 @@
-use Rattle.std.proofs.Common.{◌∙◌, ap, arith}
+use Rattle.std.proofs.Common.{◌≡◌, ◌∙◌, ◌+◌, ap, sym, arith}
+use Rattle.std.proofs.lemmas.Result.{on_ok_weaker}
 use Rattle.std.specs.Ordering.{nat_cmp}
 use Rattle.std.specs.BTreeMap as keyed
 use Rattle.slab.specs.Slab as slots
-use Rattle.slab.specs.Slab.{Slab}
-use Rattle.dom_store.specs.declared.node.Node.{Node}
-use Rattle.dom_store.proofs.AddLaws.{gives_key, keyed_after, adds_after}
-use Rattle.dom_store.proofs.CountLaws.{counted_more, no_key_past}
+use Rattle.dom_store.specs.Exactly.{with_node}
+use Rattle.dom_store.specs.State.{State, entry_of, state_of}
+use Rattle.dom_store.proofs.AddLaws.{adds_put, when_err}
+use Rattle.dom_store.proofs.CountLaws.{none_past}
 use Rattle.dom_store.proofs.document.Document.add.Goals as goal
 
-pub invariant_of-self-2 : goal.invariant_of-self-2
-invariant_of-self-2 c =
+pub set_next-requires : goal.set_next-requires
+set_next-requires c =
     let old = c.args.self.now in
-    let kept = ap (λ (s : Slab Node). s.slots) c.in_ok-reserve.ensures.rest_kept in
-    let updates = c.in_ok-insert.ensures.updates in
-    let put = c.insert_reserved.ensures in
-    let gives = gives_key old.nodes c.reserve.new.self c.insert_reserved.new.self old.keys c.insert.new.self old.next c.vacant_key-key.result
-    c.insert_reserved.result c.args.node kept c.vacant_key-key.ensures.value put.key updates.1 updates.2 put.was_vacant put.updates in
-    record {
-      sound = keyed_after _ _ _ _ old.next c.insert_reserved.result c.args.node old.sound gives;
-      fits = c.requires;
-      counted = counted_more (keyed.get nat_cmp old.keys) (keyed.get nat_cmp c.insert.new.self) old.next _ _ _ _ (c.in_ok-insert.ensures.old ∙ no_key_past _ (slots.get old.nodes) old.next old.sound old.next (omega arith))
-          c.in_ok-insert.ensures.len old.counted gives.here gives.others;
-    }
+    λ number past. none_past (keyed.get nat_cmp old.keys) (slots.get old.nodes) old.next old.sound number (omega (arith, past))
 
-pub returns-clause-adds : goal.returns-clause-adds
-returns-clause-adds c =
-    let kept = ap (λ (s : Slab Node). s.slots) c.in_ok-reserve.ensures.rest_kept in
-    let updates = c.in_ok-insert.ensures.updates in
-    let put = c.insert_reserved.ensures in
-    let gives = gives_key c.args.self.now.nodes c.reserve.new.self c.insert_reserved.new.self c.args.self.now.keys c.insert.new.self c.args.self.now.next c.vacant_key-key.result
-    c.insert_reserved.result c.args.node kept c.vacant_key-key.ensures.value put.key updates.1 updates.2 put.was_vacant put.updates in
-    adds_after _ _ _ _ c.args.self.now.next c.insert_reserved.result c.args.node c.args.self.now.sound gives
+pub put-put-requires-clause-drawn : goal.put-put-requires-clause-drawn
+put-put-requires-clause-drawn c =
+    let next : c.set_next.new.self.next ≡ c.args.self.now.next + 1 = ap (λ (s : State). s.next) c.set_next.ensures in
+    omega (arith, next)
+
+pub put-put-requires-clause-free : goal.put-put-requires-clause-free
+put-put-requires-clause-free c =
+    let old = c.args.self.now in
+    ap (λ (s : State). s.node_at old.next) c.set_next.ensures ∙ none_past (keyed.get nat_cmp old.keys) (slots.get old.nodes) old.next old.sound old.next (omega arith)
+
+pub set_next-requires-then-is_err : goal.set_next-requires-then-is_err
+set_next-requires-then-is_err c =
+    let old = c.args.self.now in
+    let same = when_err (state_of c.put-put.new.self ≡ state_of c.set_next.new.self) c.put-put.result (sym c.is_err.ensures.value ∙ c.if-is_err.true) c.put-put.ensures.same in
+    λ number past. ap (λ (s : State). s.node_at number) (same ∙ c.set_next.ensures) ∙ none_past (keyed.get nat_cmp old.keys) (slots.get old.nodes) old.next old.sound number past
+
+pub returns-else-is_err-clause-adds : goal.returns-else-is_err-clause-adds
+returns-else-is_err-clause-adds c =
+    let old = state_of c.args.self.now in
+    on_ok_weaker c.put-put.result (λ put.
+    adds_put old (state_of c.put-put.new.self) (entry_of c.args.node) (put ∙ ap (with_node old.next (entry_of c.args.node)) c.set_next.ensures)) c.put-put.ensures.put
