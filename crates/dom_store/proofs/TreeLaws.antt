@@ -8,7 +8,7 @@ use Rattle.html_read.specs.Shape.{with_opened}
 use Rattle.css_types.specs.declared.value.Declaration.{Declaration}
 use Rattle.dom_store.specs.State.{What, Entry, State, tree_to, tree_with}
 use Rattle.dom_store.specs.Opening.{children_from, put_if, stands_in, what_of}
-use Rattle.dom_store.specs.Whole.{listed, numbered_from}
+use Rattle.dom_store.specs.Whole.{listed, listed_from}
 use Rattle.dom_store.proofs.OpenElements.{AreBelow, Lacks, below_lacks, below_more, below_still, lacks_opened, lacks_still}
 
 -- ---- nodes in document order, of which each stands in an element that is open
@@ -115,11 +115,11 @@ module _ (most : ℕ) (state : State) (own : List (List Declaration)) where
   -- whatever is open, down to the depth that is left the nodes are those that stand in it
   abbrev AreListed : (place : ℕ) → List Node → Type 0
   AreListed place nodes = (depth : ℕ) (opened : List ℕ) → depth + length opened ≡ most → Stands most opened place nodes → AreBelow place opened
-      → numbered_from place nodes own ≡ left_in depth state place nodes opened
+      → listed_from place nodes own ≡ left_in depth state place nodes opened
 
   -- behind a node, which is opened if it is an element
   behind : (kind : Kind) (depth place : ℕ) (nodes : List Node) (still : List ℕ) → depth + length (place ∷ still) ≡ most → Stands most (with_opened kind place still) (place + 1) nodes
-      → AreBelow place still → AreListed (place + 1) nodes → numbered_from (place + 1) nodes own ≡ left_in depth state (place + 1) nodes (place ∷ still)
+      → AreBelow place still → AreListed (place + 1) nodes → listed_from (place + 1) nodes own ≡ left_in depth state (place + 1) nodes (place ∷ still)
   behind (html.element tag acting) depth place nodes still sum stands below are = are depth (place ∷ still) sum stands (omega arith, below)
   behind (html.text letters) depth place nodes still sum stands below are =
       let none : children_from (place + 1) place nodes ≡ [] = none_left most nodes still (place + 1) place stands (below_lacks still place place below (omega arith)) (omega arith) in
@@ -129,8 +129,8 @@ module _ (most : ℕ) (state : State) (own : List (List Declaration)) where
   -- a node whose parent is the innermost of those that are open
   at_node : (depth place : ℕ) (read : Node) (nodes : List Node) (parent : ℕ) (above : List ℕ) → read.parent ≡ Some parent → AreBelow place (parent ∷ above)
       → depth + length (parent ∷ above) ≡ most → length (parent ∷ above) < most → Live state own place (read ∷ nodes) → Stands most (with_opened read.kind place (parent ∷ above)) (place + 1) nodes
-      → AreListed (place + 1) nodes → numbered_from place (read ∷ nodes) own ≡ left_in depth state place (read ∷ nodes) (parent ∷ above)
-  unfolding numbered_from
+      → AreListed (place + 1) nodes → listed_from place (read ∷ nodes) own ≡ left_in depth state place (read ∷ nodes) (parent ∷ above)
+  unfolding listed_from
   at_node zero place read nodes parent above is below sum few live stands are = absurd (omega (arith, sum, few))
   at_node (suc depth) place read nodes parent above is below sum few live stands are =
       let rest : depth + length (place ∷ parent ∷ above) ≡ most = omega (arith, sum) in
@@ -138,7 +138,7 @@ module _ (most : ℕ) (state : State) (own : List (List Declaration)) where
       ∙ sym (first_left depth place read nodes parent above is below.1 live)
 
   all_listed : (nodes : List Node) (place : ℕ) → Live state own place nodes → AreListed place nodes
-  unfolding numbered_from children_from
+  unfolding listed_from children_from
   all_listed [] place live depth opened sum stands below = sym (nothing_left depth state place opened)
   all_listed (read ∷ nodes) place live depth opened sum (closed, parent, above, parts, is, few, more) below =
       let still : AreBelow place (closed ++ parent ∷ above) = subst (AreBelow place) parts below in
@@ -151,12 +151,12 @@ module _ (most : ℕ) (state : State) (own : List (List Declaration)) where
 
   -- the nodes of a tree whose first node is the first that was read, and alone at the top
   pub first_listed : (depth : ℕ) (first : Node) (nodes : List Node) → first.parent ≡ None → suc depth ≡ most → Live state own 0 (first ∷ nodes) → Stands most (0 ∷ []) 1 nodes
-      → listed None (tree_to (suc depth) state (0 ∷ [])) ≡ numbered_from 0 (first ∷ nodes) own
-  unfolding tree_to listed numbered_from
+      → listed None (tree_to (suc depth) state (0 ∷ [])) ≡ listed_from 0 (first ∷ nodes) own
+  unfolding tree_to listed listed_from
   first_listed depth first nodes alone sum live stands =
       let what : What = what_of first.kind (get_or own 0 []) in
       let inner : List (ℕ × Option ℕ × What) = listed (Some 0) (tree_to depth state (children_from 1 0 nodes)) in
-      let are : numbered_from 1 nodes own ≡ inner ++ [] = all_listed nodes 1 live.1 depth (0 ∷ []) (omega (arith, sum)) stands (omega arith, tt) in
+      let are : listed_from 1 nodes own ≡ inner ++ [] = all_listed nodes 1 live.1 depth (0 ∷ []) (omega (arith, sum)) stands (omega arith, tt) in
       ap (λ (e : Option Entry). listed None (tree_with e 0 (tree_to depth state) (tree_to (suc depth) state []))) live.0
       ∙ (ap (λ (l : List (ℕ × Option ℕ × What)). (0, None, what) ∷ l) (sym are)
-      ∙ ap (λ (p : Option ℕ). (0, p, what) ∷ numbered_from 1 nodes own) (sym alone))
+      ∙ ap (λ (p : Option ℕ). (0, p, what) ∷ listed_from 1 nodes own) (sym alone))

@@ -12,10 +12,10 @@ listed parent none = []
 listed parent (node number what inner next) = (number, parent, what) ∷ listed (Some number) inner ++ listed parent next
 
 -- nodes that were read, the first of them at this place
-unfoldable pub numbered_from : (place : ℕ) → List Node → List (List Declaration) → List (ℕ × Option ℕ × What)
-numbered_from place [] own = []
-numbered_from place (read ∷ nodes) own = (place, read.parent, what_of read.kind (get_or own place [])) ∷ numbered_from (place + 1) nodes own
+unfoldable pub listed_from : (place : ℕ) → List Node → List (List Declaration) → List (ℕ × Option ℕ × What)
+listed_from place [] own = []
+listed_from place (read ∷ nodes) own = (place, read.parent, what_of read.kind (get_or own place [])) ∷ listed_from (place + 1) nodes own
 
 -- the nodes that were read, each with its place as its number, its parent, and what it is with its own declarations
 abbrev pub numbered : List Node → List (List Declaration) → List (ℕ × Option ℕ × What)
-numbered nodes own = numbered_from 0 nodes own
+numbered nodes own = listed_from 0 nodes own
