@@ -1,2 +1,5 @@
 mod Axes
 mod Examples
+mod FoundBoxes
+mod Sums
+mod Trees

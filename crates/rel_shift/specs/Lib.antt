@@ -1,2 +1,5 @@
 pub mod Bounds
+pub mod Boxes
 pub mod Own
+pub mod Shifting
+pub mod Totals

@@ -1,9 +1,17 @@
-//! Relative positions (CSS Positioned Layout 3, 3.1 to 3.4, narrowed; CSS 2, 9.4.3): how far its insets shift an element.
+//! Relative positions (CSS Positioned Layout 3, 3.1 to 3.4, narrowed; CSS 2, 9.4.3): how far its insets shift an element, and a
+//! page whose fragments are shifted so.
 #![tactic(auto)]
 
+mod boxes;
 mod containing;
 mod insets;
+mod kinds;
 mod own;
+mod positions;
+mod shifting;
+mod totals;
 
 pub use insets::{Insets, Shift};
 pub use own::own_shift;
+pub use positions::{Position, Positions};
+pub use shifting::shift;
