@@ -1,5 +1,6 @@
 pub mod Bounds
 pub mod Boxes
+pub mod Laws
 pub mod Own
 pub mod Shifting
 pub mod Totals

@@ -6,6 +6,7 @@ mod boxes;
 mod containing;
 mod insets;
 mod kinds;
+pub mod laws;
 mod own;
 mod positions;
 mod shifting;

@@ -6,7 +6,7 @@ ghost use Rattle.place_map.specs.Near.{AreNearParts};
 ghost use Rattle.place_map.specs.Placed.{Parts, before, none, parts_of, placed_of};
 ghost use Rattle.rel_shift.specs.Bounds.{AreSized, HasBounds, IsWithin};
 ghost use Rattle.rel_shift.specs.Shifting as rule;
-ghost use Rattle.rel_shift.specs.Totals.{total_in};
+ghost use Rattle.rel_shift.specs.Totals.{total, total_in};
 ghost use Rattle.wm_modes.specs.Near.{IsNear};
 
 use crate::insets::Shift;
@@ -29,7 +29,8 @@ pub fn shift(alloc: Global, placed: &Placed, positions: &Positions) -> Result<Pl
     requires sized { AreSized (placed_of placed.now) }
     requires bounded { All HasBounds positions.now.items }
     requires few { length positions.now.items ≤ 65536 }
-    ensures { IfOk result (λ made. placed_of made ≡ rule.shift (placed_of placed.now) positions.now.items) }
+    ensures page { IfOk result (λ made. placed_of made ≡ rule.shift (placed_of placed.now) positions.now.items) }
+    ensures within { IfOk result (λ _. (node : ℕ) → IsWithin (2 ^ 48) (total (placed_of placed.now) positions.now.items node)) }
 {
     let totals = Totals::of_page(alloc, placed, positions)?;
     let root = shifted_part(alloc, &totals, &placed.root)?;
