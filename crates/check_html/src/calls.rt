@@ -1,9 +1,10 @@
-//! Calls that no program makes: a copy of a document, and the winners for an element without an index of the rules.
+//! Calls that no program makes: a copy of a document, the step of an edit and one half of it, and the winners for an element
+//! without an index of the rules.
 
 use cascade::winners;
 use css_sheet::read_styled;
 use css_types::{Keyword, Property, Value};
-use dom_store::Document;
+use dom_store::{Document, Edit};
 use html_read::read_document;
 use std::test::Fail;
 use style_types::Style;
@@ -29,5 +30,20 @@ fn a_copy_and_winners(rt: HostRuntime) -> Result<(), Fail> {
     assert!(rt; copy.node(4).is_none());
     let won = winners(rt.alloc(), &document, &styles.rules, 2, &Style::initial())?;
     assert_eq!(rt; won.as_slice(), WINNERS.as_slice());
+    Ok(())
+}
+
+#[test]
+fn a_node_is_taken_by_its_step(rt: HostRuntime) -> Result<(), Fail> {
+    let read = read_document(rt.alloc(), SOURCE)?;
+    let styles = read_styled(rt.alloc(), &read)?;
+    let mut document = Document::from_read(rt.alloc(), &read, &styles)?;
+    let step = document.exact(rt.alloc(), &Edit::Remove { node: 2 })?;
+    assert!(rt; document.node(2).is_some());
+    let change = document.apply_exact(rt.alloc(), &step.again)?;
+    assert_eq!(rt; change.elements.as_slice(), [1].as_slice());
+    assert!(rt; document.node(2).is_none());
+    assert!(rt; document.node(3).is_none());
+    assert_eq!(rt; document.child(1, 0), None);
     Ok(())
 }
