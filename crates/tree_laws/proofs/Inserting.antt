@@ -129,7 +129,7 @@ module _ (state : State) (whole : IsWhole state) (parent index : ℕ) (nodes : L
 -- ---- a document that is opened
 
 module _ (nodes : List Node) (own : List (List Declaration)) where
-  read_parent : (number : ℕ) (o : Option Node) → parent_of (entry_at nodes own number o) ≡ parent_in o
+  pub read_parent : (number : ℕ) (o : Option Node) → parent_of (entry_at nodes own number o) ≡ parent_in o
   read_parent number None = refl
   read_parent number (Some node) = refl
 

@@ -35,7 +35,7 @@ what_children change true None = refl
 what_children change true (Some entry) = refl
 what_children change false o = refl
 
-what_parent : (change : What → What) (here : Bool) (o : Option Entry) → parent_of (if here then option_map (with_what change) o else o) ≡ parent_of o
+pub what_parent : (change : What → What) (here : Bool) (o : Option Entry) → parent_of (if here then option_map (with_what change) o else o) ≡ parent_of o
 what_parent change true None = refl
 what_parent change true (Some entry) = refl
 what_parent change false o = refl
@@ -74,7 +74,7 @@ module _ (state : State) (number : ℕ) where
   left_next None = refl
   left_next (Some parent) = refl
 
-  left_parents : (parent : Option ℕ) (child : ℕ) → parent_at (left state number parent) child ≡ parent_at state child
+  pub left_parents : (parent : Option ℕ) (child : ℕ) → parent_at (left state number parent) child ≡ parent_at state child
   left_parents None child = refl
   left_parents (Some parent) child = children_parent (without number) (nat_eq child parent) (state.node_at child)
 
@@ -197,7 +197,7 @@ module _ (state : State) (whole : IsWhole state) (number parent index : ℕ) (al
   pub moved_parent : parent_at (moved state number parent index) number ≡ Some parent
   moved_parent = rw (eq-eqb number number refl) (given_parent parent (put.node_at number) number_lives)
 
-  other_parent : (child : ℕ) → child ≢ number → parent_at (moved state number parent index) child ≡ parent_at state child
+  pub other_parent : (child : ℕ) → child ≢ number → parent_at (moved state number parent index) child ≡ parent_at state child
   other_parent child apart = rw (ne_eqb child number apart) (put_parents child)
 
   moved_children : (other : ℕ) → children_at (moved state number parent index) other ≡ children_at put other

@@ -3,6 +3,7 @@ pub mod Depths
 pub mod Edited
 pub mod Entering
 mod Examples
+pub mod Holding
 pub mod Inserting
 pub mod Keeping
 pub mod Levels

@@ -10,12 +10,12 @@ use Rattle.basic_laws.proofs.Options.{none_unmapped}
 use Rattle.html_read.specs.Values.{Node}
 use Rattle.css_types.specs.declared.value.Declaration.{Declaration}
 use Rattle.dom_store.specs.declared.error.EditError.{EditError}
-use Rattle.dom_store.specs.declared.error.EditError.TheVariants.{Inside, NoNode, IsRoot, TooDeep, TooManyNodes}
+use Rattle.dom_store.specs.declared.error.EditError.TheVariants.{Inside, NoNode, NotElement, NotText, IsRoot, TooDeep, TooManyNodes}
 use Rattle.dom_store.specs.State.{Entry, State, greatest_depth}
 use Rattle.dom_store.specs.Opening.{depths}
 use Rattle.dom_store.specs.Standing.{below_levels, depth_at, inclusive_ancestors, lives}
-use Rattle.dom_store.specs.Edits.{insert, move_to, remove}
-use Rattle.dom_store.specs.Refusals.{first_of, least, lesser, no_node, reasons, refusal, room_left}
+use Rattle.dom_store.specs.Edits.{insert, move_to, remove, set_text}
+use Rattle.dom_store.specs.Refusals.{first_of, is_element, is_of, least, lesser, may_hold, no_node, reasons, refusal, room_left}
 use Rattle.tree_laws.specs.Wholeness.{IsWhole}
 
 -- none of the reasons is there
@@ -52,6 +52,19 @@ insert_passes state parent index nodes own accepted =
       lives_named state parent [] none.0,
       ltb-false (room_left state) (length nodes) (not_refused (nat_lt (room_left state) (length nodes)) (TooManyNodes (state.next + room_left state)) none.1.1.1.1.0),
     )
+
+-- a text is changed alone
+pub text_is : (state : State) (number : ℕ) (letters : List ℕ) → refusal state (set_text number letters) ≡ None → is_of is_element state number ≡ false
+text_is state number letters accepted = not_refused (is_of is_element state number) NotText (all_none (reasons state (set_text number letters)) accepted).1.0
+
+-- nodes come to stand in an element in which they may
+pub insert_holds : (state : State) (parent index : ℕ) (nodes : List Node) (own : List (List Declaration)) → refusal state (insert parent index nodes own) ≡ None → is_of may_hold state parent ≡ true
+insert_holds state parent index nodes own accepted =
+    not-false (is_of may_hold state parent) (not_refused (not (is_of may_hold state parent)) NotElement (all_none (reasons state (insert parent index nodes own)) accepted).1.1.0)
+
+pub move_holds : (state : State) (number parent index : ℕ) → refusal state (move_to number parent index) ≡ None → is_of may_hold state parent ≡ true
+move_holds state number parent index accepted =
+    not-false (is_of may_hold state parent) (not_refused (not (is_of may_hold state parent)) NotElement (all_none (reasons state (move_to number parent index)) accepted).1.1.1.0)
 
 -- ---- none too deep
 

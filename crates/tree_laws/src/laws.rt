@@ -1,5 +1,6 @@
 //! What holds of documents, as they are opened and as they are edited.
 
+ghost use Rattle.tree_laws.specs.Held.{EditsKeepHeld, OpenedAreHeld};
 ghost use Rattle.tree_laws.specs.Laws.{AcceptedAreDone, ChildrenHaveParents, CountsAreTotals, EditsKeepWhole, EditsWeigh, OpenedAreWhole, TreesWeighNoMore};
 ghost use Rattle.tree_laws.specs.Reached.{EditsKeepReached, OpenedAreReached};
 ghost use Rattle.tree_laws.specs.Stepped.{StepsLeadBack, StepsLeadThere};
@@ -61,4 +62,14 @@ pub fn steps_lead_back()
 /// And it leads there again: done exactly in the state before, its other half leaves the state after the edit.
 pub fn steps_lead_there_again()
     ensures { StepsLeadThere }
+{}
+
+/// In a document that was opened nodes stand in elements other than `br` alone.
+pub fn opened_documents_are_held()
+    ensures { OpenedAreHeld }
+{}
+
+/// So they do after each edit that isn't refused.
+pub fn accepted_edits_keep_documents_held()
+    ensures { EditsKeepHeld }
 {}
