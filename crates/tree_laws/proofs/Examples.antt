@@ -1,4 +1,4 @@
--- Small documents: what a tree and a state weigh, where a state isn't whole, and where a node that lives isn't reached.
+-- Small documents: what a tree and a state weigh, where a state isn't whole, where a node that lives isn't reached, and which steps can be done.
 use Rattle.std.specs.Prelude.{◌≡◌, refl, ℕ, zero, suc, ◌<◌, true, List, [], ◌∷◌, get_or, Option, Some, None, unwrap_or}
 use Rattle.std.proofs.Common.{◌∙◌, ap, arith, subst, sym}
 use Rattle.std.proofs.lemmas.Option.{slice_get_within}
@@ -9,9 +9,13 @@ use Rattle.html_read.specs.Values.{Node}
 use Rattle.dom_store.specs.State.{Entry, State, element, text, tree_of, tree_to}
 use Rattle.dom_store.specs.Opening.{children_from, depths_from, opened}
 use Rattle.dom_store.specs.Standing.{ancestors_to, below_levels, count_below, live_count, lives, parent_at}
+use Rattle.dom_store.specs.Building.{with_next}
 use Rattle.dom_store.specs.Edits.{EditOf, after, insert, move_to, remove, set_text}
 use Rattle.dom_store.specs.Edited.{bytes_brought}
+use Rattle.dom_store.specs.Exactly.{CanBeDone, CanStand}
 use Rattle.dom_store.specs.Refusals.{refusal}
+use Rattle.dom_store.specs.Steps.{step_of}
+use Rattle.dom_store.specs.declared.error.EditError.TheVariants.{NotElement}
 use Rattle.tree_laws.specs.Reached.{IsAtLevel, IsReached}
 use Rattle.tree_laws.specs.Weight.{bytes, one, sum_below, total, weight_in}
 use Rattle.tree_laws.specs.Wholeness.{IsWhole}
@@ -131,3 +135,40 @@ not_reached reached =
     let whole : IsWhole two = opened_whole two_nodes [] two_shaped in
     let (level, low, at) = reached.reached 2 its_life in
     no_level (edits_keep_whole two in_itself whole nothing_refuses) level at
+
+-- ---- steps that can be done
+
+-- the text that came into the `i` may go back to its place
+a_move_back : CanBeDone (with_next 9 (after small (move_to 2 3 1))) (step_of small (move_to 2 3 1)).back
+unfolding ancestors_to below_levels
+a_move_back = refl
+
+-- the `i` that went can stand again in `body`, and its text behind it
+a_removal_back : CanBeDone (with_next 9 (after small (remove 3))) (step_of small (remove 3)).back
+unfolding below_levels CanStand
+a_removal_back = (
+  omega arith,
+  (record { drawn = omega arith; gone = refl; once = refl; parent = refl }, (record { drawn = omega arith; gone = refl; once = refl; parent = refl }, tt)),
+)
+
+-- where less than the number of its text was drawn, the text can't
+not_drawn : CanBeDone (with_next 4 (after small (remove 3))) (step_of small (remove 3)).back → ⊥
+unfolding below_levels CanStand
+not_drawn (within, (first, (second, others))) = omega (arith, second.drawn)
+
+-- a text stands in a `br`
+abbrev in_br : State
+in_br = of (
+    Some (record { parent = None; children = 1 ∷ []; what = element tags.Html None [] None [] })
+    ∷ Some (record { parent = Some 0; children = 2 ∷ []; what = element tags.Body None [] None [] })
+    ∷ Some (record { parent = Some 1; children = 3 ∷ []; what = element tags.Br None [] None [] })
+    ∷ Some (record { parent = Some 2; children = []; what = text (97 ∷ []) })
+    ∷ []) 4
+
+-- it may leave it, and then not go back: nodes must be held, for steps to lead back
+out_of_br : refusal in_br (move_to 3 1 0) ≡ None
+unfolding ancestors_to below_levels
+out_of_br = refl
+
+not_into_br : refusal (after in_br (move_to 3 1 0)) (move_to 3 2 0) ≡ Some NotElement
+not_into_br = refl

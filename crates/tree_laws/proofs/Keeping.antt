@@ -55,7 +55,7 @@ children_parent change true (Some entry) = refl
 children_parent change false o = refl
 
 -- a change that gives a child no more often
-fewer_at : (child : ℕ) (change : List ℕ → List ℕ) → ((children : List ℕ) → times child (change children) ≤ times child children) → (here : Bool) (o : Option Entry)
+pub fewer_at : (child : ℕ) (change : List ℕ → List ℕ) → ((children : List ℕ) → times child (change children) ≤ times child children) → (here : Bool) (o : Option Entry)
     → times child (children_of (if here then option_map (with_children change) o else o)) ≤ times child (children_of o)
 fewer_at child change fewer true None = omega arith
 fewer_at child change fewer true (Some entry) = fewer entry.children
@@ -86,7 +86,7 @@ module _ (state : State) (number : ℕ) where
   left_below None other is = is
   left_below (Some parent) other is = none_changed (with_children (without number)) (nat_eq other parent) (state.node_at other) is
 
-  left_fewer : (parent : Option ℕ) (child other : ℕ) → times child (children_at (left state number parent) other) ≤ times child (children_at state other)
+  pub left_fewer : (parent : Option ℕ) (child other : ℕ) → times child (children_at (left state number parent) other) ≤ times child (children_at state other)
   left_fewer None child other = omega arith
   left_fewer (Some parent) child other = fewer_at child (without number) (times-without number child) (nat_eq other parent) (state.node_at other)
 
@@ -200,7 +200,7 @@ module _ (state : State) (whole : IsWhole state) (number parent index : ℕ) (al
   pub other_parent : (child : ℕ) → child ≢ number → parent_at (moved state number parent index) child ≡ parent_at state child
   other_parent child apart = rw (ne_eqb child number apart) (put_parents child)
 
-  moved_children : (other : ℕ) → children_at (moved state number parent index) other ≡ children_at put other
+  pub moved_children : (other : ℕ) → children_at (moved state number parent index) other ≡ children_at put other
   moved_children other = parent_children parent (nat_eq other number) (put.node_at other)
 
   moved_inside : (other child : ℕ) → times child (children_at (moved state number parent index) other) ≤ times other (option_to_list (parent_at (moved state number parent index) child))

@@ -1,10 +1,12 @@
 pub mod Below
 pub mod Depths
+pub mod Doable
 pub mod Edited
 pub mod Entering
 mod Examples
 pub mod Holding
 pub mod Inserting
+pub mod Judging
 pub mod Keeping
 pub mod Levels
 pub mod Parents
@@ -19,6 +21,7 @@ pub mod Stepping
 pub mod Sums
 pub mod Times
 pub mod Trees
+pub mod Turning
 pub mod Uniqueness
 pub mod Weighing
 pub mod Withdrawing

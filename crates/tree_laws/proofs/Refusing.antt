@@ -66,6 +66,10 @@ pub move_holds : (state : State) (number parent index : ℕ) → refusal state (
 move_holds state number parent index accepted =
     not-false (is_of may_hold state parent) (not_refused (not (is_of may_hold state parent)) NotElement (all_none (reasons state (move_to number parent index)) accepted).1.1.1.0)
 
+-- neither `html` nor `body` is moved
+pub move_root : (state : State) (number parent index : ℕ) → refusal state (move_to number parent index) ≡ None → (nat_eq number 0 || nat_eq number 1) ≡ false
+move_root state number parent index accepted = not_refused (nat_eq number 0 || nat_eq number 1) IsRoot (all_none (reasons state (move_to number parent index)) accepted).1.0
+
 -- ---- none too deep
 
 unchosen : {A : Type 0} (b : Bool) (value : A) → (if b then Some value else None) ≡ None → b ≡ false

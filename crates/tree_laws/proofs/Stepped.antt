@@ -20,15 +20,15 @@ use Rattle.tree_laws.proofs.Withdrawing.{inserted_back}
 
 -- ---- where a node stands
 
-record StandsIn (state : State) (number : ℕ) : Type 0 where
-  parent : ℕ
-  is : parent_at state number ≡ Some parent
-  there : Contains (children_at state parent) number
-  level : ℕ
-  low : suc level < greatest_depth
-  at : IsAtLevel state level parent
+pub record StandsIn (state : State) (number : ℕ) : Type 0 where
+  pub parent : ℕ
+  pub is : parent_at state number ≡ Some parent
+  pub there : Contains (children_at state parent) number
+  pub level : ℕ
+  pub low : suc level < greatest_depth
+  pub at : IsAtLevel state level parent
 
-stands_in : (state : State) (edit : EditOf) (number : ℕ) → CanStep state edit → lives state number ≡ true → number ≢ 0 → StandsIn state number
+pub stands_in : (state : State) (edit : EditOf) (number : ℕ) → CanStep state edit → lives state number ≡ true → number ≢ 0 → StandsIn state number
 stands_in state edit number can alive root =
     let (level, low, at) = can.reached.reached number alive in
     by level low at
@@ -38,7 +38,7 @@ stands_in state edit number can alive root =
     by (suc level) low (parent, at, there) = record { parent = parent; is = parent_of_child state can.whole parent number there; there = there; level = level; low = low; at = at }
 
 module _ (state : State) (number : ℕ) (stands : StandsIn state number) where
-  holder_is : unwrap_or (parent_at state number) 0 ≡ stands.parent
+  pub holder_is : unwrap_or (parent_at state number) 0 ≡ stands.parent
   holder_is = ap (λ (o : Option ℕ). unwrap_or o 0) stands.is
 
 pub steps_lead_back : StepsLeadBack

@@ -1,3 +1,4 @@
+pub mod Doable
 pub mod Held
 pub mod Laws
 pub mod Reached

@@ -1,5 +1,6 @@
 //! What holds of documents, as they are opened and as they are edited.
 
+ghost use Rattle.tree_laws.specs.Doable.{StepsCanBeDoneAgain, StepsCanBeTakenBack};
 ghost use Rattle.tree_laws.specs.Held.{EditsKeepHeld, OpenedAreHeld};
 ghost use Rattle.tree_laws.specs.Laws.{AcceptedAreDone, ChildrenHaveParents, CountsAreTotals, EditsKeepWhole, EditsWeigh, OpenedAreWhole, TreesWeighNoMore};
 ghost use Rattle.tree_laws.specs.Reached.{EditsKeepReached, OpenedAreReached};
@@ -72,4 +73,14 @@ pub fn opened_documents_are_held()
 /// So they do after each edit that isn't refused.
 pub fn accepted_edits_keep_documents_held()
     ensures { EditsKeepHeld }
+{}
+
+/// In the state after an edit that isn't refused the half of its step that leads back can be done, whatever number is next.
+pub fn steps_can_be_taken_back()
+    ensures { StepsCanBeTakenBack }
+{}
+
+/// And in the state before it the half that leads there again.
+pub fn steps_can_be_done_again()
+    ensures { StepsCanBeDoneAgain }
 {}
