@@ -4,6 +4,7 @@ pub mod Chains
 pub mod EdgeLaws
 pub mod FragmentLaws
 pub mod Fragments
+pub mod FrameLaws
 pub mod Hanging
 pub mod Leaf
 pub mod Lengths

@@ -23,7 +23,7 @@ use Rattle.line_place.specs.Placing as rule
 use Rattle.line_place.specs.Placing.{Row, extent_of, level_of, line_over, line_under, offset, outermost, over_of, parts, put_first, rows, run_as, run_piece, under_of, unit_of, width}
 use Rattle.line_place.specs.TextLine as text
 use Rattle.line_place.specs.TextLine.{AreSolid, IsText, IsTextItem, IsUnit, Text, extent_in, shown, unit_in}
-use Rattle.line_place.proofs.LevelZero.{in_order_of}
+use Rattle.line_place.proofs.LevelZero.{in_order}
 
 -- ---- a line without boxes is a row of what it shows
 
@@ -134,7 +134,7 @@ take_text node form zero items h = tt
 take_text node form (suc n) [] h = tt
 take_text node form (suc n) (item ∷ items) h = (h.0, take_text node form n items h.1)
 
-levels_zero : (node : ℕ) (form : UnitKind) (items : List Item) → AreText node form items → All (λ level. level ≡ 0) (levels_in items)
+levels_zero : (node : ℕ) (form : UnitKind) (items : List Item) → AreText node form items → All (λ (item : Item). item.level ≡ 0) items
 levels_zero node form [] h k d lt = absurd (omega arith)
 levels_zero node form (item ∷ items) h zero d lt = h.0.level
 levels_zero node form (item ∷ items) h (suc k) d lt = levels_zero node form items h.1 k d (omega arith)
@@ -272,7 +272,7 @@ runs_are stays t line is =
     let e : suc (is.count - 1) ≡ is.count = omega arith in
     let z : 0 + suc (is.count - 1) ≡ is.count = omega arith in
     let P : ℕ → Type 0 = λ n. are_spaces (drop n line.items) ≡ true in
-    ap runs (in_order_of stays line is.base (levels_zero t.node t.form line.items own))
+    ap runs (in_order stays line is.base (levels_zero t.node t.form line.items own))
     ∙ solid_runs t.node t.form 0 line.items (is.count - 1) own (omega arith) is.solid.last (subst P (sym e) is.solid.spaces)
     ∙ ap (λ (p : ℕ). front 0 (take (suc (is.count - 1)) line.items) ∷ map single (leaves_of p (drop (suc (is.count - 1)) line.items))) z
     ∙ ap (λ (n : ℕ). front 0 (take n line.items) ∷ map single (leaves_of is.count (drop n line.items))) e
