@@ -19,6 +19,4 @@ pub mod RunLaws
 pub mod ShownLaws
 pub mod SpreadLaws
 pub mod SumLaws
-pub mod TextLaws
-pub mod UnitLaws
 pub mod WalkLaws

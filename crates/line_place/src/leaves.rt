@@ -28,6 +28,7 @@ type Aparts = Vec<Option<u8>>;
 
 impl Leaf<'_> {
     /// Its extent along the line.
+    #[inline(always)]
     pub(crate) fn extent(&self) -> i64
         ensures { result ≡ (leaf_of self.now).extent }
     {
@@ -35,6 +36,7 @@ impl Leaf<'_> {
     }
 
     /// What is seen of it.
+    #[inline(always)]
     pub(crate) fn what(&self) -> Option<&LineContent>
         ensures { seen result ≡ (leaf_of self.now).what }
     {
@@ -73,12 +75,12 @@ fn logical_leaves<'a, S: LineSource>(alloc: Global, source: &'a S) -> Result<Lea
     let mut leaves = Vec::with_capacity(alloc, source.count())?;
     for place in 0..source.count() {
         let item = source.item(place);
-        leaves.push(Leaf {
+        leaves.push_reserved(Leaf {
             item,
             place,
             level: item.level,
             hangs: place >= hanging,
-        })?;
+        });
     }
     Ok(leaves)
 }

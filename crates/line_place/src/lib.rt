@@ -11,8 +11,6 @@ mod marks;
 mod measure;
 mod runs;
 mod source;
-mod text_line;
-mod unit_line;
 mod walk;
 
 pub use leading::extents;
@@ -21,6 +19,3 @@ pub use line::{
 };
 pub use line_box::{place, place_line};
 pub use source::LineSource;
-pub use text_line::{TextLine, place_text};
-pub use unit_line::{TextUnit, TextUnits, UnitLine, place_units};
-pub use walk::run_unit;

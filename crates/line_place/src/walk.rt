@@ -57,8 +57,8 @@ struct AtomMargins {
     baseline: i64,
 }
 
-/// Text in a line that reaches so far over its baseline.
-pub(crate) fn text_rect(extents: &Extents, over: i64, left: i64, extent: i64) -> FlowRect
+// Text in a line that reaches so far over its baseline.
+fn text_rect(extents: &Extents, over: i64, left: i64, extent: i64) -> FlowRect
     requires extents { extents_reach extents.now ≤ 2 ^ 60 }
     requires over { unsigned_abs over ≤ 2 ^ 61 }
     ensures { result ≡ rule.text_rect extents.now over left extent }
@@ -107,20 +107,16 @@ fn box_at<'a>(line: &LineFrame<'a>, place: usize) -> &'a LineBox
     &line.boxes[place]
 }
 
-/// The name of what stands in a line, by its node.
-pub(crate) fn unnumbered(node: u32) -> BoxName
+// The name of what stands in a line, by its node.
+fn unnumbered(node: u32) -> BoxName
     ensures { result ≡ rule.unnumbered node }
 {
     BoxName { node, ordinal: 0 }
 }
 
-/// What this content shows as a unit of a run, with this extent. What isn't text shows nothing.
+// What this content shows as a unit of a run, with this extent. What isn't text shows nothing.
 #[inline(always)]
-pub fn run_unit(
-    alloc: Global,
-    what: Option<&LineContent>,
-    extent: i64,
-) -> Result<RunUnit, AllocError>
+fn run_unit(alloc: Global, what: Option<&LineContent>, extent: i64) -> Result<RunUnit, AllocError>
     ensures { IfOk result (λ made. made ≡ rule.unit_with (seen what.entry) extent) }
 {
     match what {
@@ -144,6 +140,7 @@ pub fn run_unit(
     }
 }
 
+#[inline(always)]
 fn unit_of(alloc: Global, leaf: &Leaf) -> Result<RunUnit, AllocError>
     ensures { IfOk result (λ made. made ≡ rule.unit_of (leaf_of leaf.now)) }
 {
@@ -155,8 +152,8 @@ fn units_of(alloc: Global, run: &[Leaf]) -> Result<RunUnits, AllocError>
     ensures { IfOk result (λ made. made.items ≡ map rule.unit_of (map leaf_of run.now)) }
 {
     let mut units = Vec::with_capacity(alloc, run.len())?;
-    for leaf in run {
-        units.push(unit_of(alloc, leaf)?)?;
+    for k in 0..run.len() {
+        units.push_reserved(unit_of(alloc, &run[k])?);
     }
     Ok(units)
 }
@@ -217,8 +214,8 @@ fn run_kind(
     })
 }
 
-/// A fragment with none inside it, which shares this empty list.
-pub(crate) fn without_inner(
+// A fragment with none inside it, which shares this empty list.
+fn without_inner(
     empty: &Rc<Fragments>,
     name: BoxName,
     rect: FlowRect,

@@ -9,8 +9,15 @@ pub loop-place-preserved : goal.loop-place-preserved
 loop-place-preserved g c =
     let items : List Item = g.S.LineSource.items c.args.source.now in
     let i = c.loop-place.place in
-    let x : Item = item_of c.item-item.result in (
-      ap (λ (made : List code.Leaf). map leaf_of made ++ leaves_from (i + 1) (drop (i + 1) (map (λ (item : Item). item.level) items)) (drop (i + 1) items)) c.in_ok-push.ensures.items
-          ∙ one_more items i x _ c.loop-place.leaves.items _ _ (omega arith) (c.item-item.ensures x) (c.hanging_from-hanging.ensures.is i (omega arith)) refl c.loop-place.invariant.0,
-      ap items_in c.in_ok-push.ensures.items ∙ one_item items i x c.loop-place.leaves.items _ (omega arith) (c.item-item.ensures x) refl c.loop-place.invariant.1,
-    )
+    let x : Item = item_of c.item-item.result in
+    record {
+      are =
+          ap (λ (made : List code.Leaf). map leaf_of made ++ leaves_from (i + 1) (drop (i + 1) (map (λ (item : Item). item.level) items)) (drop (i + 1) items)) c.push_reserved.ensures.items
+          ∙ one_more items i x _ c.loop-place.leaves.items _ _ (omega arith) (c.item-item.ensures x) (c.hanging_from-hanging.ensures.is i (omega arith)) refl c.loop-place.invariant.are;
+      items = ap items_in c.push_reserved.ensures.items ∙ one_item items i x c.loop-place.leaves.items _ (omega arith) (c.item-item.ensures x) refl c.loop-place.invariant.items;
+      room =
+          let r = c.loop-place.invariant.room in
+          let n = c.push_reserved.ensures.len in
+          let w = c.push_reserved.ensures.capacity in
+          omega arith;
+    }
