@@ -9,7 +9,7 @@ use Rattle.bidi_order.specs.Laws.{LevelZeroStays}
 use Rattle.bidi_order.specs.Visual.{visual_order}
 use Rattle.line_place.specs.declared.leaves.Leaf as code
 use Rattle.line_place.specs.Line.{Item, Line, item_of}
-use Rattle.line_place.specs.Leaves.{Leaf, are_spaces, items_in, leaf, leaf_of, leaves, leaves_from, levels_of, in_logical_order}
+use Rattle.line_place.specs.Leaves.{Leaf, are_spaces, leaf, leaf_of, leaves, leaves_from, levels_of, in_logical_order}
 use Rattle.line_place.proofs.ReachLaws.{from_length}
 
 abbrev levels_in : List Item → List ℕ
@@ -37,14 +37,6 @@ one_more items k x hangs made own whole lt read spaces is before =
     ∙ append_assoc (map leaf_of made) (leaf_of own ∷ []) (leaves_from (k + 1) (drop (k + 1) (levels_in items)) (drop (k + 1) items))
     ∙ ap (λ (l : List Leaf). map leaf_of made ++ l) (sym first)
     ∙ before
-
-pub one_item : (items : List Item) (k : ℕ) (x : Item) (made : List code.Leaf) (own : code.Leaf) → k < length items → x ≡ get_or items k x → item_of own.item ≡ x
-    → items_in made ≡ take k items → items_in (made ++ own ∷ []) ≡ take (k + 1) items
-one_item items k x made own lt read is before =
-    map_push (λ (l : code.Leaf). item_of l.item) made own
-    ∙ ap (λ (l : List Item). l ++ item_of own.item ∷ []) before
-    ∙ ap (λ (item : Item). take k items ++ item ∷ []) (is ∙ read)
-    ∙ sym (take_more items k x lt)
 
 no_items : (k : ℕ) (levels : List ℕ) → leaves_from k levels [] ≡ []
 no_items k [] = refl

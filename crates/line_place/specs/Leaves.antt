@@ -48,10 +48,6 @@ leaves line =
 abbrev pub leaf_of : code.Leaf → Leaf
 leaf_of made = leaf made.place made.level (item_of made.item) made.hangs
 
--- the items of leaves of the code
-abbrev pub items_in : List code.Leaf → List Item
-items_in = map (λ made. item_of made.item)
-
 abbrev pub seen : Option (Bor LineContent) → Content
 seen None = nothing
 seen (Some what) = content_of what.now

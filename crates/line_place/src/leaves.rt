@@ -1,7 +1,7 @@
 //! The items of a line from line-left (CSS Text 3, 4.1.2; UAX 9, 3.4).
 
 ghost use Rattle.std.specs.Prelude.{◌≡◌, ℕ, ◌<◌, ◌≤◌, leb, length, map, drop, slice_get, Some, IfOk};
-ghost use Rattle.line_place.specs.Leaves.{are_spaces, items_in, leaf_of, seen, leaves, leaves_from, levels_of, in_logical_order};
+ghost use Rattle.line_place.specs.Leaves.{are_spaces, leaf_of, seen, leaves, leaves_from, levels_of, in_logical_order};
 ghost use Rattle.line_place.specs.Line.{line_in};
 ghost use Rattle.line_place.specs.Reach.{item_reach, leaf_reach, total};
 
@@ -57,19 +57,19 @@ pub(crate) fn leaves<'a, S: LineSource>(
     ensures are { IfOk result (λ made. map leaf_of made.items ≡ leaves (line_in frame.now (S.items source.now))) }
     ensures reach { IfOk result (λ made. total leaf_reach (map leaf_of made.items) ≤ total item_reach (S.items source.now)) }
 {
-    let logical = logical_leaves(alloc, source)?;
     if frame.base == 0 && source.is_level_zero() {
         level_zero_stays();
-        return Ok(logical);
+        let leaves = logical_leaves(alloc, source)?;
+        Ok(leaves)
+    } else {
+        let leaves = ordered_leaves(alloc, frame, source)?;
+        Ok(leaves)
     }
-    let leaves = ordered_leaves(alloc, frame, &logical)?;
-    Ok(leaves)
 }
 
 // The items in logical order, with their own levels.
 fn logical_leaves<'a, S: LineSource>(alloc: Global, source: &'a S) -> Result<Leaves<'a>, AllocError>
-    ensures are { IfOk result (λ made. map leaf_of made.items ≡ in_logical_order (S.items source.now)) }
-    ensures items { IfOk result (λ made. items_in made.items ≡ S.items source.now) }
+    ensures { IfOk result (λ made. map leaf_of made.items ≡ in_logical_order (S.items source.now)) }
 {
     let hanging = hanging_from(source);
     let mut leaves = Vec::with_capacity(alloc, source.count())?;
@@ -85,81 +85,95 @@ fn logical_leaves<'a, S: LineSource>(alloc: Global, source: &'a S) -> Result<Lea
     Ok(leaves)
 }
 
-// These items by L1 and L2, whatever their levels.
+// The items by L1 and L2, whatever their levels.
 #[tactic(auto, unfolding(crate::specs::Leaves::leaves))]
-fn ordered_leaves<'a>(
+fn ordered_leaves<'a, S: LineSource>(
     alloc: Global,
     frame: &LineFrame,
-    logical: &[Leaf<'a>],
+    source: &'a S,
 ) -> Result<Leaves<'a>, AllocError>
-    requires { map leaf_of logical.now ≡ in_logical_order (items_in logical.now) }
-    ensures are { IfOk result (λ made. map leaf_of made.items ≡ leaves (line_in frame.now (items_in logical.now))) }
-    ensures reach { IfOk result (λ made. total leaf_reach (map leaf_of made.items) ≤ total item_reach (items_in logical.now)) }
+    ensures are { IfOk result (λ made. map leaf_of made.items ≡ leaves (line_in frame.now (S.items source.now))) }
+    ensures reach { IfOk result (λ made. total leaf_reach (map leaf_of made.items) ≤ total item_reach (S.items source.now)) }
 {
-    let levels = levels_of(alloc, frame, logical)?;
-    let aparts = own_aparts(alloc, logical)?;
+    let levels = levels_of(alloc, frame, source)?;
+    let aparts = own_aparts(alloc, source)?;
     let order = visual_order(alloc, &levels, &aparts)?;
+    let hanging = hanging_from(source);
     let mut leaves = Vec::with_capacity(alloc, order.len())?;
     for place in &order {
-        leaves.push(leaf_at(logical, &levels, *place))?;
+        leaves.push(leaf_at(source, &levels, hanging, *place))?;
     }
     Ok(leaves)
 }
 
-// The item at this place of the line, with these levels after L1.
-fn leaf_at<'a>(logical: &[Leaf<'a>], levels: &[u8], place: usize) -> Leaf<'a>
-    requires place { place < length logical.now }
-    requires levels { length levels.now ≡ length logical.now }
-    requires leaves { map leaf_of logical.now ≡ in_logical_order (items_in logical.now) }
-    ensures { Some (leaf_of result) ≡ slice_get (leaves_from 0 levels.now (items_in logical.now)) place }
+// The item at this place of the line, where its Spaces hang from `hanging` on.
+#[inline(always)]
+fn leaf_at<'a, S: LineSource>(
+    source: &'a S,
+    levels: &[u8],
+    hanging: usize,
+    place: usize,
+) -> Leaf<'a>
+    requires place { place < length (S.items source.now) }
+    requires levels { length levels.now ≡ length (S.items source.now) }
+    requires hanging { (k : ℕ) → k < length (S.items source.now) → are_spaces (drop k (S.items source.now)) ≡ leb hanging k }
+    ensures { Some (leaf_of result) ≡ slice_get (leaves_from 0 levels.now (S.items source.now)) place }
 {
-    let own = logical[place];
     Leaf {
+        item: source.item(place),
+        place,
         level: levels[place],
-        ..own
+        hangs: place >= hanging,
     }
 }
 
 // The levels of the line's items after L1.
-fn levels_of(alloc: Global, frame: &LineFrame, logical: &[Leaf]) -> Result<LevelList, AllocError>
-    ensures levels { IfOk result (λ levels. levels.items ≡ levels_of (line_in frame.now (items_in logical.now))) }
-    ensures length { IfOk result (λ levels. length levels.items ≡ length logical.now) }
+fn levels_of<S: LineSource>(
+    alloc: Global,
+    frame: &LineFrame,
+    source: &S,
+) -> Result<LevelList, AllocError>
+    ensures levels { IfOk result (λ levels. levels.items ≡ levels_of (line_in frame.now (S.items source.now))) }
+    ensures length { IfOk result (λ levels. length levels.items ≡ length (S.items source.now)) }
 {
-    let classes = own_classes(alloc, logical)?;
-    let mut levels = own_levels(alloc, logical)?;
+    let classes = own_classes(alloc, source)?;
+    let mut levels = own_levels(alloc, source)?;
     reset(&mut levels, &classes, frame.base);
     Ok(levels)
 }
 
-#[tactic(auto, using(crate::proofs::Lists::levels_are))]
-fn own_levels(alloc: Global, leaves: &[Leaf]) -> Result<LevelList, AllocError>
-    ensures levels { IfOk result (λ levels. levels.items ≡ map (λ item. item.level) (items_in leaves.now)) }
-    ensures length { IfOk result (λ levels. length levels.items ≡ length leaves.now) }
+fn own_levels<S: LineSource>(alloc: Global, source: &S) -> Result<LevelList, AllocError>
+    ensures levels { IfOk result (λ made. made.items ≡ map (λ item. item.level) (S.items source.now)) }
+    ensures length { IfOk result (λ made. length made.items ≡ length (S.items source.now)) }
 {
-    leaves.iter().map(|leaf| leaf.item.level).collect(alloc)
+    let mut made = Vec::with_capacity(alloc, source.count())?;
+    for place in 0..source.count() {
+        made.push(source.item(place).level)?;
+    }
+    Ok(made)
 }
 
 // What parts each item from the one before it.
-fn own_aparts(alloc: Global, leaves: &[Leaf]) -> Result<Aparts, AllocError>
-    ensures aparts { IfOk result (λ aparts. aparts.items ≡ map (λ item. item.apart) (items_in leaves.now)) }
-    ensures length { IfOk result (λ aparts. length aparts.items ≡ length leaves.now) }
+fn own_aparts<S: LineSource>(alloc: Global, source: &S) -> Result<Aparts, AllocError>
+    ensures aparts { IfOk result (λ made. made.items ≡ map (λ item. item.apart) (S.items source.now)) }
+    ensures length { IfOk result (λ made. length made.items ≡ length (S.items source.now)) }
 {
-    let mut aparts = Vec::with_capacity(alloc, leaves.len())?;
-    for leaf in leaves {
-        aparts.push(leaf.item.apart)?;
+    let mut made = Vec::with_capacity(alloc, source.count())?;
+    for place in 0..source.count() {
+        made.push(source.item(place).apart)?;
     }
-    Ok(aparts)
+    Ok(made)
 }
 
-fn own_classes(alloc: Global, leaves: &[Leaf]) -> Result<ClassList, AllocError>
-    ensures classes { IfOk result (λ classes. classes.items ≡ map (λ item. item.class) (items_in leaves.now)) }
-    ensures length { IfOk result (λ classes. length classes.items ≡ length leaves.now) }
+fn own_classes<S: LineSource>(alloc: Global, source: &S) -> Result<ClassList, AllocError>
+    ensures classes { IfOk result (λ made. made.items ≡ map (λ item. item.class) (S.items source.now)) }
+    ensures length { IfOk result (λ made. length made.items ≡ length (S.items source.now)) }
 {
-    let mut classes = Vec::with_capacity(alloc, leaves.len())?;
-    for leaf in leaves {
-        classes.push(leaf.item.class)?;
+    let mut made = Vec::with_capacity(alloc, source.count())?;
+    for place in 0..source.count() {
+        made.push(source.item(place).class)?;
     }
-    Ok(classes)
+    Ok(made)
 }
 
 // The place from which on the line has nothing but Spaces.
