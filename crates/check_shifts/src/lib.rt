@@ -1,0 +1,5 @@
+//! Tests of shifts: that memory is found for a shifted page.
+#![tactic(auto)]
+
+#[cfg(test)]
+mod pages;
