@@ -36,7 +36,6 @@ fn run_length(leaves: &[Leaf]) -> usize
 }
 
 // Whether a run goes on from the one leaf to the next.
-#[inline(always)]
 fn goes_on(leaf: &Leaf, next: &Leaf) -> bool
     ensures { result ≡ goes_on (leaf_of leaf.now) (leaf_of next.now) }
 {
@@ -84,7 +83,7 @@ pub(crate) fn is_place(one: Option<usize>, other: Option<usize>) -> bool
 }
 
 // Whether the second item follows the first one, where text of this level goes from line-left, or the other way.
-fn follows(level: u8, place: usize, next: usize) -> bool
+pub(crate) fn follows(level: u8, place: usize, next: usize) -> bool
     ensures { result ≡ follows level place next }
 {
     if level % 2 == 0 {

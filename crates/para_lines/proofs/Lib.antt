@@ -13,3 +13,5 @@ pub mod SpreadLaws
 pub mod Spreading
 pub mod StackLaws
 pub mod StandLaws
+pub mod TextLines
+pub mod UnitLines
