@@ -20,7 +20,7 @@ containing mode dir inline block = record { mode = mode; dir = dir; inline = inl
 abbrev shift : (dx dy : ℤ) → Shift
 shift dx dy = record { dx = dx; dy = dy }
 
--- of two insets on an axis that of the start side counts: block-start 5px, inline-start 10% of 200px
+-- an inset on each axis: block-start 5px, inline-start 10% of 200px
 signs : own_shift (insets (Length (pos 320)) Auto Auto (Percent (pos 1000))) (containing modes.HorizontalTb directions.Ltr (pos 12800) None) ≡ shift (pos 1280) (pos 320)
 signs = refl
 

@@ -12,7 +12,8 @@ use wm_modes::{Direction, WritingMode};
 /// The shift of an element with these insets, by the mode and the used direction of its containing block, its inline size
 /// and its definite block size. On each axis of the containing block the inset of the start side counts, or else that of
 /// the end side; a percentage of left or right is of the width, of top or bottom of the height, and `auto` where this isn't
-/// known. Both sizes are from 0 to 2^32 units, and lengths among the insets within 2^32 of 0.
+/// known. Both sizes are from 0 to 2^32 units, lengths among the insets within 2^32 of 0, and percentages within
+/// 9,999,999.99.
 pub fn own_shift(
     insets: &Insets,
     mode: WritingMode,

@@ -11,7 +11,7 @@ ghost use Rattle.wm_modes.specs.Near.{IsNear};
 
 use crate::insets::Shift;
 use crate::kinds::copied;
-use crate::positions::Positions;
+use crate::positions::Position;
 use crate::totals::Totals;
 use place_map::{Placed, PlacedPart, PlacedParts};
 use std::alloc::{AllocError, Global};
@@ -19,18 +19,18 @@ use wm_modes::Rect;
 
 /// A page with each box, line, inline box and run shifted as its node is: by the node's own shift and those of the elements
 /// that it stands in. Nothing else changes. The positions are those of the document that was placed. Takes memory for the
-/// page, and for two numbers a node.
+/// page, for the containing block that each box is, and for the shift of each node.
 ///
 /// All rectangles of the page and their content areas lie within 2^60 units of 0; the sizes of each containing block, the
-/// view among them, are from 0 to 2^32 units; lengths among the insets are within 2^32 of 0; there are no more than 65,536
+/// view among them, are from 0 to 2^32 units; lengths among the insets are within 2^32 of 0, percentages within 9,999,999.99; there are no more than 65,536
 /// positions.
-pub fn shift(alloc: Global, placed: &Placed, positions: &Positions) -> Result<Placed, AllocError>
+pub fn shift(alloc: Global, placed: &Placed, positions: &[Position]) -> Result<Placed, AllocError>
     requires near { AreNearParts (placed_of placed.now).parts }
     requires sized { AreSized (placed_of placed.now) }
-    requires bounded { All HasBounds positions.now.items }
-    requires few { length positions.now.items ≤ 65536 }
-    ensures page { IfOk result (λ made. placed_of made ≡ rule.shift (placed_of placed.now) positions.now.items) }
-    ensures within { IfOk result (λ _. (node : ℕ) → IsWithin (2 ^ 48) (total (placed_of placed.now) positions.now.items node)) }
+    requires bounded { All HasBounds positions.now }
+    requires few { length positions.now ≤ 65536 }
+    ensures page { IfOk result (λ made. placed_of made ≡ rule.shift (placed_of placed.now) positions.now) }
+    ensures within { IfOk result (λ _. (node : ℕ) → IsWithin (2 ^ 48) (total (placed_of placed.now) positions.now node)) }
 {
     let totals = Totals::of_page(alloc, placed, positions)?;
     let root = shifted_part(alloc, &totals, &placed.root)?;
