@@ -22,8 +22,8 @@ use wm_modes::Rect;
 /// page, for the containing block that each box is, and for the shift of each node.
 ///
 /// All rectangles of the page and their content areas lie within 2^60 units of 0; the sizes of each containing block, the
-/// view among them, are from 0 to 2^32 units; lengths among the insets are within 2^32 of 0, percentages within 9,999,999.99; there are no more than 65,536
-/// positions.
+/// view among them, are from 0 to 2^32 units; lengths among the insets are within 2^32 of 0, percentages within
+/// 9,999,999.99; there are no more than 65,536 positions.
 pub fn shift(alloc: Global, placed: &Placed, positions: &[Position]) -> Result<Placed, AllocError>
     requires near { AreNearParts (placed_of placed.now).parts }
     requires sized { AreSized (placed_of placed.now) }
