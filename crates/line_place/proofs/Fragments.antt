@@ -51,7 +51,7 @@ pub first_level : (run : List code.Leaf) (d : code.Leaf) → 0 < length run → 
 first_level [] d some = absurd (omega arith)
 first_level (leaf ∷ run) d some = refl
 
-pub first_inside : (run : List code.Leaf) (d : code.Leaf) → 0 < length run → (get_or run 0 d).item.now.inside ≡ inside_of (map leaf_of run)
+pub first_inside : (run : List code.Leaf) (d : code.Leaf) → 0 < length run → (get_or run 0 d).item.inside ≡ inside_of (map leaf_of run)
 first_inside [] d some = absurd (omega arith)
 first_inside (leaf ∷ run) d some = refl
 

@@ -4,6 +4,7 @@ pub mod Chains
 pub mod EdgeLaws
 pub mod FragmentLaws
 pub mod Fragments
+pub mod FrameLaws
 pub mod Hanging
 pub mod Leaf
 pub mod Lengths
@@ -18,6 +19,4 @@ pub mod RunLaws
 pub mod ShownLaws
 pub mod SpreadLaws
 pub mod SumLaws
-pub mod TextLaws
-pub mod UnitLaws
 pub mod WalkLaws

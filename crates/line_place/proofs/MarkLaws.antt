@@ -1,12 +1,12 @@
 -- Rows of marks.
-use Rattle.std.proofs.Common.{◌≡◌, ◌∙◌, ap, sym, arith, Bool, true, false, not, cond, ℕ, zero, suc, ◌+◌, ◌-◌, ◌<◌, ◌≤◌, List, [], ◌∷◌, ◌++◌, length, map, get_or, take, drop, reverse, Option, Some, None, append_assoc, subst}
+use Rattle.std.proofs.Common.{◌≡◌, ◌∙◌, ◌==◌, ap, refl, sym, arith, Bool, true, false, not, cond, ℕ, zero, suc, ◌+◌, ◌-◌, ◌<◌, ◌≤◌, List, [], ◌∷◌, ◌++◌, length, map, get_or, take, drop, reverse, Option, Some, None, append_assoc, subst}
 use Rattle.std.specs.List.{filter}
 use Rattle.std.proofs.lemmas.List.{drop_more, take_more, get_or-map, get_or-reverse, length-map, length-reverse, map_push, reverse-append}
 use Rattle.line_place.specs.declared.line.LineBox.{LineBox}
 use Rattle.line_place.specs.declared.marks.Mark as code
 use Rattle.line_place.specs.Leaves.{Leaf}
-use Rattle.line_place.specs.Runs.{is_place}
-use Rattle.line_place.specs.Marks.{Mark, begins, ends, shows, at_left, at_right, between, chain, chain_below, has, inside_of, left_behind, leftmost, mark_of, marks_after, rightmost}
+use Rattle.line_place.specs.Runs.{is_place, runs}
+use Rattle.line_place.specs.Marks.{Mark, begins, ends, shows, at_left, at_right, between, chain, chain_below, has, inside_of, left_behind, leftmost, mark_of, marks_after, marks_of, rightmost}
 use Rattle.line_place.specs.Reach.{AreOfBoxes, IsOfBox}
 
 -- a run more
@@ -158,3 +158,22 @@ of_right_one n after (shows run) h = h
 pub of_right : (n : ℕ) (marks : List Mark) → AreOfBoxes n marks → AreOfBoxes n (rightmost marks)
 of_right n [] h = tt
 of_right n (mark ∷ marks) h = (of_right_one n marks mark h.0, of_right n marks h.1)
+
+-- ---- a line without boxes is a row of what it shows
+
+after_are : (inside : Option ℕ) (rs : List (List Leaf)) → marks_after [] inside rs ≡ map shows rs
+after_are inside [] = refl
+after_are inside (run ∷ rs) = ap (λ (ms : List Mark). shows run ∷ ms) (after_are (inside_of run) rs)
+
+right_are : (rs : List (List Leaf)) → rightmost (map shows rs) ≡ map shows rs
+right_are [] = refl
+right_are (run ∷ rs) = ap (λ (ms : List Mark). shows run ∷ ms) (right_are rs)
+
+left_are : (before : List Mark) (rs : List (List Leaf)) → leftmost before (map shows rs) ≡ map shows rs
+left_are before [] = refl
+left_are before (run ∷ rs) = ap (λ (ms : List Mark). shows run ∷ ms) (left_are (before ++ shows run ∷ []) rs)
+
+pub bare_alone : (boxes : List LineBox) (ls : List Leaf) → (length boxes == 0) ≡ true → marks_after boxes None (runs ls) ≡ marks_of boxes ls
+bare_alone [] ls is_none =
+    sym (ap (λ (ms : List Mark). leftmost [] (rightmost ms)) (after_are None (runs ls)) ∙ ap (leftmost []) (right_are (runs ls)) ∙ left_are [] (runs ls) ∙ sym (after_are None (runs ls)))
+bare_alone (box ∷ boxes) ls is_none = let some : (length (box ∷ boxes) == 0) ≡ false = grind arith in absurd (cc)

@@ -30,6 +30,10 @@ leaves_from place [] items = []
 leaves_from place (level ∷ levels) [] = []
 leaves_from place (level ∷ levels) (item ∷ items) = leaf place level item (are_spaces (item ∷ items)) ∷ leaves_from (place + 1) levels items
 
+-- the items of a line in logical order, with their own levels
+abbrev pub in_logical_order : List Item → List Leaf
+in_logical_order items = leaves_from 0 (map (λ item. item.level) items) items
+
 -- L1 on the levels of the line's items
 abbrev pub levels_of : Line → List ℕ
 levels_of line = reset line.base (map (λ item. item.level) line.items) (map (λ item. item.class) line.items)
@@ -42,7 +46,7 @@ leaves line =
 
 -- the same of a leaf of the code
 abbrev pub leaf_of : code.Leaf → Leaf
-leaf_of made = leaf made.place made.level (item_of made.item.now) made.hangs
+leaf_of made = leaf made.place made.level (item_of made.item) made.hangs
 
 abbrev pub seen : Option (Bor LineContent) → Content
 seen None = nothing

@@ -7,6 +7,4 @@ pub mod Placing
 pub mod Reach
 pub mod Runs
 pub mod Spread
-pub mod TextLine
-pub mod UnitLine
 pub mod Walk

@@ -9,6 +9,7 @@ use Rattle.line_place.specs.declared.line.Extents.{Extents}
 use Rattle.line_place.specs.declared.line.LineBox.{LineBox}
 use Rattle.line_place.specs.declared.line.LineItem.{LineItem}
 use Rattle.line_place.specs.declared.line.LineInput.{LineInput}
+use Rattle.line_place.specs.declared.line.LineFrame.{LineFrame}
 use Rattle.line_place.specs.declared.line.LineContent as code
 use Rattle.line_place.specs.declared.line.LineContent.TheVariants as codes
 
@@ -50,6 +51,17 @@ item_of item = record {
   space = item.space;
   apart = item.apart;
   what = content_of item.what;
+}
+
+-- the line of these items in a frame
+abbrev pub line_in : LineFrame → List Item → Line
+line_in frame items = record {
+  base = frame.base;
+  align = frame.align;
+  available = frame.available;
+  strut = frame.strut;
+  items = items;
+  boxes = frame.boxes.now;
 }
 
 abbrev pub line_of : LineInput → Line

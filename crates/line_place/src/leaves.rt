@@ -1,12 +1,12 @@
 //! The items of a line from line-left (CSS Text 3, 4.1.2; UAX 9, 3.4).
 
-ghost use Rattle.std.specs.Prelude.{◌≡◌, ◌==◌, ◌&&◌, ℕ, ◌<◌, ◌≤◌, leb, length, map, drop, slice_get, Some, IfOk};
-ghost use Rattle.std.specs.List.{list_all};
-ghost use Rattle.line_place.specs.Leaves.{are_spaces, leaf_of, seen, leaves, leaves_from, levels_of};
-ghost use Rattle.line_place.specs.Line.{item_of, line_of};
+ghost use Rattle.std.specs.Prelude.{◌≡◌, ℕ, ◌<◌, ◌≤◌, leb, length, map, drop, slice_get, Some, IfOk};
+ghost use Rattle.line_place.specs.Leaves.{are_spaces, leaf_of, seen, leaves, leaves_from, levels_of, in_logical_order};
+ghost use Rattle.line_place.specs.Line.{line_in};
 ghost use Rattle.line_place.specs.Reach.{item_reach, leaf_reach, total};
 
-use crate::line::{LineContent, LineInput, LineItem};
+use crate::line::{LineContent, LineFrame, LineItem};
+use crate::source::LineSource;
 use bidi_explicit::{ClassList, LevelList};
 use bidi_order::laws::level_zero_stays;
 use bidi_order::{reset, visual_order};
@@ -16,7 +16,7 @@ use std::alloc::{AllocError, Global};
 /// has no extent there and isn't seen.
 #[derive(Clone, Copy)]
 pub(crate) struct Leaf<'a> {
-    pub(crate) item: &'a LineItem<'a>,
+    pub(crate) item: LineItem<'a>,
     pub(crate) place: usize,
     pub(crate) level: u8,
     pub(crate) hangs: bool,
@@ -28,6 +28,7 @@ type Aparts = Vec<Option<u8>>;
 
 impl Leaf<'_> {
     /// Its extent along the line.
+    #[inline(always)]
     pub(crate) fn extent(&self) -> i64
         ensures { result ≡ (leaf_of self.now).extent }
     {
@@ -35,6 +36,7 @@ impl Leaf<'_> {
     }
 
     /// What is seen of it.
+    #[inline(always)]
     pub(crate) fn what(&self) -> Option<&LineContent>
         ensures { seen result ≡ (leaf_of self.now).what }
     {
@@ -47,81 +49,78 @@ impl Leaf<'_> {
 }
 
 /// The items of a line from line-left.
-pub(crate) fn leaves<'a>(alloc: Global, line: &'a LineInput<'a>) -> Result<Leaves<'a>, AllocError>
-    ensures are { IfOk result (λ made. map leaf_of made.items ≡ leaves (line_of line.now)) }
-    ensures reach { IfOk result (λ made. total leaf_reach (map leaf_of made.items) ≤ total item_reach (line_of line.now).items) }
+pub(crate) fn leaves<'a, S: LineSource>(
+    alloc: Global,
+    frame: &LineFrame,
+    source: &'a S,
+) -> Result<Leaves<'a>, AllocError>
+    ensures are { IfOk result (λ made. map leaf_of made.items ≡ leaves (line_in frame.now (S.items source.now))) }
+    ensures reach { IfOk result (λ made. total leaf_reach (map leaf_of made.items) ≤ total item_reach (S.items source.now)) }
 {
-    if is_level_zero(line) {
+    if frame.base == 0 && source.is_level_zero() {
         level_zero_stays();
-        let leaves = leaves_in_order(alloc, &line.items)?;
+        let leaves = logical_leaves(alloc, source)?;
         Ok(leaves)
     } else {
-        let leaves = ordered_leaves(alloc, line)?;
+        let leaves = ordered_leaves(alloc, frame, source)?;
         Ok(leaves)
     }
 }
 
-// Whether each item has level 0, which is the base level too: then L1 changes no level, and L2 turns nothing round.
-fn is_level_zero(line: &LineInput) -> bool
-    ensures { result ≡ (line.now.base == 0 && list_all (λ item. item.level == 0) line.now.items.items) }
+// The items in logical order, with their own levels.
+fn logical_leaves<'a, S: LineSource>(alloc: Global, source: &'a S) -> Result<Leaves<'a>, AllocError>
+    ensures { IfOk result (λ made. map leaf_of made.items ≡ in_logical_order (S.items source.now)) }
 {
-    line.base == 0 && are_level_zero(&line.items)
-}
-
-fn are_level_zero(items: &[LineItem]) -> bool
-    ensures { result ≡ list_all (λ item. item.level == 0) items.now }
-{
-    items.iter().all(
-        |item| -> bool
-            ensures { result ≡ (item.now.level == 0) }
-        { item.level == 0 },
-    )
-}
-
-// The items in their own order, with their own levels.
-fn leaves_in_order<'a>(alloc: Global, items: &'a [LineItem<'a>]) -> Result<Leaves<'a>, AllocError>
-    ensures { IfOk result (λ made. map leaf_of made.items ≡ leaves_from 0 (map (λ item. item.level) (map item_of items.now)) (map item_of items.now)) }
-{
-    let hanging = hanging_from(items);
-    let mut leaves = Vec::with_capacity(alloc, items.len())?;
-    for place in 0..items.len() {
-        let item = &items[place];
-        leaves.push(Leaf {
+    let hanging = hanging_from(source);
+    let mut leaves = Vec::with_capacity(alloc, source.count())?;
+    for place in 0..source.count() {
+        let item = source.item(place);
+        leaves.push_reserved(Leaf {
             item,
             place,
             level: item.level,
             hangs: place >= hanging,
-        })?;
+        });
     }
     Ok(leaves)
 }
 
 // The items by L1 and L2, whatever their levels.
 #[tactic(auto, unfolding(crate::specs::Leaves::leaves))]
-fn ordered_leaves<'a>(alloc: Global, line: &'a LineInput<'a>) -> Result<Leaves<'a>, AllocError>
-    ensures are { IfOk result (λ made. map leaf_of made.items ≡ leaves (line_of line.now)) }
-    ensures reach { IfOk result (λ made. total leaf_reach (map leaf_of made.items) ≤ total item_reach (line_of line.now).items) }
+fn ordered_leaves<'a, S: LineSource>(
+    alloc: Global,
+    frame: &LineFrame,
+    source: &'a S,
+) -> Result<Leaves<'a>, AllocError>
+    ensures are { IfOk result (λ made. map leaf_of made.items ≡ leaves (line_in frame.now (S.items source.now))) }
+    ensures reach { IfOk result (λ made. total leaf_reach (map leaf_of made.items) ≤ total item_reach (S.items source.now)) }
 {
-    let levels = levels_of(alloc, line)?;
-    let aparts = own_aparts(alloc, &line.items)?;
+    let levels = levels_of(alloc, frame, source)?;
+    let aparts = own_aparts(alloc, source)?;
     let order = visual_order(alloc, &levels, &aparts)?;
-    let hanging = hanging_from(&line.items);
+    let hanging = hanging_from(source);
     let mut leaves = Vec::with_capacity(alloc, order.len())?;
     for place in &order {
-        leaves.push(leaf_at(line, &levels, hanging, *place))?;
+        leaves.push(leaf_at(source, &levels, hanging, *place))?;
     }
     Ok(leaves)
 }
 
 // The item at this place of the line, where its Spaces hang from `hanging` on.
-fn leaf_at<'a>(line: &'a LineInput<'a>, levels: &[u8], hanging: usize, place: usize) -> Leaf<'a>
-    requires place { place < length line.now.items.items }
-    requires levels { length levels.now ≡ length line.now.items.items }
-    requires hanging { (k : ℕ) → k < length line.now.items.items → are_spaces (drop k (map item_of line.now.items.items)) ≡ leb hanging k }
-    ensures { Some (leaf_of result) ≡ slice_get (leaves_from 0 levels.now (map item_of line.now.items.items)) place }
+#[inline(always)]
+fn leaf_at<'a, S: LineSource>(
+    source: &'a S,
+    levels: &[u8],
+    hanging: usize,
+    place: usize,
+) -> Leaf<'a>
+    requires place { place < length (S.items source.now) }
+    requires levels { length levels.now ≡ length (S.items source.now) }
+    requires hanging { (k : ℕ) → k < length (S.items source.now) → are_spaces (drop k (S.items source.now)) ≡ leb hanging k }
+    ensures { Some (leaf_of result) ≡ slice_get (leaves_from 0 levels.now (S.items source.now)) place }
 {
     Leaf {
-        item: &line.items[place],
+        item: source.item(place),
         place,
         level: levels[place],
         hangs: place >= hanging,
@@ -129,54 +128,61 @@ fn leaf_at<'a>(line: &'a LineInput<'a>, levels: &[u8], hanging: usize, place: us
 }
 
 // The levels of the line's items after L1.
-fn levels_of(alloc: Global, line: &LineInput) -> Result<LevelList, AllocError>
-    ensures levels { IfOk result (λ levels. levels.items ≡ levels_of (line_of line.now)) }
-    ensures length { IfOk result (λ levels. length levels.items ≡ length line.now.items.items) }
+fn levels_of<S: LineSource>(
+    alloc: Global,
+    frame: &LineFrame,
+    source: &S,
+) -> Result<LevelList, AllocError>
+    ensures levels { IfOk result (λ levels. levels.items ≡ levels_of (line_in frame.now (S.items source.now))) }
+    ensures length { IfOk result (λ levels. length levels.items ≡ length (S.items source.now)) }
 {
-    let classes = own_classes(alloc, &line.items)?;
-    let mut levels = own_levels(alloc, &line.items)?;
-    reset(&mut levels, &classes, line.base);
+    let classes = own_classes(alloc, source)?;
+    let mut levels = own_levels(alloc, source)?;
+    reset(&mut levels, &classes, frame.base);
     Ok(levels)
 }
 
-#[tactic(auto, using(crate::proofs::Lists::levels_are))]
-fn own_levels(alloc: Global, items: &[LineItem]) -> Result<LevelList, AllocError>
-    ensures levels { IfOk result (λ levels. levels.items ≡ map (λ item. item.level) (map item_of items.now)) }
-    ensures length { IfOk result (λ levels. length levels.items ≡ length items.now) }
+fn own_levels<S: LineSource>(alloc: Global, source: &S) -> Result<LevelList, AllocError>
+    ensures levels { IfOk result (λ made. made.items ≡ map (λ item. item.level) (S.items source.now)) }
+    ensures length { IfOk result (λ made. length made.items ≡ length (S.items source.now)) }
 {
-    items.iter().map(|item| item.level).collect(alloc)
+    let mut made = Vec::with_capacity(alloc, source.count())?;
+    for place in 0..source.count() {
+        made.push(source.item(place).level)?;
+    }
+    Ok(made)
 }
 
 // What parts each item from the one before it.
-fn own_aparts(alloc: Global, items: &[LineItem]) -> Result<Aparts, AllocError>
-    ensures aparts { IfOk result (λ aparts. aparts.items ≡ map (λ item. item.apart) (map item_of items.now)) }
-    ensures length { IfOk result (λ aparts. length aparts.items ≡ length items.now) }
+fn own_aparts<S: LineSource>(alloc: Global, source: &S) -> Result<Aparts, AllocError>
+    ensures aparts { IfOk result (λ made. made.items ≡ map (λ item. item.apart) (S.items source.now)) }
+    ensures length { IfOk result (λ made. length made.items ≡ length (S.items source.now)) }
 {
-    let mut aparts = Vec::with_capacity(alloc, items.len())?;
-    for item in items {
-        aparts.push(item.apart)?;
+    let mut made = Vec::with_capacity(alloc, source.count())?;
+    for place in 0..source.count() {
+        made.push(source.item(place).apart)?;
     }
-    Ok(aparts)
+    Ok(made)
 }
 
-fn own_classes(alloc: Global, items: &[LineItem]) -> Result<ClassList, AllocError>
-    ensures classes { IfOk result (λ classes. classes.items ≡ map (λ item. item.class) (map item_of items.now)) }
-    ensures length { IfOk result (λ classes. length classes.items ≡ length items.now) }
+fn own_classes<S: LineSource>(alloc: Global, source: &S) -> Result<ClassList, AllocError>
+    ensures classes { IfOk result (λ made. made.items ≡ map (λ item. item.class) (S.items source.now)) }
+    ensures length { IfOk result (λ made. length made.items ≡ length (S.items source.now)) }
 {
-    let mut classes = Vec::with_capacity(alloc, items.len())?;
-    for item in items {
-        classes.push(item.class)?;
+    let mut made = Vec::with_capacity(alloc, source.count())?;
+    for place in 0..source.count() {
+        made.push(source.item(place).class)?;
     }
-    Ok(classes)
+    Ok(made)
 }
 
 // The place from which on the line has nothing but Spaces.
-fn hanging_from(items: &[LineItem]) -> usize
-    ensures within { result ≤ length items.now }
-    ensures is { (k : ℕ) → k < length items.now → are_spaces (drop k (map item_of items.now)) ≡ leb result k }
+fn hanging_from<S: LineSource>(source: &S) -> usize
+    ensures within { result ≤ length (S.items source.now) }
+    ensures is { (k : ℕ) → k < length (S.items source.now) → are_spaces (drop k (S.items source.now)) ≡ leb result k }
 {
-    let mut from = items.len();
-    while from > 0 && items[from - 1].space {
+    let mut from = source.count();
+    while from > 0 && source.item(from - 1).space {
         from -= 1;
     }
     from

@@ -29,7 +29,7 @@ type Places = Vec<usize>;
 type Flags = Vec<bool>;
 
 /// The marks of leaves that stand in these boxes.
-#[tactic(auto, using(crate::proofs::TextLaws::bare_alone))]
+#[tactic(auto, using(crate::proofs::MarkLaws::bare_alone))]
 pub(crate) fn marks<'a>(
     alloc: Global,
     boxes: &[LineBox],

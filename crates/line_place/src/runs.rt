@@ -2,11 +2,11 @@
 
 ghost use Rattle.std.specs.Prelude.{◌≡◌, ◌+◌, ◌<◌, ◌≤◌, [], ◌∷◌, ◌++◌, length, map, take, drop};
 ghost use Rattle.line_place.specs.Leaves.{leaf_of};
-ghost use Rattle.line_place.specs.Line.{content_of};
-ghost use Rattle.line_place.specs.Runs.{are_alike, follows, goes_on, is_form, is_place, runs};
+ghost use Rattle.line_place.specs.Line.{content_of, item_of};
+ghost use Rattle.line_place.specs.Runs.{are_alike, follows, goes_on, is_form, is_place, runs, stand_alike};
 
 use crate::leaves::Leaf;
-use crate::line::LineContent;
+use crate::line::{LineContent, LineItem};
 use fragment_types::UnitKind;
 
 /// The run of leaves that begins at this place.
@@ -36,6 +36,7 @@ fn run_length(leaves: &[Leaf]) -> usize
 }
 
 // Whether a run goes on from the one leaf to the next.
+#[inline(always)]
 fn goes_on(leaf: &Leaf, next: &Leaf) -> bool
     ensures { result ≡ goes_on (leaf_of leaf.now) (leaf_of next.now) }
 {
@@ -51,6 +52,13 @@ fn are_seen_alike(leaf: &Leaf, next: &Leaf) -> bool
     ensures { result ≡ are_alike (leaf_of leaf.now).what (leaf_of next.now).what }
 {
     !leaf.hangs && !next.hangs && are_alike(&leaf.item.what, &next.item.what)
+}
+
+/// Whether two items may stand in one run: units of one text node and one form, inside the same box.
+pub(crate) fn stand_alike(item: &LineItem, other: &LineItem) -> bool
+    ensures { result ≡ stand_alike (item_of item.now) (item_of other.now) }
+{
+    are_alike(&item.what, &other.what) && is_place(item.inside, other.inside)
 }
 
 // Units of one text node and one form.
@@ -83,7 +91,7 @@ pub(crate) fn is_place(one: Option<usize>, other: Option<usize>) -> bool
 }
 
 // Whether the second item follows the first one, where text of this level goes from line-left, or the other way.
-pub(crate) fn follows(level: u8, place: usize, next: usize) -> bool
+fn follows(level: u8, place: usize, next: usize) -> bool
     ensures { result ≡ follows level place next }
 {
     if level % 2 == 0 {

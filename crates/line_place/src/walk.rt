@@ -4,7 +4,7 @@ ghost use Rattle.std.specs.Prelude.{◌≡◌, ◌+◌, ◌<◌, ◌≤◌, ◌^
 ghost use Rattle.fragment_types.specs.Fragment.{Pieces, before, kind_of, none, piece, piece_of, pieces_of, run as run_kind, span as span_kind};
 ghost use Rattle.fragment_types.specs.declared.fragment.Fragment.{out-Fragment};
 ghost use Rattle.line_place.specs.Leaves.{leaf_of, seen};
-ghost use Rattle.line_place.specs.Line.{line_of};
+ghost use Rattle.line_place.specs.Line.{line_in};
 ghost use Rattle.line_place.specs.Marks.{Mark as SeenMark, box_at, inside_of, mark_of};
 ghost use Rattle.line_place.specs.Placing as rule;
 ghost use Rattle.line_place.specs.Reach.{AreInBoxes, AreOfBoxes, ArePaired, AreReached, CanStand, IsBefore, IsInBox, IsOfBox, box_reach, extents_reach, leaf_reach, mark_reach, open_behind, total};
@@ -12,7 +12,7 @@ ghost use Rattle.line_place.specs.declared.walk.Open.{Open};
 ghost use Rattle.line_place.specs.Walk.{AreOpen, followed, followed_if, whole};
 
 use crate::leaves::Leaf;
-use crate::line::{Extents, LineBox, LineContent, LineInput};
+use crate::line::{Extents, LineBox, LineContent, LineFrame};
 use crate::marks::Mark;
 use crate::measure::{extent_of, left, left_margin, right, right_margin};
 use fragment_types::{
@@ -57,8 +57,8 @@ struct AtomMargins {
     baseline: i64,
 }
 
-/// Text in a line that reaches so far over its baseline.
-pub(crate) fn text_rect(extents: &Extents, over: i64, left: i64, extent: i64) -> FlowRect
+// Text in a line that reaches so far over its baseline.
+fn text_rect(extents: &Extents, over: i64, left: i64, extent: i64) -> FlowRect
     requires extents { extents_reach extents.now ≤ 2 ^ 60 }
     requires over { unsigned_abs over ≤ 2 ^ 61 }
     ensures { result ≡ rule.text_rect extents.now over left extent }
@@ -89,30 +89,34 @@ fn box_rect(inline_box: &LineBox, over: i64, left: i64, right: i64) -> FlowRect
     }
 }
 
-fn extents_in<'a>(line: &'a LineInput, inside: Option<usize>) -> &'a Extents
-    requires { IsBefore (length line.now.boxes.items) inside }
-    ensures { result.now ≡ rule.extents_in (line_of line.now) inside }
+fn extents_in<'a>(line: &'a LineFrame<'a>, inside: Option<usize>) -> &'a Extents
+    requires { IsBefore (length line.now.boxes.now) inside }
+    ensures { result.now ≡ rule.extents_in (line_in line.now []) inside }
 {
     match inside {
         None => &line.strut,
-        Some(place) => &line.boxes[place].extents,
+        Some(place) => &box_at(line, place).extents,
     }
 }
 
-/// The name of what stands in a line, by its node.
-pub(crate) fn unnumbered(node: u32) -> BoxName
+// The box at this place of a line.
+fn box_at<'a>(line: &LineFrame<'a>, place: usize) -> &'a LineBox
+    requires { place < length line.now.boxes.now }
+    ensures { result.now ≡ box_at line.now.boxes.now place }
+{
+    &line.boxes[place]
+}
+
+// The name of what stands in a line, by its node.
+fn unnumbered(node: u32) -> BoxName
     ensures { result ≡ rule.unnumbered node }
 {
     BoxName { node, ordinal: 0 }
 }
 
-/// What this content shows as a unit of a run, with this extent. What isn't text shows nothing.
+// What this content shows as a unit of a run, with this extent. What isn't text shows nothing.
 #[inline(always)]
-pub fn run_unit(
-    alloc: Global,
-    what: Option<&LineContent>,
-    extent: i64,
-) -> Result<RunUnit, AllocError>
+fn run_unit(alloc: Global, what: Option<&LineContent>, extent: i64) -> Result<RunUnit, AllocError>
     ensures { IfOk result (λ made. made ≡ rule.unit_with (seen what.entry) extent) }
 {
     match what {
@@ -136,6 +140,7 @@ pub fn run_unit(
     }
 }
 
+#[inline(always)]
 fn unit_of(alloc: Global, leaf: &Leaf) -> Result<RunUnit, AllocError>
     ensures { IfOk result (λ made. made ≡ rule.unit_of (leaf_of leaf.now)) }
 {
@@ -147,8 +152,8 @@ fn units_of(alloc: Global, run: &[Leaf]) -> Result<RunUnits, AllocError>
     ensures { IfOk result (λ made. made.items ≡ map rule.unit_of (map leaf_of run.now)) }
 {
     let mut units = Vec::with_capacity(alloc, run.len())?;
-    for leaf in run {
-        units.push(unit_of(alloc, leaf)?)?;
+    for k in 0..run.len() {
+        units.push_reserved(unit_of(alloc, &run[k])?);
     }
     Ok(units)
 }
@@ -169,7 +174,7 @@ fn span(alloc: Global, node: u32, rect: FlowRect, parts: Fragments) -> Result<Fr
 fn text(
     alloc: Global,
     empty: &Rc<Fragments>,
-    line: &LineInput,
+    line: &LineFrame,
     over: i64,
     left: i64,
     run: &[Leaf],
@@ -178,11 +183,11 @@ fn text(
 ) -> Result<Fragment, AllocError>
     requires empty { empty.now.value.items ≡ [] }
     requires some { 0 < length run.now }
-    requires inside { IsBefore (length line.now.boxes.items) (inside_of (map leaf_of run.now)) }
+    requires inside { IsBefore (length line.now.boxes.now) (inside_of (map leaf_of run.now)) }
     requires extent { extent ≡ rule.extent_of (map leaf_of run.now) }
-    requires extents { extents_reach (rule.extents_in (line_of line.now) (inside_of (map leaf_of run.now))) ≤ 2 ^ 60 }
+    requires extents { extents_reach (rule.extents_in (line_in line.now []) (inside_of (map leaf_of run.now))) ≤ 2 ^ 60 }
     requires over { unsigned_abs over ≤ 2 ^ 61 }
-    ensures { IfOk result (λ made. (next : Pieces) → before made next ≡ rule.text_piece (line_of line.now) over left named.now.node named.now.form named.now.natural (map leaf_of run.now) next) }
+    ensures { IfOk result (λ made. (next : Pieces) → before made next ≡ rule.text_piece (line_in line.now []) over left named.now.node named.now.form named.now.natural (map leaf_of run.now) next) }
 {
     let (level, inside) = (run[0].level, run[0].item.inside);
     let units = units_of(alloc, run)?;
@@ -209,8 +214,8 @@ fn run_kind(
     })
 }
 
-/// A fragment with none inside it, which shares this empty list.
-pub(crate) fn without_inner(
+// A fragment with none inside it, which shares this empty list.
+fn without_inner(
     empty: &Rc<Fragments>,
     name: BoxName,
     rect: FlowRect,
@@ -255,7 +260,7 @@ fn atom(
 fn shown(
     alloc: Global,
     empty: &Rc<Fragments>,
-    line: &LineInput,
+    line: &LineFrame,
     over: i64,
     left: i64,
     run: &[Leaf],
@@ -263,13 +268,13 @@ fn shown(
 ) -> Result<Option<Fragment>, AllocError>
     requires empty { empty.now.value.items ≡ [] }
     requires some { 0 < length run.now }
-    requires inside { IsBefore (length line.now.boxes.items) (inside_of (map leaf_of run.now)) }
+    requires inside { IsBefore (length line.now.boxes.now) (inside_of (map leaf_of run.now)) }
     requires run { total leaf_reach (map leaf_of run.now) ≤ 2 ^ 60 }
     requires extent { extent ≡ rule.extent_of (map leaf_of run.now) }
-    requires extents { extents_reach (rule.extents_in (line_of line.now) (inside_of (map leaf_of run.now))) ≤ 2 ^ 60 }
+    requires extents { extents_reach (rule.extents_in (line_in line.now []) (inside_of (map leaf_of run.now))) ≤ 2 ^ 60 }
     requires over { unsigned_abs over ≤ 2 ^ 61 }
     requires left { unsigned_abs left ≤ 2 ^ 61 }
-    ensures { IfOk result (λ made. (next : Pieces) → followed_if made next ≡ rule.run_piece (line_of line.now) over left (map leaf_of run.now) next) }
+    ensures { IfOk result (λ made. (next : Pieces) → followed_if made next ≡ rule.run_piece (line_in line.now []) over left (map leaf_of run.now) next) }
 {
     match run[0].what() {
         Some(LineContent::Unit { node, form, .. }) => {
@@ -314,20 +319,20 @@ fn shown(
 /// The fragments that this row of marks makes, from `at` on, in a line that reaches so far over its baseline.
 pub(crate) fn walked(
     alloc: Global,
-    line: &LineInput,
+    line: &LineFrame,
     over: i64,
     at: i64,
     marks: &[Mark],
 ) -> Result<Fragments, AllocError>
-    requires of_boxes { AreOfBoxes (length line.now.boxes.items) (map mark_of marks.now) }
-    requires in_boxes { AreInBoxes (length line.now.boxes.items) (map mark_of marks.now) }
+    requires of_boxes { AreOfBoxes (length line.now.boxes.now) (map mark_of marks.now) }
+    requires in_boxes { AreInBoxes (length line.now.boxes.now) (map mark_of marks.now) }
     requires paired { ArePaired 0 (map mark_of marks.now) }
-    requires boxes { AreReached line.now.boxes.items }
+    requires boxes { AreReached line.now.boxes.now }
     requires strut { extents_reach line.now.strut ≤ 2 ^ 60 }
     requires over { unsigned_abs over ≤ 2 ^ 61 }
     requires at { unsigned_abs at ≤ 2 ^ 60 }
-    requires reach { total (mark_reach line.now.boxes.items) (map mark_of marks.now) ≤ 2 ^ 60 }
-    ensures { IfOk result (λ parts. pieces_of parts.items ≡ rule.outermost (rule.rows (line_of line.now) over at (map mark_of marks.now))) }
+    requires reach { total (mark_reach line.now.boxes.now) (map mark_of marks.now) ≤ 2 ^ 60 }
+    ensures { IfOk result (λ parts. pieces_of parts.items ≡ rule.outermost (rule.rows (line_in line.now []) over at (map mark_of marks.now))) }
 {
     let mut walk = Walk {
         at,
@@ -348,28 +353,28 @@ impl Walk {
         &mut self,
         alloc: Global,
         empty: &Rc<Fragments>,
-        line: &LineInput,
+        line: &LineFrame,
         over: i64,
         mark: &Mark,
     ) -> Result<(), AllocError>
         requires empty { empty.now.value.items ≡ [] }
-        requires of_box { IsOfBox (length line.now.boxes.items) (mark_of mark.now) }
-        requires in_box { IsInBox (length line.now.boxes.items) (mark_of mark.now) }
+        requires of_box { IsOfBox (length line.now.boxes.now) (mark_of mark.now) }
+        requires in_box { IsInBox (length line.now.boxes.now) (mark_of mark.now) }
         requires stands { CanStand (length self.old.opened.items) (mark_of mark.now) }
-        requires opened { AreOpen (length line.now.boxes.items) self.old.opened.items }
-        requires boxes { AreReached line.now.boxes.items }
+        requires opened { AreOpen (length line.now.boxes.now) self.old.opened.items }
+        requires boxes { AreReached line.now.boxes.now }
         requires strut { extents_reach line.now.strut ≤ 2 ^ 60 }
         requires over { unsigned_abs over ≤ 2 ^ 61 }
-        requires mark { mark_reach line.now.boxes.items (mark_of mark.now) ≤ 2 ^ 60 }
-        requires at { unsigned_abs self.old.at + mark_reach line.now.boxes.items (mark_of mark.now) ≤ 2 ^ 61 }
-        ensures at { OnOk result (self.new.at ≡ self.old.at +ℤ rule.advance line.now.boxes.items (mark_of mark.now)) }
-        ensures opened { OnOk result (AreOpen (length line.now.boxes.items) self.new.opened.items) }
+        requires mark { mark_reach line.now.boxes.now (mark_of mark.now) ≤ 2 ^ 60 }
+        requires at { unsigned_abs self.old.at + mark_reach line.now.boxes.now (mark_of mark.now) ≤ 2 ^ 61 }
+        ensures at { OnOk result (self.new.at ≡ self.old.at +ℤ rule.advance line.now.boxes.now (mark_of mark.now)) }
+        ensures opened { OnOk result (AreOpen (length line.now.boxes.now) self.new.opened.items) }
         ensures count { OnOk result (length self.new.opened.items ≡ open_behind (length self.old.opened.items) (mark_of mark.now)) }
-        ensures whole { OnOk result ((marks : List SeenMark) → whole (line_of line.now) over self.new marks ≡ whole (line_of line.now) over self.old (mark_of mark.now ∷ marks)) }
+        ensures whole { OnOk result ((marks : List SeenMark) → whole (line_in line.now []) over self.new marks ≡ whole (line_in line.now []) over self.old (mark_of mark.now ∷ marks)) }
     {
         match mark {
             Mark::Begins { place, edge } => {
-                self.begin(alloc, &line.boxes[*place], *place, *edge)?;
+                self.begin(alloc, box_at(line, *place), *place, *edge)?;
             }
             Mark::Ends { place, edge } => {
                 self.end(alloc, line, over, *place, *edge)?;
@@ -413,25 +418,25 @@ impl Walk {
     fn end(
         &mut self,
         alloc: Global,
-        line: &LineInput,
+        line: &LineFrame,
         over: i64,
         place: usize,
         edge: bool,
     ) -> Result<(), AllocError>
-        requires place { place < length line.now.boxes.items }
-        requires opened { AreOpen (length line.now.boxes.items) self.old.opened.items }
-        requires boxes { AreReached line.now.boxes.items }
-        requires at { unsigned_abs self.old.at + unsigned_abs (rule.right (box_at line.now.boxes.items place) edge) + unsigned_abs (rule.right_margin (box_at line.now.boxes.items place) edge) ≤ 2 ^ 61 }
+        requires place { place < length line.now.boxes.now }
+        requires opened { AreOpen (length line.now.boxes.now) self.old.opened.items }
+        requires boxes { AreReached line.now.boxes.now }
+        requires at { unsigned_abs self.old.at + unsigned_abs (rule.right (box_at line.now.boxes.now place) edge) + unsigned_abs (rule.right_margin (box_at line.now.boxes.now place) edge) ≤ 2 ^ 61 }
         requires over { unsigned_abs over ≤ 2 ^ 61 }
-        ensures at { OnOk result (self.new.at ≡ self.old.at +ℤ (rule.right (box_at line.now.boxes.items place) edge +ℤ rule.right_margin (box_at line.now.boxes.items place) edge)) }
+        ensures at { OnOk result (self.new.at ≡ self.old.at +ℤ (rule.right (box_at line.now.boxes.now place) edge +ℤ rule.right_margin (box_at line.now.boxes.now place) edge)) }
         ensures closed { OnOk result ((os : List Open) (o : Open) → self.old.opened.items ≡ os ++ o ∷ []
             → (self.new.opened.items ≡ os) × ((next : Pieces) → followed self.new.parts.items next ≡ followed o.before.items
-            (piece (rule.unnumbered (box_at line.now.boxes.items o.place).node)
-            (rule.box_rect (box_at line.now.boxes.items o.place) over o.left (self.old.at +ℤ rule.right (box_at line.now.boxes.items place) edge)) span_kind (pieces_of self.old.parts.items) next))) }
+            (piece (rule.unnumbered (box_at line.now.boxes.now o.place).node)
+            (rule.box_rect (box_at line.now.boxes.now o.place) over o.left (self.old.at +ℤ rule.right (box_at line.now.boxes.now place) edge)) span_kind (pieces_of self.old.parts.items) next))) }
     {
-        let inline_box = line.boxes[place];
-        let end = self.at + right(&inline_box, edge);
-        let margin = right_margin(&inline_box, edge);
+        let inline_box = box_at(line, place);
+        let end = self.at + right(inline_box, edge);
+        let margin = right_margin(inline_box, edge);
         self.close_innermost(alloc, line, over, end)?;
         self.at = end + margin;
         Ok(())
@@ -441,19 +446,19 @@ impl Walk {
     fn close_innermost(
         &mut self,
         alloc: Global,
-        line: &LineInput,
+        line: &LineFrame,
         over: i64,
         end: i64,
     ) -> Result<(), AllocError>
-        requires opened { AreOpen (length line.now.boxes.items) self.old.opened.items }
-        requires boxes { AreReached line.now.boxes.items }
+        requires opened { AreOpen (length line.now.boxes.now) self.old.opened.items }
+        requires boxes { AreReached line.now.boxes.now }
         requires end { unsigned_abs end ≤ 2 ^ 61 }
         requires over { unsigned_abs over ≤ 2 ^ 61 }
         ensures at { OnOk result (self.new.at ≡ self.old.at) }
         ensures closed { OnOk result ((os : List Open) (o : Open) → self.old.opened.items ≡ os ++ o ∷ []
             → (self.new.opened.items ≡ os) × ((next : Pieces) → followed self.new.parts.items next ≡ followed o.before.items
-            (piece (rule.unnumbered (box_at line.now.boxes.items o.place).node)
-            (rule.box_rect (box_at line.now.boxes.items o.place) over o.left end) span_kind (pieces_of self.old.parts.items) next))) }
+            (piece (rule.unnumbered (box_at line.now.boxes.now o.place).node)
+            (rule.box_rect (box_at line.now.boxes.now o.place) over o.left end) span_kind (pieces_of self.old.parts.items) next))) }
     {
         if let Some(begun) = self.opened.pop() {
             let parts = mem::replace(&mut self.parts, Vec::new(alloc));
@@ -467,20 +472,20 @@ impl Walk {
         &mut self,
         alloc: Global,
         empty: &Rc<Fragments>,
-        line: &LineInput,
+        line: &LineFrame,
         over: i64,
         run: &[Leaf],
     ) -> Result<(), AllocError>
         requires empty { empty.now.value.items ≡ [] }
         requires some { 0 < length run.now }
-        requires inside { IsBefore (length line.now.boxes.items) (inside_of (map leaf_of run.now)) }
+        requires inside { IsBefore (length line.now.boxes.now) (inside_of (map leaf_of run.now)) }
         requires run { total leaf_reach (map leaf_of run.now) ≤ 2 ^ 60 }
-        requires extents { extents_reach (rule.extents_in (line_of line.now) (inside_of (map leaf_of run.now))) ≤ 2 ^ 60 }
+        requires extents { extents_reach (rule.extents_in (line_in line.now []) (inside_of (map leaf_of run.now))) ≤ 2 ^ 60 }
         requires over { unsigned_abs over ≤ 2 ^ 61 }
         requires at { unsigned_abs self.old.at ≤ 2 ^ 61 }
         ensures at { OnOk result (self.new.at ≡ self.old.at +ℤ rule.extent_of (map leaf_of run.now)) }
         ensures opened { OnOk result (self.new.opened ≡ self.old.opened) }
-        ensures parts { OnOk result ((next : Pieces) → followed self.new.parts.items next ≡ followed self.old.parts.items (rule.run_piece (line_of line.now) over self.old.at (map leaf_of run.now) next)) }
+        ensures parts { OnOk result ((next : Pieces) → followed self.new.parts.items next ≡ followed self.old.parts.items (rule.run_piece (line_in line.now []) over self.old.at (map leaf_of run.now) next)) }
     {
         let extent = extent_of(run);
         let made = shown(alloc, empty, line, over, self.at, run, extent)?;
@@ -494,27 +499,27 @@ impl Walk {
 #[tactic(auto, using(crate::proofs::Fragments::followed_push))]
 fn close(
     alloc: Global,
-    line: &LineInput,
+    line: &LineFrame,
     over: i64,
     right: i64,
     begun: Open,
     parts: Fragments,
 ) -> Result<Fragments, AllocError>
-    requires place { begun.place < length line.now.boxes.items }
+    requires place { begun.place < length line.now.boxes.now }
     requires left { unsigned_abs begun.left ≤ 2 ^ 61 }
     requires right { unsigned_abs right ≤ 2 ^ 61 }
     requires over { unsigned_abs over ≤ 2 ^ 61 }
-    requires reach { box_reach (box_at line.now.boxes.items begun.place) ≤ 2 ^ 60 }
+    requires reach { box_reach (box_at line.now.boxes.now begun.place) ≤ 2 ^ 60 }
     ensures { IfOk result (λ made. (next : Pieces) → followed made.items next ≡ followed begun.before.items
-        (piece (rule.unnumbered (box_at line.now.boxes.items begun.place).node) (rule.box_rect (box_at line.now.boxes.items begun.place) over begun.left right) span_kind (pieces_of parts.items) next)) }
+        (piece (rule.unnumbered (box_at line.now.boxes.now begun.place).node) (rule.box_rect (box_at line.now.boxes.now begun.place) over begun.left right) span_kind (pieces_of parts.items) next)) }
 {
     let Open {
         place,
         left,
         before,
     } = begun;
-    let inline_box = line.boxes[place];
-    let rect = box_rect(&inline_box, over, left, right);
+    let inline_box = box_at(line, place);
+    let rect = box_rect(inline_box, over, left, right);
     let fragment = span(alloc, inline_box.node, rect, parts)?;
     let mut made = before;
     made.push(fragment)?;

@@ -13,5 +13,3 @@ pub mod SpreadLaws
 pub mod Spreading
 pub mod StackLaws
 pub mod StandLaws
-pub mod TextLines
-pub mod UnitLines

@@ -1,5 +1,5 @@
 -- The boxes of a line.
-use Rattle.std.proofs.Common.{◌≡◌, ◌∙◌, refl, sym, ap, Bool, true, ℕ, ◌+◌, ◌<◌, ◌≤◌, List, [], ◌∷◌, ◌++◌, length, map, get_or, drop, reverse, append-nil, Option, Some, ℤ, pos}
+use Rattle.std.proofs.Common.{◌≡◌, ◌∙◌, refl, sym, ap, subst, Bool, true, ℕ, ◌+◌, ◌<◌, ◌≤◌, List, [], ◌∷◌, ◌++◌, length, map, get_or, drop, reverse, append-nil, Option, Some, ℤ, pos}
 use Rattle.std.specs.Prelude.{option_map}
 use Rattle.std.proofs.lemmas.Simd.{map-map}
 use Rattle.face_api.specs.Table.{Table}
@@ -21,7 +21,7 @@ use Rattle.para_lines.specs.Filling.{is_space}
 use Rattle.para_lines.specs.Lines as rule
 use Rattle.para_lines.specs.Around.{fresh, has}
 use Rattle.para_lines.specs.Boxes.{apart, chain_at, chain_behind, innermost, round_of}
-use Rattle.para_lines.specs.Line.{content_in, first_atom, on_line, standing_of}
+use Rattle.para_lines.specs.Line.{ItemsOn, box_on, content_in, first_atom, items_on, line_on, on_line, standing_of}
 use Rattle.para_lines.specs.Lines.{innermost_in, place_in}
 use Rattle.para_lines.proofs.Chaining.{none_apart}
 
@@ -112,3 +112,13 @@ line_is tables container entries before after places standings base size strut i
     both_is _ _ container.style.align _ _ _ _ _ _ _ _ is_base is_size is_strut
     (are_items ∙ sym (map-map (rule.line_item entries places) (standing_of entries) standings) ∙ ap (λ (bs : List ℕ). map (rule.line_item entries bs) (map (standing_of entries) standings)) on)
     (are_boxes ∙ ap (λ (bs : List ℕ). map (rule.line_box tables container entries bs before after) bs) on)
+
+pub frame_is : (tables : List (Option Table)) (inside own : ItemsOn) (base : ℕ) (size : ℤ) (strut : Extents) (boxes : List LineBox) → inside ≡ own → inside.seated.places.now ≡ on_line inside.seated.boxes.now [] inside.standings
+    → base ≡ rule.first_base (map (standing_of inside.seated.boxes.now) inside.standings) → size ≡ inside.seated.container.now.size
+    → strut ≡ rule.extents_in tables inside.seated.container.now inside.seated.container.now.style (pos 0) → boxes ≡ map (box_on own.seated tables) own.seated.places.now
+    → line_with base inside.seated.container.now.style.align size strut (items_on own) boxes ≡ line_on tables own
+frame_is tables inside own base size strut boxes same on is_base is_size is_strut are_boxes =
+    let P : ItemsOn → Type 0 = λ o. boxes ≡ map (box_on o.seated tables) o.seated.places.now → line_with base inside.seated.container.now.style.align size strut (items_on o) boxes ≡ line_on tables o in
+    subst P same
+    (line_is tables inside.seated.container.now inside.seated.boxes.now _ _ inside.seated.places.now inside.standings base size strut _ boxes on is_base is_size is_strut refl)
+    are_boxes

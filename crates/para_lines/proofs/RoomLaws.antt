@@ -206,9 +206,9 @@ pub setting_ready : (setting : code_setting.Setting) (prepared : Preparation) (a
     → AreBounded setting.boxes.now → IsContainer setting.container.now → setting.standings.now ≡ made
     → map (standing_of (entries_in setting)) made
     ≡ rule.standings (entries_in setting) prepared (map atom_of atoms) (advances (fill_items inline (entries_in setting) prepared (atom_extents (map atom_of atoms))))
-    → All (IsAble (length setting.boxes.now)) made → AreWhole prepared → AreNear prepared.items → length prepared.items ≤ 2 ^ 21 → total atom_reach (map atom_of atoms) ≤ 2 ^ 57 → setting.empty.now.value.items ≡ []
+    → All (IsAble (length setting.boxes.now)) made → AreWhole prepared → AreNear prepared.items → length prepared.items ≤ 2 ^ 21 → total atom_reach (map atom_of atoms) ≤ 2 ^ 57
     → IsSetting setting
-setting_ready setting prepared atoms inline made bounded container same are able whole near few most empty =
+setting_ready setting prepared atoms inline made bounded container same are able whole near few most =
     let entries : List Entry = entries_in setting in
     let fills : List FillItem = fill_items inline entries prepared (atom_extents (map atom_of atoms)) in
     let P : List code.Standing → Type 0 = λ ss. All (IsAble (length setting.boxes.now)) ss in
@@ -224,7 +224,6 @@ setting_ready setting prepared atoms inline made bounded container same are able
       rise = subst Q (sym same) (standings_rise entries made prepared.items prepared.levels prepared.classes prepared.bases (advances fills) (map atom_of atoms) are near.rise);
       few = subst R (sym same) (omega arith);
       reach = subst S (sym same) (subst T (sym are) (standings_reach inline entries prepared (map atom_of atoms) near.advances few most));
-      empty = empty;
     }
 
 pub lines_all : (tables : List (Option Table)) (container : Container) (entries given : List Entry) (prepared asked : Preparation) (atoms : List rule.Atom) (standings : List Standing) (ends : List ℕ) (made : Pieces)

@@ -10,5 +10,3 @@ pub mod Paragraph
 pub mod Prepared
 pub mod Reach
 pub mod Setting
-pub mod Text
-pub mod Units

@@ -104,3 +104,24 @@ pub record IsAble (count : ℕ) (standing : code.Standing) : Type 0 where
 abbrev pub RiseIn : (from : ℕ) → List code.Standing → Type 0
 RiseIn from [] = ⊤
 RiseIn from (standing ∷ standings) = (from ≤ standing.item.now.source) × RiseIn standing.item.now.source standings
+
+-- the items of a line, with what they are made from
+pub record ItemsOn : Type 0 where
+  pub seated : code_seated.Seated
+  pub standings : List code.Standing
+
+-- each stands in boxes of the line
+pub record AreSeated (seated : code_seated.Seated) (standings : List code.Standing) : Type 0 where
+  pub seated_is : IsSeated seated
+  pub able : All (IsAble (length seated.boxes.now)) standings
+  pub places : seated.places.now ≡ on_line seated.boxes.now [] standings
+
+-- the items of the definition
+abbrev pub items_on : ItemsOn → List place.Item
+items_on own = map (λ standing. rule.line_item own.seated.boxes.now own.seated.places.now (standing_of own.seated.boxes.now standing)) own.standings
+
+-- the line that they are on
+abbrev pub line_on : List (Option Table) → ItemsOn → place.Line
+line_on tables own =
+    rule.line tables own.seated.container.now own.seated.boxes.now
+    (chain_behind own.seated.boxes.now own.seated.sides.before) (chain_behind own.seated.boxes.now own.seated.sides.after) (map (standing_of own.seated.boxes.now) own.standings)

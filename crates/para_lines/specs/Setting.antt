@@ -47,7 +47,6 @@ pub record IsSetting (setting : code.Setting) : Type 0 where
   pub rise : RiseIn 0 setting.standings.now
   pub few : length setting.standings.now ≤ 2 ^ 21
   pub reach : total standing_reach (standings_in setting) ≤ 2 ^ 58
-  pub empty : setting.empty.now.value.items ≡ []
 
 -- the line box of a line: how far it reaches over and under its baseline, and its fragments
 pub record IsLineBox (line : Line) (over under : ℤ) (made : Pieces) : Type 0 where

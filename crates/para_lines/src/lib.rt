@@ -14,8 +14,6 @@ mod prepared;
 mod setting;
 mod sizes;
 mod standing;
-mod text;
-mod units;
 
 pub use lines::paragraph_lines;
 pub use paragraph::{Atom, Container};

@@ -96,6 +96,7 @@ pub(crate) struct Seated<'a> {
 
 impl Seated<'_> {
     /// The place of a box in the line's list.
+    #[inline(always)]
     pub(crate) fn seat_of(&self, inside: Option<usize>) -> Option<usize>
         requires seated { IsSeated self.now }
         requires inside { IfSome inside (λ box. has self.now.places.now box ≡ true) }

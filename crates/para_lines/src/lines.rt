@@ -71,12 +71,10 @@ pub fn paragraph_lines<L: Ledger>(
         atoms,
     };
     let filled = input.filled(alloc, arranged)?;
-    let empty = Rc::new(alloc, Vec::new(alloc))?;
     let setting = Setting {
         boxes: &boxes,
         container,
         standings: &filled.standings,
-        empty: &empty,
     };
     let made = stacked(alloc, &setting, faces, filled.lines.ends())?;
     Ok(made)

@@ -1,7 +1,11 @@
-use Rattle.std.proofs.Common.{◌≡◌, map, take}
+use Rattle.std.proofs.Common.{◌≡◌, ◌≤◌, ◌+◌, ◌-◌, length, map, take}
+use Rattle.std.specs.Vec.{vec_capacity, vec_len}
 use Rattle.line_place.specs.Leaves.{leaf_of}
 use Rattle.line_place.specs.Placing.{unit_of}
 use Rattle.line_place.proofs.walk.units_of.Given as goal
 
-abbrev pub invariant-loop-leaf : goal.invariant-loop-leaf
-invariant-loop-leaf l = l.units.items ≡ map unit_of (map leaf_of (take l.leaf-index l.run))
+abbrev pub invariant-loop-k : goal.invariant-loop-k
+invariant-loop-k l = record {
+  items : l.units.items ≡ map unit_of (map leaf_of (take l.k l.run));
+  room : vec_len l.units + (length l.run - l.k) ≤ vec_capacity l.units;
+}

@@ -34,7 +34,7 @@ stacked-requires-clause-set g c =
     let made = c.in_ok-filled.ensures.filled in
     setting_ready _ (preparation_of c.of-lists.result) c.args.atoms.now (Some c.args.container.now.size) c.in_ok-filled.filled.standings.items
     (bounded_of _ c.args.items.now c.in_ok-boxes.ensures c.requires.count c.requires.bounds) (record { style = c.requires.style; low = c.requires.low; high = c.requires.high })
-    c.deref.ensures.value made.are made.able (whole_lists c.of-lists.result) near.0 near.1 c.requires.reach (ap (λ (v : _). v.items) c.in_ok-empty.ensures.ok ∙ c.new.ensures.items)
+    c.deref.ensures.value made.are made.able (whole_lists c.of-lists.result) near.0 near.1 c.requires.reach
 
 pub stacked-requires-clause-divide : goal.stacked-requires-clause-divide
 stacked-requires-clause-divide g c =

@@ -20,6 +20,6 @@ pub returns-in_ok-self-clause-closed : goal.returns-in_ok-self-clause-closed
 returns-in_ok-self-clause-closed c os o is =
     let e = same_from_push c.pop.new.self.items os c.in-Some.begun o (sym c.in-Some.ensures.items ∙ is) in (
       e.0,
-      λ next. ended_as c.args.line.now.boxes.items _ o c.args.over c.args.end _ _ _ _ _ c.args.self.now.parts.items _ next (c.in_ok-self.ensures next)
+      λ next. ended_as c.args.line.now.boxes.now _ o c.args.over c.args.end _ _ _ _ _ c.args.self.now.parts.items _ next (c.in_ok-self.ensures next)
           (ap (λ (x : Open). x.place) e.1) (ap (λ (x : Open). x.left) e.1) (ap (λ (x : Open). x.before.items) e.1) (held c.args.over (omega (arith, c.requires.over))) (held c.args.end (omega (arith, c.requires.end))) (ap (λ (x : Vec Fragment Global). x.items) c.replace-parts.ensures.value),
     )
