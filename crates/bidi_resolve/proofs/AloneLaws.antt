@@ -1,15 +1,13 @@
 -- A sequence of one character.
 use Rattle.std.proofs.Common.{◌≡◌, ◌∙◌, refl, ap, arith, ℕ, Bool, true, false, List, [], ◌∷◌, length, get_or, set, Option, Some, None}
-use Rattle.std.specs.Prelude.{slice_index}
 use Rattle.wm_chars.specs.declared.classes.BidiClass.{BidiClass}
 use Rattle.wm_chars.specs.declared.classes.BidiClass.TheVariants.{L, ET, ON}
 use Rattle.wm_chars.specs.declared.classes.Bracket.{Bracket}
-use Rattle.bidi_explicit.specs.declared.paragraph.Levels.{Levels}
 use Rattle.bidi_resolve.specs.Weak.{w1_class, w2_class, w3_class, w4_class, w5_class, w6_class, w7_class}
-use Rattle.bidi_resolve.specs.Neutral.{n1_class, n2_class, raised}
+use Rattle.bidi_resolve.specs.Neutral.{i1_i2, n1_class, n2_class, raised}
 use Rattle.bidi_resolve.specs.Brackets.{bracket_at, bracket_of, n0, pairs_at}
-use Rattle.bidi_resolve.specs.Places.{scattered}
-use Rattle.bidi_resolve.specs.Sequence.{weak, resolved, sequence_classes, sequence_levels, levels_at}
+use Rattle.bidi_resolve.specs.Places.{gathered, scattered}
+use Rattle.bidi_resolve.specs.Sequence.{weak, resolved}
 
 -- W4 and W5 leave a character without neighbours
 no_w4 : (c : BidiClass) → w4_class ON c ON ≡ c
@@ -43,10 +41,9 @@ unfolding resolved
 resolved_alone level sos eos c w r e f char original = rw (e, no_n0 level sos char original w, f) refl
 
 -- in the lists of a paragraph
-pub alone_written : (chars : List ℕ) (levels : Levels) (places : List ℕ) (sos eos r : BidiClass) (out : List ℕ) → length places ≡ 1
-    → ((char : ℕ) (original : BidiClass) → resolved (slice_index levels.level.items (get_or places 0 0)) sos eos (char ∷ []) (original ∷ []) (get_or levels.class.items (get_or places 0 0) L ∷ []) ≡ r ∷ [])
-    → scattered places (levels_at chars levels places sos eos) out ≡ set out (get_or places 0 0) (raised (slice_index levels.level.items (get_or places 0 0)) r)
-unfolding sequence_levels sequence_classes
-alone_written chars levels [] sos eos r out one are = absurd (omega arith)
-alone_written chars levels (p ∷ []) sos eos r out one are = rw (are (get_or chars p 0) (get_or levels.original.items p L)) refl
-alone_written chars levels (p ∷ q ∷ places) sos eos r out one are = absurd (omega arith)
+pub alone_written : (chars : List ℕ) (originals classes : List BidiClass) (places : List ℕ) (level : ℕ) (sos eos r : BidiClass) (out : List ℕ) → length places ≡ 1
+    → ((char : ℕ) (original : BidiClass) → resolved level sos eos (char ∷ []) (original ∷ []) (get_or classes (get_or places 0 0) L ∷ []) ≡ r ∷ [])
+    → scattered places (i1_i2 level (resolved level sos eos (gathered 0 chars places) (gathered L originals places) (gathered L classes places))) out ≡ set out (get_or places 0 0) (raised level r)
+alone_written chars originals classes [] level sos eos r out one are = absurd (omega arith)
+alone_written chars originals classes (p ∷ []) level sos eos r out one are = rw (are (get_or chars p 0) (get_or originals p L)) refl
+alone_written chars originals classes (p ∷ q ∷ places) level sos eos r out one are = absurd (omega arith)

@@ -1,5 +1,5 @@
 -- What the levels of a paragraph rest on.
-use Rattle.std.proofs.Common.{◌≡◌, arith, inl, inr, ℕ, zero, suc, ◌+◌, ◌%◌, ◌<◌, ◌≤◌, List, [], ◌∷◌, length, get_or, set, map}
+use Rattle.std.proofs.Common.{◌≡◌, arith, inl, inr, ℕ, zero, suc, ◌+◌, ◌%◌, ◌<◌, ◌≤◌, List, [], ◌∷◌, length, set, map}
 use Rattle.std.specs.Prelude.{All, IfOk, Result, Ok, Err, slice_index}
 use Rattle.std.proofs.lemmas.Bool.{cases_Bool, eqb-true}
 use Rattle.std.proofs.lemmas.List.Elements.{All-set, All-tail}
@@ -11,10 +11,6 @@ use Rattle.bidi_explicit.specs.Sequences.{Sequence}
 use Rattle.bidi_resolve.specs.Paragraph.{IsResolvedLevel, resolved_from}
 use Rattle.bidi_resolve.specs.Sequence.{sequence_classes, sequence_levels}
 use Rattle.bidi_resolve.specs.Places.{scattered, run_level}
-
--- the levels at places of a list whose levels are at most 125
-pub most_at : (levels : List ℕ) (places : List ℕ) (n : ℕ) → length levels ≡ n → All (λ level. level ≤ 125) levels → All (λ place. place < n) places → All (λ place. slice_index levels place ≤ 125) places
-most_at levels places n many most within k d lt = most (get_or places k d) 0 (let h = within k d lt in omega arith)
 
 -- ---- the bounds
 
@@ -68,7 +64,7 @@ scattered_between base (p ∷ places) [] out all_new all_out = all_out
 scattered_between base (p ∷ places) (level ∷ new) out all_new all_out =
     scattered_between base places new (set out p level) (λ k d lt. all_new (suc k) d (omega arith)) (set_between base p level out (all_new zero level (omega arith)) all_out)
 
-all_raised : (base level : ℕ) (classes : List BidiClass) → IsBetween base level → All (IsResolvedLevel base) (i1_i2 level classes)
+pub all_raised : (base level : ℕ) (classes : List BidiClass) → IsBetween base level → All (IsResolvedLevel base) (i1_i2 level classes)
 all_raised base level [] between k d lt = absurd (omega arith)
 all_raised base level (c ∷ classes) between zero d lt = raised_between base level c between
 all_raised base level (c ∷ classes) between (suc k) d lt = all_raised base level classes between k d (omega arith)

@@ -1,10 +1,12 @@
 pub mod Brackets
+pub mod Isolating
 pub mod Laws
 pub mod Neutral
 pub mod Pairing
 pub mod Paragraph
 pub mod Passes
 pub mod Places
+pub mod Runs
 pub mod Sequence
 pub mod Sides
 pub mod Single

@@ -43,13 +43,6 @@ sequence_levels chars originals levels classes sequence = i1_i2 (run_level level
 
 -- ---- in the code's types
 
--- the classes and the levels at these places, which are those of a sequence with this sos and eos
-abbrev pub classes_at : (chars : List ℕ) → Levels → (places : List ℕ) → (sos eos : BidiClass) → List BidiClass
-classes_at chars levels places sos eos = sequence_classes chars levels.original.items levels.level.items levels.class.items (record { places = places; sos = sos; eos = eos })
-
-abbrev pub levels_at : (chars : List ℕ) → Levels → (places : List ℕ) → (sos eos : BidiClass) → List ℕ
-levels_at chars levels places sos eos = sequence_levels chars levels.original.items levels.level.items levels.class.items (record { places = places; sos = sos; eos = eos })
-
 abbrev pub run_classes : (chars : List ℕ) → Levels → Run → List BidiClass
 run_classes chars levels run = sequence_classes chars levels.original.items levels.level.items levels.class.items (sequence_of run)
 

@@ -3,37 +3,30 @@
 ghost use Rattle.bidi_resolve.specs.Brackets as brackets;
 ghost use Rattle.bidi_resolve.specs.Pairing as readings;
 ghost use Rattle.bidi_resolve.specs.Pairing.{IsWithin, reading_of};
-ghost use Rattle.bidi_resolve.specs.Places.{gathered};
-ghost use Rattle.wm_chars.specs.declared.classes.BidiClass.TheVariants.{L};
+ghost use Rattle.bidi_resolve.specs.Isolating.{chars_in, originals_in};
 ghost use Rattle.wm_chars.specs.declared.classes.BidiClass.{BidiClass};
 ghost use Rattle.std.specs.List.{list_any, slice_range};
 ghost use Rattle.std.specs.Prelude.{◌≡◌, ◌+◌, ◌<◌, ◌≤◌, All, IfOk, IfSome, length, take};
 
+use crate::isolating::Sequence;
 use crate::neutral::{direction, n1_after};
 use crate::pairing::{Pairing, read_pairs};
 use std::alloc::AllocError;
 use wm_chars::BidiClass;
 use wm_chars::BidiClass::{AN, EN, L, NSM, ON, R};
 
-/// N0: the two brackets of a pair take one direction. The sequence has these places in the lists of its paragraph's
-/// characters and of the classes that were handed in.
+/// N0: the two brackets of a pair take one direction.
 #[tactic(auto, using(crate::proofs::Unchanged::n0_same))]
 pub(crate) fn n0(
     pairing: &mut Pairing,
     classes: &mut [BidiClass],
-    originals: &[BidiClass],
-    chars: &[char],
-    places: &[usize],
-    level: u8,
-    sos: BidiClass,
+    sequence: &Sequence,
 ) -> Result<(), AllocError>
-    requires places { length places.now ≡ length classes.old }
-    requires chars { All (λ place. place < length chars.now) places.now }
-    requires originals { length originals.now ≡ length chars.now }
-    ensures { IfOk result (λ _. classes.new ≡ brackets.n0 level sos (gathered 0 chars.now places.now) (gathered L originals.now places.now) classes.old) }
+    requires { length sequence.now.places.now ≡ length classes.old }
+    ensures { IfOk result (λ _. classes.new ≡ brackets.n0 sequence.now.frame.level sequence.now.frame.sos (chars_in sequence.now) (originals_in sequence.now) classes.old) }
 {
     if has_bracket_class(classes) {
-        pairs_become(pairing, classes, originals, chars, places, level, sos)?;
+        pairs_become(pairing, classes, sequence)?;
     }
     Ok(())
 }
@@ -54,20 +47,28 @@ fn has_bracket_class(classes: &[BidiClass]) -> bool
 fn pairs_become(
     pairing: &mut Pairing,
     classes: &mut [BidiClass],
-    originals: &[BidiClass],
-    chars: &[char],
-    places: &[usize],
-    level: u8,
-    sos: BidiClass,
+    sequence: &Sequence,
 ) -> Result<(), AllocError>
-    requires places { length places.now ≡ length classes.old }
-    requires chars { All (λ place. place < length chars.now) places.now }
-    requires originals { length originals.now ≡ length chars.now }
-    ensures { IfOk result (λ _. classes.new ≡ brackets.n0 level sos (gathered 0 chars.now places.now) (gathered L originals.now places.now) classes.old) }
+    requires { length sequence.now.places.now ≡ length classes.old }
+    ensures { IfOk result (λ _. classes.new ≡ brackets.n0 sequence.now.frame.level sequence.now.frame.sos (chars_in sequence.now) (originals_in sequence.now) classes.old) }
 {
-    read_pairs(pairing, chars, places, classes)?;
-    resolve_pairs(classes, originals, places, pairing, level, sos);
+    read_pairs(pairing, sequence, classes)?;
+    resolve_pairs(classes, sequence, pairing);
     Ok(())
+}
+
+// The place of an opening bracket, and that of its closing bracket, if it was closed.
+#[derive(Clone, Copy)]
+struct Opening {
+    place: usize,
+    closing: Option<usize>,
+}
+
+// The places of the two brackets of a pair.
+#[derive(Clone, Copy)]
+struct Pair {
+    opening: usize,
+    closing: usize,
 }
 
 // The last direction among the characters before a place, or sos.
@@ -78,84 +79,73 @@ struct Context {
 }
 
 // The pairs in the order of their opening brackets.
-fn resolve_pairs(
-    classes: &mut [BidiClass],
-    originals: &[BidiClass],
-    places: &[usize],
-    pairs: &Pairing,
-    level: u8,
-    sos: BidiClass,
-)
-    requires places { length places.now ≡ length classes.old }
-    requires originals { All (λ place. place < length originals.now) places.now }
+fn resolve_pairs(classes: &mut [BidiClass], sequence: &Sequence, pairs: &Pairing)
+    requires many { length sequence.now.places.now ≡ length classes.old }
     requires within { IsWithin (length classes.old) (reading_of pairs.now) }
-    ensures { classes.new ≡ readings.resolve_read level sos pairs.now.openings.items pairs.now.closings.items (gathered L originals.now places.now) classes.old }
+    ensures { classes.new ≡ readings.resolve_read sequence.now.frame.level sequence.now.frame.sos pairs.now.openings.items pairs.now.closings.items (originals_in sequence.now) classes.old }
 {
-    let mut context = Context { seen: 0, last: sos };
+    let mut context = Context {
+        seen: 0,
+        last: sequence.frame.sos,
+    };
     for k in 0..pairs.openings.len() {
-        let opening = pairs.openings[k];
-        resolve_at(
-            classes,
-            originals,
-            places,
-            opening,
-            pairs.closings[k],
-            level,
-            &mut context,
-        );
+        let opening = Opening {
+            place: pairs.openings[k],
+            closing: pairs.closings[k],
+        };
+        resolve_at(classes, sequence, opening, &mut context);
     }
 }
 
 // The pair of an opening bracket, if it was closed.
 fn resolve_at(
     classes: &mut [BidiClass],
-    originals: &[BidiClass],
-    places: &[usize],
-    opening: usize,
-    closing: Option<usize>,
-    level: u8,
+    sequence: &Sequence,
+    opening: Opening,
     context: &mut Context,
 )
-    requires places { length places.now ≡ length classes.old }
-    requires originals { All (λ place. place < length originals.now) places.now }
-    requires seen { context.old.seen ≤ opening }
-    requires behind { IfSome closing (λ closing. (opening < closing) × (closing < length classes.old)) }
-    ensures classes { (sos : BidiClass) → context.old.last ≡ brackets.context sos (take context.old.seen classes.old) → classes.new ≡ readings.resolve_at level sos opening closing (gathered L originals.now places.now) classes.old }
+    requires many { length sequence.now.places.now ≡ length classes.old }
+    requires seen { context.old.seen ≤ opening.place }
+    requires behind { IfSome opening.closing (λ closing. (opening.place < closing) × (closing < length classes.old)) }
+    ensures classes { (sos : BidiClass) → context.old.last ≡ brackets.context sos (take context.old.seen classes.old) → classes.new ≡ readings.resolve_at sequence.now.frame.level sos opening.place opening.closing (originals_in sequence.now) classes.old }
     ensures context { (sos : BidiClass) → context.old.last ≡ brackets.context sos (take context.old.seen classes.old) → context.new.last ≡ brackets.context sos (take context.new.seen classes.old) }
-    ensures seen { context.new.seen ≤ opening }
+    ensures seen { context.new.seen ≤ opening.place }
 {
-    let Some(closing) = closing else {
+    let Some(closing) = opening.closing else {
         return;
     };
-    if let Some(class) = pair_class(classes, opening, closing, level, context) {
-        become_class(classes, originals, places, opening, class);
-        become_class(classes, originals, places, closing, class);
+    let pair = Pair {
+        opening: opening.place,
+        closing,
+    };
+    if let Some(class) = pair_class(classes, pair, sequence.frame.level, context) {
+        become_class(classes, sequence, pair.opening, class);
+        become_class(classes, sequence, pair.closing, class);
     }
 }
 
 // What a pair becomes, if anything, by the characters between its brackets and by the context.
 fn pair_class(
     classes: &[BidiClass],
-    opening: usize,
-    closing: usize,
+    pair: Pair,
     level: u8,
     context: &mut Context,
 ) -> Option<BidiClass>
-    requires closing { opening < closing }
-    requires within { closing < length classes.now }
-    requires seen { context.old.seen ≤ opening }
-    ensures class { (sos : BidiClass) → context.old.last ≡ brackets.context sos (take context.old.seen classes.now) → result ≡ brackets.pair_class level (brackets.context sos (take opening classes.now)) (slice_range classes.now (opening + 1) closing) }
+    requires closing { pair.opening < pair.closing }
+    requires within { pair.closing < length classes.now }
+    requires seen { context.old.seen ≤ pair.opening }
+    ensures class { (sos : BidiClass) → context.old.last ≡ brackets.context sos (take context.old.seen classes.now) → result ≡ brackets.pair_class level (brackets.context sos (take pair.opening classes.now)) (slice_range classes.now (pair.opening + 1) pair.closing) }
     ensures context { (sos : BidiClass) → context.old.last ≡ brackets.context sos (take context.old.seen classes.now) → context.new.last ≡ brackets.context sos (take context.new.seen classes.now) }
-    ensures seen { context.new.seen ≤ opening }
+    ensures seen { context.new.seen ≤ pair.opening }
 {
-    let inside = &classes[opening + 1..closing];
+    let inside = &classes[pair.opening + 1..pair.closing];
     if has_along(level, inside) {
         return Some(direction(level));
     }
     if !has_against(level, inside) {
         return None;
     }
-    advance(context, classes, opening);
+    advance(context, classes, pair.opening);
     Some(by_context(level, context.last))
 }
 
@@ -246,21 +236,14 @@ fn opposite(level: u8) -> BidiClass
 
 // The bracket takes the class, and so do the characters directly behind it that were nonspacing marks.
 #[tactic(auto, using(crate::proofs::BracketLaws::follow_starts, crate::proofs::BracketLaws::follow_more, crate::proofs::BracketLaws::follow_stops, crate::proofs::BracketLaws::follow_ends))]
-fn become_class(
-    classes: &mut [BidiClass],
-    originals: &[BidiClass],
-    places: &[usize],
-    place: usize,
-    class: BidiClass,
-)
-    requires places { length places.now ≡ length classes.old }
-    requires originals { All (λ place. place < length originals.now) places.now }
+fn become_class(classes: &mut [BidiClass], sequence: &Sequence, place: usize, class: BidiClass)
+    requires many { length sequence.now.places.now ≡ length classes.old }
     requires place { place < length classes.old }
-    ensures { classes.new ≡ brackets.become class place (gathered L originals.now places.now) classes.old }
+    ensures { classes.new ≡ brackets.become class place (originals_in sequence.now) classes.old }
 {
     classes[place] = class;
     for k in place + 1..classes.len() {
-        if !is_mark(originals[places[k]]) {
+        if !is_mark(sequence.originals[sequence.places[k]]) {
             return;
         }
         classes[k] = class;

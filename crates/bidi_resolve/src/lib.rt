@@ -4,14 +4,17 @@
 
 mod alone;
 mod brackets;
+mod isolating;
 pub mod laws;
 mod neutral;
 mod pairing;
 mod paragraph;
 mod places;
+mod runs;
 mod sequence;
 mod sides;
 mod single;
+mod text;
 mod weak;
 
 pub use paragraph::{paragraph_levels, text_classes, text_levels};

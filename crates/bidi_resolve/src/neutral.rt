@@ -6,6 +6,7 @@ ghost use Rattle.std.specs.Prelude.{◌≡◌, ◌+◌, ◌<◌, ◌≤◌, drop
 ghost use Rattle.wm_chars.specs.Classes.{is_neutral};
 ghost use Rattle.wm_chars.specs.declared.classes.BidiClass.{BidiClass};
 
+use crate::isolating::Frame;
 use crate::sides::Ahead;
 use wm_chars::BidiClass;
 use wm_chars::BidiClass::{AN, EN, L, R};
@@ -19,18 +20,18 @@ pub(crate) fn direction(level: u8) -> BidiClass
 
 /// N1 and N2: a run of neutrals takes the direction of its two sides where they agree, and else the embedding
 /// direction.
-pub(crate) fn n1_n2(classes: &mut [BidiClass], level: u8, sos: BidiClass, eos: BidiClass)
-    ensures { classes.new ≡ neutral.n2 level (neutral.n1 sos eos classes.old) }
+pub(crate) fn n1_n2(classes: &mut [BidiClass], frame: Frame)
+    ensures { classes.new ≡ neutral.n2 frame.level (neutral.n1 frame.sos frame.eos classes.old) }
 {
-    let mut before = sos;
-    let mut ahead = Ahead {
-        until: 0,
-        side: eos,
+    let mut seen = Seen {
+        before: frame.sos,
+        ahead: Ahead {
+            until: 0,
+            side: frame.eos,
+        },
     };
     for i in 0..classes.len() {
-        let seen = step(classes, i, level, before, eos, ahead);
-        before = seen.before;
-        ahead = seen.ahead;
+        seen = step(classes, i, frame, seen);
     }
 }
 
@@ -42,30 +43,23 @@ struct Seen {
 }
 
 // One place. Most characters of a text are L or R, which stay.
-fn step(
-    classes: &mut [BidiClass],
-    place: usize,
-    level: u8,
-    before: BidiClass,
-    eos: BidiClass,
-    ahead: Ahead,
-) -> Seen
+fn step(classes: &mut [BidiClass], place: usize, frame: Frame, seen: Seen) -> Seen
     requires within { place < length classes.old }
-    requires sees { Sees (neutral.side eos) classes.old (place + 1) ahead }
-    ensures class { (d : BidiClass) → classes.new ≡ set classes.old place (neutral.n2_class level (neutral.n1_class before (get_or classes.old place d) (neutral.side eos (drop (place + 1) classes.old)))) }
-    ensures before { (d : BidiClass) → result.before ≡ neutral.n1_after before (get_or classes.old place d) }
-    ensures sees { Sees (neutral.side eos) classes.old (place + 1) result.ahead }
+    requires sees { Sees (neutral.side frame.eos) classes.old (place + 1) seen.ahead }
+    ensures class { (d : BidiClass) → classes.new ≡ set classes.old place (neutral.n2_class frame.level (neutral.n1_class seen.before (get_or classes.old place d) (neutral.side frame.eos (drop (place + 1) classes.old)))) }
+    ensures before { (d : BidiClass) → result.before ≡ neutral.n1_after seen.before (get_or classes.old place d) }
+    ensures sees { Sees (neutral.side frame.eos) classes.old (place + 1) result.ahead }
 {
     let class = classes[place];
     if is_letter(class) {
         return Seen {
             before: class,
-            ahead,
+            ahead: seen.ahead,
         };
     }
-    let ahead = neutral_at(classes, place, level, before, eos, ahead);
+    let ahead = neutral_at(classes, place, frame, seen);
     Seen {
-        before: n1_after(before, class),
+        before: n1_after(seen.before, class),
         ahead,
     }
 }
@@ -78,25 +72,18 @@ fn is_letter(class: BidiClass) -> bool
 }
 
 // Tells the next direction behind the place and the run that begins there.
-fn neutral_at(
-    classes: &mut [BidiClass],
-    place: usize,
-    level: u8,
-    before: BidiClass,
-    eos: BidiClass,
-    ahead: Ahead,
-) -> Ahead
+fn neutral_at(classes: &mut [BidiClass], place: usize, frame: Frame, seen: Seen) -> Ahead
     requires within { place < length classes.old }
-    requires sees { Sees (neutral.side eos) classes.old (place + 1) ahead }
-    ensures class { (d : BidiClass) → classes.new ≡ set classes.old place (neutral.n2_class level (neutral.n1_class before (get_or classes.old place d) (neutral.side eos (drop (place + 1) classes.old)))) }
-    ensures sees { Sees (neutral.side eos) classes.old (place + 1) result }
+    requires sees { Sees (neutral.side frame.eos) classes.old (place + 1) seen.ahead }
+    ensures class { (d : BidiClass) → classes.new ≡ set classes.old place (neutral.n2_class frame.level (neutral.n1_class seen.before (get_or classes.old place d) (neutral.side frame.eos (drop (place + 1) classes.old)))) }
+    ensures sees { Sees (neutral.side frame.eos) classes.old (place + 1) result }
 {
     let class = classes[place];
     if !class.is_neutral() {
-        return ahead;
+        return seen.ahead;
     }
-    let ahead = n1_ahead(classes, place + 1, eos, ahead);
-    classes[place] = n2_class(level, n1_class(before, class, ahead.side));
+    let ahead = n1_ahead(classes, place + 1, frame.eos, seen.ahead);
+    classes[place] = n2_class(frame.level, n1_class(seen.before, class, ahead.side));
     ahead
 }
 
@@ -178,11 +165,11 @@ pub(crate) fn n2_class(level: u8, class: BidiClass) -> BidiClass
     }
 }
 
-/// I1 and I2: how far a character is raised above its level, which is at most 125.
-pub(crate) fn raised(level: u8, class: BidiClass) -> u8
-    requires { level ≤ 125 }
-    ensures { result ≡ neutral.raised level class }
+/// I1 and I2: how far a character is raised above the level of its sequence.
+pub(crate) fn raised(frame: Frame, class: BidiClass) -> u8
+    ensures { result ≡ neutral.raised frame.level class }
 {
+    let level = frame.level;
     if level % 2 == 0 {
         level + i1(class)
     } else {

@@ -2,11 +2,12 @@
 
 ghost use Rattle.bidi_resolve.specs.Pairing as readings;
 ghost use Rattle.bidi_resolve.specs.Pairing.{IsWithin, reading_of};
-ghost use Rattle.bidi_resolve.specs.Places.{gathered};
+ghost use Rattle.bidi_resolve.specs.Isolating.{chars_in};
 ghost use Rattle.std.specs.Option.{is_some};
 ghost use Rattle.std.specs.Prelude.{◌≡◌, ◌<◌, All, IfOk, OnOk, Some, false, get_or, length};
 ghost use Rattle.wm_chars.specs.declared.classes.BidiClass.TheVariants.{L};
 
+use crate::isolating::Sequence;
 use std::alloc::{AllocError, Global};
 use std::collections::VecDeque;
 use wm_chars::BidiClass::ON;
@@ -33,22 +34,19 @@ pub(crate) struct Pairing {
     pub(crate) stopped: bool,
 }
 
-/// The pairs of brackets of a sequence, which has these places in its paragraph's characters, in place of what was
-/// read before.
+/// The pairs of brackets of a sequence whose characters have these classes, in place of what was read before.
 pub(crate) fn read_pairs(
     pairing: &mut Pairing,
-    chars: &[char],
-    places: &[usize],
+    sequence: &Sequence,
     classes: &[BidiClass],
 ) -> Result<(), AllocError>
-    requires places { length places.now ≡ length classes.now }
-    requires within { All (λ place. place < length chars.now) places.now }
-    ensures pairs { OnOk result (reading_of pairing.new ≡ readings.read_all (gathered 0 chars.now places.now) classes.now) }
+    requires { length sequence.now.places.now ≡ length classes.now }
+    ensures pairs { OnOk result (reading_of pairing.new ≡ readings.read_all (chars_in sequence.now) classes.now) }
     ensures within { OnOk result (IsWithin (length classes.now) (reading_of pairing.new)) }
 {
     pairing.begin();
     for k in 0..classes.len() {
-        pairing.read_at(chars, places, classes, k)?;
+        pairing.read_at(sequence, classes, k)?;
     }
     Ok(())
 }
@@ -74,21 +72,19 @@ impl Pairing {
 
     fn read_at(
         &mut self,
-        chars: &[char],
-        places: &[usize],
+        sequence: &Sequence,
         classes: &[BidiClass],
         k: usize,
     ) -> Result<(), AllocError>
         requires k { k < length classes.now }
-        requires places { length places.now ≡ length classes.now }
-        requires within { All (λ place. place < length chars.now) places.now }
+        requires many { length sequence.now.places.now ≡ length classes.now }
         requires opened { All (λ opened. opened.number < length self.old.closings.items) self.old.opened.items }
-        ensures { IfOk result (λ _. reading_of self.new ≡ readings.read_one k (get_or chars.now (get_or places.now k 0) 0) (get_or classes.now k L) (reading_of self.old)) }
+        ensures { IfOk result (λ _. reading_of self.new ≡ readings.read_one k (get_or sequence.now.chars.now (get_or sequence.now.places.now k 0) 0) (get_or classes.now k L) (reading_of self.old)) }
     {
         if self.stopped || classes[k] != ON {
             return Ok(());
         }
-        let char = chars[places[k]];
+        let char = sequence.chars[sequence.places[k]];
         match bracket(char) {
             Some(bracket) => self.read_bracket(k, char, bracket),
             None => Ok(()),

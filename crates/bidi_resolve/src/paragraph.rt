@@ -2,20 +2,23 @@
 
 ghost use Rattle.bidi_explicit.specs.Paragraph.{IsBetween};
 ghost use Rattle.bidi_explicit.specs.Base.{base_of};
-ghost use Rattle.bidi_explicit.specs.Spans.{AreSpans, sequence_at, span_places};
 ghost use Rattle.bidi_resolve.specs.Paragraph as paragraph;
-ghost use Rattle.bidi_resolve.specs.Paragraph.{AreAsMany, IsResolvedLevel, resolved_from};
+ghost use Rattle.bidi_resolve.specs.Isolating.{levels_in};
+ghost use Rattle.bidi_resolve.specs.Paragraph.{IsResolvedLevel};
 ghost use Rattle.bidi_resolve.specs.Places.{scattered};
-ghost use Rattle.bidi_resolve.specs.Sequence.{levels_at};
+ghost use Rattle.bidi_resolve.specs.Runs.{resolved_runs};
 ghost use Rattle.std.specs.List.{list_any};
-ghost use Rattle.std.specs.Prelude.{ℕ, ◌≡◌, ◌<◌, ◌≤◌, All, IfOk, IfSome, length, map};
+ghost use Rattle.std.specs.Prelude.{◌≡◌, ◌≤◌, All, IfOk, IfSome, length, map};
 
 use crate::alone::alone;
+use crate::isolating::{Frame, Sequence};
 use crate::neutral::raised;
 use crate::places::{level_of, write_levels};
+use crate::runs::ParagraphRuns;
 use crate::sequence::{Scratch, resolve_classes};
 use crate::single::{are_plain, single_levels};
-use bidi_explicit::{ClassList, FlatRuns, LevelList, Levels, base_of, flat_runs, levels};
+use crate::text::Text;
+use bidi_explicit::{ClassList, LevelList, base_of, flat_runs, levels};
 use std::alloc::{AllocError, Global};
 use wm_chars::BidiClass::{AL, AN, R};
 use wm_chars::{BidiClass, bidi_class};
@@ -67,14 +70,19 @@ pub fn paragraph_levels(
     ensures length { IfOk result (λ levels. length levels.items ≡ length classes.now) }
     ensures between { IfOk result (λ levels. All (IsResolvedLevel base) levels.items) }
 {
+    let text = Text {
+        chars,
+        classes,
+        base,
+    };
     if !are_plain(classes) {
-        return by_all_rules(alloc, chars, classes, base);
+        return by_all_rules(alloc, &text);
     }
     if base == 0 && !has_right(classes) {
         let zeros = Vec::from_elem(alloc, 0, classes.len())?;
         return Ok(zeros);
     }
-    single_levels(alloc, chars, classes, base)
+    single_levels(alloc, &text)
 }
 
 // Whether one of the classes runs from right to left or is that of an Arabic number.
@@ -97,90 +105,72 @@ fn is_right(class: BidiClass) -> bool
 
 // The levels of any paragraph.
 #[tactic(auto, unfolding(crate::specs::Paragraph::paragraph_levels))]
-fn by_all_rules(
-    alloc: Global,
-    chars: &[char],
-    classes: &[BidiClass],
-    base: u8,
-) -> Result<LevelList, AllocError>
-    requires base { base ≤ 1 }
-    requires chars { length chars.now ≡ length classes.now }
-    ensures levels { IfOk result (λ levels. levels.items ≡ paragraph.paragraph_levels chars.now classes.now base) }
-    ensures length { IfOk result (λ levels. length levels.items ≡ length classes.now) }
-    ensures between { IfOk result (λ levels. All (IsResolvedLevel base) levels.items) }
+fn by_all_rules(alloc: Global, text: &Text) -> Result<LevelList, AllocError>
+    ensures levels { IfOk result (λ levels. levels.items ≡ paragraph.paragraph_levels text.now.chars.now text.now.classes.now text.now.base) }
+    ensures length { IfOk result (λ levels. length levels.items ≡ length text.now.classes.now) }
+    ensures between { IfOk result (λ levels. All (IsResolvedLevel text.now.base) levels.items) }
 {
-    let levels = levels(alloc, classes, base)?;
+    let levels = levels(alloc, text.classes, text.base)?;
     let runs = flat_runs(alloc, &levels)?;
-    with_runs(alloc, chars, &levels, &runs)
+    let paragraph = ParagraphRuns {
+        chars: text.chars,
+        levels: &levels,
+        runs: &runs,
+    };
+    with_runs(alloc, &paragraph)
 }
 
-// The levels of a paragraph, where these sequences are resolved.
-fn with_runs(
-    alloc: Global,
-    chars: &[char],
-    levels: &Levels,
-    runs: &FlatRuns,
-) -> Result<LevelList, AllocError>
-    requires lists { AreAsMany levels.now (length chars.now) }
-    requires spans { AreSpans runs.now.places.items runs.now.spans.items }
-    requires places { All (λ span. All (λ place. place < length chars.now) (span_places runs.now.places.items span)) runs.now.spans.items }
-    requires most { All (λ level. level ≤ 125) levels.now.level.items }
-    ensures levels { IfOk result (λ out. out.items ≡ resolved_from chars.now levels.now.original.items levels.now.level.items levels.now.class.items (map (sequence_at runs.now.places.items) runs.now.spans.items) levels.now.level.items) }
-    ensures length { IfOk result (λ out. length out.items ≡ length chars.now) }
+// The levels of a paragraph, where its sequences are resolved.
+fn with_runs(alloc: Global, paragraph: &ParagraphRuns) -> Result<LevelList, AllocError>
+    ensures levels { IfOk result (λ out. out.items ≡ resolved_runs paragraph.now paragraph.now.levels.now.level.items) }
+    ensures length { IfOk result (λ out. length out.items ≡ length paragraph.now.chars.now) }
 {
-    let mut out = Vec::from_slice(alloc, &levels.level)?;
-    write_runs(alloc, chars, levels, runs, &mut out)?;
+    let mut out = Vec::from_slice(alloc, &paragraph.levels.level)?;
+    write_runs(alloc, paragraph, &mut out)?;
     Ok(out)
 }
 
-// Writes the levels of these sequences.
-fn write_runs(
-    alloc: Global,
-    chars: &[char],
-    levels: &Levels,
-    runs: &FlatRuns,
-    out: &mut [u8],
-) -> Result<(), AllocError>
-    requires lists { AreAsMany levels.now (length chars.now) }
-    requires out { length out.old ≡ length chars.now }
-    requires spans { AreSpans runs.now.places.items runs.now.spans.items }
-    requires places { All (λ span. All (λ place. place < length chars.now) (span_places runs.now.places.items span)) runs.now.spans.items }
-    requires most { All (λ level. level ≤ 125) levels.now.level.items }
-    ensures { IfOk result (λ _. out.new ≡ resolved_from chars.now levels.now.original.items levels.now.level.items levels.now.class.items (map (sequence_at runs.now.places.items) runs.now.spans.items) out.old) }
+// Writes the levels of the sequences.
+#[tactic(auto, unfolding(crate::specs::Sequence::sequence_levels, crate::specs::Sequence::sequence_classes))]
+fn write_runs(alloc: Global, paragraph: &ParagraphRuns, out: &mut [u8]) -> Result<(), AllocError>
+    requires { length out.old ≡ length paragraph.now.chars.now }
+    ensures { IfOk result (λ _. out.new ≡ resolved_runs paragraph.now out.old) }
 {
     let mut scratch = Scratch::new(alloc);
-    for span in &runs.spans {
-        let places = &runs.places[span.start..span.stop];
-        write_run(&mut scratch, chars, levels, places, span.sos, span.eos, out)?;
+    for span in &paragraph.runs.spans {
+        let places = &paragraph.runs.places[span.start..span.stop];
+        let frame = Frame {
+            level: level_of(&paragraph.levels.level, places),
+            sos: span.sos,
+            eos: span.eos,
+        };
+        let sequence = Sequence {
+            chars: paragraph.chars,
+            originals: &paragraph.levels.original,
+            classes: &paragraph.levels.class,
+            places,
+            frame,
+        };
+        write_run(&mut scratch, &sequence, out)?;
     }
     Ok(())
 }
 
 // Writes the levels of one sequence, which is resolved by itself on the levels and classes as X1 to X9 leave them.
-#[tactic(auto, unfolding(crate::specs::Sequence::sequence_levels), using(crate::proofs::ParagraphLaws::most_at, crate::proofs::AloneLaws::alone_written))]
-fn write_run(
-    scratch: &mut Scratch,
-    chars: &[char],
-    levels: &Levels,
-    places: &[usize],
-    sos: BidiClass,
-    eos: BidiClass,
-    out: &mut [u8],
-) -> Result<(), AllocError>
-    requires lists { AreAsMany levels.now (length chars.now) }
-    requires out { length out.old ≡ length chars.now }
-    requires places { All (λ place. place < length chars.now) places.now }
-    requires most { All (λ level. level ≤ 125) levels.now.level.items }
-    ensures { IfOk result (λ _. out.new ≡ scattered places.now (levels_at chars.now levels.now places.now sos eos) out.old) }
+#[tactic(auto, using(crate::proofs::AloneLaws::alone_written))]
+fn write_run(scratch: &mut Scratch, sequence: &Sequence, out: &mut [u8]) -> Result<(), AllocError>
+    requires { length out.old ≡ length sequence.now.chars.now }
+    ensures { IfOk result (λ _. out.new ≡ scattered sequence.now.places.now (levels_in sequence.now) out.old) }
 {
-    let level = level_of(&levels.level, places);
+    let places = sequence.places;
+    let frame = sequence.frame;
     if places.len() == 1 {
         let place = places[0];
-        let class = alone(levels.class[place], level, sos, eos);
-        out[place] = raised(level, class);
+        let class = alone(sequence.classes[place], frame);
+        out[place] = raised(frame, class);
         return Ok(());
     }
-    resolve_classes(scratch, chars, levels, places, sos, eos, level)?;
-    write_levels(out, places, level, &scratch.classes);
+    resolve_classes(scratch, sequence)?;
+    write_levels(out, places, frame, &scratch.classes);
     Ok(())
 }

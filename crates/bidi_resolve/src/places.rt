@@ -1,24 +1,22 @@
 //! The places of an isolating run sequence in the lists of its paragraph.
 
 ghost use Rattle.bidi_resolve.specs.Neutral.{i1_i2};
-ghost use Rattle.bidi_resolve.specs.Places.{gathered, run_level, scattered};
+ghost use Rattle.bidi_resolve.specs.Isolating.{classes_in};
+ghost use Rattle.bidi_resolve.specs.Places.{run_level, scattered};
 ghost use Rattle.std.specs.Prelude.{◌≡◌, ◌<◌, ◌≤◌, All, OnOk, length, slice_index};
-ghost use Rattle.wm_chars.specs.declared.classes.BidiClass.TheVariants.{L};
 
+use crate::isolating::{Frame, Sequence};
 use crate::neutral::raised;
 use bidi_explicit::ClassList;
 use std::alloc::AllocError;
 use wm_chars::BidiClass;
 
-/// The classes at the places of a sequence, in place of what the list has.
-pub(crate) fn read_classes(
-    out: &mut ClassList,
-    classes: &[BidiClass],
-    places: &[usize],
-) -> Result<(), AllocError>
-    requires { All (λ place. place < length classes.now) places.now }
-    ensures { OnOk result (out.new.items ≡ gathered L classes.now places.now) }
+/// The classes of a sequence as X1 to X9 leave them, in place of what the list has.
+pub(crate) fn read_classes(out: &mut ClassList, sequence: &Sequence) -> Result<(), AllocError>
+    ensures { OnOk result (out.new.items ≡ classes_in sequence.now) }
 {
+    let places = sequence.places;
+    let classes = sequence.classes;
     out.clear();
     out.reserve(places.len())?;
     for place in places {
@@ -53,13 +51,12 @@ pub(crate) fn write_classes(classes: &mut [BidiClass], places: &[usize], new: &[
 }
 
 /// Raises the levels at these places by their classes.
-pub(crate) fn write_levels(levels: &mut [u8], places: &[usize], level: u8, classes: &[BidiClass])
-    requires level { level ≤ 125 }
+pub(crate) fn write_levels(levels: &mut [u8], places: &[usize], frame: Frame, classes: &[BidiClass])
     requires places { All (λ place. place < length levels.old) places.now }
     requires classes { length classes.now ≡ length places.now }
-    ensures { levels.new ≡ scattered places.now (i1_i2 level classes.now) levels.old }
+    ensures { levels.new ≡ scattered places.now (i1_i2 frame.level classes.now) levels.old }
 {
     for k in 0..places.len() {
-        levels[places[k]] = raised(level, classes[k]);
+        levels[places[k]] = raised(frame, classes[k]);
     }
 }

@@ -1,15 +1,15 @@
 //! One isolating run sequence by all rules (UAX 9, 3.3.4 to 3.3.6).
 
-ghost use Rattle.bidi_resolve.specs.Places.{gathered, run_level};
+ghost use Rattle.bidi_resolve.specs.Isolating.{chars_in, classes_in, originals_in, resolved_in};
 ghost use Rattle.bidi_resolve.specs.Brackets as brackets;
 ghost use Rattle.bidi_resolve.specs.Neutral as neutrals;
 ghost use Rattle.bidi_resolve.specs.Sequence as sequence;
 ghost use Rattle.std.specs.List.{list_any};
 ghost use Rattle.std.specs.Prelude.{◌≡◌, ◌<◌, ◌≤◌, All, IfOk, OnErr, OnOk, length, slice_index};
 ghost use Rattle.wm_chars.specs.Classes.{is_neutral};
-ghost use Rattle.wm_chars.specs.declared.classes.BidiClass.TheVariants.{L};
 
 use crate::brackets::n0;
+use crate::isolating::{Frame, Sequence};
 use crate::neutral::n1_n2;
 use crate::pairing::Pairing;
 use crate::places::{level_of, read_classes, write_classes, write_levels};
@@ -22,7 +22,7 @@ use wm_chars::BidiClass::{AL, CS, EN, ES, ET, NSM};
 /// Resolves one isolating run sequence (UAX 9, 3.3.4 to 3.3.6): the rules W1 to W7, N0 to N2, I1 and I2. The
 /// characters and each list in `levels` have one length, and the places of the sequence stand below it and have
 /// levels of at most 125. The classes and levels at other places stay as they are, and all of them where memory is short.
-#[tactic(auto, unfolding(crate::specs::Sequence::sequence_levels))]
+#[tactic(auto, unfolding(crate::specs::Sequence::sequence_levels, crate::specs::Sequence::sequence_classes))]
 pub fn resolve(
     alloc: Global,
     chars: &[char],
@@ -43,19 +43,22 @@ pub fn resolve(
     ensures level_len { length levels.new.level.items ≡ length levels.old.level.items }
     ensures class_len { length levels.new.class.items ≡ length levels.old.class.items }
 {
-    let level = level_of(&levels.level, &run.places);
-    let mut scratch = Scratch::new(alloc);
-    resolve_classes(
-        &mut scratch,
+    let frame = Frame {
+        level: level_of(&levels.level, &run.places),
+        sos: run.sos,
+        eos: run.eos,
+    };
+    let sequence = Sequence {
         chars,
-        levels,
-        &run.places,
-        run.sos,
-        run.eos,
-        level,
-    )?;
+        originals: &levels.original,
+        classes: &levels.class,
+        places: &run.places,
+        frame,
+    };
+    let mut scratch = Scratch::new(alloc);
+    resolve_classes(&mut scratch, &sequence)?;
     write_classes(&mut levels.class, &run.places, &scratch.classes);
-    write_levels(&mut levels.level, &run.places, level, &scratch.classes);
+    write_levels(&mut levels.level, &run.places, frame, &scratch.classes);
     Ok(())
 }
 
@@ -77,35 +80,13 @@ impl Scratch {
     }
 }
 
-/// The classes by all rules of the sequence that has these places, sos and eos.
-#[tactic(auto, unfolding(crate::specs::Sequence::sequence_classes))]
-pub(crate) fn resolve_classes(
-    scratch: &mut Scratch,
-    chars: &[char],
-    levels: &Levels,
-    places: &[usize],
-    sos: BidiClass,
-    eos: BidiClass,
-    level: u8,
-) -> Result<(), AllocError>
-    requires class { length levels.now.class.items ≡ length chars.now }
-    requires original { length levels.now.original.items ≡ length chars.now }
-    requires places { All (λ place. place < length chars.now) places.now }
-    requires level { level ≡ run_level levels.now.level.items places.now }
-    ensures classes { OnOk result (scratch.new.classes.items ≡ sequence.classes_at chars.now levels.now places.now sos eos) }
-    ensures length { OnOk result (length scratch.new.classes.items ≡ length places.now) }
+/// The classes of a sequence by all rules.
+pub(crate) fn resolve_classes(scratch: &mut Scratch, sequence: &Sequence) -> Result<(), AllocError>
+    ensures classes { OnOk result (scratch.new.classes.items ≡ resolved_in sequence.now (classes_in sequence.now)) }
+    ensures length { OnOk result (length scratch.new.classes.items ≡ length sequence.now.places.now) }
 {
-    read_classes(&mut scratch.classes, &levels.class, places)?;
-    rules(
-        &mut scratch.pairing,
-        &mut scratch.classes,
-        &levels.original,
-        chars,
-        level,
-        places,
-        sos,
-        eos,
-    )
+    read_classes(&mut scratch.classes, sequence)?;
+    rules(&mut scratch.pairing, &mut scratch.classes, sequence)
 }
 
 /// All rules for classes, each over the whole sequence before the next.
@@ -113,20 +94,13 @@ pub(crate) fn resolve_classes(
 pub(crate) fn rules(
     pairing: &mut Pairing,
     classes: &mut [BidiClass],
-    originals: &[BidiClass],
-    chars: &[char],
-    level: u8,
-    places: &[usize],
-    sos: BidiClass,
-    eos: BidiClass,
+    sequence: &Sequence,
 ) -> Result<(), AllocError>
-    requires places { length places.now ≡ length classes.old }
-    requires chars { All (λ place. place < length chars.now) places.now }
-    requires originals { length originals.now ≡ length chars.now }
-    ensures { IfOk result (λ _. classes.new ≡ sequence.resolved level sos eos (gathered 0 chars.now places.now) (gathered L originals.now places.now) classes.old) }
+    requires { length sequence.now.places.now ≡ length classes.old }
+    ensures { IfOk result (λ _. classes.new ≡ resolved_in sequence.now classes.old) }
 {
-    weak(classes, sos);
-    neutral(pairing, classes, originals, chars, level, places, sos, eos)
+    weak(classes, sequence.frame.sos);
+    neutral(pairing, classes, sequence)
 }
 
 // W1 to W7, where there is a class that they change.
@@ -174,21 +148,14 @@ fn weak_rules(classes: &mut [BidiClass], sos: BidiClass)
 fn neutral(
     pairing: &mut Pairing,
     classes: &mut [BidiClass],
-    originals: &[BidiClass],
-    chars: &[char],
-    level: u8,
-    places: &[usize],
-    sos: BidiClass,
-    eos: BidiClass,
+    sequence: &Sequence,
 ) -> Result<(), AllocError>
-    requires places { length places.now ≡ length classes.old }
-    requires chars { All (λ place. place < length chars.now) places.now }
-    requires originals { length originals.now ≡ length chars.now }
-    ensures { IfOk result (λ _. classes.new ≡ neutrals.n2 level (neutrals.n1 sos eos (brackets.n0 level sos (gathered 0 chars.now places.now) (gathered L originals.now places.now) classes.old))) }
+    requires { length sequence.now.places.now ≡ length classes.old }
+    ensures { IfOk result (λ _. classes.new ≡ neutrals.n2 sequence.now.frame.level (neutrals.n1 sequence.now.frame.sos sequence.now.frame.eos (brackets.n0 sequence.now.frame.level sequence.now.frame.sos (chars_in sequence.now) (originals_in sequence.now) classes.old))) }
 {
     if has_neutral(classes) {
-        n0(pairing, classes, originals, chars, places, level, sos)?;
-        n1_n2(classes, level, sos, eos);
+        n0(pairing, classes, sequence)?;
+        n1_n2(classes, sequence.frame);
     }
     Ok(())
 }

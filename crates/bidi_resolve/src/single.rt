@@ -4,11 +4,13 @@ ghost use Rattle.bidi_resolve.specs.Neutral.{i1_i2};
 ghost use Rattle.bidi_resolve.specs.Paragraph.{IsResolvedLevel};
 ghost use Rattle.bidi_resolve.specs.Single as single;
 ghost use Rattle.std.specs.List.{list_all, range_with_len};
-ghost use Rattle.std.specs.Prelude.{◌≡◌, ◌<◌, ◌≤◌, All, IfOk, length};
+ghost use Rattle.std.specs.Prelude.{◌≡◌, ◌<◌, All, IfOk, length};
 
+use crate::isolating::{Frame, Sequence};
 use crate::neutral::{direction, raised};
 use crate::pairing::Pairing;
 use crate::sequence::rules;
+use crate::text::Text;
 use bidi_explicit::{LevelList, PlaceList};
 use std::alloc::{AllocError, Global};
 use wm_chars::BidiClass;
@@ -35,35 +37,31 @@ fn is_plain(class: BidiClass) -> bool
     )
 }
 
-/// The levels of such a paragraph with this base level.
+/// The levels of such a paragraph.
 #[tactic(auto, unfolding(crate::specs::Single::single_levels), using(crate::proofs::LengthLaws::length_resolved))]
-pub(crate) fn single_levels(
-    alloc: Global,
-    chars: &[char],
-    classes: &[BidiClass],
-    base: u8,
-) -> Result<LevelList, AllocError>
-    requires base { base ≤ 1 }
-    requires chars { length chars.now ≡ length classes.now }
-    ensures levels { IfOk result (λ levels. levels.items ≡ single.single_levels chars.now classes.now base) }
-    ensures length { IfOk result (λ levels. length levels.items ≡ length classes.now) }
-    ensures between { IfOk result (λ levels. All (IsResolvedLevel base) levels.items) }
+pub(crate) fn single_levels(alloc: Global, text: &Text) -> Result<LevelList, AllocError>
+    ensures levels { IfOk result (λ levels. levels.items ≡ single.single_levels text.now.chars.now text.now.classes.now text.now.base) }
+    ensures length { IfOk result (λ levels. length levels.items ≡ length text.now.classes.now) }
+    ensures between { IfOk result (λ levels. All (IsResolvedLevel text.now.base) levels.items) }
 {
-    let places = all_places(alloc, classes.len())?;
-    let side = direction(base);
+    let places = all_places(alloc, text.classes.len())?;
+    let side = direction(text.base);
+    let frame = Frame {
+        level: text.base,
+        sos: side,
+        eos: side,
+    };
+    let sequence = Sequence {
+        chars: text.chars,
+        originals: text.classes,
+        classes: text.classes,
+        places: &places,
+        frame,
+    };
     let mut pairing = Pairing::new(alloc);
-    let mut own = Vec::from_slice(alloc, classes)?;
-    rules(
-        &mut pairing,
-        &mut own,
-        classes,
-        chars,
-        base,
-        &places,
-        side,
-        side,
-    )?;
-    raised_levels(alloc, base, &own)
+    let mut own = Vec::from_slice(alloc, text.classes)?;
+    rules(&mut pairing, &mut own, &sequence)?;
+    raised_levels(alloc, frame, &own)
 }
 
 // So many places in their order.
@@ -88,24 +86,26 @@ fn write_places(places: &mut [usize])
 }
 
 // I1 and I2.
-fn raised_levels(alloc: Global, level: u8, classes: &[BidiClass]) -> Result<LevelList, AllocError>
-    requires { level ≤ 1 }
-    ensures are { IfOk result (λ levels. levels.items ≡ i1_i2 level classes.now) }
+fn raised_levels(
+    alloc: Global,
+    frame: Frame,
+    classes: &[BidiClass],
+) -> Result<LevelList, AllocError>
+    ensures are { IfOk result (λ levels. levels.items ≡ i1_i2 frame.level classes.now) }
     ensures length { IfOk result (λ levels. length levels.items ≡ length classes.now) }
-    ensures between { IfOk result (λ levels. All (IsResolvedLevel level) levels.items) }
+    ensures between { IfOk result (λ levels. All (IsResolvedLevel frame.level) levels.items) }
 {
-    let mut levels = Vec::from_elem(alloc, level, classes.len())?;
-    raise(&mut levels, level, classes);
+    let mut levels = Vec::from_elem(alloc, frame.level, classes.len())?;
+    raise(&mut levels, frame, classes);
     Ok(levels)
 }
 
 #[tactic(auto, using(bidi_explicit::proofs::Writing::written_more))]
-fn raise(levels: &mut [u8], level: u8, classes: &[BidiClass])
-    requires level { level ≤ 1 }
-    requires length { length levels.old ≡ length classes.now }
-    ensures { levels.new ≡ i1_i2 level classes.now }
+fn raise(levels: &mut [u8], frame: Frame, classes: &[BidiClass])
+    requires { length levels.old ≡ length classes.now }
+    ensures { levels.new ≡ i1_i2 frame.level classes.now }
 {
     for i in 0..classes.len() {
-        levels[i] = raised(level, classes[i]);
+        levels[i] = raised(frame, classes[i]);
     }
 }

@@ -5,5 +5,5 @@ use Rattle.bidi_resolve.proofs.alone.alone.Goals as goal
 
 pub returns : goal.returns
 returns c =
-    resolved_alone c.args.level c.args.sos c.args.eos c.args.class c.weak_alone-weak.result c.n2_class.result c.weak_alone-weak.ensures
-    (c.n2_class.ensures ∙ ap (n2_class c.args.level) c.n1_class.ensures)
+    resolved_alone c.args.frame.level c.args.frame.sos c.args.frame.eos c.args.class c.weak_alone-weak.result c.n2_class.result c.weak_alone-weak.ensures
+    (c.n2_class.ensures ∙ ap (n2_class c.args.frame.level) c.n1_class.ensures)

@@ -7,5 +7,5 @@ use Rattle.bidi_resolve.proofs.neutral.step.Goals as goal
 
 pub returns-then-is_letter-clause-class : goal.returns-then-is_letter-clause-class
 returns-then-is_letter-clause-class c = λ d.
-    set_kept (λ x. n2_class c.args.level (n1_class c.args.before x (side c.args.eos (drop (c.args.place + 1) c.args.classes.now)))) c.args.classes.now c.args.place d L c.requires.within
-    (other_stays c.args.level c.args.before _ _ (c.is_letter.ensures.other (search rules)))
+    set_kept (λ x. n2_class c.args.frame.level (n1_class c.args.seen.before x (side c.args.frame.eos (drop (c.args.place + 1) c.args.classes.now)))) c.args.classes.now c.args.place d L c.requires.within
+    (other_stays c.args.frame.level c.args.seen.before _ _ (c.is_letter.ensures.other (search rules)))

@@ -13,5 +13,5 @@ returns-clause-between c =
     let within : All (λ (span : RunSpan). All (λ p. p < length levels.level.items) (span_places places span)) c.in_ok-runs.runs.spans.items =
     λ k d lt j e lt'. let h = (c.in_ok-runs.ensures.each k d lt).within j e lt' in omega arith in
     if_ok _ _ c.with_runs.result
-    (λ out is. rw is (all_between (sequence_at places) c.args.base c.args.chars.now levels.original.items levels.level.items levels.class.items c.in_ok-runs.runs.spans.items c.in_ok-levels.ensures.between within))
+    (λ out is. rw is (all_between (sequence_at places) c.args.text.now.base c.args.text.now.chars.now levels.original.items levels.level.items levels.class.items c.in_ok-runs.runs.spans.items c.in_ok-levels.ensures.between within))
     c.with_runs.ensures.levels

@@ -5,5 +5,5 @@ use Rattle.bidi_resolve.proofs.paragraph.write_runs.Given as goal
 
 abbrev pub invariant-loop-span : goal.invariant-loop-span
 invariant-loop-span l =
-    resolved_from l.chars l.levels.original.items l.levels.level.items l.levels.class.items (map (sequence_at l.runs.places.items) (drop l.span-index l.runs.spans.items)) l.out
-    ≡ resolved_from l.chars l.levels.original.items l.levels.level.items l.levels.class.items (map (sequence_at l.runs.places.items) l.runs.spans.items) l.fn.out
+    resolved_from l.paragraph.chars.now l.paragraph.levels.now.original.items l.paragraph.levels.now.level.items l.paragraph.levels.now.class.items (map (sequence_at l.paragraph.runs.now.places.items) (drop l.span-index l.paragraph.runs.now.spans.items)) l.out
+    ≡ resolved_from l.paragraph.chars.now l.paragraph.levels.now.original.items l.paragraph.levels.now.level.items l.paragraph.levels.now.class.items (map (sequence_at l.paragraph.runs.now.places.items) l.paragraph.runs.now.spans.items) l.fn.out
