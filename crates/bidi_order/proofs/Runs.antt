@@ -6,9 +6,7 @@ use Rattle.std.proofs.lemmas.List.{drop_more, drop_all, take_more, take_at, drop
 use Rattle.std.proofs.lemmas.List.FromFn.{length-range_with_len, map-range_with_len_more}
 use Rattle.std.proofs.lemmas.List.Sorted.{All-permutation, IsPermutation-refl, length_permutation, IsPermutation-trans, IsPermutation-reverse, IsPermutation-append_left, IsPermutation-append_right}
 use Rattle.basic_laws.proofs.Lists.{range_below}
-use Rattle.std.specs.Prelude.{leb, slice_index}
-use Rattle.std.proofs.Math.Numerals.{add-one}
-use Rattle.bidi_order.specs.Reversals.{IsReversing, reverse_runs, reversals}
+use Rattle.bidi_order.specs.Reversals.{IsReversing, reverse_runs}
 
 -- the elements from `start` up to `end`, reversed in place
 abbrev pub reversed_part : {X : Type 0} → List X → ℕ → ℕ → List X

@@ -40,6 +40,12 @@ from_least_odd levels (Some least) places = reversals levels least (greatest lev
 abbrev pub ReachTheSame : List ℕ → (level : ℕ) → (places : List ℕ) → Type 0
 ReachTheSame levels level places = (k : ℕ) → k ≤ level → map (λ p. leb k (slice_index levels p)) places ≡ map (λ l. leb k l) levels
 
+-- places of a line that has these levels, as many as it has, of which those that reach this level stand where they do in the
+-- line's own order
+pub record IsLineAt (levels : List ℕ) (level : ℕ) (places : List ℕ) : Type 0 where
+  pub many : length places ≡ length levels
+  pub reach : ReachTheSame levels level places
+
 -- how far the runs of a list are reversed: those before `start` are, the one that begins there is read up to i, and all
 -- from i on is as it was
 pub record IsReversing {X : Type 0} (passes : X → Bool) (old now : List X) (start i : ℕ) : Type 0 where

@@ -3,26 +3,39 @@
 
 ghost use Rattle.std.specs.Prelude.{ℕ, ◌≡◌, ◌<◌, ◌≤◌, [], leb, length, List, slice_index, IsPermutation};
 ghost use Rattle.std.specs.List.{list_all, list_any};
-ghost use Rattle.bidi_order.specs.Reversals.{IsReversingLine, ReachTheSame, reverse_runs};
+ghost use Rattle.bidi_order.specs.Reversals.{IsLineAt, IsReversingLine, reverse_runs};
 
-use crate::reversals::{reaches, reverse_part};
+use crate::reversals::{Reach, reaches, reverse_part};
 
 // How many places a block has.
 const BLOCK: usize = 32;
 
+// The places of a line from `from` up to `end`, of which there is one at least, and the level that they may reach.
+#[derive(Clone, Copy)]
+struct Block<'a> {
+    reach: Reach<'a>,
+    from: usize,
+    end: usize,
+    ghost further: { from < end },
+    ghost within: { end ≤ length reach.levels.now },
+}
+
 /// Reverses each longest run of places that have this level or a higher one. They are where the line's own places have it.
-pub(crate) fn reverse_by_blocks(places: &mut [usize], levels: &[u8], level: u8)
-    requires length { length places.old ≡ length levels.now }
-    requires reach { ReachTheSame levels.now level places.old }
-    ensures reversed { places.new ≡ reverse_runs (λ p. leb level (slice_index levels.now p)) [] places.old }
+pub(crate) fn reverse_by_blocks(places: &mut [usize], reach: &Reach)
+    requires { IsLineAt reach.now.levels.now reach.now.level places.old }
+    ensures reversed { places.new ≡ reverse_runs (λ p. leb reach.now.level (slice_index reach.now.levels.now p)) [] places.old }
     ensures rearranged { IsPermutation places.old places.new }
 {
     let mut start = 0;
     let mut from = 0;
-    while from < levels.len() {
-        let end = block_end(from, levels.len());
-        start = reverse_block(places, levels, level, start, from, end);
-        from = end;
+    while from < reach.levels.len() {
+        let block = Block {
+            reach: *reach,
+            from,
+            end: block_end(from, reach.levels.len()),
+        };
+        start = reverse_block(places, &block, start);
+        from = block.end;
     }
     reverse_part(places, start, from);
 }
@@ -41,50 +54,36 @@ fn block_end(from: usize, len: usize) -> usize
 }
 
 // Goes on over one block, and tells where the run begins that is read behind it.
-fn reverse_block(
-    places: &mut [usize],
-    levels: &[u8],
-    level: u8,
-    start: usize,
-    from: usize,
-    end: usize,
-) -> usize
-    requires length { length places.old ≡ length levels.now }
-    requires begun { start ≤ from }
-    requires further { from < end }
-    requires within { end ≤ length levels.now }
-    ensures { (line : List ℕ) → IsReversingLine levels.now level line places.old start from → IsReversingLine levels.now level line places.new result end }
+fn reverse_block(places: &mut [usize], block: &Block, start: usize) -> usize
+    requires length { length places.old ≡ length block.now.reach.levels.now }
+    requires begun { start ≤ block.now.from }
+    ensures { (line : List ℕ) → IsReversingLine block.now.reach.levels.now block.now.reach.level line places.old start block.now.from → IsReversingLine block.now.reach.levels.now block.now.reach.level line places.new result block.now.end }
 {
-    let block = &levels[from..end];
-    if reaches(levels, from, level) {
-        if all_reach(block, level) {
+    let levels = block.reach.levels;
+    let level = block.reach.level;
+    let own = &levels[block.from..block.end];
+    if reaches(levels, block.from, level) {
+        if all_reach(own, level) {
             return start;
         }
-    } else if !any_reaches(block, level) {
-        reverse_part(places, start, from);
-        return end;
+    } else if !any_reaches(own, level) {
+        reverse_part(places, start, block.from);
+        return block.end;
     }
-    reverse_each(places, levels, level, start, from, end)
+    reverse_each(places, block, start)
 }
 
 // Goes on over one block place by place: reverses each run of this level or above that ends in it, and reports where
 // the run begins that is read after the block.
-fn reverse_each(
-    places: &mut [usize],
-    levels: &[u8],
-    level: u8,
-    start: usize,
-    from: usize,
-    end: usize,
-) -> usize
-    requires length { length places.old ≡ length levels.now }
-    requires begun { start ≤ from }
-    requires further { from < end }
-    requires within { end ≤ length levels.now }
-    ensures { (line : List ℕ) → IsReversingLine levels.now level line places.old start from → IsReversingLine levels.now level line places.new result end }
+fn reverse_each(places: &mut [usize], block: &Block, start: usize) -> usize
+    requires length { length places.old ≡ length block.now.reach.levels.now }
+    requires begun { start ≤ block.now.from }
+    ensures { (line : List ℕ) → IsReversingLine block.now.reach.levels.now block.now.reach.level line places.old start block.now.from → IsReversingLine block.now.reach.levels.now block.now.reach.level line places.new result block.now.end }
 {
+    let levels = block.reach.levels;
+    let level = block.reach.level;
     let mut start = start;
-    for i in from..end {
+    for i in block.from..block.end {
         if !reaches(levels, i, level) {
             reverse_part(places, start, i);
             start = i + 1;

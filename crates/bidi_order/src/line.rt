@@ -14,6 +14,18 @@ use bidi_explicit::{ClassList, LevelList, PlaceList};
 use std::alloc::{AllocError, Global};
 use wm_chars::BidiClass;
 
+// A line in the lists of its bidi paragraph: the levels, the classes that the characters had before any rule, the base level,
+// and the places of the line.
+#[derive(Clone, Copy)]
+struct LineText<'a> {
+    levels: &'a [u8],
+    classes: &'a [BidiClass],
+    base: u8,
+    places: &'a [usize],
+    ghost each_class: { length levels.now ≡ length classes.now },
+    ghost within: { All (λ p. p < length classes.now) places.now },
+}
+
 /// The order of one line of a bidi paragraph (UAX 9, L1 and L2): the places of its characters in the paragraph, from left
 /// to right. The line has the places from `start` up to `stop` but those of what X9 removes. The levels are the resolved
 /// ones of the whole paragraph with this base level, and the classes are those that its characters had before any rule.
@@ -37,7 +49,13 @@ pub fn line_order(
         let order = turned(places, base);
         Ok(order)
     } else {
-        let order = order_at(alloc, levels, classes, base, &places)?;
+        let text = LineText {
+            levels,
+            classes,
+            base,
+            places: &places,
+        };
+        let order = order_at(alloc, &text)?;
         Ok(order)
     }
 }
@@ -55,22 +73,14 @@ fn turned(places: PlaceList, base: u8) -> Order
     order
 }
 
-// The order of a line that has these places, whatever its levels.
-fn order_at(
-    alloc: Global,
-    levels: &[u8],
-    classes: &[BidiClass],
-    base: u8,
-    places: &[usize],
-) -> Result<Order, AllocError>
-    requires classes { length levels.now ≡ length classes.now }
-    requires within { All (λ p. p < length classes.now) places.now }
-    ensures order { IfOk result (λ order. order.items ≡ line.order_at base levels.now classes.now places.now) }
-    ensures rearranged { IfOk result (λ order. IsPermutation places.now order.items) }
+// The order of a line, whatever its levels.
+fn order_at(alloc: Global, text: &LineText) -> Result<Order, AllocError>
+    ensures order { IfOk result (λ order. order.items ≡ line.order_at text.now.base text.now.levels.now text.now.classes.now text.now.places.now) }
+    ensures rearranged { IfOk result (λ order. IsPermutation text.now.places.now order.items) }
 {
-    let line = levels_at(alloc, levels, classes, base, places)?;
+    let line = levels_at(alloc, text)?;
     let mut order = order(alloc, &line)?;
-    look_up(&mut order, places);
+    look_up(&mut order, text.places);
     Ok(order)
 }
 
@@ -103,33 +113,22 @@ fn keep(places: &mut PlaceList, class: BidiClass, place: usize) -> Result<(), Al
     Ok(())
 }
 
-// L1 at these places.
-fn levels_at(
-    alloc: Global,
-    levels: &[u8],
-    classes: &[BidiClass],
-    base: u8,
-    places: &[usize],
-) -> Result<LevelList, AllocError>
-    requires classes { length levels.now ≡ length classes.now }
-    requires within { All (λ p. p < length classes.now) places.now }
-    ensures levels { IfOk result (λ out. out.items ≡ line.levels_at base levels.now classes.now places.now) }
-    ensures length { IfOk result (λ out. length out.items ≡ length places.now) }
+// L1 at the places of a line.
+fn levels_at(alloc: Global, text: &LineText) -> Result<LevelList, AllocError>
+    ensures levels { IfOk result (λ out. out.items ≡ line.levels_at text.now.base text.now.levels.now text.now.classes.now text.now.places.now) }
+    ensures length { IfOk result (λ out. length out.items ≡ length text.now.places.now) }
 {
-    let own = read_classes(alloc, classes, places)?;
-    let mut line = read_levels(alloc, levels, places)?;
-    reset(&mut line, &own, base);
+    let own = read_classes(alloc, text)?;
+    let mut line = read_levels(alloc, text)?;
+    reset(&mut line, &own, text.base);
     Ok(line)
 }
 
-fn read_classes(
-    alloc: Global,
-    classes: &[BidiClass],
-    places: &[usize],
-) -> Result<ClassList, AllocError>
-    requires { All (λ p. p < length classes.now) places.now }
-    ensures { IfOk result (λ out. out.items ≡ gathered L classes.now places.now) }
+fn read_classes(alloc: Global, text: &LineText) -> Result<ClassList, AllocError>
+    ensures { IfOk result (λ out. out.items ≡ gathered L text.now.classes.now text.now.places.now) }
 {
+    let places = text.places;
+    let classes = text.classes;
     let mut out = Vec::with_capacity(alloc, places.len())?;
     for place in places {
         out.push_reserved(classes[*place]);
@@ -137,10 +136,11 @@ fn read_classes(
     Ok(out)
 }
 
-fn read_levels(alloc: Global, levels: &[u8], places: &[usize]) -> Result<LevelList, AllocError>
-    requires { All (λ p. p < length levels.now) places.now }
-    ensures { IfOk result (λ out. out.items ≡ gathered 0 levels.now places.now) }
+fn read_levels(alloc: Global, text: &LineText) -> Result<LevelList, AllocError>
+    ensures { IfOk result (λ out. out.items ≡ gathered 0 text.now.levels.now text.now.places.now) }
 {
+    let places = text.places;
+    let levels = text.levels;
     let mut out = Vec::with_capacity(alloc, places.len())?;
     for place in places {
         out.push_reserved(levels[*place]);

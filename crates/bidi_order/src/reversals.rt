@@ -2,7 +2,7 @@
 
 ghost use Rattle.std.specs.Prelude.{◌≡◌, ◌+◌, ◌-◌, ◌%◌, ◌<◌, ◌≤◌, ◌++◌, [], cond, eqb, leb, ltb, length, take, drop, reverse, slice_index, IfOk, IsPermutation};
 ghost use Rattle.std.specs.List.{All, range_with_len};
-ghost use Rattle.bidi_order.specs.Reversals.{ReachTheSame, reverse_runs, greatest, greatest_below, least_odd, from_least_odd, order};
+ghost use Rattle.bidi_order.specs.Reversals.{IsLineAt, reverse_runs, greatest, greatest_below, least_odd, from_least_odd, order};
 
 use crate::blocks::reverse_by_blocks;
 use crate::places::Order;
@@ -10,6 +10,13 @@ use std::alloc::{AllocError, Global};
 
 /// The greatest level in a line without embeddings, overrides and isolates, whose base level is 0 or 1.
 const FLAT: u8 = 2;
+
+/// The levels of a line, and a level that its characters may reach.
+#[derive(Clone, Copy)]
+pub(crate) struct Reach<'a> {
+    pub(crate) levels: &'a [u8],
+    pub(crate) level: u8,
+}
 
 /// The places of a line's characters in the order in which they stand from left to right, by their levels (UAX 9,
 /// L2).
@@ -68,7 +75,7 @@ fn reverse_levels(places: &mut [usize], levels: &[u8])
     let deep = level > FLAT;
     while level > 0 {
         let next = greatest_below(levels, level);
-        reverse_between(places, levels, level, next, deep);
+        reverse_between(places, &Reach { levels, level }, next, deep);
         level = next;
     }
 }
@@ -93,29 +100,29 @@ fn below(level: u8, limit: u8) -> u8
 
 // The reversals from that level down to the next one, which is left out. In a deep line most places of a long part reach a
 // level, or none does.
-fn reverse_between(places: &mut [usize], levels: &[u8], level: u8, next: u8, deep: bool)
-    requires next { next < level }
-    requires length { length places.old ≡ length levels.now }
-    requires reach { ReachTheSame levels.now level places.old }
-    ensures reversed { places.new ≡ cond (eqb ((level - next) % 2) 1) (reverse_runs (λ p. leb level (slice_index levels.now p)) [] places.old) places.old }
+fn reverse_between(places: &mut [usize], reach: &Reach, next: u8, deep: bool)
+    requires next { next < reach.now.level }
+    requires line { IsLineAt reach.now.levels.now reach.now.level places.old }
+    ensures reversed { places.new ≡ cond (eqb ((reach.now.level - next) % 2) 1) (reverse_runs (λ p. leb reach.now.level (slice_index reach.now.levels.now p)) [] places.old) places.old }
     ensures rearranged { IsPermutation places.old places.new }
 {
-    if (level - next) % 2 == 1 {
+    if (reach.level - next) % 2 == 1 {
         if deep {
-            reverse_by_blocks(places, levels, level);
+            reverse_by_blocks(places, reach);
         } else {
-            reverse_level(places, levels, level);
+            reverse_level(places, reach);
         }
     }
 }
 
 // Reverses each longest run of places that have this level or a higher one. They are where the line's own places have it.
-fn reverse_level(places: &mut [usize], levels: &[u8], level: u8)
-    requires length { length places.old ≡ length levels.now }
-    requires reach { ReachTheSame levels.now level places.old }
-    ensures reversed { places.new ≡ reverse_runs (λ p. leb level (slice_index levels.now p)) [] places.old }
+fn reverse_level(places: &mut [usize], reach: &Reach)
+    requires { IsLineAt reach.now.levels.now reach.now.level places.old }
+    ensures reversed { places.new ≡ reverse_runs (λ p. leb reach.now.level (slice_index reach.now.levels.now p)) [] places.old }
     ensures rearranged { IsPermutation places.old places.new }
 {
+    let levels = reach.levels;
+    let level = reach.level;
     let mut start = 0;
     for i in 0..places.len() {
         if !reaches(levels, i, level) {

@@ -9,6 +9,14 @@ use crate::places::Order;
 use crate::reversals::{all_places, greatest, order};
 use std::alloc::{AllocError, Global};
 
+// The levels of a line's items after L1, and what parts each from the item before it.
+#[derive(Clone, Copy)]
+struct LineItems<'a> {
+    levels: &'a [u8],
+    aparts: &'a [Option<u8>],
+    ghost each_apart: { length levels.now ≡ length aparts.now },
+}
+
 // A place of the list that L2 orders, with its level: an item, or what parts two items.
 #[derive(Clone, Copy)]
 struct Seat {
@@ -38,7 +46,7 @@ pub fn visual_order(
         let places = order(alloc, levels)?;
         Ok(places)
     } else {
-        let places = seated_order(alloc, levels, aparts)?;
+        let places = seated_order(alloc, &LineItems { levels, aparts })?;
         Ok(places)
     }
 }
@@ -75,23 +83,23 @@ fn parts_nothing(apart: Option<u8>) -> bool
 // The places of a line's items from left to right, whatever their levels: L2 orders the list of the items and of what
 // parts them, and what parts them is left out.
 #[tactic(auto, unfolding(crate::specs::Visual::visual_order))]
-fn seated_order(alloc: Global, levels: &[u8], aparts: &[Option<u8>]) -> Result<Order, AllocError>
-    requires { length levels.now ≡ length aparts.now }
-    ensures order { IfOk result (λ places. places.items ≡ visual_order levels.now aparts.now) }
-    ensures rearranged { IfOk result (λ places. IsPermutation (range_with_len 0 (length levels.now)) places.items) }
-    ensures below { IfOk result (λ places. All (λ p. p < length levels.now) places.items) }
+fn seated_order(alloc: Global, line: &LineItems) -> Result<Order, AllocError>
+    ensures order { IfOk result (λ places. places.items ≡ visual_order line.now.levels.now line.now.aparts.now) }
+    ensures rearranged { IfOk result (λ places. IsPermutation (range_with_len 0 (length line.now.levels.now)) places.items) }
+    ensures below { IfOk result (λ places. All (λ p. p < length line.now.levels.now) places.items) }
 {
-    let seats = seats(alloc, levels, aparts)?;
+    let seats = seats(alloc, line)?;
     let own = seat_levels(alloc, &seats)?;
     let order = order(alloc, &own)?;
     let places = items_of(alloc, &seats, &order)?;
     Ok(places)
 }
 
-fn seats(alloc: Global, levels: &[u8], aparts: &[Option<u8>]) -> Result<Seats, AllocError>
-    requires { length levels.now ≡ length aparts.now }
-    ensures { IfOk result (λ made. made.items ≡ seats levels.now aparts.now) }
+fn seats(alloc: Global, line: &LineItems) -> Result<Seats, AllocError>
+    ensures { IfOk result (λ made. made.items ≡ seats line.now.levels.now line.now.aparts.now) }
 {
+    let levels = line.levels;
+    let aparts = line.aparts;
     let mut seats = Vec::with_capacity(alloc, levels.len())?;
     for i in 0..levels.len() {
         add_seat(&mut seats, apart_within(aparts, i), levels[i], i)?;

@@ -6,7 +6,7 @@ use Rattle.bidi_order.proofs.blocks.reverse_by_blocks.Goals as goal
 
 pub returns-clause-rearranged : goal.returns-clause-rearranged
 returns-clause-rearranged c =
-    let levels = c.args.levels.now in
+    let levels = c.args.reach.now.levels.now in
     let on = c.loop-from.invariant.reversing in
-    let many : length c.loop-from.places ≡ length levels = long levels c.args.level c.args.places.now c.loop-from.places c.loop-from.start c.loop-from.from on in
-    ends_rearranged (λ p. leb c.args.level (slice_index levels p)) c.args.places.now c.loop-from.places c.loop-from.start c.loop-from.from on.2 (omega arith) c.reverse_part.new.places c.reverse_part.ensures
+    let many : length c.loop-from.places ≡ length levels = long levels c.args.reach.now.level c.args.places.now c.loop-from.places c.loop-from.start c.loop-from.from on in
+    ends_rearranged (λ p. leb c.args.reach.now.level (slice_index levels p)) c.args.places.now c.loop-from.places c.loop-from.start c.loop-from.from on.2 (omega arith) c.reverse_part.new.places c.reverse_part.ensures

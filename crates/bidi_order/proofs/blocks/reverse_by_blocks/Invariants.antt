@@ -4,9 +4,9 @@ use Rattle.bidi_order.proofs.blocks.reverse_by_blocks.Given as goal
 
 abbrev pub invariant-loop-from : goal.invariant-loop-from
 invariant-loop-from l = record {
-  reversing : IsReversingLine l.levels l.level l.fn.places l.places l.start l.from;
-  within : l.from ≤ length l.levels;
+  reversing : IsReversingLine l.reach.levels.now l.reach.level l.fn.places l.places l.start l.from;
+  within : l.from ≤ length l.reach.levels.now;
 }
 
 abbrev pub decreases-loop-from : goal.decreases-loop-from
-decreases-loop-from l = length l.levels - l.from
+decreases-loop-from l = length l.reach.levels.now - l.from

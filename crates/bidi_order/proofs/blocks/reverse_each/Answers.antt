@@ -6,8 +6,8 @@ use Rattle.bidi_order.proofs.blocks.reverse_each.Goals as goal
 
 pub loop-i-preserved : goal.loop-i-preserved
 loop-i-preserved c =
-    let levels = c.args.levels.now in
-    let level = c.args.level in
+    let levels = c.args.block.now.reach.levels.now in
+    let level = c.args.block.now.reach.level in
     let places = c.loop-i.places in
     let i = c.loop-i.i in
     elim c.if-not-reaches.branch [

@@ -5,7 +5,7 @@ use Rattle.bidi_order.proofs.blocks.reverse_each.Given as goal
 
 abbrev pub invariant-loop-i : goal.invariant-loop-i
 invariant-loop-i l = record {
-  reversing : (line : List ℕ) → IsReversingLine l.levels l.level line l.fn.places l.fn.start l.from → IsReversingLine l.levels l.level line l.places l.start l.i;
+  reversing : (line : List ℕ) → IsReversingLine l.block.reach.levels.now l.block.reach.level line l.fn.places l.fn.start l.block.from → IsReversingLine l.block.reach.levels.now l.block.reach.level line l.places l.start l.i;
   begun : l.start ≤ l.i;
-  length : length l.places ≡ length l.levels;
+  length : length l.places ≡ length l.block.reach.levels.now;
 }
