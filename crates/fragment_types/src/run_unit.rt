@@ -43,7 +43,9 @@ impl Model for RunUnit {
 }
 
 impl RunUnit {
-    /// A unit from the place of its first character to the place after its last, with copies of these glyphs.
+    /// A unit from the place of its first character to the place after its last, with copies of these glyphs. Most are one
+    /// character, and all that is read of them is read for each character of a page: so it stands where it is called.
+    #[inline(always)]
     pub fn new(
         alloc: Global,
         first: u32,
@@ -56,6 +58,20 @@ impl RunUnit {
         if let Some(unit) = single(first, end, extent, glyphs) {
             return Ok(unit);
         }
+        RunUnit::with_memory(alloc, first, end, extent, glyphs)
+    }
+
+    // Any unit, with memory of its own.
+    #[inline(never)]
+    fn with_memory(
+        alloc: Global,
+        first: u32,
+        end: u32,
+        extent: i64,
+        glyphs: &Glyphs,
+    ) -> Result<RunUnit, AllocError>
+        ensures { IfOk result (λ unit. unit ≡ record { first = first; end = end; extent = extent; glyphs = glyphs.now }) }
+    {
         let other = OtherUnit {
             first,
             end,
@@ -68,6 +84,7 @@ impl RunUnit {
     }
 
     /// The place of its first character in the node's text.
+    #[inline(always)]
     pub fn first(&self) -> u32
         ensures { result ≡ self.now.first }
     {
@@ -78,6 +95,7 @@ impl RunUnit {
     }
 
     /// The place after its last character.
+    #[inline(always)]
     pub fn end(&self) -> u32
         ensures { result ≡ self.now.end }
     {
@@ -88,6 +106,7 @@ impl RunUnit {
     }
 
     /// Its extent along the line, in units of 1/64 px.
+    #[inline(always)]
     pub fn extent(&self) -> i64
         ensures { result ≡ self.now.extent }
     {
@@ -119,6 +138,7 @@ impl RunUnit {
     }
 
     /// Its character, where it is one unit of one character.
+    #[inline(always)]
     pub fn only_character(&self) -> Option<char>
         ensures only { result ≡ only_character self.now.glyphs }
         ensures one { IfSome result (λ c. (c ∷ []) ∷ [] ≡ self.now.glyphs) }
@@ -131,6 +151,7 @@ impl RunUnit {
 }
 
 // A unit that needs no memory of its own, where it is such a one.
+#[inline(always)]
 fn single(first: u32, end: u32, extent: i64, glyphs: &Glyphs) -> Option<RunUnit>
     ensures { IfSome result (λ unit. unit ≡ record { first = first; end = end; extent = extent; glyphs = glyphs.now }) }
 {
