@@ -1,9 +1,10 @@
 -- The boxes of a line by their places among the paragraph's entries.
-use Rattle.std.specs.Prelude.{◌≡◌, ℕ, ◌<◌, ◌≤◌, ◌^◌, ⊤, true, List, [], ◌∷◌, All, length, map, IfSome, Option, slice_index_or, ℤ, ◌+ℤ◌, ◌-ℤ◌, unsigned_abs}
+use Rattle.std.specs.Prelude.{◌≡◌, ℕ, ◌<◌, ◌≤◌, ◌^◌, ⊤, Bool, true, false, ◌&&◌, ◌==◌, List, [], ◌∷◌, All, length, map, IfSome, Option, slice_index_or, ℤ, ◌+ℤ◌, ◌-ℤ◌, unsigned_abs}
 use Rattle.wm_units.specs.Numbers.{cap}
 use Rattle.face_api.specs.Table.{Table}
 use Rattle.line_place.specs.declared.line.LineBox.{LineBox}
 use Rattle.line_place.specs.Line as place
+use Rattle.line_place.specs.Runs.{is_form}
 use Rattle.para_prepare.specs.declared.item.PreparedContent.{PreparedContent}
 use Rattle.para_prepare.specs.declared.item.PreparedContent.TheVariants.{Unit, Combined, Atom as atoms_of, Break}
 use Rattle.para_lines.specs.declared.standing.Standing as code
@@ -14,7 +15,7 @@ use Rattle.fragment_types.specs.Item.{Entry}
 use Rattle.para_lines.specs.Around.{has, no_entry}
 use Rattle.para_lines.specs.Boxes.{Begins, chain_at, chain_behind, innermost}
 use Rattle.para_lines.specs.Lines as rule
-use Rattle.para_lines.specs.Lines.{boxes_on, no_atom, place_in}
+use Rattle.para_lines.specs.Lines.{boxes_on, innermost_in, no_atom, place_in}
 
 -- a table by box tells for each of these boxes its place in their list
 abbrev pub AreSeats : (boxes seats : List ℕ) → Type 0
@@ -61,6 +62,11 @@ content_in shifts (Unit form space node first end_ advance glyphs) atom = place.
 content_in shifts (Combined node first end_ advance natural glyphs) atom = place.combined node first end_ natural glyphs
 content_in shifts (atoms_of name) atom = atom_in shifts atom
 content_in shifts (Break node) atom = place.nothing
+
+-- units of one text node and one form
+abbrev pub units_alike : PreparedContent → PreparedContent → Bool
+units_alike (Unit form space node first end_ advance glyphs) (Unit form' space' node' first' end' advance' glyphs') = (node == node') && is_form form form'
+units_alike _ _ = false
 
 -- ---- the boxes of a line
 
@@ -125,3 +131,7 @@ abbrev pub line_on : List (Option Table) → ItemsOn → place.Line
 line_on tables own =
     rule.line tables own.seated.container.now own.seated.boxes.now
     (chain_behind own.seated.boxes.now own.seated.sides.before) (chain_behind own.seated.boxes.now own.seated.sides.after) (map (standing_of own.seated.boxes.now) own.standings)
+
+-- where among the boxes of the line an item stands
+abbrev pub seat_in : ItemsOn → code.Standing → Option ℕ
+seat_in own standing = innermost_in own.seated.places.now (chain_at own.seated.boxes.now standing.item.now.source)

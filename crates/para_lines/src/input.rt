@@ -1,17 +1,21 @@
 //! The items of a line of a paragraph, from which it is placed (CSS 2, 9.4.2 and 10.8.1).
 
-ghost use Rattle.std.specs.Prelude.{◌≡◌, List, map};
+ghost use Rattle.std.specs.Prelude.{◌≡◌, ◌<◌, ◌&&◌, List, length, map, slice_index_or};
 ghost use Rattle.face_api.specs.Faces.{faces_of};
 ghost use Rattle.fragment_types.specs.Item.{Entry};
 ghost use Rattle.line_place.specs.Line.{line_in};
 ghost use Rattle.line_place.specs.Reach.{AreNear};
-ghost use Rattle.para_lines.specs.Line.{AreSeated, box_on, items_on, line_on, standing_of};
+ghost use Rattle.line_place.specs.Runs.{is_form, is_place};
+ghost use Rattle.para_lines.specs.declared.standing.Standing.{Standing};
+ghost use Rattle.para_lines.specs.Line.{AreSeated, box_on, items_on, line_on, seat_in, standing_of, units_alike};
 ghost use Rattle.para_lines.specs.Lines as rule;
 
 use crate::line::{Seated, extents_in};
 use crate::standing::Standing;
 use face_api::{Face, Faces};
+use fragment_types::UnitKind;
 use line_place::{LineBox, LineFrame, LineItem, LineSource};
+use para_prepare::PreparedContent;
 use std::marker::Model;
 
 /// The items of a line, with what they are made from: each stands in boxes of the line.
@@ -46,6 +50,13 @@ impl LineSource for SeatedItems<'_> {
     #[inline(always)]
     fn item(&self, place: usize) -> LineItem<'_> {
         self.seated.line_item(&self.standings[place])
+    }
+
+    #[inline(always)]
+    fn stand_alike(&self, place: usize, other: usize) -> bool {
+        let one = self.standing(place).item;
+        let next = self.standing(other).item;
+        are_alike(&one.what, &next.what) && self.stand_together(place, other)
     }
 
     fn is_level_zero(&self) -> bool {
@@ -83,6 +94,72 @@ impl<'a> SeatedItems<'a> {
             boxes,
         }
     }
+
+    // Whether the items at two places stand inside the same box. Those that come from one item of the paragraph do.
+    #[inline(always)]
+    #[tactic(auto, using(crate::proofs::LineLaws::in_one_place))]
+    fn stand_together(&self, place: usize, other: usize) -> bool
+        requires place { place < length self.now.standings }
+        requires other { other < length self.now.standings }
+        ensures { (d : Standing) → result ≡ is_place (seat_in self.now (slice_index_or self.now.standings place d)) (seat_in self.now (slice_index_or self.now.standings other d)) }
+    {
+        if self.standing(place).item.source == self.standing(other).item.source {
+            true
+        } else {
+            is_place(self.seat_at(place), self.seat_at(other))
+        }
+    }
+
+    // The box of the line in which the item at a place stands.
+    #[inline(never)]
+    fn seat_at(&self, place: usize) -> Option<usize>
+        requires { place < length self.now.standings }
+        ensures { (d : Standing) → result ≡ seat_in self.now (slice_index_or self.now.standings place d) }
+    {
+        let own = self.standing(place);
+        let round = self.seated.boxes.round(own.item.source as usize);
+        self.seated.seat_of(round.inside)
+    }
+
+    // An item as it is on its way to the line.
+    #[inline(always)]
+    fn standing(&self, place: usize) -> &Standing<'a>
+        requires { place < length self.now.standings }
+        ensures { (d : Standing) → result.now ≡ slice_index_or self.now.standings place d }
+    {
+        let standings = self.standings;
+        &standings[place]
+    }
+}
+
+fn is_place(one: Option<usize>, other: Option<usize>) -> bool
+    ensures { result ≡ is_place one other }
+{
+    one == other
+}
+
+// Units of one text node and one form.
+#[inline(always)]
+fn are_alike(one: &PreparedContent, other: &PreparedContent) -> bool
+    ensures { result ≡ units_alike one.now other.now }
+{
+    match (one, other) {
+        (
+            PreparedContent::Unit { node, form, .. },
+            PreparedContent::Unit {
+                node: other_node,
+                form: other_form,
+                ..
+            },
+        ) => *node == *other_node && is_form(*form, *other_form),
+        _ => false,
+    }
+}
+
+fn is_form(one: UnitKind, other: UnitKind) -> bool
+    ensures { result ≡ is_form one other }
+{
+    one == other
 }
 
 // The base level of the bidi paragraph of the first of these items.

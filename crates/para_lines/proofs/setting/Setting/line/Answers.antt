@@ -63,19 +63,19 @@ new-items-requires g c =
       places = c.deref-2.ensures.value ∙ c.in_ok-places.ensures;
     }
 
-pub place-requires-clause-inside : goal.place-requires-clause-inside
-place-requires-clause-inside g c =
+pub place_line_from-requires-clause-inside : goal.place_line_from-requires-clause-inside
+place_line_from-requires-clause-inside g c =
     let own : List code.Standing = slice_range c.args.self.now.standings.now c.args.from c.args.end in
     line_inside _ c.args.self.now.container.now c.args.self.now.boxes.now _ _ own (line_in c.frame-frame.result _) (c.frame-frame.ensures.line ∙ ap (line_on _) c.new-items.ensures)
 
-pub place-requires-clause-nested : goal.place-requires-clause-nested
-place-requires-clause-nested g c =
+pub place_line_from-requires-clause-nested : goal.place_line_from-requires-clause-nested
+place_line_from-requires-clause-nested g c =
     let own : List code.Standing = slice_range c.args.self.now.standings.now c.args.from c.args.end in
     let able = all_range (IsAble (length c.args.self.now.boxes.now)) c.args.self.now.standings.now c.args.from c.args.end c.requires.from c.requires.end c.requires.set.able in
     line_nested _ c.args.self.now.container.now c.args.self.now.boxes.now _ _ own (line_in c.frame-frame.result _) (c.frame-frame.ensures.line ∙ ap (line_on _) c.new-items.ensures) able
 
-pub place-requires-clause-reach : goal.place-requires-clause-reach
-place-requires-clause-reach g c =
+pub place_line_from-requires-clause-reach : goal.place_line_from-requires-clause-reach
+place_line_from-requires-clause-reach g c =
     let set = c.requires.set in
     let entries : List Entry = c.args.self.now.boxes.now in
     let own : List code.Standing = slice_range c.args.self.now.standings.now c.args.from c.args.end in
