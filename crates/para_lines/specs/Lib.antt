@@ -1,6 +1,8 @@
 pub mod Alone
 pub mod Around
+pub mod Bounded
 pub mod Boxes
+pub mod Conditions
 pub mod Edges
 pub mod Filled
 pub mod Filling

@@ -11,17 +11,16 @@ ghost use Rattle.para_lines.specs.Edges.{raised_in};
 ghost use Rattle.para_lines.specs.Boxes.{Begins, chain_at, chain_behind};
 ghost use Rattle.para_lines.specs.Line.{AreSeats, IsAble, IsOnLine, IsSeated, box_on, on_line};
 ghost use Rattle.para_lines.specs.Lines as rule;
-ghost use Rattle.para_lines.specs.Paragraph.{IsContainer};
 
 use crate::boxes::{Boxes, Places};
-use crate::edges::{inner_edge_on, margin_on};
+use crate::edges::LineEdges;
 use crate::paragraph::Container;
 use crate::standing::Standing;
 use face_api::{Face, Faces};
 use line_place::{Extents, LineBox, LineBoxes, extents};
 use std::alloc::{AllocError, Global};
 use style_types::Style;
-use wm_modes::{Direction, FlowSide, side_of};
+use wm_modes::FlowSide;
 use wm_units::cap;
 
 /// The boxes that stand on the line of these items, the outer before the inner: those round its first item, then those that
@@ -164,19 +163,21 @@ impl Seated<'_> {
     {
         let own = self.boxes.at(place);
         let round = self.boxes.round(place);
-        let style = &own.style;
-        let container = self.container;
+        let edges = LineEdges {
+            container: self.container,
+            style: &own.style,
+        };
         LineBox {
             node: own.node,
             outer: self.seat_of(round.inside),
             extents,
-            dir: style.used_direction(),
-            left: inner_edge_at(container, style, FlowSide::LineLeft),
-            right: inner_edge_at(container, style, FlowSide::LineRight),
-            over: inner_edge_at(container, style, FlowSide::LineOver),
-            under: inner_edge_at(container, style, FlowSide::LineUnder),
-            left_margin: margin_at(container, style, FlowSide::LineLeft),
-            right_margin: margin_at(container, style, FlowSide::LineRight),
+            dir: own.style.used_direction(),
+            left: edges.inner_edge_at(FlowSide::LineLeft),
+            right: edges.inner_edge_at(FlowSide::LineRight),
+            over: edges.inner_edge_at(FlowSide::LineOver),
+            under: edges.inner_edge_at(FlowSide::LineUnder),
+            left_margin: edges.margin_at(FlowSide::LineLeft),
+            right_margin: edges.margin_at(FlowSide::LineRight),
             first: self.has_edge(own.opens, place, self.sides.before),
             last: self.has_edge(own.closes, place, self.sides.after),
         }
@@ -203,34 +204,6 @@ pub(crate) fn seat(seats: &mut Places, places: &[usize])
         left -= 1;
         seats[places[left]] = left;
     }
-}
-
-/// The margin of an inline box on a side of its container's lines.
-fn margin_at(container: &Container, style: &Style, side: FlowSide) -> i64
-    requires container { IsContainer container.now }
-    requires style { IsBounded style.now }
-    ensures value { result ≡ rule.margin_at container.now style.now side }
-    ensures near { unsigned_abs result ≤ 2 ^ 32 }
-{
-    margin_on(
-        Some(container.size),
-        style,
-        side_of(container.style.mode, Direction::Ltr, side),
-    )
-}
-
-/// Its border and padding there.
-fn inner_edge_at(container: &Container, style: &Style, side: FlowSide) -> i64
-    requires container { IsContainer container.now }
-    requires style { IsBounded style.now }
-    ensures value { result ≡ rule.inner_edge_at container.now style.now side }
-    ensures near { unsigned_abs result ≤ 2 ^ 33 }
-{
-    inner_edge_on(
-        Some(container.size),
-        style,
-        side_of(container.style.mode, Direction::Ltr, side),
-    )
 }
 
 /// The extents of a box in this style by its used face.

@@ -5,9 +5,9 @@ ghost use Rattle.face_api.specs.Faces.{faces_of};
 ghost use Rattle.fragment_types.specs.Fragment.{pieces_of};
 ghost use Rattle.fragment_types.specs.Item.{Entry};
 ghost use Rattle.para_lines.specs.Boxes.{chain_behind};
+ghost use Rattle.para_lines.specs.Conditions.{IsSetting, IsSetting-prop};
 ghost use Rattle.para_lines.specs.Line.{IsAble, standing_of};
 ghost use Rattle.para_lines.specs.Lines.{chain_of_first, chain_of_last};
-ghost use Rattle.para_lines.specs.Setting.{IsPlaced, IsSetting};
 
 use crate::boxes::{Boxes, Places};
 use crate::input::SeatedItems;
@@ -25,9 +25,13 @@ pub(crate) struct Setting<'a> {
     pub(crate) boxes: &'a Boxes<'a>,
     pub(crate) container: &'a Container,
     pub(crate) standings: &'a [Standing<'a>],
+
+    ghost is_setting: { IsSetting boxes.now container.now standings.now } by { IsSetting-prop boxes.now container.now standings.now },
 }
 
 impl Setting<'_> {
+    ghost use Rattle.para_lines.specs.Setting.{IsPart, IsPlaced};
+
     /// Places the line of the items from one place up to another. `seats` is a table by box for its use.
     pub(crate) fn line(
         &self,
@@ -37,10 +41,8 @@ impl Setting<'_> {
         from: usize,
         end: usize,
     ) -> Result<LineFragment, AllocError>
-        requires set { IsSetting self.now }
         requires seats { length seats.old.items ≡ length self.now.boxes.now }
-        requires from { from ≤ end }
-        requires end { end ≤ length self.now.standings.now }
+        requires part { IsPart from end (length self.now.standings.now) }
         ensures same { length seats.new.items ≡ length seats.old.items }
         ensures placed { IfOk result (λ made. IsPlaced self.now (faces_of ⟦<dyn Face as Face>⟧ faces.now) from end made.over made.under (pieces_of made.parts.items)) }
     {
@@ -52,28 +54,16 @@ impl Setting<'_> {
             container: self.container,
             places: &places,
             seats,
-            sides: sides_of(self.standings, from, end),
+            sides: Sides {
+                before: source_before(self.standings, from),
+                after: source_at(self.standings, end),
+            },
         };
         let boxes = seated.line_boxes(alloc, faces)?;
         let items = SeatedItems::new(seated, standings);
         let frame = items.frame(faces, &boxes);
         let made = place_line_from(alloc, &frame, &items)?;
         Ok(made)
-    }
-}
-
-// What the items come from that stand before a line and behind it.
-fn sides_of(standings: &[Standing], from: usize, end: usize) -> Sides
-    requires from { from ≤ end }
-    requires end { end ≤ length standings.now }
-    ensures before { (entries : List Entry) → chain_behind entries result.before ≡ chain_of_last [] (take from (map (standing_of entries) standings.now)) }
-    ensures after { (entries : List Entry) → chain_behind entries result.after ≡ chain_of_first (drop end (map (standing_of entries) standings.now)) }
-    ensures before_there { (count : ℕ) → All (IsAble count) standings.now → IfSome result.before (λ source. source < count) }
-    ensures after_there { (count : ℕ) → All (IsAble count) standings.now → IfSome result.after (λ source. source < count) }
-{
-    Sides {
-        before: source_before(standings, from),
-        after: source_at(standings, end),
     }
 }
 

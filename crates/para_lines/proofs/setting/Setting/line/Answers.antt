@@ -21,43 +21,43 @@ use Rattle.para_lines.proofs.setting.Setting.line.Goals as goal
 
 pub boxes_on-requires : goal.boxes_on-requires
 boxes_on-requires g c =
-    all_range (IsAble (length c.args.self.now.boxes.now)) c.args.self.now.standings.now c.args.from c.args.end c.requires.from c.requires.end c.requires.set.able
+    all_range (IsAble (length c.args.self.now.boxes.now)) c.args.self.now.standings.now c.args.from c.args.end c.requires.part.order c.requires.part.within c.args.self.now.is_setting.able
 
 pub seat-requires : goal.seat-requires
 seat-requires g c =
     let own : List code.Standing = slice_range c.args.self.now.standings.now c.args.from c.args.end in
-    let able = all_range (IsAble (length c.args.self.now.boxes.now)) c.args.self.now.standings.now c.args.from c.args.end c.requires.from c.requires.end c.requires.set.able in
+    let able = all_range (IsAble (length c.args.self.now.boxes.now)) c.args.self.now.standings.now c.args.from c.args.end c.requires.part.order c.requires.part.within c.args.self.now.is_setting.able in
     on_line_within c.args.self.now.boxes.now own _ _ (c.deref.ensures.value ∙ c.in_ok-places.ensures) (sym c.requires.seats) able
 
 pub line_boxes-requires : goal.line_boxes-requires
 line_boxes-requires g c =
     let own : List code.Standing = slice_range c.args.self.now.standings.now c.args.from c.args.end in
-    let able = all_range (IsAble (length c.args.self.now.boxes.now)) c.args.self.now.standings.now c.args.from c.args.end c.requires.from c.requires.end c.requires.set.able in
+    let able = all_range (IsAble (length c.args.self.now.boxes.now)) c.args.self.now.standings.now c.args.from c.args.end c.requires.part.order c.requires.part.within c.args.self.now.is_setting.able in
     let P : List ℕ → Type 0 = λ places. AreOnLine c.args.self.now.boxes.now places in
     let S : List ℕ → Type 0 = λ places. AreSeats places c.deref-3.result.now in
     let T : List ℕ → Type 0 = λ seats. AreSeats c.deref.result.now seats in
     record {
-      container = c.requires.set.container;
+      container = c.args.self.now.is_setting.container_is;
       seats = subst S (c.deref.ensures.value ∙ sym c.deref-2.ensures.value) (subst T (sym c.deref-3.ensures.value) c.seat.ensures.seats);
       on_line = subst P (sym (c.deref-2.ensures.value ∙ c.in_ok-places.ensures)) (all_on_line c.args.self.now.boxes.now own able);
-      before = c.sides_of.ensures.before_there (length c.args.self.now.boxes.now) c.requires.set.able;
-      after = c.sides_of.ensures.after_there (length c.args.self.now.boxes.now) c.requires.set.able;
+      before = c.source_before.ensures.there (length c.args.self.now.boxes.now) c.args.self.now.is_setting.able;
+      after = c.source_at.ensures.there (length c.args.self.now.boxes.now) c.args.self.now.is_setting.able;
     }
 
 pub new-items-requires : goal.new-items-requires
 new-items-requires g c =
     let own : List code.Standing = slice_range c.args.self.now.standings.now c.args.from c.args.end in
-    let able = all_range (IsAble (length c.args.self.now.boxes.now)) c.args.self.now.standings.now c.args.from c.args.end c.requires.from c.requires.end c.requires.set.able in
+    let able = all_range (IsAble (length c.args.self.now.boxes.now)) c.args.self.now.standings.now c.args.from c.args.end c.requires.part.order c.requires.part.within c.args.self.now.is_setting.able in
     let P : List ℕ → Type 0 = λ places. AreOnLine c.args.self.now.boxes.now places in
     let S : List ℕ → Type 0 = λ places. AreSeats places c.deref-3.result.now in
     let T : List ℕ → Type 0 = λ seats. AreSeats c.deref.result.now seats in
     record {
       seated_is = record {
-        container = c.requires.set.container;
+        container = c.args.self.now.is_setting.container_is;
         seats = subst S (c.deref.ensures.value ∙ sym c.deref-2.ensures.value) (subst T (sym c.deref-3.ensures.value) c.seat.ensures.seats);
         on_line = subst P (sym (c.deref-2.ensures.value ∙ c.in_ok-places.ensures)) (all_on_line c.args.self.now.boxes.now own able);
-        before = c.sides_of.ensures.before_there (length c.args.self.now.boxes.now) c.requires.set.able;
-        after = c.sides_of.ensures.after_there (length c.args.self.now.boxes.now) c.requires.set.able;
+        before = c.source_before.ensures.there (length c.args.self.now.boxes.now) c.args.self.now.is_setting.able;
+        after = c.source_at.ensures.there (length c.args.self.now.boxes.now) c.args.self.now.is_setting.able;
       };
       able = able;
       places = c.deref-2.ensures.value ∙ c.in_ok-places.ensures;
@@ -71,38 +71,38 @@ place_line_from-requires-clause-inside g c =
 pub place_line_from-requires-clause-nested : goal.place_line_from-requires-clause-nested
 place_line_from-requires-clause-nested g c =
     let own : List code.Standing = slice_range c.args.self.now.standings.now c.args.from c.args.end in
-    let able = all_range (IsAble (length c.args.self.now.boxes.now)) c.args.self.now.standings.now c.args.from c.args.end c.requires.from c.requires.end c.requires.set.able in
+    let able = all_range (IsAble (length c.args.self.now.boxes.now)) c.args.self.now.standings.now c.args.from c.args.end c.requires.part.order c.requires.part.within c.args.self.now.is_setting.able in
     line_nested _ c.args.self.now.container.now c.args.self.now.boxes.now _ _ own (line_in c.frame-frame.result _) (c.frame-frame.ensures.line ∙ ap (line_on _) c.new-items.ensures) able
 
 pub place_line_from-requires-clause-reach : goal.place_line_from-requires-clause-reach
 place_line_from-requires-clause-reach g c =
-    let set = c.requires.set in
+    let set = c.args.self.now.is_setting in
     let entries : List Entry = c.args.self.now.boxes.now in
     let own : List code.Standing = slice_range c.args.self.now.standings.now c.args.from c.args.end in
-    let able = all_range (IsAble (length entries)) c.args.self.now.standings.now c.args.from c.args.end c.requires.from c.requires.end set.able in
+    let able = all_range (IsAble (length entries)) c.args.self.now.standings.now c.args.from c.args.end c.requires.part.order c.requires.part.within set.able in
     let e = ap (total standing_reach) (range_map (standing_of entries) c.args.self.now.standings.now c.args.from c.args.end) in
     let t = total_range standing_reach (standings_in c.args.self.now) c.args.from c.args.end in
     let r = set.reach in
     let N : List LineBox → Type 0 = λ boxes. All (λ b. AreNear b.extents) boxes in
     let near = subst N (sym (c.frame-frame.ensures.boxes ∙ c.deref-4.ensures.value)) c.in_ok-boxes.ensures.near in
     line_near _ c.args.self.now.container.now entries _ _ own (line_in c.frame-frame.result _) (c.frame-frame.ensures.line ∙ ap (line_on _) c.new-items.ensures) set.bounded.bounds set.bounded.few
-    set.container.low set.container.high able (rise_range c.args.self.now.standings.now c.args.from c.args.end set.rise) (omega (arith, e, t, r)) (c.frame-frame.ensures.strut, near)
+    set.container_is.low set.container_is.high able (rise_range c.args.self.now.standings.now c.args.from c.args.end set.rise) (omega (arith, e, t, r)) (c.frame-frame.ensures.strut, near)
 
 pub returns-clause-placed : goal.returns-clause-placed
 returns-clause-placed g c =
-    let set = c.requires.set in
+    let set = c.args.self.now.is_setting in
     let entries : List Entry = entries_in c.args.self.now in
     let all : List Standing = standings_in c.args.self.now in
     let own : List code.Standing = slice_range c.args.self.now.standings.now c.args.from c.args.end in
-    let able = all_range (IsAble (length entries)) c.args.self.now.standings.now c.args.from c.args.end c.requires.from c.requires.end set.able in
+    let able = all_range (IsAble (length entries)) c.args.self.now.standings.now c.args.from c.args.end c.requires.part.order c.requires.part.within set.able in
     let e = ap (total standing_reach) (range_map (standing_of entries) c.args.self.now.standings.now c.args.from c.args.end) in
     let N : List LineBox → Type 0 = λ boxes. All (λ b. AreNear b.extents) boxes in
     let near = subst N (sym (c.frame-frame.ensures.boxes ∙ c.deref-4.ensures.value)) c.in_ok-boxes.ensures.near in
     let is =
-    line_is _ c.args.self.now.container.now entries c.args.self.now.standings.now c.sides_of.result.before c.sides_of.result.after c.args.from c.args.end (line_in c.frame-frame.result _)
-    (c.frame-frame.ensures.line ∙ ap (line_on _) c.new-items.ensures) (c.sides_of.ensures.before entries) (c.sides_of.ensures.after entries) in
+    line_is _ c.args.self.now.container.now entries c.args.self.now.standings.now c.source_before.result c.source_at.result c.args.from c.args.end (line_in c.frame-frame.result _)
+    (c.frame-frame.ensures.line ∙ ap (line_on _) c.new-items.ensures) (c.source_before.ensures.chain entries) (c.source_at.ensures.chain entries) in
     let far = line_far _ c.args.self.now.container.now entries _ _ own (line_in c.frame-frame.result _) (c.frame-frame.ensures.line ∙ ap (line_on _) c.new-items.ensures) set.bounded.bounds
-    set.container.low set.container.high able (rise_range c.args.self.now.standings.now c.args.from c.args.end set.rise) (c.frame-frame.ensures.strut, near) in
+    set.container_is.low set.container_is.high able (rise_range c.args.self.now.standings.now c.args.from c.args.end set.rise) (c.frame-frame.ensures.strut, near) in
     let made = c.in_ok-made.ensures in
     let parts_are = made.parts ∙ ap parts is in
     let reach : ℕ = reach_between (length c.args.self.now.boxes.now) all c.args.from c.args.end in
@@ -114,5 +114,5 @@ returns-clause-placed g c =
       over_near = close.0;
       under_near = close.1;
       within = λ most held. between_spread _ c.args.self.now.container.now entries c.args.self.now.standings.now c.args.from c.args.end reach most _
-          c.requires.from c.requires.end parts_are (subst L is (omega (arith, e, far))) held;
+          c.requires.part.order c.requires.part.within parts_are (subst L is (omega (arith, e, far))) held;
     }
