@@ -11,4 +11,5 @@ pub mod Lines
 pub mod Paragraph
 pub mod Prepared
 pub mod Reach
+pub mod Seats
 pub mod Setting

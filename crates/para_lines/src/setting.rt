@@ -10,9 +10,10 @@ ghost use Rattle.para_lines.specs.Line.{IsAble, standing_of};
 ghost use Rattle.para_lines.specs.Lines.{chain_of_first, chain_of_last};
 
 use crate::boxes::{Boxes, Places};
-use crate::input::SeatedItems;
-use crate::line::{Seated, Sides, boxes_on, seat};
+use crate::line::{boxes_on, seat};
 use crate::paragraph::Container;
+use crate::seated::{Seated, Sides};
+use crate::seated_items::SeatedItems;
 use crate::standing::Standing;
 use face_api::{Face, Faces};
 use fragment_types::LineFragment;

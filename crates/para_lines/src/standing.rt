@@ -7,16 +7,17 @@ ghost use Rattle.para_prepare.specs.Preparation.{atoms_in};
 ghost use Rattle.para_lines.specs.Filling.{item_chains};
 ghost use Rattle.para_lines.specs.Boxes.{chain_at, innermost};
 ghost use Rattle.line_place.specs.Line.{content_of, item_of};
-ghost use Rattle.para_lines.specs.Line.{HasAtom, IsAble, IsNearAtom, IsSeated, atom_in, content_in, first_atom, standing_of};
+ghost use Rattle.para_lines.specs.Line.{HasAtom, IsAble, IsNearAtom, atom_in, content_in, first_atom, standing_of};
 ghost use Rattle.para_lines.specs.Paragraph.{atom_of};
 ghost use Rattle.para_lines.specs.Lines as rule;
 ghost use Rattle.para_lines.specs.Prepared.{AreSources};
 ghost use Rattle.para_lines.specs.Around.{has};
 
 use crate::filling::{is_space, past};
-use crate::line::{Seated, raised};
+use crate::line::raised;
 use crate::paragraph::Atom;
 use crate::prepared::PreparedLists;
+use crate::seated::Seated;
 use fragment_types::Breaking;
 use line_fill::FillItem;
 use line_place::{LineContent, LineItem};
@@ -94,7 +95,6 @@ impl Seated<'_> {
     /// An item on the line: what it is, its level and its extent, and in which box of the line it stands.
     #[inline(always)]
     pub(crate) fn line_item<'b>(&self, standing: &Standing<'b>) -> LineItem<'b>
-        requires seated { IsSeated self.now }
         requires able { IsAble (length self.now.boxes.now) standing.now }
         requires inside { IfSome (innermost (chain_at self.now.boxes.now standing.now.item.now.source)) (λ box. has self.now.places.now box ≡ true) }
         ensures { item_of result ≡ rule.line_item self.now.boxes.now self.now.places.now (standing_of self.now.boxes.now standing.now) }

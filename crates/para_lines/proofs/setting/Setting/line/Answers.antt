@@ -7,7 +7,8 @@ use Rattle.line_place.specs.Line.{Line, line_in}
 use Rattle.line_place.specs.Placing.{line_over, line_under, parts}
 use Rattle.line_place.specs.Reach.{AreNear, line_reach, total}
 use Rattle.para_lines.specs.declared.standing.Standing as code
-use Rattle.para_lines.specs.Line.{AreOnLine, AreSeats, IsAble, line_on, standing_of}
+use Rattle.para_lines.specs.Line.{IsAble, line_on, standing_of}
+use Rattle.para_lines.specs.Seats.{AreOnLine, AreSeats}
 use Rattle.para_lines.specs.Lines.{Standing}
 use Rattle.para_lines.specs.Reach.{standing_reach}
 use Rattle.para_lines.specs.Setting.{entries_in, reach_between, room_between, standings_in}
@@ -29,37 +30,27 @@ seat-requires g c =
     let able = all_range (IsAble (length c.args.self.now.boxes.now)) c.args.self.now.standings.now c.args.from c.args.end c.requires.part.order c.requires.part.within c.args.self.now.is_setting.able in
     on_line_within c.args.self.now.boxes.now own _ _ (c.deref.ensures.value ∙ c.in_ok-places.ensures) (sym c.requires.seats) able
 
-pub line_boxes-requires : goal.line_boxes-requires
-line_boxes-requires g c =
+pub invariant_of-seated : goal.invariant_of-seated
+invariant_of-seated g c =
     let own : List code.Standing = slice_range c.args.self.now.standings.now c.args.from c.args.end in
     let able = all_range (IsAble (length c.args.self.now.boxes.now)) c.args.self.now.standings.now c.args.from c.args.end c.requires.part.order c.requires.part.within c.args.self.now.is_setting.able in
     let P : List ℕ → Type 0 = λ places. AreOnLine c.args.self.now.boxes.now places in
     let S : List ℕ → Type 0 = λ places. AreSeats places c.deref-3.result.now in
     let T : List ℕ → Type 0 = λ seats. AreSeats c.deref.result.now seats in
     record {
-      container = c.args.self.now.is_setting.container_is;
-      seats = subst S (c.deref.ensures.value ∙ sym c.deref-2.ensures.value) (subst T (sym c.deref-3.ensures.value) c.seat.ensures.seats);
-      on_line = subst P (sym (c.deref-2.ensures.value ∙ c.in_ok-places.ensures)) (all_on_line c.args.self.now.boxes.now own able);
-      before = c.source_before.ensures.there (length c.args.self.now.boxes.now) c.args.self.now.is_setting.able;
-      after = c.source_at.ensures.there (length c.args.self.now.boxes.now) c.args.self.now.is_setting.able;
-    }
-
-pub new-items-requires : goal.new-items-requires
-new-items-requires g c =
-    let own : List code.Standing = slice_range c.args.self.now.standings.now c.args.from c.args.end in
-    let able = all_range (IsAble (length c.args.self.now.boxes.now)) c.args.self.now.standings.now c.args.from c.args.end c.requires.part.order c.requires.part.within c.args.self.now.is_setting.able in
-    let P : List ℕ → Type 0 = λ places. AreOnLine c.args.self.now.boxes.now places in
-    let S : List ℕ → Type 0 = λ places. AreSeats places c.deref-3.result.now in
-    let T : List ℕ → Type 0 = λ seats. AreSeats c.deref.result.now seats in
-    record {
-      seated_is = record {
-        container = c.args.self.now.is_setting.container_is;
-        seats = subst S (c.deref.ensures.value ∙ sym c.deref-2.ensures.value) (subst T (sym c.deref-3.ensures.value) c.seat.ensures.seats);
+      is_seated = record {
+        container_is = c.args.self.now.is_setting.container_is;
+        seats_are = subst S (c.deref.ensures.value ∙ sym c.deref-2.ensures.value) (subst T (sym c.deref-3.ensures.value) c.seat.ensures.seats);
         on_line = subst P (sym (c.deref-2.ensures.value ∙ c.in_ok-places.ensures)) (all_on_line c.args.self.now.boxes.now own able);
         before = c.source_before.ensures.there (length c.args.self.now.boxes.now) c.args.self.now.is_setting.able;
         after = c.source_at.ensures.there (length c.args.self.now.boxes.now) c.args.self.now.is_setting.able;
       };
-      able = able;
+    }
+
+pub new-items-requires : goal.new-items-requires
+new-items-requires g c =
+    record {
+      able = all_range (IsAble (length c.args.self.now.boxes.now)) c.args.self.now.standings.now c.args.from c.args.end c.requires.part.order c.requires.part.within c.args.self.now.is_setting.able;
       places = c.deref-2.ensures.value ∙ c.in_ok-places.ensures;
     }
 
