@@ -138,36 +138,6 @@ fn content<'a>(what: &'a PreparedContent, shifts: i64, atoms: &'a [Atom]) -> Lin
             form: *form,
             glyphs,
         },
-        PreparedContent::Combined { .. }
-        | PreparedContent::Atom { .. }
-        | PreparedContent::Break { .. } => other_content(what, shifts, atoms),
-    }
-}
-
-// What an item that is no unit is, inside boxes with these lengths of `vertical-align`.
-#[inline(never)]
-fn other_content<'a>(what: &'a PreparedContent, shifts: i64, atoms: &'a [Atom]) -> LineContent<'a>
-    requires shifts { unsigned_abs shifts ≤ 2 ^ 53 }
-    requires atom { HasAtom what.now atoms.now }
-    requires near { All IsNearAtom atoms.now }
-    ensures { content_of result ≡ content_in shifts what.now (first_atom atoms.now) }
-{
-    match what {
-        PreparedContent::Unit {
-            node,
-            first,
-            end,
-            form,
-            advance: _,
-            space: _,
-            glyphs,
-        } => LineContent::Unit {
-            node: *node,
-            first: *first,
-            end: *end,
-            form: *form,
-            glyphs,
-        },
         PreparedContent::Combined {
             node,
             first,
@@ -187,7 +157,8 @@ fn other_content<'a>(what: &'a PreparedContent, shifts: i64, atoms: &'a [Atom]) 
     }
 }
 
-// An atom, raised by its own length and those of the boxes round it.
+// An atom, raised by its own length and those of the boxes round it. Few items are atoms.
+#[inline(never)]
 fn atom_content(atom: &Atom, shifts: i64) -> LineContent<'_>
     requires shifts { unsigned_abs shifts ≤ 2 ^ 53 }
     requires near { IsNearAtom atom.now }
