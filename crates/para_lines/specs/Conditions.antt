@@ -1,5 +1,5 @@
 -- What holds of that which the lines of a paragraph are made from. Each holds in one way at most, so that it can stand in a type.
-use Rattle.std.specs.Prelude.{ℕ, ◌≤◌, ◌^◌, ⊤, List, [], ◌∷◌, All, length, map}
+use Rattle.std.specs.Prelude.{ℕ, ◌≤◌, ◌^◌, List, [], ◌∷◌, All, length, map}
 use Rattle.std.specs.Coded.{×_prop, Unit-prop, le_prop}
 use Rattle.fragment_types.specs.Item.{Entry, text, begins, ends, atom, line_break}
 use Rattle.line_place.specs.Reach.{total}
