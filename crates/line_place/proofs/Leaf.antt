@@ -1,7 +1,7 @@
 -- The item at a place of a line.
 use Rattle.std.proofs.Common.{◌≡◌, ◌∙◌, ap, sym, arith, Bool, ℕ, zero, suc, ◌+◌, ◌<◌, List, [], ◌∷◌, length, get_or, drop, Some, add-zero}
 use Rattle.std.specs.Prelude.{slice_get}
-use Rattle.line_place.specs.Line.{Item}
+use Rattle.line_place.specs.Line.{Item, no_item}
 use Rattle.line_place.specs.Leaves.{leaf, leaves_from, are_spaces}
 
 leaf_there : (s : ℕ) (levels : List ℕ) (items : List Item) (k : ℕ) (d : Item) → k < length levels → length levels ≡ length items
@@ -14,11 +14,10 @@ leaf_there s (level ∷ levels) (item ∷ items) (suc k) d lt same =
     leaf_there (s + 1) levels items k d (omega arith) (omega arith)
     ∙ ap (λ (p : ℕ). Some (leaf p (get_or levels k 0) (get_or items k d) (are_spaces (drop k items)))) e
 
-pub leaf_at : (levels : List ℕ) (items : List Item) (k : ℕ) (x : Item) (hangs : Bool) → k < length items → length levels ≡ length items
-    → x ≡ get_or items k x → are_spaces (drop k items) ≡ hangs → Some (leaf k (get_or levels k 0) x hangs) ≡ slice_get (leaves_from 0 levels items) k
-leaf_at levels items k x hangs lt same read is =
+pub leaf_at : (levels : List ℕ) (items : List Item) (k : ℕ) (hangs : Bool) → k < length items → length levels ≡ length items
+    → are_spaces (drop k items) ≡ hangs → Some (leaf k (get_or levels k 0) (get_or items k no_item) hangs) ≡ slice_get (leaves_from 0 levels items) k
+leaf_at levels items k hangs lt same is =
     let z : 0 + k ≡ k = omega arith in
-    sym (leaf_there 0 levels items k x (omega arith) same
-    ∙ ap (λ (p : ℕ). Some (leaf p (get_or levels k 0) (get_or items k x) (are_spaces (drop k items)))) z
-    ∙ ap (λ (v : Item). Some (leaf k (get_or levels k 0) v (are_spaces (drop k items)))) (sym read)
-    ∙ ap (λ (h : Bool). Some (leaf k (get_or levels k 0) x h)) is)
+    sym (leaf_there 0 levels items k no_item (omega arith) same
+    ∙ ap (λ (p : ℕ). Some (leaf p (get_or levels k 0) (get_or items k no_item) (are_spaces (drop k items)))) z
+    ∙ ap (λ (h : Bool). Some (leaf k (get_or levels k 0) (get_or items k no_item) h)) is)

@@ -1,15 +1,15 @@
 -- A line whose items all have level 0, where that is the base level too, has them in their own order.
-use Rattle.std.proofs.Common.{◌≡◌, ◌∙◌, refl, sym, ap, arith, ℕ, zero, suc, ◌+◌, ◌<◌, Bool, true, false, cond, add-one, List, [], ◌∷◌, ◌++◌, append_assoc, length, map, get_or, drop, take, ◌≤◌, Option}
+use Rattle.std.proofs.Common.{◌≡◌, ◌∙◌, refl, sym, ap, arith, ℕ, zero, suc, ◌+◌, ◌<◌, Bool, true, false, cond, add-one, List, [], ◌∷◌, ◌++◌, append_assoc, length, map, get_or, drop, ◌≤◌, Option}
 use Rattle.std.specs.Prelude.{slice_get}
 use Rattle.std.specs.List.{All, filter_map, range_with_len}
-use Rattle.std.proofs.lemmas.List.{drop_all, drop_more, get_or-map, length-map, map_push, take_more}
+use Rattle.std.proofs.lemmas.List.{drop_all, drop_more, get_or-map, length-map, map_push}
 use Rattle.wm_chars.specs.declared.classes.BidiClass.{BidiClass}
 use Rattle.bidi_order.specs.Blanks.{leads_out, reset}
 use Rattle.bidi_order.specs.Laws.{LevelZeroStays}
 use Rattle.bidi_order.specs.Visual.{visual_order}
 use Rattle.line_place.specs.declared.leaves.Leaf as code
-use Rattle.line_place.specs.Line.{Item, Line, item_of}
-use Rattle.line_place.specs.Leaves.{Leaf, are_spaces, leaf, leaf_of, leaves, leaves_from, levels_of, in_logical_order}
+use Rattle.line_place.specs.Line.{Item, Line, no_item}
+use Rattle.line_place.specs.Leaves.{Leaf, are_spaces, leaf, leaf_in, leaves, leaves_from, levels_of, in_logical_order}
 use Rattle.line_place.proofs.ReachLaws.{from_length}
 
 abbrev levels_in : List Item → List ℕ
@@ -17,25 +17,26 @@ levels_in items = map (λ (item : Item). item.level) items
 
 -- ---- one item more
 
-pub one_more : (items : List Item) (k : ℕ) (x : Item) (hangs : Bool) (made : List code.Leaf) (own : code.Leaf) (whole : List Leaf)
-    → k < length items → x ≡ get_or items k x → are_spaces (drop k items) ≡ hangs → leaf_of own ≡ leaf k x.level x hangs
-    → map leaf_of made ++ leaves_from k (drop k (levels_in items)) (drop k items) ≡ whole
-    → map leaf_of (made ++ own ∷ []) ++ leaves_from (k + 1) (drop (k + 1) (levels_in items)) (drop (k + 1) items) ≡ whole
-one_more items k x hangs made own whole lt read spaces is before =
+pub one_more : (items : List Item) (k : ℕ) (hangs : Bool) (made : List code.Leaf) (whole : List Leaf)
+    → k < length items → (get_or items k no_item).level ≡ 0 → are_spaces (drop k items) ≡ hangs
+    → map (leaf_in items) made ++ leaves_from k (drop k (levels_in items)) (drop k items) ≡ whole
+    → map (leaf_in items) (made ++ record { place = k; level = 0; hangs = hangs } ∷ []) ++ leaves_from (k + 1) (drop (k + 1) (levels_in items)) (drop (k + 1) items) ≡ whole
+one_more items k hangs made whole lt zero_level spaces before =
+    let x : Item = get_or items k no_item in
+    let own : code.Leaf = record { place = k; level = 0; hangs = hangs } in
+    let rest : List Leaf = leaves_from (k + 1) (drop (k + 1) (levels_in items)) (drop (k + 1) items) in
     let m : length (levels_in items) ≡ length items = length-map items (λ (item : Item). item.level) in
-    let at : get_or items k x ≡ x = sym read in
-    let level : get_or (levels_in items) k 0 ≡ x.level = get_or-map (λ (item : Item). item.level) items k x 0 lt ∙ ap (λ (item : Item). item.level) at in
-    let d : drop k items ≡ x ∷ drop (k + 1) items = drop_more items k x lt ∙ ap (λ (item : Item). item ∷ drop (k + 1) items) at in
-    let e : drop k (levels_in items) ≡ x.level ∷ drop (k + 1) (levels_in items) = drop_more (levels_in items) k 0 (omega arith) ∙ ap (λ (l : ℕ). l ∷ drop (k + 1) (levels_in items)) level in
+    let level : get_or (levels_in items) k 0 ≡ 0 = get_or-map (λ (item : Item). item.level) items k no_item 0 lt ∙ zero_level in
+    let d : drop k items ≡ x ∷ drop (k + 1) items = drop_more items k no_item lt in
+    let e : drop k (levels_in items) ≡ 0 ∷ drop (k + 1) (levels_in items) = drop_more (levels_in items) k 0 (omega arith) ∙ ap (λ (l : ℕ). l ∷ drop (k + 1) (levels_in items)) level in
     let s : are_spaces (x ∷ drop (k + 1) items) ≡ hangs = ap are_spaces (sym d) ∙ spaces in
-    let first : leaves_from k (drop k (levels_in items)) (drop k items) ≡ leaf_of own ∷ leaves_from (k + 1) (drop (k + 1) (levels_in items)) (drop (k + 1) items) =
+    let first : leaves_from k (drop k (levels_in items)) (drop k items) ≡ leaf_in items own ∷ rest =
     ap (λ (ls : List ℕ). leaves_from k ls (drop k items)) e
-    ∙ ap (λ (rest : List Item). leaves_from k (x.level ∷ drop (k + 1) (levels_in items)) rest) d
-    ∙ ap (λ (h : Bool). leaf k x.level x h ∷ leaves_from (k + 1) (drop (k + 1) (levels_in items)) (drop (k + 1) items)) s
-    ∙ ap (λ (l : Leaf). l ∷ leaves_from (k + 1) (drop (k + 1) (levels_in items)) (drop (k + 1) items)) (sym is) in
-    ap (λ (l : List Leaf). l ++ leaves_from (k + 1) (drop (k + 1) (levels_in items)) (drop (k + 1) items)) (map_push leaf_of made own)
-    ∙ append_assoc (map leaf_of made) (leaf_of own ∷ []) (leaves_from (k + 1) (drop (k + 1) (levels_in items)) (drop (k + 1) items))
-    ∙ ap (λ (l : List Leaf). map leaf_of made ++ l) (sym first)
+    ∙ ap (λ (is : List Item). leaves_from k (0 ∷ drop (k + 1) (levels_in items)) is) d
+    ∙ ap (λ (h : Bool). leaf k 0 x h ∷ rest) s in
+    ap (λ (l : List Leaf). l ++ rest) (map_push (leaf_in items) made own)
+    ∙ append_assoc (map (leaf_in items) made) (leaf_in items own ∷ []) rest
+    ∙ ap (λ (l : List Leaf). map (leaf_in items) made ++ l) (sym first)
     ∙ before
 
 no_items : (k : ℕ) (levels : List ℕ) → leaves_from k levels [] ≡ []

@@ -95,10 +95,10 @@ left_step marks k d lt =
 
 -- ---- the same for the code's marks
 
-pub mark_there : (marks : List code.Mark) (k : ℕ) (x : code.Mark) → k < length marks → x ≡ get_or marks k x → get_or (map mark_of marks) k (mark_of x) ≡ mark_of x
+pub mark_there : {S : Type 0} (marks : List (code.Mark S)) (k : ℕ) (x : code.Mark S) → k < length marks → x ≡ get_or marks k x → get_or (map mark_of marks) k (mark_of x) ≡ mark_of x
 mark_there marks k x lt is = get_or-map mark_of marks k x (mark_of x) lt ∙ ap mark_of (sym is)
 
-pub of_box : (n k : ℕ) (marks : List code.Mark) (x : code.Mark) → AreOfBoxes n (map mark_of marks) → k < length marks → x ≡ get_or marks k x → IsOfBox n (mark_of x)
+pub of_box : {S : Type 0} (n k : ℕ) (marks : List (code.Mark S)) (x : code.Mark S) → AreOfBoxes n (map mark_of marks) → k < length marks → x ≡ get_or marks k x → IsOfBox n (mark_of x)
 of_box n k marks x h lt is =
     let l = length-map marks mark_of in
     let P : Mark → Type 0 = λ m. IsOfBox n m in
@@ -118,7 +118,7 @@ left_more marks k m own done total lt is at all =
     ∙ all
 
 -- the mark at a place from line-right
-pub from_right_there : (marks : List code.Mark) (left : ℕ) (x : code.Mark) → 0 < left → left ≤ length marks → x ≡ get_or marks (left - 1) x
+pub from_right_there : {S : Type 0} (marks : List (code.Mark S)) (left : ℕ) (x : code.Mark S) → 0 < left → left ≤ length marks → x ≡ get_or marks (left - 1) x
     → get_or (reverse (map mark_of marks)) (length marks - left) (mark_of x) ≡ mark_of x
 from_right_there marks left x some le is =
     let l = length-map marks mark_of in
@@ -127,10 +127,10 @@ from_right_there marks left x some le is =
     ∙ ap (λ (k : ℕ). get_or (map mark_of marks) k (mark_of x)) e
     ∙ mark_there marks (left - 1) x (omega arith) is
 
-pub length_from_right : (marks : List code.Mark) → length (reverse (map mark_of marks)) ≡ length marks
+pub length_from_right : {S : Type 0} (marks : List (code.Mark S)) → length (reverse (map mark_of marks)) ≡ length marks
 length_from_right marks = length-reverse (map mark_of marks) ∙ length-map marks mark_of
 
-pub right_back : (marks : List code.Mark) (from : ℕ) (x : code.Mark) → 0 < from → from ≤ length marks → x ≡ get_or marks (from - 1) x
+pub right_back : {S : Type 0} (marks : List (code.Mark S)) (from : ℕ) (x : code.Mark S) → 0 < from → from ≤ length marks → x ≡ get_or marks (from - 1) x
     → drop (from - 1) (map mark_of marks) ≡ mark_of x ∷ drop from (map mark_of marks)
 right_back marks from x some le is =
     let l = length-map marks mark_of in
@@ -139,7 +139,7 @@ right_back marks from x some le is =
     ∙ ap (λ (m : Mark). m ∷ drop (from - 1 + 1) (map mark_of marks)) (mark_there marks (from - 1) x (omega arith) is)
     ∙ ap (λ (k : ℕ). mark_of x ∷ drop k (map mark_of marks)) e
 
-pub right_more : (marks made : List code.Mark) (from : ℕ) (x own : code.Mark) → 0 < from → from ≤ length marks → x ≡ get_or marks (from - 1) x
+pub right_more : {S : Type 0} (marks made : List (code.Mark S)) (from : ℕ) (x own : code.Mark S) → 0 < from → from ≤ length marks → x ≡ get_or marks (from - 1) x
     → mark_of own ≡ at_right (drop from (map mark_of marks)) (mark_of x)
     → reverse (map mark_of made) ≡ rightmost (drop from (map mark_of marks))
     → reverse (map mark_of (made ++ own ∷ [])) ≡ rightmost (drop (from - 1) (map mark_of marks))

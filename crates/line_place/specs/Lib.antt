@@ -3,6 +3,7 @@ pub mod Leading
 pub mod Leaves
 pub mod Line
 pub mod Marks
+pub mod PieceCode
 pub mod Placing
 pub mod Reach
 pub mod Runs

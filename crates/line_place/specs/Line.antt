@@ -1,6 +1,7 @@
 -- A line that is to be placed, without where it lies in memory. CSS 2, 9.4.2.
 use Rattle.std.specs.Prelude.{ℕ, Bool, false, List, map, Option, None, ℤ, pos}
 use Rattle.wm_chars.specs.declared.classes.BidiClass.{BidiClass}
+use Rattle.wm_chars.specs.declared.classes.BidiClass.TheVariants.{L}
 use Rattle.wm_modes.specs.declared.mode.Direction.TheVariants.{Ltr}
 use Rattle.style_types.specs.declared.style.Align.{Align}
 use Rattle.fragment_types.specs.declared.unit_kind.UnitKind.{UnitKind}
@@ -73,6 +74,10 @@ line_of line = record {
   items = map item_of line.items.items;
   boxes = line.boxes.items;
 }
+
+-- what stands for an item that isn't there
+abbrev pub no_item : Item
+no_item = record { level = 0; class = L; extent = pos 0; inside = None; space = false; apart = None; what = nothing }
 
 -- what stands for a box that isn't there
 abbrev pub no_extents : Extents

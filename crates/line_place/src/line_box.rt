@@ -9,7 +9,7 @@ ghost use Rattle.line_place.specs.Marks.{ShowAtomsFirst, mark_of};
 ghost use Rattle.line_place.specs.Placing as rule;
 ghost use Rattle.line_place.specs.Reach.{AreInBoxes, AreInLimit, AreNested, AreOfBoxes, ArePaired, AreReached, HasLimit, IsAtomic, IsBefore, extents_reach, line_reach, mark_reach, total};
 
-use crate::leaves::leaves;
+use crate::leaves::{LeafSlice, leaves};
 use crate::line::{LineFrame, LineInput};
 use crate::marks::{Mark, marks};
 use crate::measure::{line_over, line_under, offset, starts_at_left, width};
@@ -36,7 +36,8 @@ pub fn place_line_from<S: LineSource>(
     ensures within { (limit : ℕ) → HasLimit limit (line_in frame.now (S.items source.now)) → IfOk result (λ made. (unsigned_abs made.over ≤ limit) × (unsigned_abs made.under ≤ limit)) }
     ensures reach { All (λ item. IsAtomic item.what) (S.items source.now) → IfOk result (λ made. AreInLimit (4 * line_reach (line_in frame.now (S.items source.now))) (pieces_of made.parts.items)) }
 {
-    let leaves = leaves(alloc, frame, source)?;
+    let list = leaves(alloc, frame, source)?;
+    let leaves = LeafSlice::of_list(source, &list);
     let marks = marks(alloc, frame.boxes, &leaves)?;
     let made = of_marks(alloc, frame, &marks)?;
     Ok(made)
@@ -67,7 +68,11 @@ pub fn place_line(alloc: Global, line: &LineInput) -> Result<LineFragment, Alloc
 }
 
 // The line of this row of marks.
-fn of_marks(alloc: Global, line: &LineFrame, marks: &[Mark]) -> Result<LineFragment, AllocError>
+fn of_marks<S: LineSource>(
+    alloc: Global,
+    line: &LineFrame,
+    marks: &[Mark<S>],
+) -> Result<LineFragment, AllocError>
     requires of_boxes { AreOfBoxes (length line.now.boxes.now) (map mark_of marks.now) }
     requires in_boxes { AreInBoxes (length line.now.boxes.now) (map mark_of marks.now) }
     requires atoms { ShowAtomsFirst (map mark_of marks.now) }
@@ -89,7 +94,7 @@ fn of_marks(alloc: Global, line: &LineFrame, marks: &[Mark]) -> Result<LineFragm
 }
 
 // Where the content of a line with these marks starts from line-left. Most lines start there whatever their width is.
-fn content_start(line: &LineFrame, marks: &[Mark]) -> i64
+fn content_start<S: LineSource>(line: &LineFrame, marks: &[Mark<S>]) -> i64
     requires of_boxes { AreOfBoxes (length line.now.boxes.now) (map mark_of marks.now) }
     requires reach { unsigned_abs line.now.available + total (mark_reach line.now.boxes.now) (map mark_of marks.now) ≤ 2 ^ 60 }
     ensures is { result ≡ rule.offset line.now.align line.now.base (line.now.available -ℤ rule.width line.now.boxes.now (map mark_of marks.now)) }

@@ -3,7 +3,7 @@
 ghost use Rattle.std.specs.Prelude.{◌≡◌, ◌+◌, ◌<◌, ◌≤◌, ◌^◌, ◌++◌, ◌+ℤ◌, ◌-ℤ◌, [], ◌∷◌, List, IfOk, IfSome, OnOk, length, map, reverse, unsigned_abs};
 ghost use Rattle.fragment_types.specs.Fragment.{Pieces, before, kind_of, none, piece, piece_of, pieces_of, run as run_kind, span as span_kind};
 ghost use Rattle.fragment_types.specs.declared.fragment.Fragment.{out-Fragment};
-ghost use Rattle.line_place.specs.Leaves.{leaf_of, seen};
+ghost use Rattle.line_place.specs.Leaves.{nth_leaf, seen};
 ghost use Rattle.line_place.specs.Line.{line_in};
 ghost use Rattle.line_place.specs.Marks.{Mark as SeenMark, box_at, inside_of, mark_of};
 ghost use Rattle.line_place.specs.Placing as rule;
@@ -11,10 +11,11 @@ ghost use Rattle.line_place.specs.Reach.{AreInBoxes, AreOfBoxes, ArePaired, AreR
 ghost use Rattle.line_place.specs.declared.walk.Open.{Open};
 ghost use Rattle.line_place.specs.Walk.{AreOpen, followed, followed_if, whole};
 
-use crate::leaves::Leaf;
+use crate::leaves::LeafSlice;
 use crate::line::{Extents, LineBox, LineContent, LineFrame};
 use crate::marks::Mark;
 use crate::measure::{extent_of, left, left_margin, right, right_margin};
+use crate::source::LineSource;
 use fragment_types::{
     BoxName, Fragment, FragmentKind, Fragments, Glyphs, RunUnit, RunUnits, UnitKind,
 };
@@ -114,11 +115,17 @@ fn unnumbered(node: u32) -> BoxName
     BoxName { node, ordinal: 0 }
 }
 
-// What this content shows as a unit of a run, with this extent. What isn't text shows nothing.
+// A leaf as a unit of its run. What isn't text shows nothing.
 #[inline(always)]
-fn run_unit(alloc: Global, what: Option<&LineContent>, extent: i64) -> Result<RunUnit, AllocError>
-    ensures { IfOk result (λ made. made ≡ rule.unit_with (seen what.entry) extent) }
+fn run_unit<S: LineSource>(
+    alloc: Global,
+    run: &LeafSlice<S>,
+    k: usize,
+) -> Result<RunUnit, AllocError>
+    requires { k < length run.now }
+    ensures { IfOk result (λ made. made ≡ rule.unit_of (nth_leaf run.now k)) }
 {
+    let (what, extent) = run.content_at(k);
     match what {
         Some(
             LineContent::Unit {
@@ -133,27 +140,20 @@ fn run_unit(alloc: Global, what: Option<&LineContent>, extent: i64) -> Result<Ru
                 glyphs,
                 ..
             },
-        ) => RunUnit::new(alloc, *first, *end, extent, glyphs),
+        ) => RunUnit::new(alloc, first, end, extent, glyphs),
         Some(LineContent::Atom { .. } | LineContent::Break) | None => {
             RunUnit::new(alloc, 0, 0, extent, &Glyphs::none())
         }
     }
 }
 
-#[inline(always)]
-fn unit_of(alloc: Global, leaf: &Leaf) -> Result<RunUnit, AllocError>
-    ensures { IfOk result (λ made. made ≡ rule.unit_of (leaf_of leaf.now)) }
-{
-    let made = run_unit(alloc, leaf.what(), leaf.extent())?;
-    Ok(made)
-}
-
-fn units_of(alloc: Global, run: &[Leaf]) -> Result<RunUnits, AllocError>
-    ensures { IfOk result (λ made. made.items ≡ map rule.unit_of (map leaf_of run.now)) }
+// The units of a run.
+fn run_units<S: LineSource>(alloc: Global, run: &LeafSlice<S>) -> Result<RunUnits, AllocError>
+    ensures { IfOk result (λ made. made.items ≡ map rule.unit_of run.now) }
 {
     let mut units = Vec::with_capacity(alloc, run.len())?;
     for k in 0..run.len() {
-        units.push_reserved(unit_of(alloc, &run[k])?);
+        units.push_reserved(run_unit(alloc, run, k)?);
     }
     Ok(units)
 }
@@ -171,26 +171,26 @@ fn span(alloc: Global, node: u32, rect: FlowRect, parts: Fragments) -> Result<Fr
 }
 
 // Units of text side by side, from `left` on, which have this extent.
-fn text(
+fn text<S: LineSource>(
     alloc: Global,
     empty: &Rc<Fragments>,
     line: &LineFrame,
     over: i64,
     left: i64,
-    run: &[Leaf],
+    run: &LeafSlice<S>,
     extent: i64,
     named: &TextName,
 ) -> Result<Fragment, AllocError>
     requires empty { empty.now.value.items ≡ [] }
     requires some { 0 < length run.now }
-    requires inside { IsBefore (length line.now.boxes.now) (inside_of (map leaf_of run.now)) }
-    requires extent { extent ≡ rule.extent_of (map leaf_of run.now) }
-    requires extents { extents_reach (rule.extents_in (line_in line.now []) (inside_of (map leaf_of run.now))) ≤ 2 ^ 60 }
+    requires inside { IsBefore (length line.now.boxes.now) (inside_of run.now) }
+    requires extent { extent ≡ rule.extent_of run.now }
+    requires extents { extents_reach (rule.extents_in (line_in line.now []) (inside_of run.now)) ≤ 2 ^ 60 }
     requires over { unsigned_abs over ≤ 2 ^ 61 }
-    ensures { IfOk result (λ made. (next : Pieces) → before made next ≡ rule.text_piece (line_in line.now []) over left named.now.node named.now.form named.now.natural (map leaf_of run.now) next) }
+    ensures { IfOk result (λ made. (next : Pieces) → before made next ≡ rule.text_piece (line_in line.now []) over left named.now.node named.now.form named.now.natural run.now next) }
 {
-    let (level, inside) = (run[0].level, run[0].item.inside);
-    let units = units_of(alloc, run)?;
+    let (level, inside) = (run.first_level(), run.first_inside());
+    let units = run_units(alloc, run)?;
     let kind = run_kind(alloc, named, level, units)?;
     let extents = extents_in(line, inside);
     let rect = text_rect(extents, over, left, extent);
@@ -257,30 +257,30 @@ fn atom(
 }
 
 // What a run of leaves with this extent shows, from `left` on.
-fn shown(
+fn shown<S: LineSource>(
     alloc: Global,
     empty: &Rc<Fragments>,
     line: &LineFrame,
     over: i64,
     left: i64,
-    run: &[Leaf],
+    run: &LeafSlice<S>,
     extent: i64,
 ) -> Result<Option<Fragment>, AllocError>
     requires empty { empty.now.value.items ≡ [] }
     requires some { 0 < length run.now }
-    requires inside { IsBefore (length line.now.boxes.now) (inside_of (map leaf_of run.now)) }
-    requires run { total leaf_reach (map leaf_of run.now) ≤ 2 ^ 60 }
-    requires extent { extent ≡ rule.extent_of (map leaf_of run.now) }
-    requires extents { extents_reach (rule.extents_in (line_in line.now []) (inside_of (map leaf_of run.now))) ≤ 2 ^ 60 }
+    requires inside { IsBefore (length line.now.boxes.now) (inside_of run.now) }
+    requires run { total leaf_reach run.now ≤ 2 ^ 60 }
+    requires extent { extent ≡ rule.extent_of run.now }
+    requires extents { extents_reach (rule.extents_in (line_in line.now []) (inside_of run.now)) ≤ 2 ^ 60 }
     requires over { unsigned_abs over ≤ 2 ^ 61 }
     requires left { unsigned_abs left ≤ 2 ^ 61 }
-    ensures { IfOk result (λ made. (next : Pieces) → followed_if made next ≡ rule.run_piece (line_in line.now []) over left (map leaf_of run.now) next) }
+    ensures { IfOk result (λ made. (next : Pieces) → followed_if made next ≡ rule.run_piece (line_in line.now []) over left run.now next) }
 {
-    match run[0].what() {
+    match run.first_what() {
         Some(LineContent::Unit { node, form, .. }) => {
             let named = TextName {
-                node: *node,
-                form: *form,
+                node,
+                form,
                 natural: None,
             };
             let made = text(alloc, empty, line, over, left, run, extent, &named)?;
@@ -288,9 +288,9 @@ fn shown(
         }
         Some(LineContent::Combined { node, natural, .. }) => {
             let named = TextName {
-                node: *node,
+                node,
                 form: UnitKind::Combined,
-                natural: Some(*natural),
+                natural: Some(natural),
             };
             let made = text(alloc, empty, line, over, left, run, extent, &named)?;
             Ok(Some(made))
@@ -305,9 +305,9 @@ fn shown(
             },
         ) => {
             let margins = AtomMargins {
-                left: *left_margin,
-                over: *over_margin,
-                baseline: *baseline,
+                left: left_margin,
+                over: over_margin,
+                baseline,
             };
             let made = atom(over, left, fragment, &margins)?;
             Ok(Some(made))
@@ -317,12 +317,12 @@ fn shown(
 }
 
 /// The fragments that this row of marks makes, from `at` on, in a line that reaches so far over its baseline.
-pub(crate) fn walked(
+pub(crate) fn walked<S: LineSource>(
     alloc: Global,
     line: &LineFrame,
     over: i64,
     at: i64,
-    marks: &[Mark],
+    marks: &[Mark<S>],
 ) -> Result<Fragments, AllocError>
     requires of_boxes { AreOfBoxes (length line.now.boxes.now) (map mark_of marks.now) }
     requires in_boxes { AreInBoxes (length line.now.boxes.now) (map mark_of marks.now) }
@@ -349,13 +349,13 @@ pub(crate) fn walked(
 
 impl Walk {
     // One mark more.
-    fn step(
+    fn step<S: LineSource>(
         &mut self,
         alloc: Global,
         empty: &Rc<Fragments>,
         line: &LineFrame,
         over: i64,
-        mark: &Mark,
+        mark: &Mark<S>,
     ) -> Result<(), AllocError>
         requires empty { empty.now.value.items ≡ [] }
         requires of_box { IsOfBox (length line.now.boxes.now) (mark_of mark.now) }
@@ -468,24 +468,24 @@ impl Walk {
     }
 
     // A run stands there.
-    fn show(
+    fn show<S: LineSource>(
         &mut self,
         alloc: Global,
         empty: &Rc<Fragments>,
         line: &LineFrame,
         over: i64,
-        run: &[Leaf],
+        run: &LeafSlice<S>,
     ) -> Result<(), AllocError>
         requires empty { empty.now.value.items ≡ [] }
         requires some { 0 < length run.now }
-        requires inside { IsBefore (length line.now.boxes.now) (inside_of (map leaf_of run.now)) }
-        requires run { total leaf_reach (map leaf_of run.now) ≤ 2 ^ 60 }
-        requires extents { extents_reach (rule.extents_in (line_in line.now []) (inside_of (map leaf_of run.now))) ≤ 2 ^ 60 }
+        requires inside { IsBefore (length line.now.boxes.now) (inside_of run.now) }
+        requires run { total leaf_reach run.now ≤ 2 ^ 60 }
+        requires extents { extents_reach (rule.extents_in (line_in line.now []) (inside_of run.now)) ≤ 2 ^ 60 }
         requires over { unsigned_abs over ≤ 2 ^ 61 }
         requires at { unsigned_abs self.old.at ≤ 2 ^ 61 }
-        ensures at { OnOk result (self.new.at ≡ self.old.at +ℤ rule.extent_of (map leaf_of run.now)) }
+        ensures at { OnOk result (self.new.at ≡ self.old.at +ℤ rule.extent_of run.now) }
         ensures opened { OnOk result (self.new.opened ≡ self.old.opened) }
-        ensures parts { OnOk result ((next : Pieces) → followed self.new.parts.items next ≡ followed self.old.parts.items (rule.run_piece (line_in line.now []) over self.old.at (map leaf_of run.now) next)) }
+        ensures parts { OnOk result ((next : Pieces) → followed self.new.parts.items next ≡ followed self.old.parts.items (rule.run_piece (line_in line.now []) over self.old.at run.now next)) }
     {
         let extent = extent_of(run);
         let made = shown(alloc, empty, line, over, self.at, run, extent)?;

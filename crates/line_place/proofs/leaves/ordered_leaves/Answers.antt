@@ -1,21 +1,22 @@
 use Rattle.std.proofs.Common.{◌≡◌, ◌∙◌, ap, sym, arith, subst, ℕ, ◌+◌, ◌<◌, ◌≤◌, List, [], ◌∷◌, ◌++◌, length, map, get_or, take, Option, Some}
 use Rattle.std.specs.Prelude.{slice_get}
-use Rattle.std.specs.List.{filter_map, range_with_len}
+use Rattle.std.specs.List.{All, filter_map, range_with_len}
+use Rattle.std.proofs.lemmas.List.Elements.{All-push}
 use Rattle.std.specs.List.Sorted.{IsPermutation}
 use Rattle.std.proofs.lemmas.List.{map_push, take_all}
 use Rattle.bidi_order.specs.Visual.{visual_order}
 use Rattle.line_place.specs.Line.{Item, Line, line_in}
 use Rattle.line_place.specs.declared.leaves.Leaf as code
-use Rattle.line_place.specs.Leaves.{Leaf, leaf_of, leaves, leaves_from, levels_of}
+use Rattle.line_place.specs.Leaves.{Leaf, leaf_in, leaves, leaves_from, levels_of}
 use Rattle.line_place.proofs.Lists.{filter_map_more}
 use Rattle.line_place.proofs.ReachLaws.{leaves_reach}
 use Rattle.line_place.proofs.leaves.ordered_leaves.Goals as goal
 
-step : (h : ℕ → Option Leaf) (order : List ℕ) (i : ℕ) (made : List code.Leaf) (own : code.Leaf) → map leaf_of made ≡ filter_map h (take i order) → Some (leaf_of own) ≡ h (get_or order i 0)
-    → i < length order → map leaf_of (made ++ own ∷ []) ≡ filter_map h (take (i + 1) order)
-step h order i made own before is at =
-    map_push leaf_of made own
-    ∙ ap (λ (x : List Leaf). x ++ leaf_of own ∷ []) before
+step : (of : code.Leaf → Leaf) (h : ℕ → Option Leaf) (order : List ℕ) (i : ℕ) (made : List code.Leaf) (own : code.Leaf) → map of made ≡ filter_map h (take i order)
+    → Some (of own) ≡ h (get_or order i 0) → i < length order → map of (made ++ own ∷ []) ≡ filter_map h (take (i + 1) order)
+step of h order i made own before is at =
+    map_push of made own
+    ∙ ap (λ (x : List Leaf). x ++ of own ∷ []) before
     ∙ ap (λ (x : Option Leaf). filter_map h (take i order) ++ filter_map (λ (x : Option Leaf). x) (x ∷ [])) is
     ∙ sym (filter_map_more h order i 0 at)
 
@@ -28,10 +29,16 @@ leaf_at-requires-clause-place g c =
     omega (arith, at, below, n, c.in_ok-levels.ensures.length)
 
 pub loop-place-preserved : goal.loop-place-preserved
-loop-place-preserved g c = ap (map leaf_of) c.in_ok-push.ensures.items ∙ step _ c.deref-place-items.result.now c.loop-place.place-index _ _ c.loop-place.invariant
-    (c.leaf_at.ensures
-    ∙ ap (λ (ls : List ℕ). slice_get (leaves_from 0 ls (g.S.LineSource.items c.args.source.now)) (get_or c.deref-place-items.result.now c.loop-place.place-index 0)) c.deref-in-loop-place.ensures.value)
-    (omega arith)
+loop-place-preserved g c =
+    let items : List Item = g.S.LineSource.items c.args.source.now in
+    let P : List code.Leaf → Type 0 = λ made. All (λ (leaf : code.Leaf). leaf.place < length items) made in
+    record {
+      are = ap (map (leaf_in items)) c.in_ok-push.ensures.items ∙ step (leaf_in items) _ c.deref-place-items.result.now c.loop-place.place-index _ _ c.loop-place.invariant.are
+          (c.leaf_at.ensures.is
+          ∙ ap (λ (ls : List ℕ). slice_get (leaves_from 0 ls items) (get_or c.deref-place-items.result.now c.loop-place.place-index 0)) c.deref-in-loop-place.ensures.value)
+          (omega arith);
+      within = subst P (sym c.in_ok-push.ensures.items) (All-push (λ (leaf : code.Leaf). leaf.place < length items) c.loop-place.leaves.items c.leaf_at.result c.loop-place.invariant.within c.leaf_at.ensures.within);
+    }
 
 all : (line : Line) (levels order places own : List ℕ) (aparts given : List (Option ℕ)) (i : ℕ) (made : List Leaf)
     → made ≡ filter_map (λ place. slice_get (leaves_from 0 levels line.items) place) (take i places) → length places ≤ i
@@ -48,11 +55,11 @@ all line levels order places own aparts given i made is le p q r s t u =
 
 pub returns-clause-are : goal.returns-clause-are
 returns-clause-are g c =
-    all (line_in c.args.frame.now (g.S.LineSource.items c.args.source.now)) _ _ _ _ _ _ _ _ c.loop-place.invariant c.loop-place-test.false c.deref-place-items.ensures.value c.in_ok-order.ensures.order c.deref.ensures.value c.deref-2.ensures.value c.in_ok-aparts.ensures.aparts c.in_ok-levels.ensures.levels
+    all (line_in c.args.frame.now (g.S.LineSource.items c.args.source.now)) _ _ _ _ _ _ _ _ c.loop-place.invariant.are c.loop-place-test.false c.deref-place-items.ensures.value c.in_ok-order.ensures.order c.deref.ensures.value c.deref-2.ensures.value c.in_ok-aparts.ensures.aparts c.in_ok-levels.ensures.levels
 
 pub returns-clause-reach : goal.returns-clause-reach
 returns-clause-reach g c =
     let P : List ℕ → Type 0 = λ levels. IsPermutation (range_with_len 0 (length levels)) c.in_ok-order.order.items in
     leaves_reach c.in_ok-levels.levels.items (g.S.LineSource.items c.args.source.now) c.in_ok-order.order.items c.deref-place-items.result.now c.loop-place.place-index _
     c.in_ok-levels.ensures.length
-    (subst P c.deref.ensures.value c.in_ok-order.ensures.rearranged) c.loop-place.invariant c.loop-place-test.false c.deref-place-items.ensures.value
+    (subst P c.deref.ensures.value c.in_ok-order.ensures.rearranged) c.loop-place.invariant.are c.loop-place-test.false c.deref-place-items.ensures.value

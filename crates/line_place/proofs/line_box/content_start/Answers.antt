@@ -6,11 +6,11 @@ use Rattle.line_place.proofs.Lengths.{difference_held, held}
 use Rattle.line_place.proofs.line_box.content_start.Goals as goal
 
 pub overflow_sub-rest : goal.overflow_sub-rest
-overflow_sub-rest c =
+overflow_sub-rest g c =
     omega (arith, ints, c.width.ensures.near, c.requires.reach)
 
 pub returns-else-starts_at_left-clause-is : goal.returns-else-starts_at_left-clause-is
-returns-else-starts_at_left-clause-is c =
+returns-else-starts_at_left-clause-is g c =
     let w : c.width.result ≡ rule.width c.args.line.now.boxes.now (map mark_of c.args.marks.now) = c.width.ensures.is in
     let a : unsigned_abs c.args.line.now.available ≤ 2 ^ 61 = omega (arith, c.requires.reach) in
     let b : unsigned_abs c.width.result ≤ 2 ^ 61 = omega (arith, c.width.ensures.near, c.requires.reach) in
@@ -18,5 +18,5 @@ returns-else-starts_at_left-clause-is c =
     held c.offset.result (omega (arith, ints, c.width.ensures.near, c.offset.ensures.near, c.requires.reach)) ∙ c.offset.ensures.is ∙ ap (rule.offset c.args.line.now.align c.args.line.now.base) r
 
 pub returns-else-starts_at_left-clause-near : goal.returns-else-starts_at_left-clause-near
-returns-else-starts_at_left-clause-near c =
+returns-else-starts_at_left-clause-near g c =
     omega (arith, ints, c.width.ensures.near, c.offset.ensures.near, c.requires.reach)

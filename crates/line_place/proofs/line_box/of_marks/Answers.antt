@@ -10,7 +10,7 @@ use Rattle.line_place.proofs.PlaceLaws.{over_close, under_close}
 use Rattle.line_place.proofs.line_box.of_marks.Goals as goal
 
 pub walked-requires-clause-over : goal.walked-requires-clause-over
-walked-requires-clause-over c =
+walked-requires-clause-over g c =
     let o : c.line_over-over.result ≡ fold int_max c.args.line.now.strut.over (flat_map (rule.over_of c.args.line.now.boxes.now) (map mark_of c.args.marks.now)) =
     c.line_over-over.ensures
     ∙ ap (λ (z : ℤ). fold int_max z (flat_map (rule.over_of c.args.line.now.boxes.now) (map mark_of c.args.marks.now))) (held c.args.line.now.strut.over (omega (arith, c.requires.strut))) in
@@ -18,7 +18,7 @@ walked-requires-clause-over c =
     omega (arith, ints, o, k)
 
 pub returns-clause-over : goal.returns-clause-over
-returns-clause-over c =
+returns-clause-over g c =
     let o : c.line_over-over.result ≡ fold int_max c.args.line.now.strut.over (flat_map (rule.over_of c.args.line.now.boxes.now) (map mark_of c.args.marks.now)) =
     c.line_over-over.ensures
     ∙ ap (λ (z : ℤ). fold int_max z (flat_map (rule.over_of c.args.line.now.boxes.now) (map mark_of c.args.marks.now))) (held c.args.line.now.strut.over (omega (arith, c.requires.strut))) in
@@ -26,7 +26,7 @@ returns-clause-over c =
     held c.line_over-over.result (omega (arith, ints, o, k)) ∙ o
 
 pub returns-clause-under : goal.returns-clause-under
-returns-clause-under c =
+returns-clause-under g c =
     let o : c.line_under-under.result ≡ fold int_max c.args.line.now.strut.under (flat_map (rule.under_of c.args.line.now.boxes.now) (map mark_of c.args.marks.now)) =
     c.line_under-under.ensures
     ∙ ap (λ (z : ℤ). fold int_max z (flat_map (rule.under_of c.args.line.now.boxes.now) (map mark_of c.args.marks.now))) (held c.args.line.now.strut.under (omega (arith, c.requires.strut))) in
@@ -34,7 +34,7 @@ returns-clause-under c =
     held c.line_under-under.result (omega (arith, ints, o, k)) ∙ o
 
 pub returns-clause-near : goal.returns-clause-near
-returns-clause-near c =
+returns-clause-near g c =
     let o : c.line_over-over.result ≡ fold int_max c.args.line.now.strut.over (flat_map (rule.over_of c.args.line.now.boxes.now) (map mark_of c.args.marks.now)) =
     c.line_over-over.ensures
     ∙ ap (λ (z : ℤ). fold int_max z (flat_map (rule.over_of c.args.line.now.boxes.now) (map mark_of c.args.marks.now))) (held c.args.line.now.strut.over (omega (arith, c.requires.strut))) in
@@ -46,7 +46,7 @@ returns-clause-near c =
     (omega (arith, ints, o, k), omega (arith, ints, u, l))
 
 pub returns-clause-parts : goal.returns-clause-parts
-returns-clause-parts c =
+returns-clause-parts g c =
     c.in_ok-parts.ensures
     ∙ ap (λ (x : ℤ). rule.outermost (rule.rows (line_in c.args.line.now []) (to_z w64 (of_z w64 c.line_over-over.result)) x (map mark_of c.args.marks.now)))
     (held c.content_start-at.result (omega (arith, c.content_start-at.ensures.near)) ∙ c.content_start-at.ensures.is)

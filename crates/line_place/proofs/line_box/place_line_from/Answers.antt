@@ -1,10 +1,10 @@
-use Rattle.std.proofs.Common.{◌≡◌, ◌∙◌, ap, sym, arith, subst, ◌*◌, ◌≤◌, List, map, length, ℤ, ◌-ℤ◌, unsigned_abs}
+use Rattle.std.proofs.Common.{◌≡◌, ◌∙◌, ap, sym, arith, subst, ◌*◌, ◌<◌, ◌≤◌, List, map, length, ℤ, ◌-ℤ◌, unsigned_abs}
 use Rattle.std.specs.Int.{int_max}
-use Rattle.std.specs.List.{flat_map, fold}
+use Rattle.std.specs.List.{All, flat_map, fold}
 use Rattle.fragment_types.specs.Fragment.{Pieces}
 use Rattle.line_place.specs.declared.leaves.Leaf as code_leaf
 use Rattle.line_place.specs.declared.marks.Mark as code_mark
-use Rattle.line_place.specs.Leaves.{Leaf, leaf_of, leaves}
+use Rattle.line_place.specs.Leaves.{Leaf, leaf_in, leaves}
 use Rattle.line_place.specs.Line.{Line, line_in}
 use Rattle.line_place.specs.Marks.{Mark, ShowAtomsFirst, mark_of, marks_of}
 use Rattle.line_place.specs.Placing as rule
@@ -16,36 +16,41 @@ use Rattle.line_place.proofs.FrameLaws.{rows_in}
 use Rattle.line_place.proofs.PlaceLaws.{in_limit, leaves_within, marks_are, marks_in, marks_of_boxes, marks_paired, reached}
 use Rattle.line_place.proofs.line_box.place_line_from.Goals as goal
 
-made : (line : Line) (ls own : List code_leaf.Leaf) (ms all : List code_mark.Mark) → map mark_of ms ≡ marks_of line.boxes (map leaf_of ls) → all ≡ ms
-    → ls ≡ own → map leaf_of own ≡ leaves line → map mark_of all ≡ marks_of line.boxes (leaves line)
-made line ls own ms all is p r s = ap (map mark_of) p ∙ is ∙ ap (marks_of line.boxes) (ap (map leaf_of) r ∙ s)
+made : {S : Type 0} (line : Line) (ls : List Leaf) (ms all : List (code_mark.Mark S)) → map mark_of ms ≡ marks_of line.boxes ls → all ≡ ms → ls ≡ leaves line
+    → map mark_of all ≡ marks_of line.boxes (leaves line)
+made line ls ms all is p s = ap (map mark_of) p ∙ is ∙ ap (marks_of line.boxes) s
+
+pub of_list-leaves-requires : goal.of_list-leaves-requires
+of_list-leaves-requires g c =
+    let P : List code_leaf.Leaf → Type 0 = λ ls. All (λ (leaf : code_leaf.Leaf). leaf.place < length (g.S.LineSource.items c.args.source.now)) ls in
+    subst P (sym c.deref.ensures.value) c.in_ok-list.ensures.within
 
 pub marks-requires-clause-within : goal.marks-requires-clause-within
 marks-requires-clause-within g c =
     let P : List Leaf → Type 0 = λ ls. AreWithin (length c.args.frame.now.boxes.now) ls in
-    subst P (sym (ap (map leaf_of) c.deref.ensures.value ∙ c.in_ok-leaves.ensures.are)) (leaves_within (length c.args.frame.now.boxes.now) (line_in c.args.frame.now (g.S.LineSource.items c.args.source.now)) c.requires.inside)
+    subst P (sym (c.of_list-leaves.ensures ∙ ap (map (leaf_in (g.S.LineSource.items c.args.source.now))) c.deref.ensures.value ∙ c.in_ok-list.ensures.are)) (leaves_within (length c.args.frame.now.boxes.now) (line_in c.args.frame.now (g.S.LineSource.items c.args.source.now)) c.requires.inside)
 
 pub of_marks-requires-clause-of_boxes : goal.of_marks-requires-clause-of_boxes
 of_marks-requires-clause-of_boxes g c =
     let P : List Mark → Type 0 = λ ms. AreOfBoxes (length c.args.frame.now.boxes.now) ms in
-    subst P (sym (made (line_in c.args.frame.now (g.S.LineSource.items c.args.source.now)) _ _ _ _ c.in_ok-marks.ensures c.deref-2.ensures.value c.deref.ensures.value c.in_ok-leaves.ensures.are))
+    subst P (sym (made (line_in c.args.frame.now (g.S.LineSource.items c.args.source.now)) _ _ _ c.in_ok-marks.ensures c.deref-2.ensures.value (c.of_list-leaves.ensures ∙ ap (map (leaf_in (g.S.LineSource.items c.args.source.now))) c.deref.ensures.value ∙ c.in_ok-list.ensures.are)))
     (marks_of_boxes c.args.frame.now.boxes.now (leaves (line_in c.args.frame.now (g.S.LineSource.items c.args.source.now))))
 
 pub of_marks-requires-clause-in_boxes : goal.of_marks-requires-clause-in_boxes
 of_marks-requires-clause-in_boxes g c =
     let P : List Mark → Type 0 = λ ms. AreInBoxes (length c.args.frame.now.boxes.now) ms in
-    subst P (sym (made (line_in c.args.frame.now (g.S.LineSource.items c.args.source.now)) _ _ _ _ c.in_ok-marks.ensures c.deref-2.ensures.value c.deref.ensures.value c.in_ok-leaves.ensures.are))
+    subst P (sym (made (line_in c.args.frame.now (g.S.LineSource.items c.args.source.now)) _ _ _ c.in_ok-marks.ensures c.deref-2.ensures.value (c.of_list-leaves.ensures ∙ ap (map (leaf_in (g.S.LineSource.items c.args.source.now))) c.deref.ensures.value ∙ c.in_ok-list.ensures.are)))
     (marks_in c.args.frame.now.boxes.now (leaves (line_in c.args.frame.now (g.S.LineSource.items c.args.source.now))) (leaves_within (length c.args.frame.now.boxes.now) (line_in c.args.frame.now (g.S.LineSource.items c.args.source.now)) c.requires.inside))
 
 pub of_marks-requires-clause-atoms : goal.of_marks-requires-clause-atoms
 of_marks-requires-clause-atoms g c =
-    subst ShowAtomsFirst (sym (made (line_in c.args.frame.now (g.S.LineSource.items c.args.source.now)) _ _ _ _ c.in_ok-marks.ensures c.deref-2.ensures.value c.deref.ensures.value c.in_ok-leaves.ensures.are))
+    subst ShowAtomsFirst (sym (made (line_in c.args.frame.now (g.S.LineSource.items c.args.source.now)) _ _ _ c.in_ok-marks.ensures c.deref-2.ensures.value (c.of_list-leaves.ensures ∙ ap (map (leaf_in (g.S.LineSource.items c.args.source.now))) c.deref.ensures.value ∙ c.in_ok-list.ensures.are)))
     (marks_first c.args.frame.now.boxes.now (leaves (line_in c.args.frame.now (g.S.LineSource.items c.args.source.now))))
 
 pub of_marks-requires-clause-paired : goal.of_marks-requires-clause-paired
 of_marks-requires-clause-paired g c =
     let P : List Mark → Type 0 = λ ms. ArePaired 0 ms in
-    subst P (sym (made (line_in c.args.frame.now (g.S.LineSource.items c.args.source.now)) _ _ _ _ c.in_ok-marks.ensures c.deref-2.ensures.value c.deref.ensures.value c.in_ok-leaves.ensures.are))
+    subst P (sym (made (line_in c.args.frame.now (g.S.LineSource.items c.args.source.now)) _ _ _ c.in_ok-marks.ensures c.deref-2.ensures.value (c.of_list-leaves.ensures ∙ ap (map (leaf_in (g.S.LineSource.items c.args.source.now))) c.deref.ensures.value ∙ c.in_ok-list.ensures.are)))
     (marks_paired c.args.frame.now.boxes.now (leaves (line_in c.args.frame.now (g.S.LineSource.items c.args.source.now))) c.requires.nested (leaves_within (length c.args.frame.now.boxes.now) (line_in c.args.frame.now (g.S.LineSource.items c.args.source.now)) c.requires.inside))
 
 pub of_marks-requires-clause-boxes : goal.of_marks-requires-clause-boxes
@@ -53,24 +58,24 @@ of_marks-requires-clause-boxes g c = reached c.args.frame.now.boxes.now (omega (
 
 pub of_marks-requires-clause-reach : goal.of_marks-requires-clause-reach
 of_marks-requires-clause-reach g c =
-    let t = ap (total (mark_reach c.args.frame.now.boxes.now)) (made (line_in c.args.frame.now (g.S.LineSource.items c.args.source.now)) _ _ _ _ c.in_ok-marks.ensures c.deref-2.ensures.value c.deref.ensures.value c.in_ok-leaves.ensures.are) in
-    let l = ap (total leaf_reach) c.in_ok-leaves.ensures.are in
+    let t = ap (total (mark_reach c.args.frame.now.boxes.now)) (made (line_in c.args.frame.now (g.S.LineSource.items c.args.source.now)) _ _ _ c.in_ok-marks.ensures c.deref-2.ensures.value (c.of_list-leaves.ensures ∙ ap (map (leaf_in (g.S.LineSource.items c.args.source.now))) c.deref.ensures.value ∙ c.in_ok-list.ensures.are)) in
+    let l = ap (total leaf_reach) c.in_ok-list.ensures.are in
     let r = marks_reach c.args.frame.now.boxes.now (leaves (line_in c.args.frame.now (g.S.LineSource.items c.args.source.now))) in
-    omega (arith, t, l, r, c.in_ok-leaves.ensures.reach, c.requires.reach)
+    omega (arith, t, l, r, c.in_ok-list.ensures.reach, c.requires.reach)
 
 pub returns-clause-over : goal.returns-clause-over
 returns-clause-over g c =
-    let m = made (line_in c.args.frame.now (g.S.LineSource.items c.args.source.now)) _ _ _ _ c.in_ok-marks.ensures c.deref-2.ensures.value c.deref.ensures.value c.in_ok-leaves.ensures.are ∙ sym (marks_are (line_in c.args.frame.now (g.S.LineSource.items c.args.source.now))) in
+    let m = made (line_in c.args.frame.now (g.S.LineSource.items c.args.source.now)) _ _ _ c.in_ok-marks.ensures c.deref-2.ensures.value (c.of_list-leaves.ensures ∙ ap (map (leaf_in (g.S.LineSource.items c.args.source.now))) c.deref.ensures.value ∙ c.in_ok-list.ensures.are) ∙ sym (marks_are (line_in c.args.frame.now (g.S.LineSource.items c.args.source.now))) in
     c.in_ok-made.ensures.over ∙ ap (λ (ms : List Mark). fold int_max c.args.frame.now.strut.over (flat_map (rule.over_of c.args.frame.now.boxes.now) ms)) m
 
 pub returns-clause-under : goal.returns-clause-under
 returns-clause-under g c =
-    let m = made (line_in c.args.frame.now (g.S.LineSource.items c.args.source.now)) _ _ _ _ c.in_ok-marks.ensures c.deref-2.ensures.value c.deref.ensures.value c.in_ok-leaves.ensures.are ∙ sym (marks_are (line_in c.args.frame.now (g.S.LineSource.items c.args.source.now))) in
+    let m = made (line_in c.args.frame.now (g.S.LineSource.items c.args.source.now)) _ _ _ c.in_ok-marks.ensures c.deref-2.ensures.value (c.of_list-leaves.ensures ∙ ap (map (leaf_in (g.S.LineSource.items c.args.source.now))) c.deref.ensures.value ∙ c.in_ok-list.ensures.are) ∙ sym (marks_are (line_in c.args.frame.now (g.S.LineSource.items c.args.source.now))) in
     c.in_ok-made.ensures.under ∙ ap (λ (ms : List Mark). fold int_max c.args.frame.now.strut.under (flat_map (rule.under_of c.args.frame.now.boxes.now) ms)) m
 
 placed : goal.returns-clause-parts
 placed g c =
-    let m = made (line_in c.args.frame.now (g.S.LineSource.items c.args.source.now)) _ _ _ _ c.in_ok-marks.ensures c.deref-2.ensures.value c.deref.ensures.value c.in_ok-leaves.ensures.are ∙ sym (marks_are (line_in c.args.frame.now (g.S.LineSource.items c.args.source.now))) in
+    let m = made (line_in c.args.frame.now (g.S.LineSource.items c.args.source.now)) _ _ _ c.in_ok-marks.ensures c.deref-2.ensures.value (c.of_list-leaves.ensures ∙ ap (map (leaf_in (g.S.LineSource.items c.args.source.now))) c.deref.ensures.value ∙ c.in_ok-list.ensures.are) ∙ sym (marks_are (line_in c.args.frame.now (g.S.LineSource.items c.args.source.now))) in
     let o : c.in_ok-made.made.over ≡ rule.line_over (line_in c.args.frame.now (g.S.LineSource.items c.args.source.now)) =
     c.in_ok-made.ensures.over ∙ ap (λ (ms : List Mark). fold int_max c.args.frame.now.strut.over (flat_map (rule.over_of c.args.frame.now.boxes.now) ms)) m in
     c.in_ok-made.ensures.parts
@@ -87,7 +92,7 @@ returns-clause-parts g c = placed g c
 pub returns-clause-within : goal.returns-clause-within
 returns-clause-within g c limit has =
     let k = in_limit limit (line_in c.args.frame.now (g.S.LineSource.items c.args.source.now)) has in
-    let m = made (line_in c.args.frame.now (g.S.LineSource.items c.args.source.now)) _ _ _ _ c.in_ok-marks.ensures c.deref-2.ensures.value c.deref.ensures.value c.in_ok-leaves.ensures.are ∙ sym (marks_are (line_in c.args.frame.now (g.S.LineSource.items c.args.source.now))) in
+    let m = made (line_in c.args.frame.now (g.S.LineSource.items c.args.source.now)) _ _ _ c.in_ok-marks.ensures c.deref-2.ensures.value (c.of_list-leaves.ensures ∙ ap (map (leaf_in (g.S.LineSource.items c.args.source.now))) c.deref.ensures.value ∙ c.in_ok-list.ensures.are) ∙ sym (marks_are (line_in c.args.frame.now (g.S.LineSource.items c.args.source.now))) in
     let o : c.in_ok-made.made.over ≡ rule.line_over (line_in c.args.frame.now (g.S.LineSource.items c.args.source.now)) =
     c.in_ok-made.ensures.over ∙ ap (λ (ms : List Mark). fold int_max c.args.frame.now.strut.over (flat_map (rule.over_of c.args.frame.now.boxes.now) ms)) m in
     let u : c.in_ok-made.made.under ≡ rule.line_under (line_in c.args.frame.now (g.S.LineSource.items c.args.source.now)) =
@@ -98,7 +103,7 @@ returns-clause-within g c limit has =
 pub returns-clause-reach : goal.returns-clause-reach
 returns-clause-reach g c own =
     let t = ap (total (mark_reach c.args.frame.now.boxes.now)) (marks_are (line_in c.args.frame.now (g.S.LineSource.items c.args.source.now))) in
-    let l = ap (total leaf_reach) c.in_ok-leaves.ensures.are in
+    let l = ap (total leaf_reach) c.in_ok-list.ensures.are in
     let r = marks_reach c.args.frame.now.boxes.now (leaves (line_in c.args.frame.now (g.S.LineSource.items c.args.source.now))) in
     let P : Pieces → Type 0 = λ ps. AreInLimit (4 * line_reach (line_in c.args.frame.now (g.S.LineSource.items c.args.source.now))) ps in
-    subst P (sym (placed g c)) (parts_in (line_in c.args.frame.now (g.S.LineSource.items c.args.source.now)) own c.requires.inside (omega (arith, t, l, r, c.in_ok-leaves.ensures.reach)))
+    subst P (sym (placed g c)) (parts_in (line_in c.args.frame.now (g.S.LineSource.items c.args.source.now)) own c.requires.inside (omega (arith, t, l, r, c.in_ok-list.ensures.reach)))

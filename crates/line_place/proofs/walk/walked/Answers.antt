@@ -13,29 +13,29 @@ use Rattle.line_place.proofs.WalkLaws.{advance_near, at_the_end, in_box, next_ma
 use Rattle.line_place.proofs.walk.walked.Goals as goal
 
 pub step-requires-clause-of_box : goal.step-requires-clause-of_box
-step-requires-clause-of_box c = of_box _ c.loop-mark.mark-index c.args.marks.now _ c.requires.of_boxes c.loop-mark-test.true c.mark-item.is
+step-requires-clause-of_box g c = of_box _ c.loop-mark.mark-index c.args.marks.now _ c.requires.of_boxes c.loop-mark-test.true c.mark-item.is
 
 pub step-requires-clause-in_box : goal.step-requires-clause-in_box
-step-requires-clause-in_box c = in_box _ c.loop-mark.mark-index c.args.marks.now _ c.requires.in_boxes c.loop-mark-test.true c.mark-item.is
+step-requires-clause-in_box g c = in_box _ c.loop-mark.mark-index c.args.marks.now _ c.requires.in_boxes c.loop-mark-test.true c.mark-item.is
 
 pub step-requires-clause-stands : goal.step-requires-clause-stands
-step-requires-clause-stands c =
+step-requires-clause-stands g c =
     let P : List Mark → Type 0 = λ l. ArePaired (length c.loop-mark.walk.opened.items) l in
     (subst P (next_mark c.args.marks.now c.loop-mark.mark-index c.mark-item.result c.loop-mark-test.true c.mark-item.is) c.loop-mark.invariant.paired).0
 
 pub step-requires-clause-mark : goal.step-requires-clause-mark
-step-requires-clause-mark c =
+step-requires-clause-mark g c =
     let t = ap (total (mark_reach c.args.line.now.boxes.now)) (next_mark c.args.marks.now c.loop-mark.mark-index c.mark-item.result c.loop-mark-test.true c.mark-item.is) in
     let r = total_rest (mark_reach c.args.line.now.boxes.now) (map mark_of c.args.marks.now) c.loop-mark.mark-index in
     omega (arith, t, r, c.requires.reach)
 
 pub step-requires-clause-at : goal.step-requires-clause-at
-step-requires-clause-at c =
+step-requires-clause-at g c =
     let t = ap (total (mark_reach c.args.line.now.boxes.now)) (next_mark c.args.marks.now c.loop-mark.mark-index c.mark-item.result c.loop-mark-test.true c.mark-item.is) in
     omega (arith, t, c.loop-mark.invariant.near)
 
 pub loop-mark-preserved : goal.loop-mark-preserved
-loop-mark-preserved c =
+loop-mark-preserved g c =
     let d = next_mark c.args.marks.now c.loop-mark.mark-index c.mark-item.result c.loop-mark-test.true c.mark-item.is in
     let t = ap (total (mark_reach c.args.line.now.boxes.now)) d in
     let a = advance_near c.args.line.now.boxes.now (mark_of c.mark-item.result) in
@@ -50,7 +50,7 @@ loop-mark-preserved c =
     }
 
 pub returns : goal.returns
-returns c =
+returns g c =
     let l = length-map c.args.marks.now mark_of in
     let e = drop_all c.loop-mark.mark-index (map mark_of c.args.marks.now) (omega arith) in
     at_the_end (line_in c.args.line.now []) _ c.loop-mark.walk (drop c.loop-mark.mark-index (map mark_of c.args.marks.now)) e c.loop-mark.invariant.paired ∙ c.loop-mark.invariant.whole

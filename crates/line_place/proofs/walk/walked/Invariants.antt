@@ -7,7 +7,7 @@ use Rattle.line_place.specs.Walk.{AreOpen, whole}
 use Rattle.line_place.proofs.walk.walked.Given as goal
 
 abbrev pub invariant-loop-mark : goal.invariant-loop-mark
-invariant-loop-mark l = record {
+invariant-loop-mark g l = record {
   whole : whole (line_in l.line []) l.fn.over l.walk (drop l.mark-index (map mark_of l.marks)) ≡ outermost (rows (line_in l.line []) l.fn.over l.fn.at (map mark_of l.marks));
   paired : ArePaired (length l.walk.opened.items) (drop l.mark-index (map mark_of l.marks));
   opened : AreOpen (length l.line.boxes.now) l.walk.opened.items;

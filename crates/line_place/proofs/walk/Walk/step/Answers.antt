@@ -1,9 +1,8 @@
-use Rattle.std.proofs.Common.{[], ◌≡◌, ◌∙◌, ap, sym, refl, arith, subst, List, ◌∷◌, length, map, ◌<◌, ◌+ℤ◌, Global}
+use Rattle.std.proofs.Common.{[], ◌≡◌, ◌∙◌, ap, sym, refl, arith, subst, List, ◌∷◌, length, ◌<◌, ◌+ℤ◌, Global}
 use Rattle.std.proofs.lemmas.Int.{ints}
 use Rattle.std.specs.declared.vec.Vec.{Vec}
 use Rattle.line_place.specs.declared.line.LineBox.{LineBox}
 use Rattle.line_place.specs.declared.walk.Open.{Open}
-use Rattle.line_place.specs.Leaves.{leaf_of}
 use Rattle.line_place.specs.Line.{line_in}
 use Rattle.line_place.specs.Marks.{Mark, begins, ends, box_at, mark_of}
 use Rattle.line_place.specs.Placing as rule
@@ -14,7 +13,7 @@ use Rattle.line_place.proofs.WalkLaws.{begin_near, begin_whole, end_whole, ended
 use Rattle.line_place.proofs.walk.Walk.step.Goals as goal
 
 pub returns-in_ok-begin-in-Begins-clause-opened : goal.returns-in_ok-begin-in-Begins-clause-opened
-returns-in_ok-begin-in-Begins-clause-opened c =
+returns-in_ok-begin-in-Begins-clause-opened g c =
     let m : mark_of c.args.mark.now ≡ begins c.in-Begins.place c.in-Begins.edge = ap mark_of c.in-Begins.is in
     let P : Mark → Type 0 = λ x. IsOfBox (length c.args.line.now.boxes.now) x in
     let lt : c.in-Begins.place < length c.args.line.now.boxes.now = subst P m c.requires.of_box in
@@ -28,7 +27,7 @@ returns-in_ok-begin-in-Begins-clause-opened c =
     subst Q (sym c.in_ok-begin-in-Begins.ensures.opened) (open_more _ c.args.self.now.opened.items _ c.requires.opened lt (omega (arith, ints, e, r, near, c.requires.at)))
 
 pub returns-in_ok-begin-in-Begins-clause-whole : goal.returns-in_ok-begin-in-Begins-clause-whole
-returns-in_ok-begin-in-Begins-clause-whole c marks =
+returns-in_ok-begin-in-Begins-clause-whole g c marks =
     let m : mark_of c.args.mark.now ≡ begins c.in-Begins.place c.in-Begins.edge = ap mark_of c.in-Begins.is in
     let P : Mark → Type 0 = λ x. IsOfBox (length c.args.line.now.boxes.now) x in
     let lt : c.in-Begins.place < length c.args.line.now.boxes.now = subst P m c.requires.of_box in
@@ -38,20 +37,20 @@ returns-in_ok-begin-in-Begins-clause-whole c marks =
     ∙ sym (ap (λ (x : Mark). whole (line_in c.args.line.now []) c.args.over c.args.self.now (x ∷ marks)) m)
 
 pub returns-in_ok-end-in-Ends-clause-opened : goal.returns-in_ok-end-in-Ends-clause-opened
-returns-in_ok-end-in-Ends-clause-opened c =
+returns-in_ok-end-in-Ends-clause-opened g c =
     let P : Mark → Type 0 = λ x. CanStand (length c.args.self.now.opened.items) x in
     let some : 0 < length c.args.self.now.opened.items = subst P (ap mark_of c.in-Ends.is) c.requires.stands in
     fewer_open _ c.args.self.now.opened.items _ some c.requires.opened (λ os o is. (c.in_ok-end-in-Ends.ensures.closed os o is).0)
 
 pub returns-in_ok-end-in-Ends-clause-count : goal.returns-in_ok-end-in-Ends-clause-count
-returns-in_ok-end-in-Ends-clause-count c =
+returns-in_ok-end-in-Ends-clause-count g c =
     let P : Mark → Type 0 = λ x. CanStand (length c.args.self.now.opened.items) x in
     let some : 0 < length c.args.self.now.opened.items = subst P (ap mark_of c.in-Ends.is) c.requires.stands in
     one_fewer c.args.self.now.opened.items _ some (λ os o is. (c.in_ok-end-in-Ends.ensures.closed os o is).0)
     ∙ sym (ap (open_behind (length c.args.self.now.opened.items)) (ap mark_of c.in-Ends.is))
 
 pub returns-in_ok-end-in-Ends-clause-whole : goal.returns-in_ok-end-in-Ends-clause-whole
-returns-in_ok-end-in-Ends-clause-whole c marks =
+returns-in_ok-end-in-Ends-clause-whole g c marks =
     let P : Mark → Type 0 = λ x. CanStand (length c.args.self.now.opened.items) x in
     let m : mark_of c.args.mark.now ≡ ends c.in-Ends.place c.in-Ends.edge = ap mark_of c.in-Ends.is in
     let some : 0 < length c.args.self.now.opened.items = subst P m c.requires.stands in
@@ -65,7 +64,7 @@ returns-in_ok-end-in-Ends-clause-whole c marks =
     ∙ sym (ap (λ (x : Mark). whole (line_in c.args.line.now []) c.args.over c.args.self.now (x ∷ marks)) m)
 
 pub returns-in_ok-show-in-Shows-clause-whole : goal.returns-in_ok-show-in-Shows-clause-whole
-returns-in_ok-show-in-Shows-clause-whole c marks =
-    show_whole (line_in c.args.line.now []) c.args.over _ c.args.self.now c.show.new.self (map leaf_of c.in-Shows.run'.now) marks
+returns-in_ok-show-in-Shows-clause-whole g c marks =
+    show_whole (line_in c.args.line.now []) c.args.over _ c.args.self.now c.show.new.self c.in-Shows.run' marks
     c.in_ok-show-in-Shows.ensures.at (ap (λ (x : Vec Open Global). x.items) c.in_ok-show-in-Shows.ensures.opened) (held c.args.over (omega (arith, c.requires.over))) c.in_ok-show-in-Shows.ensures.parts
     ∙ sym (ap (λ (x : Mark). whole (line_in c.args.line.now []) c.args.over c.args.self.now (x ∷ marks)) (ap mark_of c.in-Shows.is))
