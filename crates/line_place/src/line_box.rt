@@ -14,9 +14,10 @@ use crate::line::{LineFrame, LineInput};
 use crate::marks::{Mark, marks};
 use crate::measure::{line_over, line_under, offset, starts_at_left, width};
 use crate::source::{LineSource, Listed};
-use crate::walk::walked;
+use crate::walk::{LineStage, walked};
 use fragment_types::LineFragment;
 use std::alloc::{AllocError, Global};
+use std::rc::Rc;
 
 /// Places a line: its inline boxes, runs and atoms as fragments from line-left, and how far it reaches over and under its
 /// baseline, in units of 1/64 px (CSS 2, 9.4.2 and 10.8; UAX 9, 3.4). Boxes stand behind those round them, and the lengths
@@ -89,7 +90,12 @@ fn of_marks<S: LineSource>(
     let over = line_over(line.boxes, line.strut.over, marks);
     let under = line_under(line.boxes, line.strut.under, marks);
     let at = content_start(line, marks);
-    let parts = walked(alloc, line, over, at, marks)?;
+    let stage = LineStage {
+        frame: line,
+        over,
+        empty: Rc::new(alloc, Vec::new(alloc))?,
+    };
+    let parts = walked(alloc, &stage, at, marks)?;
     Ok(LineFragment { over, under, parts })
 }
 

@@ -1,4 +1,4 @@
-use Rattle.std.proofs.Common.{[], ◌≡◌, ◌∙◌, ap, arith, map, ℤ, to_z, of_z, w64}
+use Rattle.std.proofs.Common.{[], ◌≡◌, ◌≤◌, ◌^◌, ◌∙◌, ap, arith, subst, sym, unsigned_abs, map, ℤ, to_z, of_z, w64}
 use Rattle.std.specs.Int.{int_max}
 use Rattle.std.specs.List.{flat_map, fold}
 use Rattle.std.proofs.lemmas.Int.{ints}
@@ -9,13 +9,15 @@ use Rattle.line_place.proofs.Lengths.{held}
 use Rattle.line_place.proofs.PlaceLaws.{over_close, under_close}
 use Rattle.line_place.proofs.line_box.of_marks.Goals as goal
 
-pub walked-requires-clause-over : goal.walked-requires-clause-over
-walked-requires-clause-over g c =
+pub invariant_of-stage-clause-near : goal.invariant_of-stage-clause-near
+invariant_of-stage-clause-near g c =
     let o : c.line_over-over.result ≡ fold int_max c.args.line.now.strut.over (flat_map (rule.over_of c.args.line.now.boxes.now) (map mark_of c.args.marks.now)) =
     c.line_over-over.ensures
     ∙ ap (λ (z : ℤ). fold int_max z (flat_map (rule.over_of c.args.line.now.boxes.now) (map mark_of c.args.marks.now))) (held c.args.line.now.strut.over (omega (arith, c.requires.strut))) in
     let k = over_close c.args.line.now.boxes.now (map mark_of c.args.marks.now) c.args.line.now.strut.over c.requires.of_boxes c.requires.boxes (omega (arith, c.requires.reach)) (omega (arith, c.requires.strut)) in
-    omega (arith, ints, o, k)
+    let h : unsigned_abs c.line_over-over.result ≤ 2 ^ 61 = omega (arith, ints, o, k) in
+    let P : ℤ → Type 0 = λ z. unsigned_abs z ≤ 2 ^ 61 in
+    subst P (sym (held c.line_over-over.result (omega (arith, h)))) h
 
 pub returns-clause-over : goal.returns-clause-over
 returns-clause-over g c =

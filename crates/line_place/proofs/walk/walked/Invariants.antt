@@ -8,8 +8,8 @@ use Rattle.line_place.proofs.walk.walked.Given as goal
 
 abbrev pub invariant-loop-mark : goal.invariant-loop-mark
 invariant-loop-mark g l = record {
-  whole : whole (line_in l.line []) l.fn.over l.walk (drop l.mark-index (map mark_of l.marks)) ≡ outermost (rows (line_in l.line []) l.fn.over l.fn.at (map mark_of l.marks));
+  whole : whole (line_in l.stage.frame.now []) l.stage.over l.walk (drop l.mark-index (map mark_of l.marks)) ≡ outermost (rows (line_in l.stage.frame.now []) l.stage.over l.fn.at (map mark_of l.marks));
   paired : ArePaired (length l.walk.opened.items) (drop l.mark-index (map mark_of l.marks));
-  opened : AreOpen (length l.line.boxes.now) l.walk.opened.items;
-  near : unsigned_abs l.walk.at + total (mark_reach l.line.boxes.now) (drop l.mark-index (map mark_of l.marks)) ≤ 2 ^ 61;
+  opened : AreOpen (length l.stage.frame.now.boxes.now) l.walk.opened.items;
+  near : unsigned_abs l.walk.at + total (mark_reach l.stage.frame.now.boxes.now) (drop l.mark-index (map mark_of l.marks)) ≤ 2 ^ 61;
 }
