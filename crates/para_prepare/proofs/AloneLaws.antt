@@ -18,7 +18,7 @@ use Rattle.para_prepare.specs.Flat.{Flat, flat_item, grown}
 use Rattle.para_prepare.specs.Kept.{chars_of}
 use Rattle.para_prepare.specs.Parts.{Raw, control_of, item, of_unit, parts_by, sets_upright}
 use Rattle.para_prepare.specs.Text.{are_plain, letter_part, letter_parts, stand_alone}
-use Rattle.para_prepare.proofs.FlatLaws.{grown_append, grown_none}
+use Rattle.para_prepare.proofs.FlatLaws.{grown_append}
 
 -- ---- stretches of a list
 

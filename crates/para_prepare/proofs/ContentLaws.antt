@@ -6,20 +6,18 @@ use Rattle.std.specs.Str.{chars}
 use Rattle.std.specs.String.{string_bytes}
 use Rattle.std.proofs.Math.Utf8.{encode}
 use Rattle.std.proofs.lemmas.Bool.{cases_Bool}
-use Rattle.std.proofs.lemmas.List.{append-nil, map-append, length-append, length-map, length-drop, drop_at, drop_more, drop-drop, take_at}
-use Rattle.std.proofs.lemmas.List.Elements.{All-append, All-cons}
+use Rattle.std.proofs.lemmas.List.{length-append, length-map, length-drop, drop_at, drop_more, drop-drop, take_at}
 use Rattle.std.proofs.lemmas.Str.{encodes-chars, IsUtf8-string_bytes, length-le-encodes}
 use Rattle.face_api.specs.Table.{Table}
 use Rattle.fragment_types.specs.Item.{Entry, text, begins, ends, atom, line_break, entry_of, entries_of}
 use Rattle.fragment_types.specs.declared.item.Item.{Item}
 use Rattle.fragment_types.specs.declared.item.Item.TheVariants as items
 use Rattle.para_prepare.specs.declared.letter.Letter.{Letter}
-use Rattle.para_prepare.specs.declared.parts.Part as code
 use Rattle.para_prepare.specs.Content.{parts, parts_from, parts_in}
 use Rattle.para_prepare.specs.Kept.{chars_of, ends_from, joined, kept, kept_from, kept_in}
 use Rattle.para_prepare.specs.Limits.{HasFontSize, bytes_in, text_bytes}
 use Rattle.para_prepare.specs.Parts.{Part}
-use Rattle.para_prepare.specs.Views.{IsSound, item_parts, part_of, parts_of}
+use Rattle.para_prepare.specs.Views.{item_parts}
 use Rattle.para_prepare.specs.White.{as_kept, chosen, is_white, marks, signs_in}
 use Rattle.para_prepare.proofs.KeptLaws.{item_first}
 
@@ -179,13 +177,6 @@ goes_on faces left rest entry source from to flat ends_left ends_rest made more 
           ∙ ap (λ left. made ++ parts_from faces source left a.marks_left) (sym is) ∙ a.cut;
       within = next.within;
     }
-
-pub all_cut : (faces : List (Option Table)) (left : List Entry) (source from : ℕ) (flat : List Letter) (ends_left : List ℕ) (made whole : List Part)
-    → AreCut faces left source from flat ends_left made whole → left ≡ [] → made ≡ whole
-all_cut faces left source from flat ends_left made whole a none =
-    sym (append-nil made) ∙ ap (λ left. made ++ parts_from faces source left a.marks_left) (sym none) ∙ a.cut
-
--- ---- a part that stands by itself
 
 pub item_bytes : (items : List Item) (i from to : ℕ) (item : Item) (marks : List Bool) (flat : List Letter) → IsNext (entry_of item) marks from to flat → i < length items
     → item ≡ slice_index_or items i item → text_bytes (entries_of items) ≤ 1048576 → length (encode_utf8_all (chars_of (slice_range flat from to))) ≤ 1048576

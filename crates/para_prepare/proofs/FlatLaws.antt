@@ -1,11 +1,10 @@
 -- Where nothing asks for another level each item stands at level 0.
 use Rattle.std.proofs.Common.{append_assoc, ◌≡◌, refl, sym, ap, ap₂, ◌∙◌, ℕ, Bool, true, false, ◌&&◌, ◌==◌, List, [], ◌∷◌, ◌++◌, length, map, arith}
-use Rattle.std.specs.Prelude.{All, Option, Some, None, cond, replicate}
+use Rattle.std.specs.Prelude.{Option, Some, None, cond, replicate}
 use Rattle.std.proofs.Math.Bool.{and_assoc, and-true}
 use Rattle.std.specs.List.{list_all}
 use Rattle.std.proofs.lemmas.Bool.{and_parts}
 use Rattle.std.proofs.lemmas.List.{append-nil, map-append, length-append, length-map, replicate_more}
-use Rattle.std.proofs.lemmas.List.Elements.{All-cons}
 use Rattle.std.proofs.lemmas.List.Folds.{list_all-append}
 use Rattle.wm_chars.specs.declared.classes.BidiClass.{BidiClass}
 use Rattle.wm_chars.specs.declared.classes.BidiClass.TheVariants.{L, ON}
@@ -31,7 +30,7 @@ use Rattle.para_prepare.specs.Glyph.{class_of}
 use Rattle.para_prepare.specs.Items.{items_by}
 use Rattle.para_prepare.specs.Parts.{Part, opens, closes, control, control_of, item, Raw, of_unit, of_combined, of_atom, of_break, class_in, raws}
 use Rattle.para_prepare.specs.Preparation.{container_of, standings_of}
-use Rattle.para_prepare.specs.Standing.{IsStanding, apart_past, begun_past, chars_of, classes_of, ended, levels_of, line_break, standing_at, standings, standings_by}
+use Rattle.para_prepare.specs.Standing.{apart_past, begun_past, chars_of, classes_of, ended, levels_of, line_break, standing_at, standings, standings_by}
 use Rattle.para_prepare.proofs.PreparationLaws.{raws_taken}
 use Rattle.para_prepare.proofs.RawsLaws.{raws_append}
 use Rattle.para_prepare.proofs.Texts.{in_front_twice}

@@ -4,21 +4,19 @@ use Rattle.std.specs.Prelude.{All, Option, encode_utf8_all}
 use Rattle.std.specs.List.{slice_range}
 use Rattle.std.specs.Str.{chars}
 use Rattle.std.proofs.lemmas.List.{drop_more, length-append, length-map, take_rest}
-use Rattle.face_api.specs.Living.{used_table}
 use Rattle.face_api.specs.Table.{Table}
 use Rattle.fragment_types.specs.Item.{Entry, text, begins, ends, atom, line_break, entry_of, entries_of}
 use Rattle.fragment_types.specs.declared.item.Item.{Item}
 use Rattle.style_types.specs.declared.style.Style.{Style}
 use Rattle.cluster_units.specs.Laws.{AreInOrder, IsUnitIn}
-use Rattle.cluster_units.specs.Unit.{units_of}
 use Rattle.cluster_units.specs.declared.unit.Unit.{Unit}
 use Rattle.para_prepare.specs.declared.letter.Letter.{Letter}
-use Rattle.para_prepare.specs.Content.{parts, raw_of, text_parts}
+use Rattle.para_prepare.specs.Content.{parts}
 use Rattle.para_prepare.specs.Flat.{Flat, HasRunBounds, Rises, flat_item, grown, nothing}
 use Rattle.para_prepare.specs.Kept.{chars_of, ends_from, joined, kept, kept_in}
-use Rattle.para_prepare.specs.Parts.{Part, Raw, control_of, item, parts_by, raws, sets_upright}
+use Rattle.para_prepare.specs.Parts.{Part, Raw, control_of, item, parts_by, raws}
 use Rattle.para_prepare.specs.Views.{HasOneSize, item_parts}
-use Rattle.para_prepare.proofs.ContentLaws.{AreCut, all_cut, begun, cut_more}
+use Rattle.para_prepare.proofs.ContentLaws.{AreCut, begun, cut_more}
 use Rattle.para_prepare.proofs.FlatLaws.{grown_append, grown_none}
 use Rattle.para_prepare.proofs.InsideLaws.{raws_by}
 use Rattle.para_prepare.proofs.PartsLaws.{stretch_bytes, stretch_length}

@@ -24,3 +24,4 @@ pub mod Standings
 pub mod TextLaws
 pub mod Texts
 pub mod WhiteLaws
+pub mod WholeLaws

@@ -19,7 +19,7 @@ use Rattle.para_prepare.specs.Content.{raw_of, text_parts}
 use Rattle.para_prepare.specs.Inside.{inside}
 use Rattle.para_prepare.specs.Kept.{chars_of}
 use Rattle.para_prepare.specs.Parts.{Raw, item, control_of, of_combined, of_unit, parts_by, sets_upright}
-use Rattle.para_prepare.specs.Views.{HasOneSize, IsSize, IsSound, IsSpan, letters_at, part_of, parts_of, span_of, stored_by, stored_control, stored_run}
+use Rattle.para_prepare.specs.Views.{HasOneSize, IsSize, IsSound, IsSpan, IsUnitOf, letters_at, part_of, parts_of, span_of, stored_by, stored_control, stored_run}
 
 -- ---- a stretch of a stretch
 
@@ -90,18 +90,23 @@ ends parts more old upright stored letters at left units added none m =
     m ∙ ap (λ last. parts ++ map (stored_control upright) last) (take_rest letters at)
     ∙ ap (λ left. parts ++ stored_by upright stored letters at left) (sym none) ∙ added.stored_all
 
--- the characters of a unit are not more bytes than the text's
-pub unit_bytes : (flat : List Letter) (from to at : ℕ) (units : List Unit) (i : ℕ) (none : Unit) → i < length units → to ≤ length flat
-    → AreInOrder at (length (slice_range flat from to)) (drop i units)
-    → length (encode_utf8_all (chars_of (slice_range flat from to))) ≤ 1048576
-    → length (encode_utf8_all (chars_of (letters_at flat (span_of from (slice_index_or units i none))))) ≤ 1048576
-unit_bytes flat from to at units i none lt end_ order few =
+-- the unit at a place among those of a text
+pub unit_within : (flat : List Letter) (from to at : ℕ) (units : List Unit) (i : ℕ) (none : Unit) → i < length units → to ≤ length flat
+    → AreInOrder at (length (slice_range flat from to)) (drop i units) → IsUnitOf (to - from) (slice_index_or units i none)
+unit_within flat from to at units i none lt end_ order =
     let unit = slice_index_or units i none in
     let is = (first_of at (length (slice_range flat from to)) (drop i units) (drop (i + 1) units) unit order (drop_more units i none lt)).0 in
     let some = is.some in
     let within = is.within in
     let long = stretch_length flat from to end_ in
-    let same = stretch flat from to unit.first unit.end (omega arith) (omega arith) in
+    record { order = omega arith; within = omega arith }
+
+-- the characters of a unit are not more bytes than the text's
+pub unit_bytes : (flat : List Letter) (from to : ℕ) (unit : Unit) → to ≤ length flat → IsUnitOf (to - from) unit
+    → length (encode_utf8_all (chars_of (slice_range flat from to))) ≤ 1048576
+    → length (encode_utf8_all (chars_of (letters_at flat (span_of from unit)))) ≤ 1048576
+unit_bytes flat from to unit end_ is few =
+    let same = stretch flat from to unit.first unit.end is.order is.within in
     let fewer = stretch_bytes (slice_range flat from to) unit.first unit.end in
     subst (λ letters. length (encode_utf8_all (chars_of letters)) ≤ 1048576) (sym same) (omega arith)
 

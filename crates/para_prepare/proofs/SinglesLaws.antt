@@ -272,8 +272,9 @@ alike own made is =
       breaks_count = length-map (raws own) break_class_of ∙ sym (length-map (raws own) flat_item);
     })
 
--- what is made, if something is
-pub some_weaker : {X E : Type 0} (r : Result (Option X) E) (P Q : X → Type 0) → ((x : X) → P x → Q x) → IfOk r (λ own. IfSome own P) → IfOk r (λ own. IfSome own Q)
-some_weaker (Ok None) P Q more h = tt
-some_weaker (Ok (Some x)) P Q more h = more x h
-some_weaker (Err e) P Q more h = tt
+-- three facts of what is made, if something is
+pub some_joined : {X E : Type 0} (r : Result (Option X) E) (P Q R S : X → Type 0) → ((x : X) → P x → Q x → R x → S x)
+    → IfOk r (λ own. IfSome own P) → IfOk r (λ own. IfSome own Q) → IfOk r (λ own. IfSome own R) → IfOk r (λ own. IfSome own S)
+some_joined (Ok None) P Q R S more p q h = tt
+some_joined (Ok (Some x)) P Q R S more p q h = more x p q h
+some_joined (Err e) P Q R S more p q h = tt

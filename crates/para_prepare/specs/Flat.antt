@@ -1,13 +1,14 @@
 -- Parts that ask for no level but 0 (UAX 9), and what is made of their items at that level.
 use Rattle.std.specs.Prelude.{◌≡◌, ℕ, ◌==◌, ◌+◌, ◌-◌, ◌≤◌, ◌≤ℤ◌, pos, ⊤, Bool, true, false, not, length, ◌&&◌, ◌||◌, nat_le, nat_lt, if◌then◌else◌, List, [], ◌∷◌, ◌++◌, map, Option, Some, None}
 use Rattle.std.specs.List.{list_all}
+use Rattle.std.specs.Coded.{×_prop, Unit-prop, le_prop}
 use Rattle.wm_chars.specs.declared.classes.BidiClass.{BidiClass}
 use Rattle.wm_chars.specs.declared.classes.BreakClass.{BreakClass}
 use Rattle.style_types.specs.declared.style.UnicodeBidi.{UnicodeBidi}
 use Rattle.style_types.specs.declared.style.UnicodeBidi.TheVariants.{Normal, BidiOverride, IsolateOverride}
 use Rattle.fragment_types.specs.Item.{Entry, text, begins, ends, atom, line_break}
 use Rattle.bidi_resolve.specs.Paragraph.{is_left_to_right}
-use Rattle.para_prepare.specs.declared.flat.FlatLists.{FlatLists}
+use Rattle.para_prepare.specs.declared.lists.FlatLists.{FlatLists}
 use Rattle.para_prepare.specs.declared.item.PreparedItem.{PreparedItem}
 use Rattle.para_prepare.specs.declared.letter.Letter.{Letter}
 use Rattle.para_prepare.specs.declared.standing.Standing.{Standing}
@@ -115,6 +116,11 @@ HasBoundsIn own = HasBounds own.what
 abbrev pub Rises : ℕ → List Letter → Type 0
 Rises place [] = ⊤
 Rises place (l ∷ letters) = (place ≤ l.place) × Rises (l.place + 1) letters
+
+-- in one way at most, as a fact that a type keeps must
+pub Rises-prop : (place : ℕ) (letters : List Letter) → IsProp (Rises place letters)
+Rises-prop place [] = Unit-prop
+Rises-prop place (l ∷ letters) = ×_prop le_prop (Rises-prop (l.place + 1) letters)
 
 -- a unit of these characters, or a combined run, has the bounds of its item
 pub record HasRunBounds (unit : Unit) (letters : List Letter) : Type 0 where

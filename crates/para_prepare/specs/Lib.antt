@@ -3,6 +3,7 @@ pub mod BidiText
 pub mod Boxes
 pub mod Breaks
 pub mod Content
+pub mod Facts
 pub mod Flat
 pub mod Glyph
 pub mod Inside
@@ -18,3 +19,4 @@ pub mod Standing
 pub mod Text
 pub mod Views
 pub mod White
+pub mod Whole

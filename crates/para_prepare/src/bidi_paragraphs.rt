@@ -1,10 +1,12 @@
 //! The bidi paragraphs of a paragraph, one after the other (CSS Writing Modes 4, 2.4): a line break ends one.
 
 ghost use Rattle.std.specs.Prelude.{◌≡◌, ◌+◌, ◌++◌, ◌≤◌, [], ◌∷◌, ℕ, List, Option, cond, length, map, All, IfOk, IfSome, OnOk};
+ghost use Rattle.std.proofs.Props.{props};
 ghost use Rattle.para_prepare.specs.BidiParagraphs.{begins, met, wanted};
 ghost use Rattle.para_prepare.specs.BidiText.{bidi_texts, character};
 ghost use Rattle.para_prepare.specs.declared.bidi_text.Around.{Around};
 ghost use Rattle.para_prepare.specs.Boxes.{marked};
+ghost use Rattle.para_prepare.specs.Facts.{all_standing-prop};
 ghost use Rattle.para_prepare.specs.Parts as parts;
 ghost use Rattle.para_prepare.specs.Parts.{raws};
 ghost use Rattle.para_prepare.specs.Standing as standing;
@@ -22,12 +24,14 @@ use bumpalo::Bump;
 use std::alloc::{AllocError, Global};
 use wm_chars::BidiClass;
 
-/// How the bidi paragraphs of a paragraph are read: the base level that is given or none, and what its block container
-/// puts round each.
+/// How the bidi paragraphs of a paragraph are read: the base level that is given, 0 or 1, or none, and what its block
+/// container puts round each.
 #[derive(Clone, Copy)]
 pub(crate) struct Reading {
     pub(crate) given: Option<u8>,
     pub(crate) container: Around,
+
+    ghost base: { IfSome given (λ base. base ≤ 1) } by { Prim.hlevel props },
 }
 
 // The text of the bidi paragraph that is being read, the boxes that are open, the innermost last, and the standings of
@@ -37,6 +41,8 @@ struct Walk<'a> {
     text: BidiText<'a>,
     opened: Vec<Around, &'a Bump>,
     standings: Standings<'a>,
+
+    ghost bounds: { All IsStanding standings.items } by { all_standing-prop standings.items },
 }
 
 /// The standings of the items of a paragraph. The parts that aren't marked are passed over.
@@ -49,25 +55,23 @@ pub(crate) fn standings<'a>(
     parts: &[Part],
     marks: &[bool],
 ) -> Result<Standings<'a>, AllocError>
-    requires base { IfSome reading.given (λ base. base ≤ 1) }
     requires parts { All (IsPart (length letters.now)) parts.now }
     requires marks { length marks.now ≡ length parts.now }
     ensures standings { IfOk result (λ out. out.items ≡ standing.standings reading.given (bidi_texts reading.container (marked marks.now (parts_of letters.now parts.now)))) }
     ensures count { IfOk result (λ out. length out.items ≡ length (raws (marked marks.now (parts_of letters.now parts.now)))) }
     ensures bounds { IfOk result (λ out. All IsStanding out.items) }
 {
+    let mut text = Vec::with_capacity(arena, parts.len())?;
+    reading.container.put_container_before(&mut text)?;
     let mut walk = Walk {
-        text: Vec::with_capacity(arena, parts.len())?,
+        text,
         opened: Vec::new(arena),
         standings: Vec::with_capacity(arena, parts.len())?,
     };
-    reading.container.put_container_before(&mut walk.text)?;
     for k in 0..parts.len() {
         walk.take_marked(alloc, reading, letters, &parts[k], marks[k])?;
     }
-    walk.finish(alloc, reading)?;
-    let Walk { standings, .. } = walk;
-    Ok(standings)
+    walk.finish(alloc, reading)
 }
 
 impl<'a> Walk<'a> {
@@ -80,12 +84,9 @@ impl<'a> Walk<'a> {
         part: &Part,
         mark: bool,
     ) -> Result<(), AllocError>
-        requires base { IfSome reading.given (λ base. base ≤ 1) }
-        requires part { IsPart (length letters.now) part.now }
-        requires bounds { All IsStanding self.old.standings.items }
+        requires { IsPart (length letters.now) part.now }
         ensures wanted { (rest : List parts.Part) → OnOk result (wanted reading.given reading.container self.new.text.items self.new.opened.items self.new.standings.items rest ≡ wanted reading.given reading.container self.old.text.items self.old.opened.items self.old.standings.items (cond mark (part_of letters.now part.now ∷ []) [] ++ rest)) }
         ensures count { OnOk result (met self.new.text.items self.new.standings.items ≡ met self.old.text.items self.old.standings.items + length (raws (cond mark (part_of letters.now part.now ∷ []) []))) }
-        ensures bounds { OnOk result (All IsStanding self.new.standings.items) }
     {
         if mark {
             self.take(alloc, reading, letters, part)?;
@@ -102,12 +103,9 @@ impl<'a> Walk<'a> {
         letters: &[Letter],
         part: &Part,
     ) -> Result<(), AllocError>
-        requires base { IfSome reading.given (λ base. base ≤ 1) }
-        requires part { IsPart (length letters.now) part.now }
-        requires bounds { All IsStanding self.old.standings.items }
+        requires { IsPart (length letters.now) part.now }
         ensures wanted { (rest : List parts.Part) → OnOk result (wanted reading.given reading.container self.new.text.items self.new.opened.items self.new.standings.items rest ≡ wanted reading.given reading.container self.old.text.items self.old.opened.items self.old.standings.items (part_of letters.now part.now ∷ rest)) }
         ensures count { OnOk result (met self.new.text.items self.new.standings.items ≡ met self.old.text.items self.old.standings.items + length (raws (part_of letters.now part.now ∷ []))) }
-        ensures bounds { OnOk result (All IsStanding self.new.standings.items) }
     {
         match part {
             Part::Opens(around) => self.begin_box(*around),
@@ -127,10 +125,8 @@ impl<'a> Walk<'a> {
     // An inline box begins.
     #[tactic(auto, using(crate::proofs::Begins::begins_append, crate::proofs::Begins::begins_before))]
     fn begin_box(&mut self, around: Around) -> Result<(), AllocError>
-        requires bounds { All IsStanding self.old.standings.items }
         ensures wanted { (given : Option ℕ) → (container : Around) → (rest : List parts.Part) → OnOk result (wanted given container self.new.text.items self.new.opened.items self.new.standings.items rest ≡ wanted given container self.old.text.items self.old.opened.items self.old.standings.items (parts.opens around.bidi around.dir ∷ rest)) }
         ensures count { OnOk result (met self.new.text.items self.new.standings.items ≡ met self.old.text.items self.old.standings.items + 0) }
-        ensures bounds { OnOk result (All IsStanding self.new.standings.items) }
     {
         around.put_before(&mut self.text)?;
         self.opened.push(around)?;
@@ -140,10 +136,8 @@ impl<'a> Walk<'a> {
     // The innermost inline box ends.
     #[tactic(auto, using(crate::proofs::Begins::begins_append, crate::proofs::Begins::begins_after))]
     fn end_box(&mut self) -> Result<(), AllocError>
-        requires bounds { All IsStanding self.old.standings.items }
         ensures wanted { (given : Option ℕ) → (container : Around) → (rest : List parts.Part) → OnOk result (wanted given container self.new.text.items self.new.opened.items self.new.standings.items rest ≡ wanted given container self.old.text.items self.old.opened.items self.old.standings.items (parts.closes ∷ rest)) }
         ensures count { OnOk result (met self.new.text.items self.new.standings.items ≡ met self.old.text.items self.old.standings.items + 0) }
-        ensures bounds { OnOk result (All IsStanding self.new.standings.items) }
     {
         if let Some(around) = self.opened.pop() {
             around.put_after(&mut self.text)?;
@@ -164,11 +158,8 @@ impl<'a> Walk<'a> {
     // A line break ends the bidi paragraph. What is open is closed before it and opened again after it.
     #[tactic(auto, using(crate::proofs::Begins::begins_append, crate::proofs::Begins::begins_container_after, crate::proofs::Begins::begins_container_before, crate::proofs::Begins::begins_closing_all, crate::proofs::Begins::begins_opening_all))]
     fn break_line(&mut self, alloc: Global, reading: Reading) -> Result<(), AllocError>
-        requires base { IfSome reading.given (λ base. base ≤ 1) }
-        requires bounds { All IsStanding self.old.standings.items }
         ensures wanted { (source node : ℕ) → (rest : List parts.Part) → OnOk result (wanted reading.given reading.container self.new.text.items self.new.opened.items self.new.standings.items rest ≡ wanted reading.given reading.container self.old.text.items self.old.opened.items self.old.standings.items (parts.item (parts.of_break source node) ∷ rest)) }
         ensures count { OnOk result (met self.new.text.items self.new.standings.items ≡ met self.old.text.items self.old.standings.items + 1) }
-        ensures bounds { OnOk result (All IsStanding self.new.standings.items) }
     {
         put_all_after(&mut self.text, &self.opened)?;
         reading.container.put_container_after(&mut self.text)?;
@@ -181,14 +172,18 @@ impl<'a> Walk<'a> {
 
     // The paragraph ends.
     #[tactic(auto, using(crate::proofs::Begins::begins_append, crate::proofs::Begins::begins_container_after))]
-    fn finish(&mut self, alloc: Global, reading: Reading) -> Result<(), AllocError>
-        requires base { IfSome reading.given (λ base. base ≤ 1) }
-        requires bounds { All IsStanding self.old.standings.items }
-        ensures wanted { OnOk result (self.new.standings.items ≡ wanted reading.given reading.container self.old.text.items self.old.opened.items self.old.standings.items []) }
-        ensures count { OnOk result (length self.new.standings.items ≡ met self.old.text.items self.old.standings.items) }
-        ensures bounds { OnOk result (All IsStanding self.new.standings.items) }
+    fn finish(self, alloc: Global, reading: Reading) -> Result<Standings<'a>, AllocError>
+        ensures wanted { IfOk result (λ out. out.items ≡ wanted reading.given reading.container self.entry.text.items self.entry.opened.items self.entry.standings.items []) }
+        ensures count { IfOk result (λ out. length out.items ≡ met self.entry.text.items self.entry.standings.items) }
+        ensures bounds { IfOk result (λ out. All IsStanding out.items) }
     {
-        reading.container.put_container_after(&mut self.text)?;
-        stand(alloc, &mut self.standings, reading.given, &self.text)
+        let Walk {
+            mut text,
+            mut standings,
+            ..
+        } = self;
+        reading.container.put_container_after(&mut text)?;
+        stand(alloc, &mut standings, reading.given, &text)?;
+        Ok(standings)
     }
 }

@@ -1,45 +1,41 @@
 //! A paragraph in which nothing asks for a level but 0 (UAX 9), as most are: its items as they come, without the bidi
 //! algorithm.
 
-ghost use Rattle.std.specs.Prelude.{◌≡◌, ◌<◌, ◌≤◌, ◌≤ℤ◌, ◌^◌, ◌+◌, ◌-◌, ◌&&◌, [], ◌∷◌, ◌++◌, pos, true, Bool, length, map, All, encode_utf8_all, IfOk, OnOk, None};
+ghost use Rattle.std.specs.Prelude.{◌≡◌, ◌<◌, ◌≤◌, ◌^◌, ◌+◌, ◌-◌, ◌&&◌, [], ◌∷◌, true, Bool, length, map, All, encode_utf8_all, IfOk, OnOk};
 ghost use Rattle.std.specs.List.{list_all};
 ghost use Rattle.bidi_resolve.specs.Paragraph as paragraph;
 ghost use Rattle.face_api.specs.Faces.{faces_of};
 ghost use Rattle.fragment_types.specs.Item.{entry_of, entries_of};
 ghost use Rattle.cluster_units.specs.Laws.{AreInOrder};
 ghost use Rattle.cluster_units.specs.Plain.{combines_none};
-ghost use Rattle.cluster_units.specs.Text.{is_combined};
 ghost use Rattle.para_prepare.specs.Content as content;
 ghost use Rattle.para_prepare.specs.Content.{raw_of, text_parts};
 ghost use Rattle.para_prepare.specs.Flat as spec;
-ghost use Rattle.para_prepare.specs.Flat.{HasBoundsIn, HasRunBounds, Rises, flat_of, grown, nothing};
+ghost use Rattle.para_prepare.specs.Flat.{HasRunBounds, flat_of, grown, nothing};
 ghost use Rattle.para_prepare.specs.Glyph.{last_class};
-ghost use Rattle.para_prepare.specs.Kept.{kept, joined, ends_from, chars_of};
-ghost use Rattle.para_prepare.specs.Limits.{HasFontSize, IsFontSize, text_bytes};
+ghost use Rattle.para_prepare.specs.Kept.{chars_of};
+ghost use Rattle.para_prepare.specs.Limits.{HasFontSize};
 ghost use Rattle.para_prepare.specs.Parts as parts;
 ghost use Rattle.para_prepare.specs.Parts.{control_of, item, of_unit, opens, parts_by};
-ghost use Rattle.para_prepare.specs.Preparation.{HasBounds};
 ghost use Rattle.para_prepare.specs.Text.{letter_parts};
 ghost use Rattle.para_prepare.specs.Views.{HasOneSize, IsPlaced, IsSize, item_parts, letters_at};
 ghost use Rattle.wm_modes.specs.declared.mode.Direction.{Direction};
 
-use crate::breaks::BreakClasses;
 use crate::classes::last_class;
-use crate::content::Place;
 use crate::inside::inside;
-use crate::item::{PreparedContent, PreparedItem, PreparedItems};
-use crate::items::{combined_content, push_unit};
-use crate::kept::text_of;
+use crate::item::PreparedContent;
+use crate::items::{combined_content, unit_content};
+use crate::kept::{Kept, text_of};
 use crate::letter::Letter;
+use crate::lists::FlatLists;
 use crate::parts::{Span, class_in};
-use crate::standing::Standing;
+use crate::place::Place;
+use crate::resources::Resources;
 use crate::text::{Text, sets_upright, stand_alone};
 use crate::white::is_bidi_control;
-use bidi_explicit::ClassList;
-use bumpalo::Bump;
 use cluster_units::laws::plain_units_are_of_characters;
 use cluster_units::{Unit, character_unit, is_plain_character, units};
-use face_api::{Face, Faces};
+use face_api::Face;
 use fragment_types::{Glyphs, Item, UnitKind};
 use std::alloc::{AllocError, Global};
 use std::slice;
@@ -47,43 +43,24 @@ use style_types::UnicodeBidi;
 use wm_chars::BidiClass::{B, CS, EN, ES, ET, L, NSM, ON, S, WS};
 use wm_chars::{BidiClass, BreakClass};
 
-/// The items of a paragraph so far, each at level 0, with their classes for L1 and their break classes; and whether nothing
-/// so far asks for another level.
-#[derive(Drop)]
-pub(crate) struct FlatLists<'a> {
-    pub(crate) items: PreparedItems,
-    pub(crate) classes: ClassList,
-    pub(crate) breaks: BreakClasses<'a>,
-    pub(crate) flat: bool,
-    /// Whether each part so far is an item that is one character of the bidi paragraph.
-    pub(crate) bare: bool,
-}
-
-/// The items of a paragraph that has these, whose kept characters are these and end at these places.
+/// The items of a paragraph with these kept characters.
 pub(crate) fn flat_lists<'a>(
     alloc: Global,
-    arena: &'a Bump,
-    items: &[Item],
-    letters: &[Letter],
-    ends: &[usize],
-    faces: &Faces,
+    kept: &Kept<'_>,
+    resources: Resources<'a>,
 ) -> Result<FlatLists<'a>, AllocError>
-    requires bytes { text_bytes (entries_of items.now) ≤ 1048576 }
-    requires few { length items.now < 2 ^ 32 }
-    requires sizes { All HasFontSize (entries_of items.now) }
-    requires letters { letters.now ≡ joined (kept (entries_of items.now)) }
-    requires ends { ends.now ≡ ends_from 0 (kept (entries_of items.now)) }
-    requires placed { All IsPlaced letters.now }
-    ensures grown { IfOk result (λ made. flat_of made ≡ grown nothing (content.parts (faces_of ⟦<dyn Face as Face>⟧ faces.now) (entries_of items.now))) }
-    ensures bounds { IfOk result (λ made. All HasBoundsIn made.items.items) }
-    ensures count { IfOk result (λ made. length made.items.items ≤ length letters.now + length items.now) }
+    ensures grown { IfOk result (λ made. flat_of made ≡ grown nothing (content.parts (faces_of ⟦<dyn Face as Face>⟧ resources.entry.faces.now) (entries_of kept.now.items.now))) }
+    ensures count { IfOk result (λ made. length made.items.items ≤ length kept.now.letters.items + length kept.now.items.now) }
 {
+    let items = kept.items;
+    let letters: &[Letter] = &kept.letters;
+    let ends: &[usize] = &kept.ends;
     // Most items are characters of texts, and the ends of boxes are none.
     let room = letters.len();
     let mut made = FlatLists {
         items: Vec::with_capacity(alloc, room)?,
         classes: Vec::with_capacity(alloc, room)?,
-        breaks: Vec::with_capacity(arena, room)?,
+        breaks: Vec::with_capacity(resources.arena, room)?,
         flat: true,
         bare: true,
     };
@@ -92,9 +69,10 @@ pub(crate) fn flat_lists<'a>(
         let to = ends[i];
         let place = Place {
             source: i as u32,
+            letters,
             span: Span { from, to },
         };
-        made.add_item(alloc, arena, place, &items[i], letters, faces)?;
+        made.add_item(alloc, place, &items[i], resources)?;
         from = to;
     }
     Ok(made)
@@ -200,38 +178,22 @@ impl FlatLists<'_> {
     fn add_item(
         &mut self,
         alloc: Global,
-        arena: &Bump,
         place: Place,
         item: &Item,
-        letters: &[Letter],
-        faces: &Faces,
+        resources: Resources,
     ) -> Result<(), AllocError>
-        requires order { place.span.from ≤ place.span.to }
-        requires within { place.span.to ≤ length letters.now }
-        requires bytes { length (encode_utf8_all (chars_of (letters_at letters.now place.span))) ≤ 1048576 }
-        requires rises { Rises 0 (letters_at letters.now place.span) }
-        requires size { HasFontSize (entry_of item.now) }
-        requires placed { All IsPlaced letters.now }
-        requires bounds { All HasBoundsIn self.old.items.items }
-        ensures grown { OnOk result (flat_of self.new ≡ grown (flat_of self.old) (item_parts (faces_of ⟦<dyn Face as Face>⟧ faces.now) place.source (entry_of item.now) (letters_at letters.now place.span))) }
-        ensures bounds { OnOk result (All HasBoundsIn self.new.items.items) }
-        ensures count { OnOk result (length self.new.items.items ≤ length self.old.items.items + (place.span.to - place.span.from) + 1) }
+        requires { HasFontSize (entry_of item.now) }
+        ensures grown { OnOk result (flat_of self.new ≡ grown (flat_of self.old) (item_parts (faces_of ⟦<dyn Face as Face>⟧ resources.entry.faces.now) place.entry.source (entry_of item.now) (letters_at place.entry.letters.now place.entry.span))) }
+        ensures count { OnOk result (length self.new.items.items ≤ length self.old.items.items + (place.entry.span.to - place.entry.span.from) + 1) }
     {
         match item {
             Item::Text { node, style, .. } => {
                 let text = Text {
-                    source: place.source,
+                    place,
                     node: *node,
                     style,
-                    span: place.span,
                 };
-                self.add_text(
-                    alloc,
-                    arena,
-                    text,
-                    &letters[place.span.from..place.span.to],
-                    faces,
-                )
+                self.add_text(alloc, text, resources)
             }
             Item::Open { style, .. } => {
                 self.open(style.bidi);
@@ -268,51 +230,37 @@ impl FlatLists<'_> {
         self.bare = false;
     }
 
-    // Adds the units and combined runs of a text that has these kept characters.
+    // Adds the units and combined runs of a text.
     fn add_text(
         &mut self,
         alloc: Global,
-        arena: &Bump,
         text: Text,
-        letters: &[Letter],
-        faces: &Faces,
+        resources: Resources,
     ) -> Result<(), AllocError>
-        requires bytes { length (encode_utf8_all (chars_of letters.now)) ≤ 1048576 }
-        requires rises { Rises 0 letters.now }
-        requires size { IsFontSize text.style.now }
-        requires placed { All IsPlaced letters.now }
-        requires bounds { All HasBoundsIn self.old.items.items }
-        ensures grown { OnOk result (flat_of self.new ≡ grown (flat_of self.old) (text_parts (faces_of ⟦<dyn Face as Face>⟧ faces.now) text.entry.source text.entry.node text.entry.style.now letters.now)) }
-        ensures bounds { OnOk result (All HasBoundsIn self.new.items.items) }
-        ensures count { OnOk result (length self.new.items.items ≤ length self.old.items.items + length letters.now) }
+        ensures grown { OnOk result (flat_of self.new ≡ grown (flat_of self.old) (text_parts (faces_of ⟦<dyn Face as Face>⟧ resources.entry.faces.now) text.entry.place.source text.entry.node text.entry.style.now (letters_at text.entry.place.letters.now text.entry.place.span))) }
+        ensures count { OnOk result (length self.new.items.items ≤ length self.old.items.items + length (letters_at text.entry.place.letters.now text.entry.place.span)) }
     {
-        if stand_alone(text.style, letters) {
+        if stand_alone(
+            text.style,
+            &text.place.letters[text.place.span.from..text.place.span.to],
+        ) {
             plain_units_are_of_characters();
-            self.add_letters(text, letters, faces.used(text.style.face))?;
+            self.add_letters(text, resources.faces.used(text.style.face))?;
         } else {
-            self.add_clusters(alloc, arena, text, letters, faces)?;
+            self.add_clusters(alloc, text, resources)?;
         }
         Ok(())
     }
 
     // Adds the units of a text in which each character is a unit by itself, but for the bidi controls.
-    fn add_letters(
-        &mut self,
-        text: Text,
-        letters: &[Letter],
-        face: &dyn Face,
-    ) -> Result<(), AllocError>
-        requires few { length letters.now ≤ 1048576 }
-        requires alone { combines_none text.style.now ≡ true }
-        requires size { IsFontSize text.style.now }
-        requires placed { All IsPlaced letters.now }
-        requires bounds { All HasBoundsIn self.old.items.items }
-        ensures grown { OnOk result (flat_of self.new ≡ grown (flat_of self.old) (letter_parts (table face.now) text.entry.source text.entry.node text.entry.style.now 0 letters.now)) }
-        ensures bounds { OnOk result (All HasBoundsIn self.new.items.items) }
-        ensures count { OnOk result (length self.new.items.items ≤ length self.old.items.items + length letters.now) }
+    fn add_letters(&mut self, text: Text, face: &dyn Face) -> Result<(), AllocError>
+        requires { combines_none text.style.now ≡ true }
+        ensures grown { OnOk result (flat_of self.new ≡ grown (flat_of self.old) (letter_parts (table face.now) text.entry.place.source text.entry.node text.entry.style.now 0 (letters_at text.entry.place.letters.now text.entry.place.span))) }
+        ensures count { OnOk result (length self.new.items.items ≤ length self.old.items.items + length (letters_at text.entry.place.letters.now text.entry.place.span)) }
     {
-        for i in 0..letters.len() {
-            self.add_letter(text, letters[i], i, face)?;
+        let own = &text.place.letters[text.place.span.from..text.place.span.to];
+        for i in 0..own.len() {
+            self.add_letter(text, own[i], i, face)?;
         }
         Ok(())
     }
@@ -328,11 +276,8 @@ impl FlatLists<'_> {
     ) -> Result<(), AllocError>
         requires place { place < 2 ^ 32 }
         requires alone { combines_none text.style.now ≡ true }
-        requires size { IsFontSize text.style.now }
         requires placed { IsPlaced letter }
-        requires bounds { All HasBoundsIn self.old.items.items }
-        ensures grown { OnOk result (flat_of self.new ≡ grown (flat_of self.old) (letter_parts (table face.now) text.entry.source text.entry.node text.entry.style.now place (letter ∷ []))) }
-        ensures bounds { OnOk result (All HasBoundsIn self.new.items.items) }
+        ensures { OnOk result (flat_of self.new ≡ grown (flat_of self.old) (letter_parts (table face.now) text.entry.place.source text.entry.node text.entry.style.now place (letter ∷ []))) }
     {
         match character_unit(letter.char, place, text.style, face) {
             Some(unit) => self.add_single(text, letter, unit)?,
@@ -347,14 +292,12 @@ impl FlatLists<'_> {
     fn add_single(&mut self, text: Text, letter: Letter, unit: Unit) -> Result<(), AllocError>
         requires placed { IsPlaced letter }
         requires unit { IsSize unit }
-        requires bounds { All HasBoundsIn self.old.items.items }
-        ensures grown { OnOk result (flat_of self.new ≡ grown (flat_of self.old) (item (of_unit text.entry.source text.entry.node (parts.sets_upright text.entry.style.now) unit (letter ∷ [])) ∷ [])) }
-        ensures bounds { OnOk result (All HasBoundsIn self.new.items.items) }
+        ensures { OnOk result (flat_of self.new ≡ grown (flat_of self.old) (item (of_unit text.entry.place.source text.entry.node (parts.sets_upright text.entry.style.now) unit (letter ∷ [])) ∷ [])) }
     {
         let class = class_in(sets_upright(text.style), letter.char);
         self.flat &= is_left_to_right(class);
         self.add(
-            text.source,
+            text.place.source,
             class,
             Some(unit.break_class),
             PreparedContent::Unit {
@@ -374,61 +317,42 @@ impl FlatLists<'_> {
     fn add_clusters(
         &mut self,
         alloc: Global,
-        arena: &Bump,
         text: Text,
-        letters: &[Letter],
-        faces: &Faces,
+        resources: Resources,
     ) -> Result<(), AllocError>
-        requires bytes { length (encode_utf8_all (chars_of letters.now)) ≤ 1048576 }
-        requires rises { Rises 0 letters.now }
-        requires size { IsFontSize text.style.now }
-        requires placed { All IsPlaced letters.now }
-        requires bounds { All HasBoundsIn self.old.items.items }
-        ensures grown { OnOk result (flat_of self.new ≡ grown (flat_of self.old) (text_parts (faces_of ⟦<dyn Face as Face>⟧ faces.now) text.entry.source text.entry.node text.entry.style.now letters.now)) }
-        ensures bounds { OnOk result (All HasBoundsIn self.new.items.items) }
-        ensures count { OnOk result (length self.new.items.items ≤ length self.old.items.items + length letters.now) }
+        ensures grown { OnOk result (flat_of self.new ≡ grown (flat_of self.old) (text_parts (faces_of ⟦<dyn Face as Face>⟧ resources.entry.faces.now) text.entry.place.source text.entry.node text.entry.style.now (letters_at text.entry.place.letters.now text.entry.place.span))) }
+        ensures count { OnOk result (length self.new.items.items ≤ length self.old.items.items + length (letters_at text.entry.place.letters.now text.entry.place.span)) }
     {
-        let kept = text_of(alloc, letters)?;
-        let units = units(alloc, &kept, text.style, faces)?;
-        self.add_runs(alloc, arena, text, letters, &units, faces)?;
+        let kept = text_of(
+            alloc,
+            &text.place.letters[text.place.span.from..text.place.span.to],
+        )?;
+        let units = units(alloc, &kept, text.style, resources.faces)?;
+        self.add_runs(alloc, text, &units, resources)?;
         Ok(())
     }
 
-    // Adds the units and combined runs of a text that has these kept characters and comes to these units.
+    // Adds the units and combined runs of a text that comes to these units.
     fn add_runs(
         &mut self,
         alloc: Global,
-        arena: &Bump,
         text: Text,
-        letters: &[Letter],
         units: &[Unit],
-        faces: &Faces,
+        resources: Resources,
     ) -> Result<(), AllocError>
-        requires bytes { length (encode_utf8_all (chars_of letters.now)) ≤ 1048576 }
-        requires rises { Rises 0 letters.now }
-        requires size { IsFontSize text.style.now }
-        requires placed { All IsPlaced letters.now }
-        requires units { AreInOrder 0 (length letters.now) units.now }
+        requires units { AreInOrder 0 (length (letters_at text.place.letters.now text.place.span)) units.now }
         requires one { All (HasOneSize text.style.now) units.now }
-        requires bounds { All HasBoundsIn self.old.items.items }
-        ensures grown { OnOk result (flat_of self.new ≡ grown (flat_of self.old) (parts_by (parts.sets_upright text.entry.style.now) (raw_of (faces_of ⟦<dyn Face as Face>⟧ faces.now) text.entry.source text.entry.node text.entry.style.now) letters.now 0 units.now)) }
-        ensures bounds { OnOk result (All HasBoundsIn self.new.items.items) }
+        ensures { OnOk result (flat_of self.new ≡ grown (flat_of self.old) (parts_by (parts.sets_upright text.entry.style.now) (raw_of (faces_of ⟦<dyn Face as Face>⟧ resources.entry.faces.now) text.entry.place.source text.entry.node text.entry.style.now) (letters_at text.entry.place.letters.now text.entry.place.span) 0 units.now)) }
     {
+        let own = &text.place.letters[text.place.span.from..text.place.span.to];
         let mut at = 0;
         for i in 0..units.len() {
             let unit = units[i];
-            self.pass(&letters[at..unit.first]);
-            self.add_run(
-                alloc,
-                arena,
-                text,
-                &letters[unit.first..unit.end],
-                unit,
-                faces,
-            )?;
+            self.pass(&own[at..unit.first]);
+            self.add_run(alloc, text, &own[unit.first..unit.end], unit, resources)?;
             at = unit.end;
         }
-        self.pass(&letters[at..]);
+        self.pass(&own[at..]);
         Ok(())
     }
 
@@ -448,24 +372,25 @@ impl FlatLists<'_> {
     fn add_run(
         &mut self,
         alloc: Global,
-        arena: &Bump,
         text: Text,
         letters: &[Letter],
         unit: Unit,
-        faces: &Faces,
+        resources: Resources,
     ) -> Result<(), AllocError>
         requires bytes { length (encode_utf8_all (chars_of letters.now)) ≤ 1048576 }
-        requires size { IsFontSize text.style.now }
         requires placed { All IsPlaced letters.now }
         requires unit { HasRunBounds unit letters.now }
-        requires bounds { All HasBoundsIn self.old.items.items }
-        ensures grown { OnOk result (flat_of self.new ≡ grown (flat_of self.old) (item (raw_of (faces_of ⟦<dyn Face as Face>⟧ faces.now) text.entry.source text.entry.node text.entry.style.now unit letters.now) ∷ [])) }
-        ensures bounds { OnOk result (All HasBoundsIn self.new.items.items) }
+        ensures { OnOk result (flat_of self.new ≡ grown (flat_of self.old) (item (raw_of (faces_of ⟦<dyn Face as Face>⟧ resources.entry.faces.now) text.entry.place.source text.entry.node text.entry.style.now unit letters.now) ∷ [])) }
     {
         if unit.kind == UnitKind::Combined {
-            let glyphs = inside(alloc, arena, letters, text.style, faces)?;
+            let glyphs = inside(alloc, letters, text.style, resources)?;
             let what = combined_content(alloc, text.node, unit, letters, glyphs)?;
-            self.add(text.source, BidiClass::L, Some(unit.break_class), what)
+            self.add(
+                text.place.source,
+                BidiClass::L,
+                Some(unit.break_class),
+                what,
+            )
         } else {
             self.add_unit(alloc, text, letters, unit)
         }
@@ -482,71 +407,14 @@ impl FlatLists<'_> {
     ) -> Result<(), AllocError>
         requires placed { All IsPlaced letters.now }
         requires unit { IsSize unit }
-        requires bounds { All HasBoundsIn self.old.items.items }
-        ensures grown { OnOk result (flat_of self.new ≡ grown (flat_of self.old) (item (of_unit text.entry.source text.entry.node (parts.sets_upright text.entry.style.now) unit letters.now) ∷ [])) }
-        ensures bounds { OnOk result (All HasBoundsIn self.new.items.items) }
+        ensures { OnOk result (flat_of self.new ≡ grown (flat_of self.old) (item (of_unit text.entry.place.source text.entry.node (parts.sets_upright text.entry.style.now) unit letters.now) ∷ [])) }
     {
         let upright = sets_upright(text.style);
         let class = last_class(upright, letters);
         self.flat &= are_flat(upright, letters, class);
         self.bare &= letters.len() == 1;
-        let standing = Standing {
-            level: 0,
-            base: 0,
-            apart: None,
-        };
-        push_unit(
-            alloc,
-            &mut self.items,
-            text.source,
-            text.node,
-            unit,
-            letters,
-            standing,
-        )?;
-        self.mark(class, Some(unit.break_class))?;
-        Ok(())
-    }
-
-    // Adds an item.
-    #[inline(always)]
-    fn add(
-        &mut self,
-        source: u32,
-        class: BidiClass,
-        break_class: Option<BreakClass>,
-        what: PreparedContent,
-    ) -> Result<(), AllocError>
-        requires what { HasBounds what }
-        requires bounds { All HasBoundsIn self.old.items.items }
-        ensures items { OnOk result (self.new.items.items ≡ self.old.items.items ++ (record { source = source; apart = None; what = what }) ∷ []) }
-        ensures classes { OnOk result (self.new.classes.items ≡ self.old.classes.items ++ class ∷ []) }
-        ensures breaks { OnOk result (self.new.breaks.items ≡ self.old.breaks.items ++ break_class ∷ []) }
-        ensures flat { OnOk result (self.new.flat ≡ self.old.flat) }
-        ensures bare { OnOk result (self.new.bare ≡ self.old.bare) }
-        ensures bounds { OnOk result (All HasBoundsIn self.new.items.items) }
-    {
-        self.items.push(PreparedItem {
-            source,
-            apart: None,
-            what,
-        })?;
-        self.mark(class, break_class)?;
-        Ok(())
-    }
-
-    // Marks the last item by its classes.
-    #[inline(always)]
-    fn mark(&mut self, class: BidiClass, break_class: Option<BreakClass>) -> Result<(), AllocError>
-        ensures items { OnOk result (self.new.items.items ≡ self.old.items.items) }
-        ensures classes { OnOk result (self.new.classes.items ≡ self.old.classes.items ++ class ∷ []) }
-        ensures breaks { OnOk result (self.new.breaks.items ≡ self.old.breaks.items ++ break_class ∷ []) }
-        ensures flat { OnOk result (self.new.flat ≡ self.old.flat) }
-        ensures bare { OnOk result (self.new.bare ≡ self.old.bare) }
-    {
-        self.classes.push(class)?;
-        self.breaks.push(break_class)?;
-        Ok(())
+        let what = unit_content(alloc, text.node, unit, letters, 0)?;
+        self.add(text.place.source, class, Some(unit.break_class), what)
     }
 }
 

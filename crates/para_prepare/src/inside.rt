@@ -7,6 +7,7 @@ ghost use Rattle.cluster_units.specs.Laws.{AreInOrder};
 ghost use Rattle.face_api.specs.Faces.{faces_of};
 ghost use Rattle.style_types.specs.declared.style.Combine.TheVariants.{Never};
 ghost use Rattle.para_prepare.specs.BidiParagraphs.{begins};
+ghost use Rattle.para_prepare.specs.Facts.{AreInOrder-prop, all_units-prop};
 ghost use Rattle.para_prepare.specs.Glyph.{last_class};
 ghost use Rattle.para_prepare.specs.Inside as spec;
 ghost use Rattle.para_prepare.specs.Inside.{inside, inside_by, inside_characters, seen_at};
@@ -21,36 +22,52 @@ use crate::items::glyph;
 use crate::kept::text_of;
 use crate::letter::Letter;
 use crate::parts::class_in;
+use crate::resources::Resources;
 use crate::standing::{Standing, Standings, aparts_of, levels_of, stand};
 use crate::text::sets_upright;
 use bidi_explicit::{ClassList, LevelList};
 use bidi_order::{reset, visual_order};
 use bumpalo::Bump;
 use cluster_units::{Unit, units};
-use face_api::{Face, Faces};
+use face_api::Face;
 use fragment_types::Glyphs;
 use std::alloc::{AllocError, Global};
 use style_types::{Combine, Style};
 use wm_chars::BidiClass;
 use wm_modes::Direction;
 
+// The characters of a combined run, cut into units, and whether they are set upright.
+#[derive(Clone, Copy)]
+struct Cut<'b> {
+    letters: &'b [Letter],
+    units: &'b [Unit],
+    upright: bool,
+
+    ghost order: { AreInOrder 0 (length letters.now) units.now } by { AreInOrder-prop 0 (length letters.now) units.now },
+    ghost within: { All (IsUnitOf (length letters.now)) units.now } by { all_units-prop (length letters.now) units.now },
+}
+
 /// The units inside a combined run of these characters, in visual order. The base level is that of the used direction.
 pub(crate) fn inside(
     alloc: Global,
-    arena: &Bump,
     letters: &[Letter],
     style: &Style,
-    faces: &Faces,
+    resources: Resources,
 ) -> Result<Glyphs, AllocError>
     requires bytes { length (encode_utf8_all (chars_of letters.now)) ≤ 1048576 }
     requires low { pos 0 ≤ℤ style.now.font_size }
     requires high { style.now.font_size ≤ℤ pos 65536 }
-    ensures { IfOk result (λ glyphs. glyphs ≡ inside (faces_of ⟦<dyn Face as Face>⟧ faces.now) style.now letters.now) }
+    ensures { IfOk result (λ glyphs. glyphs ≡ inside (faces_of ⟦<dyn Face as Face>⟧ resources.entry.faces.now) style.now letters.now) }
 {
     let text = text_of(alloc, letters)?;
-    let units = units(alloc, &text, &uncombined(style), faces)?;
+    let units = units(alloc, &text, &uncombined(style), resources.faces)?;
     let base = level_of(style.used_direction());
-    let glyphs = in_visual_order(alloc, arena, letters, sets_upright(style), &units, base)?;
+    let cut = Cut {
+        letters,
+        units: &units,
+        upright: sets_upright(style),
+    };
+    let glyphs = in_visual_order(alloc, resources.arena, cut, base)?;
     Ok(glyphs)
 }
 
@@ -76,23 +93,15 @@ fn level_of(dir: Direction) -> u8
 
 // What is seen of these units of a text, which is a bidi paragraph with this base level, in visual order. L1 and L2 act on
 // them as on those of a line.
-fn in_visual_order(
-    alloc: Global,
-    arena: &Bump,
-    letters: &[Letter],
-    upright: bool,
-    units: &[Unit],
-    base: u8,
-) -> Result<Glyphs, AllocError>
-    requires base { base ≤ 1 }
-    requires order { AreInOrder 0 (length letters.now) units.now }
-    ensures { IfOk result (λ glyphs. glyphs ≡ inside_by base (parts_by upright (of_unit 0 0 upright) letters.now 0 units.now)) }
+fn in_visual_order(alloc: Global, arena: &Bump, cut: Cut, base: u8) -> Result<Glyphs, AllocError>
+    requires { base ≤ 1 }
+    ensures { IfOk result (λ glyphs. glyphs ≡ inside_by base (parts_by cut.entry.upright (of_unit 0 0 cut.entry.upright) cut.entry.letters.now 0 cut.entry.units.now)) }
 {
-    let standings = unit_standings(alloc, arena, letters, upright, units, base)?;
-    let classes = classes_of(alloc, letters, upright, units)?;
+    let standings = unit_standings(alloc, arena, cut, base)?;
+    let classes = classes_of(alloc, cut)?;
     let levels = line_levels(alloc, &standings, &classes, base)?;
     let aparts = aparts_of(alloc, &standings)?;
-    let glyphs = seen_in_order(alloc, letters, units, &levels, &aparts)?;
+    let glyphs = seen_in_order(alloc, cut, &levels, &aparts)?;
     Ok(glyphs)
 }
 
@@ -100,17 +109,14 @@ fn in_visual_order(
 fn unit_standings<'a>(
     alloc: Global,
     arena: &'a Bump,
-    letters: &[Letter],
-    upright: bool,
-    units: &[Unit],
+    cut: Cut,
     base: u8,
 ) -> Result<Standings<'a>, AllocError>
-    requires base { base ≤ 1 }
-    requires order { AreInOrder 0 (length letters.now) units.now }
-    ensures standings { IfOk result (λ out. out.items ≡ standings_by base false None (inside_characters (parts_by upright (of_unit 0 0 upright) letters.now 0 units.now)) (levels_of base (inside_characters (parts_by upright (of_unit 0 0 upright) letters.now 0 units.now)))) }
-    ensures count { IfOk result (λ out. length out.items ≡ length units.now) }
+    requires { base ≤ 1 }
+    ensures standings { IfOk result (λ out. out.items ≡ standings_by base false None (inside_characters (parts_by cut.entry.upright (of_unit 0 0 cut.entry.upright) cut.entry.letters.now 0 cut.entry.units.now)) (levels_of base (inside_characters (parts_by cut.entry.upright (of_unit 0 0 cut.entry.upright) cut.entry.letters.now 0 cut.entry.units.now)))) }
+    ensures count { IfOk result (λ out. length out.items ≡ length cut.entry.units.now) }
 {
-    let text = text_in(arena, letters, upright, units)?;
+    let text = text_in(arena, cut)?;
     let mut standings = Vec::new(arena);
     stand(alloc, &mut standings, Some(base), &text)?;
     Ok(standings)
@@ -133,25 +139,19 @@ fn line_levels(
 }
 
 // The characters of these units and of the bidi controls between them.
-fn text_in<'a>(
-    arena: &'a Bump,
-    letters: &[Letter],
-    upright: bool,
-    units: &[Unit],
-) -> Result<BidiText<'a>, AllocError>
-    requires order { AreInOrder 0 (length letters.now) units.now }
-    ensures text { IfOk result (λ text. text.items ≡ inside_characters (parts_by upright (of_unit 0 0 upright) letters.now 0 units.now)) }
-    ensures count { IfOk result (λ text. begins text.items ≡ length units.now) }
+fn text_in<'a>(arena: &'a Bump, cut: Cut) -> Result<BidiText<'a>, AllocError>
+    ensures text { IfOk result (λ text. text.items ≡ inside_characters (parts_by cut.entry.upright (of_unit 0 0 cut.entry.upright) cut.entry.letters.now 0 cut.entry.units.now)) }
+    ensures count { IfOk result (λ text. begins text.items ≡ length cut.entry.units.now) }
 {
-    let mut text = Vec::with_capacity(arena, letters.len())?;
+    let mut text = Vec::with_capacity(arena, cut.letters.len())?;
     let mut at = 0;
-    for i in 0..units.len() {
-        let unit = units[i];
-        put_controls(&mut text, upright, &letters[at..unit.first])?;
-        put_unit(&mut text, upright, &letters[unit.first..unit.end])?;
+    for i in 0..cut.units.len() {
+        let unit = cut.units[i];
+        put_controls(&mut text, cut.upright, &cut.letters[at..unit.first])?;
+        put_unit(&mut text, cut.upright, &cut.letters[unit.first..unit.end])?;
         at = unit.end;
     }
-    put_controls(&mut text, upright, &letters[at..])?;
+    put_controls(&mut text, cut.upright, &cut.letters[at..])?;
     Ok(text)
 }
 
@@ -174,18 +174,12 @@ fn put_controls(
 }
 
 // The classes by which L1 takes these units.
-fn classes_of(
-    alloc: Global,
-    letters: &[Letter],
-    upright: bool,
-    units: &[Unit],
-) -> Result<ClassList, AllocError>
-    requires { All (IsUnitOf (length letters.now)) units.now }
-    ensures { IfOk result (λ classes. classes.items ≡ map (λ u. last_class upright (slice_range letters.now u.first u.end)) units.now) }
+fn classes_of(alloc: Global, cut: Cut) -> Result<ClassList, AllocError>
+    ensures { IfOk result (λ classes. classes.items ≡ map (λ u. last_class cut.entry.upright (slice_range cut.entry.letters.now u.first u.end)) cut.entry.units.now) }
 {
-    let mut classes = Vec::with_capacity(alloc, units.len())?;
-    for unit in units {
-        classes.push(last_class(upright, &letters[unit.first..unit.end]))?;
+    let mut classes = Vec::with_capacity(alloc, cut.units.len())?;
+    for unit in cut.units {
+        classes.push(last_class(cut.upright, &cut.letters[unit.first..unit.end]))?;
     }
     Ok(classes)
 }
@@ -193,39 +187,30 @@ fn classes_of(
 // What is seen of these units in visual order, where they have these levels and these levels part them.
 fn seen_in_order(
     alloc: Global,
-    letters: &[Letter],
-    units: &[Unit],
+    cut: Cut,
     levels: &[u8],
     aparts: &[Option<u8>],
 ) -> Result<Glyphs, AllocError>
-    requires units { All (IsUnitOf (length letters.now)) units.now }
-    requires levels { length levels.now ≡ length units.now }
-    requires aparts { length aparts.now ≡ length units.now }
-    ensures { IfOk result (λ glyphs. glyphs ≡ spec.seen_in_order levels.now aparts.now (map (λ u. slice_range letters.now u.first u.end) units.now)) }
+    requires levels { length levels.now ≡ length cut.units.now }
+    requires aparts { length aparts.now ≡ length cut.units.now }
+    ensures { IfOk result (λ glyphs. glyphs ≡ spec.seen_in_order levels.now aparts.now (map (λ u. slice_range cut.entry.letters.now u.first u.end) cut.entry.units.now)) }
 {
     let order = visual_order(alloc, levels, aparts)?;
-    let glyphs = glyphs_of(alloc, letters, units, levels, &order)?;
+    let glyphs = glyphs_of(alloc, cut, levels, &order)?;
     Ok(glyphs)
 }
 
 // What is seen of these units in this order.
-fn glyphs_of(
-    alloc: Global,
-    letters: &[Letter],
-    units: &[Unit],
-    levels: &[u8],
-    order: &[usize],
-) -> Result<Glyphs, AllocError>
-    requires units { All (IsUnitOf (length letters.now)) units.now }
-    requires levels { length levels.now ≡ length units.now }
-    requires order { All (λ k. k < length units.now) order.now }
-    ensures { IfOk result (λ glyphs. glyphs ≡ seen_at levels.now (map (λ u. slice_range letters.now u.first u.end) units.now) order.now) }
+fn glyphs_of(alloc: Global, cut: Cut, levels: &[u8], order: &[usize]) -> Result<Glyphs, AllocError>
+    requires levels { length levels.now ≡ length cut.units.now }
+    requires order { All (λ k. k < length cut.units.now) order.now }
+    ensures { IfOk result (λ glyphs. glyphs ≡ seen_at levels.now (map (λ u. slice_range cut.entry.letters.now u.first u.end) cut.entry.units.now) order.now) }
 {
     let mut seen = Vec::with_capacity(alloc, order.len())?;
     for i in 0..order.len() {
         let place = order[i];
-        let unit = units[place];
-        seen.push(glyph(alloc, levels[place], &letters[unit.first..unit.end])?)?;
+        let unit = cut.units[place];
+        seen.push(glyph(alloc, levels[place], &cut.letters[unit.first..unit.end])?)?;
     }
     Glyphs::many(alloc, seen)
 }

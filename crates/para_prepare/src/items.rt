@@ -4,7 +4,7 @@ ghost use Rattle.std.specs.Prelude.{◌≡◌, ◌<◌, ◌≤◌, ◌+◌, ◌+
 ghost use Rattle.wm_chars.specs.Pairs.{mirror};
 ghost use Rattle.para_prepare.specs.Glyph as glyphs;
 ghost use Rattle.para_prepare.specs.Items as items;
-ghost use Rattle.para_prepare.specs.Items.{items_by, unit_content};
+ghost use Rattle.para_prepare.specs.Items.{items_by};
 ghost use Rattle.para_prepare.specs.Parts.{raws};
 ghost use Rattle.para_prepare.specs.Views.{IsPart, IsPlaced, letters_at, part_of, parts_of};
 
@@ -60,7 +60,8 @@ fn add_item(
             ..
         } => {
             let own = &letters[span.from..span.to];
-            push_unit(alloc, items, *source, *node, *unit, own, standings[place])?;
+            let what = unit_content(alloc, *node, *unit, own, standings[place].level)?;
+            push(items, *source, standings[place], what)?;
         }
         Part::Combined {
             source,
@@ -93,6 +94,7 @@ fn copied(alloc: Global, inside: &Glyphs) -> Result<Glyphs, AllocError>
     Ok(own)
 }
 
+#[inline(always)]
 fn push(
     items: &mut PreparedItems,
     source: u32,
@@ -109,35 +111,28 @@ fn push(
     Ok(())
 }
 
-/// Adds a unit with these characters, which stands so.
+/// A unit with these characters, as it is seen at this level.
 #[inline(always)]
-pub(crate) fn push_unit(
+pub(crate) fn unit_content(
     alloc: Global,
-    items: &mut PreparedItems,
-    source: u32,
     node: u32,
     unit: Unit,
     letters: &[Letter],
-    standing: Standing,
-) -> Result<(), AllocError>
+    level: u8,
+) -> Result<PreparedContent, AllocError>
     requires { All IsPlaced letters.now }
-    ensures { OnOk result (items.new.items ≡ items.old.items ++ (record { source = source; apart = standing.apart; what = unit_content standing.level node unit letters.now }) ∷ []) }
+    ensures { IfOk result (λ what. what ≡ items.unit_content level node unit letters.now) }
 {
-    let glyphs = glyphs_of(alloc, standing.level, letters)?;
-    items.push(PreparedItem {
-        source,
-        apart: standing.apart,
-        what: PreparedContent::Unit {
-            form: unit.kind,
-            space: is_space(letters),
-            node,
-            first: first_place(letters),
-            end: place_behind(letters),
-            advance: unit.advance,
-            glyphs,
-        },
-    })?;
-    Ok(())
+    let glyphs = glyphs_of(alloc, level, letters)?;
+    Ok(PreparedContent::Unit {
+        form: unit.kind,
+        space: is_space(letters),
+        node,
+        first: first_place(letters),
+        end: place_behind(letters),
+        advance: unit.advance,
+        glyphs,
+    })
 }
 
 // A combined run of these characters.

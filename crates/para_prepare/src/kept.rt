@@ -1,11 +1,12 @@
 //! The kept characters of a paragraph (CSS Text 3, 4.1), and their text.
 
-ghost use Rattle.std.specs.Prelude.{◌≡◌, ◌≤◌, ◌<◌, ◌^◌, ◌&&◌, ◌||◌, false, not, ◌++◌, [], ◌∷◌, length, map, encode_utf8_all, IfOk, OnOk};
+ghost use Rattle.std.specs.Prelude.{◌≡◌, ◌≤◌, ◌<◌, ◌^◌, ◌&&◌, ◌||◌, false, not, ◌++◌, [], ◌∷◌, length, map, All, encode_utf8_all, IfOk, OnOk};
 ghost use Rattle.std.specs.Str.{chars};
 ghost use Rattle.std.specs.String.{string_bytes};
 ghost use Rattle.fragment_types.specs.Item.{entry_of, entries_of};
 ghost use Rattle.para_prepare.specs.Kept.{kept, kept_in, joined, ends_from, chars_of};
-ghost use Rattle.para_prepare.specs.Limits.{text_bytes};
+ghost use Rattle.para_prepare.specs.Limits.{HasFontSize, text_bytes};
+ghost use Rattle.para_prepare.specs.Facts.{all_sized-prop};
 ghost use Rattle.para_prepare.specs.Marks.{follows_all, follows_at, is_bidi_control, is_kept_with, marks_with, space_if};
 ghost use Rattle.para_prepare.specs.White.{chosen, leads, sign_of, signs, signs_in};
 
@@ -18,20 +19,29 @@ use std::alloc::{AllocError, Global};
 /// Characters in scratch memory.
 pub(crate) type Letters<'a> = Vec<Letter, &'a Bump>;
 
-/// The kept characters of all texts of a paragraph, one behind the other.
+/// The items of a paragraph, of which there are fewer than 2^32, and the kept characters of all its texts, one behind the
+/// other. The texts together have at most 1,048,576 bytes, and their font sizes are from 0 to 65,536.
 #[derive(Drop)]
 pub(crate) struct Kept<'a> {
+    pub(crate) items: &'a [Item],
     pub(crate) letters: Letters<'a>,
     /// For each item of the paragraph, where its characters end among them.
     pub(crate) ends: Vec<usize, &'a Bump>,
+
+    ghost few: { length items.now < 2 ^ 32 },
+    ghost bytes: { text_bytes (entries_of items.now) ≤ 1048576 },
+    ghost sizes: { All HasFontSize (entries_of items.now) } by { all_sized-prop (entries_of items.now) },
+    ghost letters_are: { letters.items ≡ joined (kept (entries_of items.now)) },
+    ghost ends_are: { ends.items ≡ ends_from 0 (kept (entries_of items.now)) },
 }
 
 /// The kept characters of these items: of white space what directly follows content that isn't white, where more content comes
 /// before the next line break. Inline boxes' ends and bidi controls between are passed over. White space that is kept is U+0020.
-pub(crate) fn kept_letters<'a>(arena: &'a Bump, items: &[Item]) -> Result<Kept<'a>, AllocError>
+pub(crate) fn kept_letters<'a>(arena: &'a Bump, items: &'a [Item]) -> Result<Kept<'a>, AllocError>
+    requires few { length items.now < 2 ^ 32 }
     requires bytes { text_bytes (entries_of items.now) ≤ 1048576 }
-    ensures letters { IfOk result (λ k. k.letters.items ≡ joined (kept (entries_of items.now))) }
-    ensures ends { IfOk result (λ k. k.ends.items ≡ ends_from 0 (kept (entries_of items.now))) }
+    requires sizes { All HasFontSize (entries_of items.now) }
+    ensures { IfOk result (λ k. k.items.now ≡ items.now) }
 {
     let mut keeper = Keeper {
         letters: Vec::with_capacity(arena, room_for(items))?,
@@ -44,6 +54,7 @@ pub(crate) fn kept_letters<'a>(arena: &'a Bump, items: &[Item]) -> Result<Kept<'
         ends.push(keeper.letters.len())?;
     }
     Ok(Kept {
+        items,
         letters: keeper.letters,
         ends,
     })

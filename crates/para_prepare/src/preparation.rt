@@ -1,11 +1,10 @@
 //! A paragraph that is prepared for its lines: all of it that hangs on no width.
 
-ghost use Rattle.std.specs.Prelude.{◌≡◌, ◌+◌, ◌<◌, ◌≤◌, ◌^◌, true, List, length, replicate, All, IfOk, IfSome};
+ghost use Rattle.std.specs.Prelude.{◌≡◌, ◌+◌, ◌≤◌, true, List, length, replicate, All, IfOk, IfSome};
 ghost use Rattle.face_api.specs.Faces.{faces_of};
 ghost use Rattle.fragment_types.specs.Item.{entries_of};
 ghost use Rattle.para_prepare.specs.Boxes.{taking_part};
 ghost use Rattle.para_prepare.specs.Flat.{AreAlike, HasBoundsIn, flat_of, grown, is_zero, nothing, puts_nothing};
-ghost use Rattle.para_prepare.specs.Kept.{kept as kept_of, joined, ends_from};
 ghost use Rattle.para_prepare.specs.Limits.{HasFontSize, text_bytes};
 ghost use Rattle.para_prepare.specs.Parts as parts;
 ghost use Rattle.para_prepare.specs.Parts.{raws};
@@ -14,20 +13,23 @@ ghost use Rattle.para_prepare.specs.Preparation as spec;
 ghost use Rattle.para_prepare.specs.Preparation.{AreFrom, HasBounds, atoms_in, atoms_of, preparation};
 ghost use Rattle.para_prepare.specs.Singles.{own_preparation, zero_preparation};
 ghost use Rattle.para_prepare.specs.Standing.{IsStanding};
-ghost use Rattle.para_prepare.specs.Views.{HasSize, IsCovered, IsPart, IsPlaced, parts_of};
+ghost use Rattle.para_prepare.specs.Views.{IsPart, parts_of};
+ghost use Rattle.para_prepare.specs.Whole.{AreSound, CanBePrepared, IsPreparedFrom};
 
 use crate::bidi_paragraphs::{Reading, standings};
 use crate::bidi_text::Around;
 use crate::boxes::taking;
 use crate::breaks::{BreakList, breaks, breaks_of};
 use crate::classes::classes;
-use crate::content::{Content, content_of};
-use crate::flat::{FlatLists, flat_lists, looks_bare, looks_flat};
+use crate::content::content_of;
+use crate::flat::{flat_lists, looks_bare, looks_flat};
 use crate::item::{PreparedItem, PreparedItems};
 use crate::items::prepared_items;
 use crate::kept::{Kept, kept_letters};
 use crate::letter::Letter;
+use crate::lists::FlatLists;
 use crate::parts::Part;
+use crate::resources::Resources;
 use crate::singles::{at_levels, characters_in};
 use crate::standing::{Standing, Standings, bases_of, levels_of};
 use bidi_explicit::{ClassList, LevelList, base_of};
@@ -150,22 +152,17 @@ fn scratch(
     faces: &Faces,
     arena: &Bump,
 ) -> Result<Prepared, AllocError>
-    requires base { IfSome paragraph.now.base (λ base. base ≤ 1) }
-    requires bytes { text_bytes (entries_of paragraph.now.items.items) ≤ 1048576 }
-    requires sizes { All HasFontSize (entries_of paragraph.now.items.items) }
-    ensures prepared { IfOk result (λ p. p ≡ preparation (faces_of ⟦<dyn Face as Face>⟧ faces.now) paragraph.now.base paragraph.now.style (entries_of paragraph.now.items.items)) }
-    ensures count { IfOk result (λ p. length p.items ≤ text_bytes (entries_of paragraph.now.items.items) + length paragraph.now.items.items) }
-    ensures sources { IfOk result (λ p. AreFrom 0 (length paragraph.now.items.items) p.items) }
-    ensures atoms { IfOk result (λ p. atoms_in p.items ≤ atoms_of (entries_of paragraph.now.items.items)) }
-    ensures lengths { IfOk result (λ p. All (λ item. HasBounds item.what) p.items) }
+    requires { CanBePrepared paragraph.now.base (entries_of paragraph.now.items.items) }
+    ensures { IfOk result (IsPreparedFrom (faces_of ⟦<dyn Face as Face>⟧ faces.now) paragraph.now.base paragraph.now.style (entries_of paragraph.now.items.items)) }
 {
     if paragraph.items.len() > u32::MAX as usize {
         return Err(AllocError);
     }
+    let resources = Resources { arena, faces };
     let kept = kept_letters(arena, &paragraph.items)?;
-    match by_lists(alloc, arena, paragraph, &kept, faces)? {
+    match by_lists(alloc, paragraph, &kept, resources)? {
         Some(prepared) => Ok(prepared),
-        None => by_all_rules(alloc, arena, paragraph, kept, faces),
+        None => by_all_rules(alloc, paragraph, kept, resources),
     }
 }
 
@@ -173,34 +170,17 @@ fn scratch(
 // character of the one bidi paragraph that it is.
 fn by_lists(
     alloc: Global,
-    arena: &Bump,
     paragraph: &Paragraph,
     kept: &Kept,
-    faces: &Faces,
+    resources: Resources,
 ) -> Result<Option<Prepared>, AllocError>
-    requires base { IfSome paragraph.now.base (λ base. base ≤ 1) }
-    requires bytes { text_bytes (entries_of paragraph.now.items.items) ≤ 1048576 }
-    requires sizes { All HasFontSize (entries_of paragraph.now.items.items) }
-    requires few { length paragraph.now.items.items < 2 ^ 32 }
-    requires letters { kept.now.letters.items ≡ joined (kept_of (entries_of paragraph.now.items.items)) }
-    requires ends { kept.now.ends.items ≡ ends_from 0 (kept_of (entries_of paragraph.now.items.items)) }
-    ensures prepared { IfOk result (λ made. IfSome made (λ p. p ≡ preparation (faces_of ⟦<dyn Face as Face>⟧ faces.now) paragraph.now.base paragraph.now.style (entries_of paragraph.now.items.items))) }
-    ensures count { IfOk result (λ made. IfSome made (λ p. length p.items ≤ text_bytes (entries_of paragraph.now.items.items) + length paragraph.now.items.items)) }
-    ensures sources { IfOk result (λ made. IfSome made (λ p. AreFrom 0 (length paragraph.now.items.items) p.items)) }
-    ensures atoms { IfOk result (λ made. IfSome made (λ p. atoms_in p.items ≤ atoms_of (entries_of paragraph.now.items.items))) }
-    ensures lengths { IfOk result (λ made. IfSome made (λ p. All (λ item. HasBounds item.what) p.items)) }
+    requires { IfSome paragraph.now.base (λ base. base ≤ 1) }
+    ensures { IfOk result (λ made. IfSome made (IsPreparedFrom (faces_of ⟦<dyn Face as Face>⟧ resources.entry.faces.now) paragraph.now.base paragraph.now.style (entries_of kept.now.items.now))) }
 {
     if !is_tried(paragraph, &kept.letters) {
         return Ok(None);
     }
-    let made = flat_lists(
-        alloc,
-        arena,
-        &paragraph.items,
-        &kept.letters,
-        &kept.ends,
-        faces,
-    )?;
+    let made = flat_lists(alloc, kept, resources)?;
     of_lists(alloc, paragraph.base, made)
 }
 
@@ -216,7 +196,7 @@ fn of_lists(
     requires alike { AreAlike (flat_of made) }
     ensures prepared { (style : Style) → (all : List parts.Part) → puts_nothing style.bidi ≡ true → flat_of made.entry ≡ grown nothing all → IfOk result (λ own. IfSome own (λ p. p ≡ spec.prepared_by (raws all) (spec.standings_of given style all))) }
     ensures count { IfOk result (λ own. IfSome own (λ p. length p.items ≡ length made.entry.items.items)) }
-    ensures bounds { All HasBoundsIn made.entry.items.items → IfOk result (λ own. IfSome own (λ p. All HasBoundsIn p.items)) }
+    ensures bounds { IfOk result (λ own. IfSome own (λ p. All HasBoundsIn p.items)) }
 {
     if is_zero(given) && made.flat {
         left_to_right_has_level_zero();
@@ -316,24 +296,15 @@ fn same_levels(alloc: Global, level: u8, count: usize) -> Result<LevelList, Allo
 // Prepares a paragraph with these kept characters by all rules of the bidi algorithm (UAX 9).
 fn by_all_rules<'a>(
     alloc: Global,
-    arena: &'a Bump,
     paragraph: &Paragraph,
     kept: Kept<'a>,
-    faces: &Faces,
+    resources: Resources<'a>,
 ) -> Result<Prepared, AllocError>
-    requires base { IfSome paragraph.now.base (λ base. base ≤ 1) }
-    requires bytes { text_bytes (entries_of paragraph.now.items.items) ≤ 1048576 }
-    requires sizes { All HasFontSize (entries_of paragraph.now.items.items) }
-    requires few { length paragraph.now.items.items < 2 ^ 32 }
-    requires letters { kept.letters.items ≡ joined (kept_of (entries_of paragraph.now.items.items)) }
-    requires ends { kept.ends.items ≡ ends_from 0 (kept_of (entries_of paragraph.now.items.items)) }
-    ensures prepared { IfOk result (λ p. p ≡ preparation (faces_of ⟦<dyn Face as Face>⟧ faces.now) paragraph.now.base paragraph.now.style (entries_of paragraph.now.items.items)) }
-    ensures count { IfOk result (λ p. length p.items ≤ text_bytes (entries_of paragraph.now.items.items) + length paragraph.now.items.items) }
-    ensures sources { IfOk result (λ p. AreFrom 0 (length paragraph.now.items.items) p.items) }
-    ensures atoms { IfOk result (λ p. atoms_in p.items ≤ atoms_of (entries_of paragraph.now.items.items)) }
-    ensures lengths { IfOk result (λ p. All (λ item. HasBounds item.what) p.items) }
+    requires { IfSome paragraph.now.base (λ base. base ≤ 1) }
+    ensures { IfOk result (IsPreparedFrom (faces_of ⟦<dyn Face as Face>⟧ resources.entry.faces.now) paragraph.now.base paragraph.now.style (entries_of kept.entry.items.now)) }
 {
-    let content = content_of(alloc, arena, &paragraph.items, kept, faces)?;
+    let arena = resources.arena;
+    let content = content_of(alloc, kept, resources)?;
     let standings = standings_of(alloc, arena, paragraph, &content.letters, &content.parts)?;
     let prepared = prepared_by(alloc, arena, &content.letters, &content.parts, &standings)?;
     Ok(prepared)
@@ -380,12 +351,9 @@ fn prepared_by(
     parts: &[Part],
     standings: &[Standing],
 ) -> Result<Prepared, AllocError>
-    requires parts { All (IsPart (length letters.now)) parts.now }
-    requires letters { All IsPlaced letters.now }
+    requires sound { AreSound letters.now parts.now }
     requires count { length standings.now ≡ length (raws (parts_of letters.now parts.now)) }
     requires bounds { All IsStanding standings.now }
-    requires sizes { All HasSize parts.now }
-    requires covered { All IsCovered (raws (parts_of letters.now parts.now)) }
     ensures prepared { IfOk result (λ p. p ≡ spec.prepared_by (raws (parts_of letters.now parts.now)) standings.now) }
     ensures count { IfOk result (λ p. length p.items ≤ length parts.now) }
     ensures lengths { IfOk result (λ p. All (λ item. HasBounds item.what) p.items) }

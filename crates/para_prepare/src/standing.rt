@@ -48,7 +48,7 @@ pub(crate) fn stand(
     requires bounds { All IsStanding standings.old.items }
     ensures standings { OnOk result (standings.new.items ≡ standings.old.items ++ standing.standings given (text.now ∷ [])) }
     ensures count { OnOk result (length standings.new.items ≡ length standings.old.items + begins text.now) }
-    ensures bounds { OnOk result (All IsStanding standings.new.items) }
+    ensures bounds { All IsStanding standings.new.items }
 {
     let classes = classes_of(alloc, text)?;
     let base = base_of(given, &classes);
@@ -68,7 +68,7 @@ pub(crate) fn stand_before_break(
     requires bounds { All IsStanding standings.old.items }
     ensures standings { OnOk result (standings.new.items ≡ standings.old.items ++ ended given text.now) }
     ensures count { OnOk result (length standings.new.items ≡ length standings.old.items + begins text.now + 1) }
-    ensures bounds { OnOk result (All IsStanding standings.new.items) }
+    ensures bounds { All IsStanding standings.new.items }
 {
     let classes = classes_of(alloc, text)?;
     let base = base_of(given, &classes);
@@ -91,7 +91,7 @@ fn stand_by(
     requires bounds { All IsStanding standings.old.items }
     ensures whole { OnOk result (standings.new.items ≡ standings.old.items ++ standings_by base false None text.now levels.now) }
     ensures count { OnOk result (length standings.new.items ≡ length standings.old.items + begins text.now) }
-    ensures bounds { OnOk result (All IsStanding standings.new.items) }
+    ensures bounds { All IsStanding standings.new.items }
     ensures more { (more : List Character) → (further : List ℕ) → IfOk result (λ before. standings.new.items ++ standings_by base before.begun before.apart more further ≡ standings.old.items ++ standings_by base false None (text.now ++ more) (levels.now ++ further)) }
 {
     let mut before = Before {

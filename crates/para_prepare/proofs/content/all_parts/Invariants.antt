@@ -8,7 +8,7 @@ use Rattle.para_prepare.proofs.content.all_parts.Given as goal
 
 abbrev pub invariant-loop-i : goal.invariant-loop-i
 invariant-loop-i g l =
-    let faces = faces_of (λ vtable. (g.dyn-1.0.entry vtable).1) l.faces in
+    let faces = faces_of (λ vtable. (g.dyn-1.0.entry vtable).1) l.resources.faces.now in
     AreCut faces (entries_of (drop l.i l.items)) l.i l.from l.letters (drop l.i l.ends) (parts_of l.letters l.parts.items) (parts faces (entries_of l.items))
     × All (IsSound (length l.letters)) l.parts.items
     × (length l.parts.items ≤ l.from + l.i)

@@ -3,4 +3,4 @@ use Rattle.para_prepare.proofs.InsideLaws.{AreRead}
 use Rattle.para_prepare.proofs.inside.text_in.Given as goal
 
 abbrev pub invariant-loop-i : goal.invariant-loop-i
-invariant-loop-i l = AreRead l.text.items l.upright l.letters l.at (drop l.i l.units) l.units
+invariant-loop-i l = AreRead l.text.items l.cut.upright l.cut.letters.now l.at (drop l.i l.cut.units.now) l.cut.units.now

@@ -29,17 +29,17 @@ loop-i-preserved c =
           ∙ ends_more _ _ _ _ _ _ _ _ c.loop-i.invariant.1 step more pushed,
     )
 
-pub returns-clause-letters : goal.returns-clause-letters
+pub invariant_of-result-clause-letters_are : goal.invariant_of-result-clause-letters_are
 unfolding kept marks
-returns-clause-letters c =
+invariant_of-result-clause-letters_are c =
     let all = entries_of c.args.items.now in
     none_left _ _ _ c.loop-i.invariant.0
     (ap (λ items. kept_from (entries_of items) (marks_with (signs (entries_of items)) c.loop-i.keeper.follows)) (drop_all c.loop-i.i c.args.items.now c.loop-i-test.false))
     ∙ ap (λ marks. joined (kept_from all marks)) (sym (all_marks (signs all)))
 
-pub returns-clause-ends : goal.returns-clause-ends
+pub invariant_of-result-clause-ends_are : goal.invariant_of-result-clause-ends_are
 unfolding kept marks
-returns-clause-ends c =
+invariant_of-result-clause-ends_are c =
     let all = entries_of c.args.items.now in
     no_end_left _ _ _ _ c.loop-i.invariant.1
     (ap (λ items. kept_from (entries_of items) (marks_with (signs (entries_of items)) c.loop-i.keeper.follows)) (drop_all c.loop-i.i c.args.items.now c.loop-i-test.false))

@@ -36,4 +36,4 @@ returns-clause-count c =
 
 pub returns-clause-lengths : goal.returns-clause-lengths
 returns-clause-lengths c =
-    subst (All (λ item. HasBounds item.what)) (sym c.in_ok-items.ensures) (sized c.args.letters.now c.args.parts.now c.args.standings.now c.requires.parts c.requires.sizes c.requires.covered)
+    subst (All (λ item. HasBounds item.what)) (sym c.in_ok-items.ensures) (sized c.args.letters.now c.args.parts.now c.args.standings.now c.requires.sound.within c.requires.sound.sizes c.requires.sound.covered)

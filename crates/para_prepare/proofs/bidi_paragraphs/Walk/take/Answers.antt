@@ -6,5 +6,4 @@ returns-in-Break c =
     rw c.in-Break.is (record {
       wanted = λ rest. c.break_line.ensures.wanted c.in-Break.source c.in-Break.node rest;
       count = c.break_line.ensures.count;
-      bounds = c.break_line.ensures.bounds;
     })

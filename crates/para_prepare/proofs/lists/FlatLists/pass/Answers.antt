@@ -1,6 +1,6 @@
 use Rattle.para_prepare.specs.Flat.{flat_of}
 use Rattle.para_prepare.proofs.FlatLaws.{controls_pass}
-use Rattle.para_prepare.proofs.flat.FlatLists.pass.Goals as goal
+use Rattle.para_prepare.proofs.lists.FlatLists.pass.Goals as goal
 
 pub returns-clause-grown : goal.returns-clause-grown
 returns-clause-grown c =
