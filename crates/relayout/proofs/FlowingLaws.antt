@@ -21,7 +21,7 @@ use Rattle.relayout.specs.declared.flowing.SizedBox.{SizedBox}
 use Rattle.relayout.specs.declared.row.Row.{Row}
 use Rattle.relayout.specs.declared.row.RowBox.{RowBox}
 use Rattle.relayout.specs.declared.sizes.Containing.{Containing}
-use Rattle.relayout.specs.declared.step.FlowBox.{FlowBox}
+use Rattle.relayout.specs.declared.flow_box.FlowBox.{FlowBox}
 use Rattle.relayout.specs.declared.sizing.InlineSize.{InlineSize}
 use Rattle.relayout.specs.declared.sizing.InlineSize.TheVariants.{MinMax, Used}
 use Rattle.relayout.specs.declared.sizing.Sizing.{Sizing}

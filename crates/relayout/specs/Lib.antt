@@ -12,6 +12,7 @@ pub mod Kept
 pub mod Laws
 pub mod Near
 pub mod Paragraph
+pub mod Props
 pub mod Reach
 pub mod Relayout
 pub mod Row

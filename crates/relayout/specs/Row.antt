@@ -20,7 +20,7 @@ use Rattle.relayout.specs.declared.row.Page.{Page}
 use Rattle.relayout.specs.declared.row.Row.{Row}
 use Rattle.relayout.specs.declared.row.RowBox.{RowBox}
 use Rattle.relayout.specs.declared.sizes.Containing.{Containing}
-use Rattle.relayout.specs.declared.step.FlowBox.{FlowBox}
+use Rattle.relayout.specs.declared.flow_box.FlowBox.{FlowBox}
 use Rattle.relayout.specs.declared.sizing.Sizing.{Sizing}
 use Rattle.relayout.specs.Fit.{AreFit, IsFit, count, height, reach_of, weight}
 use Rattle.relayout.specs.Flow.{flow_step, members}
@@ -31,7 +31,7 @@ use Rattle.relayout.specs.Near.{HasReach}
 use Rattle.relayout.specs.Paragraph.{IsReadyIn}
 use Rattle.relayout.specs.Reach.{IsBounded}
 use Rattle.relayout.specs.Sizes.{containing_of}
-use Rattle.relayout.specs.Step.{IsFlowBox, under}
+use Rattle.relayout.specs.Step.{under}
 
 abbrev pub from_outside : List (Option Table) → PageView → Outside
 from_outside faces view = record { faces = faces; view = view }
@@ -83,7 +83,6 @@ pub record IsBoxAt (slots : Slots Preparation) (own : RowBox) (code : FlowBox) :
   pub text : option_copied code.text ≡ text_at slots own.key
   pub containing : code.containing ≡ own.containing
   pub sizes : code.c ≡ own.c
-  pub able : IsFlowBox code
   pub linked : IsLinked (links_at slots)
 
 -- the same boxes stand as before, and what is kept is right; a text that was kept still is

@@ -1,17 +1,15 @@
 -- A box between the contributions of its children and what is laid out of them: its inline size, and the box by it.
-use Rattle.std.specs.Prelude.{◌≡◌, ℕ, ⊤, Bool, true, false, ◌&&◌, List, map, Option, Some, None, is_none, option_copied, ℤ}
+use Rattle.std.specs.Prelude.{◌≡◌, ℕ, ⊤, Bool, true, false, ◌&&◌, List, map, Option, Some, None, is_none, ℤ}
 use Rattle.std.specs.List.{AllZip}
 use Rattle.fragment_types.specs.declared.constraint.Constraint.{Constraint}
 use Rattle.style_types.specs.declared.style.Style.{Style}
-use Rattle.style_types.specs.Style.{IsBounded}
 use Rattle.block_flow.specs.Adjoining.{edges}
 use Rattle.box_arena.specs.At.{Node}
-use Rattle.box_gen.specs.Tree.{Content, content_of}
+use Rattle.box_gen.specs.Tree.{Content}
 use Rattle.line_fill.specs.declared.item.Intrinsic.{Intrinsic}
 use Rattle.relayout.specs.declared.flowed.LaidBox.{LaidBox}
 use Rattle.relayout.specs.declared.inline.PageView.{PageView}
 use Rattle.relayout.specs.declared.sizes.Containing.{Containing}
-use Rattle.relayout.specs.declared.step.FlowBox.{FlowBox}
 use Rattle.relayout.specs.declared.sizing.InlineSize.{InlineSize}
 use Rattle.relayout.specs.declared.sizing.InlineSize.TheVariants.{MinMax, Used}
 use Rattle.relayout.specs.declared.sizing.Sizing.{Sizing}
@@ -20,8 +18,7 @@ use Rattle.relayout.specs.Content.{filled}
 use Rattle.relayout.specs.Flow.{asked, laid_under}
 use Rattle.relayout.specs.Flowed.{AreLaid, Flowed, Member, part_of}
 use Rattle.relayout.specs.Inline.{Outside, inline_size, known_size, shrunk}
-use Rattle.relayout.specs.Paragraph.{HasAtoms, IsReadyIn}
-use Rattle.relayout.specs.Reach as reach
+use Rattle.relayout.specs.Paragraph.{HasAtoms}
 use Rattle.relayout.specs.Reach.{IsBase, IsContent}
 use Rattle.relayout.specs.Sizes.{containing_of, given, hold_both, is_parallel, sizes_along}
 
@@ -95,12 +92,6 @@ abbrev pub used_size : ℤ → InlineSize
 used_size size = Used size
 
 -- ---- the code's values
-
--- a box that can be laid out in its containing block
-pub record IsFlowBox (own : FlowBox) : Type 0 where
-  pub style : IsBounded own.node.now.style
-  pub sizes : reach.IsBounded own.c
-  pub ready : IsReadyIn (content_of own.node.now.content) (option_copied own.text)
 
 -- what has been laid out is what a member comes to
 pub record IsUnder (c : Constraint) (own : LaidBox) (member : Member) : Type 0 where

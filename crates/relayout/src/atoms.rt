@@ -8,11 +8,10 @@ ghost use Rattle.para_lines.specs.Paragraph.{atom_of};
 ghost use Rattle.para_lines.specs.Reach.{atom_reach};
 ghost use Rattle.relayout.specs.Atoms as rule;
 ghost use Rattle.relayout.specs.Flowed.{as_laid, at, part_of};
-ghost use Rattle.relayout.specs.Near.{IsNearKind, IsNearLaid, IsNearLine, line_reach, own_reach};
-ghost use Rattle.relayout.specs.Reach.{IsBase};
+ghost use Rattle.relayout.specs.Near.{IsNearKind, IsNearLine, line_reach, own_reach};
 
-use crate::edges::{margin_or_zero, margins_along, margins_over, side_in};
-use crate::flowed::LaidBox;
+use crate::edges::side_in;
+use crate::inside::LaidAtom;
 use fragment_types::{BoxPart, Fragment, FragmentKind};
 use para_lines::Atom;
 use std::alloc::{AllocError, Global};
@@ -249,46 +248,6 @@ fn with_margins(extent: i64, margins: i64) -> i64
     extent + margins
 }
 
-// The extent of its margin box along the lines of a mode, where they have this inline size.
-fn extent_along(size: i64, mode: WritingMode, laid: &LaidBox) -> i64
-    requires size { IsBase (Some size) }
-    requires near { IsNearLaid laid.now }
-    ensures value { result ≡ rule.extent_along size mode (as_laid laid.now) }
-    ensures near { unsigned_abs result ≤ 2 ^ 36 + 2 ^ 33 }
-{
-    with_margins(
-        laid.fragment.rect.inline,
-        margins_along(&laid.style, Some(size), mode),
-    )
-}
-
-// That across them.
-fn extent_across(size: i64, mode: WritingMode, laid: &LaidBox) -> i64
-    requires size { IsBase (Some size) }
-    requires near { IsNearLaid laid.now }
-    ensures value { result ≡ rule.extent_across size mode (as_laid laid.now) }
-    ensures near { unsigned_abs result ≤ 2 ^ 36 + 2 ^ 33 }
-{
-    with_margins(
-        laid.fragment.rect.block,
-        margins_over(&laid.style, Some(size), mode),
-    )
-}
-
-// How far it reaches over its baseline in a paragraph of this style.
-fn over_of(paragraph: &Style, size: i64, laid: &LaidBox) -> i64
-    requires size { IsBase (Some size) }
-    requires near { IsNearLaid laid.now }
-    ensures value { result ≡ rule.over_of paragraph.now size (as_laid laid.now) }
-    ensures near { unsigned_abs result ≤ 2 ^ 33 }
-{
-    let mode = paragraph.mode;
-    let margin = margin_or_zero(&laid.style, Some(size), side_in(mode, FlowSide::LineOver));
-    let whole = extent_across(size, mode, laid);
-    let found = own_baseline(paragraph, &laid.fragment);
-    held_distance(over_baseline(margin, whole, paragraph.baseline(), found))
-}
-
 // What it reaches under its baseline.
 fn under_of(whole: i64, over: i64) -> i64
     requires whole { unsigned_abs whole ≤ 2 ^ 36 + 2 ^ 33 }
@@ -299,23 +258,56 @@ fn under_of(whole: i64, over: i64) -> i64
     whole - over
 }
 
-/// An inline-block in a paragraph of this style, whose lines have this inline size.
-pub(crate) fn atom_in(paragraph: &Style, size: i64, laid: &LaidBox) -> Result<Atom, AllocError>
-    requires size { IsBase (Some size) }
-    requires near { IsNearLaid laid.now }
-    ensures value { IfOk result (λ atom. atom_of atom ≡ rule.atom_in paragraph.now size (as_laid laid.now)) }
-    ensures near { IfOk result (λ atom. atom_reach (atom_of atom) ≤ 5 * 2 ^ 36) }
-{
-    let mode = paragraph.mode;
-    let fragment = at_zero(&laid.fragment)?;
-    let over = over_of(paragraph, size, laid);
-    Ok(Atom {
-        fragment,
-        extent: extent_along(size, mode, laid),
-        left_margin: margin_or_zero(&laid.style, Some(size), side_in(mode, FlowSide::LineLeft)),
-        over_margin: margin_or_zero(&laid.style, Some(size), side_in(mode, FlowSide::LineOver)),
-        over,
-        under: under_of(extent_across(size, mode, laid), over),
-        shift: laid.style.shift,
-    })
+impl LaidAtom<'_> {
+    // The extent of its margin box along the lines of a mode.
+    fn extent_along(&self, mode: WritingMode) -> i64
+        ensures value { result ≡ rule.extent_along self.now.size mode (as_laid self.now.laid.now) }
+        ensures near { unsigned_abs result ≤ 2 ^ 36 + 2 ^ 33 }
+    {
+        let margins = self.based_style().margins_along(mode);
+        with_margins(self.laid.fragment.rect.inline, margins)
+    }
+
+    // That across them.
+    fn extent_across(&self, mode: WritingMode) -> i64
+        ensures value { result ≡ rule.extent_across self.now.size mode (as_laid self.now.laid.now) }
+        ensures near { unsigned_abs result ≤ 2 ^ 36 + 2 ^ 33 }
+    {
+        let margins = self.based_style().margins_over(mode);
+        with_margins(self.laid.fragment.rect.block, margins)
+    }
+
+    // How far it reaches over its baseline in a paragraph of this style.
+    fn over_of(&self, paragraph: &Style) -> i64
+        ensures value { result ≡ rule.over_of paragraph.now self.now.size (as_laid self.now.laid.now) }
+        ensures near { unsigned_abs result ≤ 2 ^ 33 }
+    {
+        let mode = paragraph.mode;
+        let margin = self
+            .based_style()
+            .margin_or_zero(side_in(mode, FlowSide::LineOver));
+        let whole = self.extent_across(mode);
+        let found = own_baseline(paragraph, &self.laid.fragment);
+        held_distance(over_baseline(margin, whole, paragraph.baseline(), found))
+    }
+
+    /// The inline-block in a paragraph of this style.
+    pub(crate) fn atom_in(&self, paragraph: &Style) -> Result<Atom, AllocError>
+        ensures value { IfOk result (λ atom. atom_of atom ≡ rule.atom_in paragraph.now self.now.size (as_laid self.now.laid.now)) }
+        ensures near { IfOk result (λ atom. atom_reach (atom_of atom) ≤ 5 * 2 ^ 36) }
+    {
+        let mode = paragraph.mode;
+        let fragment = at_zero(&self.laid.fragment)?;
+        let over = self.over_of(paragraph);
+        let based = self.based_style();
+        Ok(Atom {
+            fragment,
+            extent: self.extent_along(mode),
+            left_margin: based.margin_or_zero(side_in(mode, FlowSide::LineLeft)),
+            over_margin: based.margin_or_zero(side_in(mode, FlowSide::LineOver)),
+            over,
+            under: under_of(self.extent_across(mode), over),
+            shift: self.laid.style.shift,
+        })
+    }
 }

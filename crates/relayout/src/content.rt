@@ -10,7 +10,6 @@ ghost use Rattle.box_gen.specs.Tree.{content_of, inline};
 ghost use Rattle.line_place.specs.Spread.{spread};
 ghost use Rattle.para_lines.specs.Paragraph.{atom_of};
 ghost use Rattle.para_lines.specs.Reach.{IsNearLine, atom_reach};
-ghost use Rattle.para_prepare.specs.Preparation.{atoms_of};
 ghost use Rattle.relayout.specs.Atoms as atoms;
 ghost use Rattle.relayout.specs.Boxed.{block_box};
 ghost use Rattle.relayout.specs.Content as rule;
@@ -19,24 +18,21 @@ ghost use Rattle.relayout.specs.Flowed.{AreLaid, Laid, as_laid};
 ghost use Rattle.relayout.specs.Fit.{room_in};
 ghost use Rattle.relayout.specs.Near.{HasReach, IsNearLaid};
 ghost use Rattle.relayout.specs.Intrinsic.{IsTextOf};
-ghost use Rattle.relayout.specs.Paragraph.{HasAtoms, IsParagraph, IsReady};
+ghost use Rattle.relayout.specs.Paragraph.{HasAtoms};
 ghost use Rattle.relayout.specs.Reach.{IsBase};
 ghost use Rattle.relayout.specs.Sizes.{containing_of};
-ghost use Rattle.relayout.specs.Step.{IsFlowBox};
 
-use crate::atoms::atom_in;
-use crate::boxed::block_box;
+use crate::flow_box::FlowBox;
 use crate::flowed::LaidBox;
-use crate::inline::inline_place;
+use crate::inside::{LaidAtom, LaidInside, LaidParagraph, PreparedParagraph};
 use crate::sizes::Containing;
-use crate::step::FlowBox;
+use crate::styled::ChildStyle;
 use block_flow::{ChildBox, stack as stack_of};
 use box_gen::Content;
 use face_api::{Face, Faces};
-use fragment_types::{Fragment, FragmentKind, Fragments, Item};
+use fragment_types::{Fragment, FragmentKind, Fragments};
 use margin_collapse::Margins;
 use para_lines::{Atom, Container, paragraph_lines};
-use para_prepare::Prepared;
 use std::alloc::{AllocError, Global};
 use std::sync::ledger::Ledger;
 use style_types::Style;
@@ -104,10 +100,14 @@ fn put(own: Containing, size: i64, child: &LaidBox, place: i64) -> Result<Fragme
     requires size { IsBase (Some size) }
     ensures { IfOk result (λ made. (next : Pieces) → before made next ≡ rule.put own size (as_laid child.now) place next) }
 {
+    let styled = ChildStyle {
+        containing: own,
+        style: &child.style,
+        inline: size,
+    };
     let rect = child.fragment.rect;
-    let i = inline_place(own, size, &child.style, rect.inline);
     let made = child.fragment.moved_to(FlowRect {
-        i,
+        i: styled.inline_place(rect.inline),
         b: place,
         ..rect
     })?;
@@ -119,66 +119,35 @@ fn set_down(
     alloc: Global,
     own: Containing,
     size: i64,
-    laid: &[LaidBox],
+    laid: LaidInside<'_>,
     places: &[i64],
 ) -> Result<Fragments, AllocError>
-    requires near { All IsNearLaid laid.now }
     requires size { IsBase (Some size) }
-    requires count { length places.now ≡ length laid.now }
-    ensures { IfOk result (λ made. pieces_of made.items ≡ rule.set_down own size (map as_laid laid.now) places.now) }
+    requires count { length places.now ≡ length laid.boxes.now }
+    ensures { IfOk result (λ made. pieces_of made.items ≡ rule.set_down own size (map as_laid laid.entry.boxes.now) places.now) }
 {
-    let mut made = Vec::with_capacity(alloc, laid.len())?;
-    for k in 0..laid.len() {
-        made.push(put(own, size, &laid[k], places[k])?)?;
+    let mut made = Vec::with_capacity(alloc, laid.boxes.len())?;
+    for k in 0..laid.boxes.len() {
+        made.push(put(own, size, &laid.boxes[k], places[k])?)?;
     }
     Ok(made)
 }
 
-/// The children of a box of this inline size, one under the other. Counts one step, and none where memory runs out before they are
-/// stacked.
-pub(crate) fn stack<L: Ledger>(
-    alloc: Global,
-    own: &FlowBox,
-    size: i64,
-    laid: &[LaidBox],
-    arranged: &mut Steps<L>,
-) -> Result<Filling, AllocError>
-    requires own { IsFlowBox own.now }
-    requires near { All IsNearLaid laid.now }
-    requires count { length laid.now ≤ 2 ^ 18 }
-    requires size { IsBase (Some size) }
-    ensures ticks { OnOk result (arranged.new ≡ arranged.old + 1) }
-    ensures most { (arranged.old ≤ arranged.new) × (arranged.new ≤ arranged.old + 1) }
-    ensures filled { IfOk result (λ made. (list : List Laid) → AreLaid laid.now list → IsFilled made (rule.stack (containing_of own.now.node.now.style) (edges (block_box own.now.containing own.now.node.now.style own.now.c false)) size list)) }
-    ensures reach { IfOk result (λ made. (reach : ℕ) → All (HasReach reach) laid.now → spread (pieces_of made.parts.items) ≤ reach + (length laid.now + 1) * 2 ^ 38) }
-{
-    let style = &own.node.style;
-    let joins = block_box(own.containing, style, own.c, false).edges();
-    let children = children_of(alloc, laid)?;
-    let stacked = stack_of(alloc, joins, &children, arranged)?;
-    let inside = Containing::of(style);
-    let parts = set_down(alloc, inside, size, laid, stacked.places())?;
-    Ok(Filling {
-        parts,
-        extent: stacked.extent(),
-        start: stacked.start(),
-        end: stacked.end(),
-        lines: false,
-        through: stacked.through(),
-    })
-}
-
 // The inline-blocks of a paragraph.
-fn atoms_of(alloc: Global, style: &Style, size: i64, laid: &[LaidBox]) -> Result<Atoms, AllocError>
-    requires style { IsBounded style.now }
-    requires size { IsBase (Some size) }
-    requires near { All IsNearLaid laid.now }
-    ensures are { IfOk result (λ made. map atom_of made.items ≡ map (λ child. atoms.atom_in style.now size (as_laid child)) laid.now) }
+fn atoms_of(
+    alloc: Global,
+    style: &Style,
+    size: i64,
+    laid: LaidInside<'_>,
+) -> Result<Atoms, AllocError>
+    requires { IsBase (Some size) }
+    ensures are { IfOk result (λ made. map atom_of made.items ≡ map (λ child. atoms.atom_in style.now size (as_laid child)) laid.entry.boxes.now) }
     ensures near { IfOk result (λ made. All (λ atom. atom_reach (atom_of atom) ≤ 5 * 2 ^ 36) made.items) }
 {
-    let mut made = Vec::with_capacity(alloc, laid.len())?;
-    for child in laid {
-        made.push(atom_in(style, size, child)?)?;
+    let mut made = Vec::with_capacity(alloc, laid.boxes.len())?;
+    for child in laid.boxes {
+        let own = LaidAtom { laid: child, size };
+        made.push(own.atom_in(style)?)?;
     }
     Ok(made)
 }
@@ -199,26 +168,22 @@ fn block_extent(lines: &[Fragment]) -> i64
 pub(crate) fn paragraph<L: Ledger>(
     alloc: Global,
     container: &Container,
-    items: &[Item],
-    text: &Prepared,
-    laid: &[LaidBox],
+    content: LaidParagraph<'_, '_>,
     faces: &Faces,
     arranged: &mut Steps<L>,
 ) -> Result<Filling, AllocError>
     requires style { IsBounded container.now.style }
     requires size { IsBase (Some container.now.size) }
-    requires paragraph { IsParagraph (entries_of items.now) }
-    requires ready { IsReady (entries_of items.now) text.now }
-    requires near { All IsNearLaid laid.now }
-    requires count { length laid.now ≤ 2 ^ 18 }
-    requires atoms { atoms_of (entries_of items.now) ≤ length laid.now }
     ensures ticks { OnOk result (arranged.new ≡ arranged.old + 1) }
     ensures most { (arranged.old ≤ arranged.new) × (arranged.new ≤ arranged.old + 1) }
-    ensures filled { IfOk result (λ made. (list : List Laid) → AreLaid laid.now list → IsFilled made (rule.lines_in (faces_of ⟦<dyn Face as Face>⟧ faces.now) container.now (entries_of items.now) text.now list)) }
-    ensures reach { IfOk result (λ made. (list : List Laid) (reach : ℕ) → AreLaid laid.now list → All (HasReach reach) laid.now → spread (pieces_of made.parts.items) ≤ reach + room_in (inline (entries_of items.now)) + 2 ^ 38) }
+    ensures filled { IfOk result (λ made. (list : List Laid) → AreLaid content.entry.inside.boxes.now list → IsFilled made (rule.lines_in (faces_of ⟦<dyn Face as Face>⟧ faces.now) container.now (entries_of content.entry.own.items.now) content.entry.own.text.now list)) }
+    ensures reach { IfOk result (λ made. (list : List Laid) (reach : ℕ) → AreLaid content.entry.inside.boxes.now list → All (HasReach reach) content.entry.inside.boxes.now → spread (pieces_of made.parts.items) ≤ reach + room_in (inline (entries_of content.entry.own.items.now)) + 2 ^ 38) }
 {
-    let atoms = atoms_of(alloc, &container.style, container.size, laid)?;
-    let parts = paragraph_lines(alloc, items, text, container, &atoms, faces, arranged)?;
+    let atoms = atoms_of(alloc, &container.style, container.size, content.inside)?;
+    let own = content.own;
+    let parts = paragraph_lines(
+        alloc, own.items, own.text, container, &atoms, faces, arranged,
+    )?;
     Ok(Filling {
         extent: block_extent(&parts),
         start: Margins::none(),
@@ -229,43 +194,74 @@ pub(crate) fn paragraph<L: Ledger>(
     })
 }
 
-/// What stands in a box of this inline size. Counts one step, and none where memory runs out before.
-pub(crate) fn filled<L: Ledger>(
-    alloc: Global,
-    own: &FlowBox,
-    size: i64,
-    laid: &[LaidBox],
-    faces: &Faces,
-    arranged: &mut Steps<L>,
-) -> Result<Filling, AllocError>
-    requires own { IsFlowBox own.now }
-    requires size { IsBase (Some size) }
-    requires near { All IsNearLaid laid.now }
-    requires count { length laid.now ≤ 2 ^ 18 }
-    requires atoms { HasAtoms (content_of own.now.node.now.content) (length laid.now) }
-    ensures ticks { OnOk result (arranged.new ≡ arranged.old + 1) }
-    ensures most { (arranged.old ≤ arranged.new) × (arranged.new ≤ arranged.old + 1) }
-    ensures filled { IfOk result (λ made. (list : List Laid) → AreLaid laid.now list → IsTextOf (faces_of ⟦<dyn Face as Face>⟧ faces.now) own.now.node.now.style (content_of own.now.node.now.content) (option_copied own.now.text) → IsFilled made (rule.filled (faces_of ⟦<dyn Face as Face>⟧ faces.now) own.now.node.now.name own.now.node.now.style (edges (block_box own.now.containing own.now.node.now.style own.now.c false)) size (content_of own.now.node.now.content) list)) }
-    ensures reach { IfOk result (λ made. (list : List Laid) (reach : ℕ) → AreLaid laid.now list → All (HasReach reach) laid.now → spread (pieces_of made.parts.items) ≤ reach + room_in (content_of own.now.node.now.content) + (length laid.now + 1) * 2 ^ 38) }
-{
-    let node = own.node;
-    match (&node.content, own.text) {
-        (Content::Inline(items), Some(text)) => {
-            let container = Container {
-                name: node.name,
-                style: node.style,
-                size,
-            };
-            let made = paragraph(alloc, &container, items, text, laid, faces, arranged)?;
-            Ok(made)
-        }
-        (Content::Inline(_), None) => {
-            let made = stack(alloc, own, size, laid, arranged)?;
-            Ok(made)
-        }
-        (Content::Blocks, _) => {
-            let made = stack(alloc, own, size, laid, arranged)?;
-            Ok(made)
+impl FlowBox<'_> {
+    // Its children, where it has this inline size, one under the other. Counts one step, and none where memory runs out before they are
+    // stacked.
+    fn stack<L: Ledger>(
+        &self,
+        alloc: Global,
+        size: i64,
+        laid: LaidInside<'_>,
+        arranged: &mut Steps<L>,
+    ) -> Result<Filling, AllocError>
+        requires { IsBase (Some size) }
+        ensures ticks { OnOk result (arranged.new ≡ arranged.old + 1) }
+        ensures most { (arranged.old ≤ arranged.new) × (arranged.new ≤ arranged.old + 1) }
+        ensures filled { IfOk result (λ made. (list : List Laid) → AreLaid laid.entry.boxes.now list → IsFilled made (rule.stack (containing_of self.now.node.now.style) (edges (block_box self.now.containing self.now.node.now.style self.now.c false)) size list)) }
+        ensures reach { IfOk result (λ made. (reach : ℕ) → All (HasReach reach) laid.entry.boxes.now → spread (pieces_of made.parts.items) ≤ reach + (length laid.entry.boxes.now + 1) * 2 ^ 38) }
+    {
+        let joins = self.contained_style().block_box(false).edges();
+        let children = children_of(alloc, laid.boxes)?;
+        let stacked = stack_of(alloc, joins, &children, arranged)?;
+        let inside = Containing::of(&self.node.style);
+        let parts = set_down(alloc, inside, size, laid, stacked.places())?;
+        Ok(Filling {
+            parts,
+            extent: stacked.extent(),
+            start: stacked.start(),
+            end: stacked.end(),
+            lines: false,
+            through: stacked.through(),
+        })
+    }
+
+    /// What stands in it, where it has this inline size. Counts one step, and none where memory runs out before.
+    pub(crate) fn filled<L: Ledger>(
+        &self,
+        alloc: Global,
+        size: i64,
+        laid: LaidInside<'_>,
+        faces: &Faces,
+        arranged: &mut Steps<L>,
+    ) -> Result<Filling, AllocError>
+        requires size { IsBase (Some size) }
+        requires atoms { HasAtoms (content_of self.now.node.now.content) (length laid.boxes.now) }
+        ensures ticks { OnOk result (arranged.new ≡ arranged.old + 1) }
+        ensures most { (arranged.old ≤ arranged.new) × (arranged.new ≤ arranged.old + 1) }
+        ensures filled { IfOk result (λ made. (list : List Laid) → AreLaid laid.entry.boxes.now list → IsTextOf (faces_of ⟦<dyn Face as Face>⟧ faces.now) self.now.node.now.style (content_of self.now.node.now.content) (option_copied self.now.text) → IsFilled made (rule.filled (faces_of ⟦<dyn Face as Face>⟧ faces.now) self.now.node.now.name self.now.node.now.style (edges (block_box self.now.containing self.now.node.now.style self.now.c false)) size (content_of self.now.node.now.content) list)) }
+        ensures reach { IfOk result (λ made. (list : List Laid) (reach : ℕ) → AreLaid laid.entry.boxes.now list → All (HasReach reach) laid.entry.boxes.now → spread (pieces_of made.parts.items) ≤ reach + room_in (content_of self.now.node.now.content) + (length laid.entry.boxes.now + 1) * 2 ^ 38) }
+    {
+        let node = self.node;
+        match (&node.content, self.text) {
+            (Content::Inline(items), Some(text)) => {
+                let container = Container {
+                    name: node.name,
+                    style: node.style,
+                    size,
+                };
+                let own = PreparedParagraph { items, text };
+                let content = LaidParagraph { own, inside: laid };
+                let made = paragraph(alloc, &container, content, faces, arranged)?;
+                Ok(made)
+            }
+            (Content::Inline(_), None) => {
+                let made = self.stack(alloc, size, laid, arranged)?;
+                Ok(made)
+            }
+            (Content::Blocks, _) => {
+                let made = self.stack(alloc, size, laid, arranged)?;
+                Ok(made)
+            }
         }
     }
 }

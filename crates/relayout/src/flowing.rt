@@ -15,11 +15,11 @@ ghost use Rattle.relayout.specs.Intrinsic.{IsTextOf};
 ghost use Rattle.relayout.specs.Paragraph.{IsParagraphIn, IsReadyIn};
 ghost use Rattle.relayout.specs.Row.{AreFlowed, HasBox, IsFlowedAt, IsSteady, outside_of};
 
+use crate::flow_box::FlowBox;
 use crate::flowed::{LaidBox, LaidBoxes};
-use crate::intrinsic::prepared;
+use crate::inside::{HeldParagraph, LaidInside};
 use crate::row::{Page, Row, RowBox};
 use crate::sizing::{InlineSize, Sizing};
-use crate::step::FlowBox;
 use box_arena::BoxArena;
 use box_gen::{BoxNode, Content};
 use bumpalo::Bump;
@@ -80,7 +80,9 @@ fn text_of<L: Ledger>(
 {
     match &node.content {
         Content::Inline(items) => {
-            let text = prepared(alloc, &node.style, items, faces, scratch, texts)?;
+            let style = &node.style;
+            let own = HeldParagraph { style, items };
+            let text = own.prepared(alloc, faces, scratch, texts)?;
             Ok(Some(text))
         }
         Content::Blocks => Ok(None),
@@ -193,7 +195,10 @@ impl<L: Ledger, M: Ledger> Flow<'_, '_, '_, '_, L, M> {
         ensures can { IfOk result (λ sized. CanFlow (outside_of ⟦<dyn Face as Face>⟧ page.entry) self.now.arena.now.slots sized.inside) }
     {
         let flow_box = FlowBox::at(self.arena, own);
-        let size = flow_box.inline_size(alloc, page.view, begun.sizing, contributing)?;
+        let children = LaidInside {
+            boxes: contributing,
+        };
+        let size = flow_box.inline_size(alloc, page.view, begun.sizing, children)?;
         let from = size.laid_inside(self.arena.first(own.key));
         Ok(SizedBox {
             size,
@@ -222,7 +227,8 @@ impl<L: Ledger, M: Ledger> Flow<'_, '_, '_, '_, L, M> {
     {
         let flow_box = FlowBox::at(self.arena, own);
         let style = flow_box.node.style;
-        let fragment = flow_box.laid(alloc, page.faces, sized.size, inside, self.arranged)?;
+        let children = LaidInside { boxes: inside };
+        let fragment = flow_box.laid(alloc, page.faces, sized.size, children, self.arranged)?;
         let copy = shared(&fragment)?;
         self.arena.keep(own.key, own.c, copy)?;
         Ok(LaidBox { style, fragment })

@@ -1,7 +1,7 @@
 //! Intrinsic sizes: the min-content and max-content contributions of a box to its containing block's inline axis, and the sizes of its content
 //! (CSS 2, 10.3.5; CSS Writing Modes 4, 7.3).
 
-ghost use Rattle.std.specs.Prelude.{◌≡◌, ◌+◌, ◌≤◌, ◌^◌, List, Option, All, IfOk, IfSome, OnOk, length, map, option_copied, unsigned_abs};
+ghost use Rattle.std.specs.Prelude.{◌≡◌, ◌+◌, ◌≤◌, ◌^◌, List, Option, IfOk, IfSome, OnOk, map, option_copied, unsigned_abs};
 ghost use Rattle.face_api.specs.Faces.{faces_of};
 ghost use Rattle.face_api.specs.Table.{Table};
 ghost use Rattle.fragment_types.specs.declared.fragment.Fragment.{out-Fragment};
@@ -11,18 +11,20 @@ ghost use Rattle.style_types.specs.declared.style.Style as styles;
 ghost use Rattle.style_types.specs.Style.{IsBounded};
 ghost use Rattle.box_gen.specs.Tree.{content_of};
 ghost use Rattle.para_prepare.specs.Parts as parts;
-ghost use Rattle.relayout.specs.Flowed.{part_of};
 ghost use Rattle.relayout.specs.Intrinsic as rule;
 ghost use Rattle.relayout.specs.Intrinsic.{IsTextOf};
-ghost use Rattle.relayout.specs.Near.{IsNearPart};
-ghost use Rattle.relayout.specs.Paragraph.{IsParagraph, IsReady, IsReadyIn};
+ghost use Rattle.relayout.specs.Near.{IsNearLaid};
+ghost use Rattle.relayout.specs.Paragraph.{IsReady};
 ghost use Rattle.relayout.specs.Reach.{IsContribution, IsContent};
 
-use crate::edges::{inner_edges_across, margins_along};
+use crate::flow_box::FlowBox;
+use crate::flowed::LaidBox;
+use crate::inside::{Contributions, HeldParagraph, PreparedParagraph};
+use crate::styled::BasedStyle;
 use box_gen::Content;
 use bumpalo::Bump;
 use face_api::{Face, Faces};
-use fragment_types::{Fragment, FragmentKind, Item, Items};
+use fragment_types::{FragmentKind, Item, Items};
 use line_fill::Intrinsic;
 use ortho_flow::contribution;
 use para_lines::paragraph_sizes;
@@ -38,18 +40,17 @@ type Lengths = Vec<i64>;
 
 /// The contribution of a child to a containing block of this mode: as it was measured where it is parallel, as it was laid out where it is
 /// orthogonal.
-pub(crate) fn contributed(mode: WritingMode, style: &Style, child: &Fragment) -> Intrinsic
-    requires style { IsBounded style.now }
-    requires near { IsNearPart (part_of child.now) }
-    ensures value { result ≡ rule.contributed mode style.now (kind_of (out-Fragment child.now).kind) }
+pub(crate) fn contributed(mode: WritingMode, child: &LaidBox) -> Intrinsic
+    requires { IsNearLaid child.now }
+    ensures value { result ≡ rule.contributed mode child.now.style (kind_of (out-Fragment child.now.fragment).kind) }
     ensures near { IsContribution result }
 {
-    match &child.kind {
+    match &child.fragment.kind {
         FragmentKind::Measure { min, max } => Intrinsic {
             min: *min,
             max: *max,
         },
-        FragmentKind::Box(part) => orthogonal_contribution(mode, style, part.content),
+        FragmentKind::Box(part) => orthogonal_contribution(mode, &child.style, part.content),
         FragmentKind::Line { .. } | FragmentKind::Span | FragmentKind::Run { .. } => {
             Intrinsic { min: 0, max: 0 }
         }
@@ -63,8 +64,9 @@ fn orthogonal_contribution(mode: WritingMode, style: &Style, content: FlowRect) 
     ensures value { result ≡ rule.orthogonal_contribution mode style.now content }
     ensures near { IsContribution result }
 {
-    let edges = inner_edges_across(style, None, style.mode);
-    let extent = contribution(content.inline, edges, margins_along(style, None, mode));
+    let based = BasedStyle { style, base: None };
+    let edges = based.inner_edges_across(style.mode);
+    let extent = contribution(content.inline, edges, based.margins_along(mode));
     Intrinsic {
         min: extent,
         max: extent,
@@ -131,39 +133,39 @@ fn copies_of(alloc: Global, items: &[Item]) -> Result<Items, AllocError>
     Ok(own)
 }
 
-// The paragraph of these items in a block container of this style.
-fn paragraph_of(alloc: Global, style: &Style, items: &[Item]) -> Result<Paragraph, AllocError>
-    ensures base { IfOk result (λ own. own.base ≡ rule.base_by style.now.bidi (parts.used_direction style.now)) }
-    ensures level { IfOk result (λ own. IfSome own.base (λ base. base ≤ 1)) }
-    ensures style { IfOk result (λ own. own.style ≡ style.now) }
-    ensures items { IfOk result (λ own. entries_of own.items.items ≡ entries_of items.now) }
-{
-    let items = copies_of(alloc, items)?;
-    Ok(Paragraph {
-        base: base_by(style.bidi, style.used_direction()),
-        style: *style,
-        items,
-    })
-}
+impl HeldParagraph<'_> {
+    // The paragraph as its text is prepared, with items of its own.
+    fn copied_paragraph(&self, alloc: Global) -> Result<Paragraph, AllocError>
+        ensures base { IfOk result (λ own. own.base ≡ rule.base_by self.now.style.now.bidi (parts.used_direction self.now.style.now)) }
+        ensures level { IfOk result (λ own. IfSome own.base (λ base. base ≤ 1)) }
+        ensures style { IfOk result (λ own. own.style ≡ self.now.style.now) }
+        ensures items { IfOk result (λ own. entries_of own.items.items ≡ entries_of self.now.items.now) }
+    {
+        let items = copies_of(alloc, self.items)?;
+        Ok(Paragraph {
+            base: base_by(self.style.bidi, self.style.used_direction()),
+            style: *self.style,
+            items,
+        })
+    }
 
-/// The prepared text of a paragraph in a block container of this style. Counts one step, and none where memory runs out before.
-pub(crate) fn prepared<L: Ledger>(
-    alloc: Global,
-    style: &Style,
-    items: &[Item],
-    faces: &Faces,
-    scratch: &mut Bump,
-    steps: &mut Steps<L>,
-) -> Result<Prepared, AllocError>
-    requires paragraph { IsParagraph (entries_of items.now) }
-    ensures ticks { OnOk result (steps.new ≡ steps.old + 1) }
-    ensures most { (steps.old ≤ steps.new) × (steps.new ≤ steps.old + 1) }
-    ensures text { IfOk result (λ text. text ≡ rule.prepared (faces_of ⟦<dyn Face as Face>⟧ faces.now) style.now (entries_of items.now)) }
-    ensures ready { IfOk result (λ text. IsReady (entries_of items.now) text) }
-{
-    let paragraph = paragraph_of(alloc, style, items)?;
-    let text = prepare(alloc, &paragraph, faces, scratch, steps)?;
-    Ok(text)
+    /// Its prepared text. Counts one step, and none where memory runs out before.
+    pub(crate) fn prepared<L: Ledger>(
+        &self,
+        alloc: Global,
+        faces: &Faces,
+        scratch: &mut Bump,
+        steps: &mut Steps<L>,
+    ) -> Result<Prepared, AllocError>
+        ensures ticks { OnOk result (steps.new ≡ steps.old + 1) }
+        ensures most { (steps.old ≤ steps.new) × (steps.new ≤ steps.old + 1) }
+        ensures text { IfOk result (λ text. text ≡ rule.prepared (faces_of ⟦<dyn Face as Face>⟧ faces.now) self.now.style.now (entries_of self.now.items.now)) }
+        ensures ready { IfOk result (λ text. IsReady (entries_of self.now.items.now) text) }
+    {
+        let paragraph = self.copied_paragraph(alloc)?;
+        let text = prepare(alloc, &paragraph, faces, scratch, steps)?;
+        Ok(text)
+    }
 }
 
 fn greater(one: Intrinsic, other: Intrinsic) -> Intrinsic
@@ -206,24 +208,21 @@ fn maxs_of(alloc: Global, contributions: &[Intrinsic]) -> Result<Lengths, AllocE
     Ok(made)
 }
 
-// What a paragraph with these inline-blocks comes to.
-#[tactic(auto, using(crate::proofs::ContributionLaws::mins_near, crate::proofs::ContributionLaws::maxs_near))]
-fn paragraph_content(
-    alloc: Global,
-    items: &[Item],
-    text: &Prepared,
-    contributions: &[Intrinsic],
-) -> Result<Intrinsic, AllocError>
-    requires paragraph { IsParagraph (entries_of items.now) }
-    requires ready { IsReady (entries_of items.now) text.now }
-    requires count { length contributions.now ≤ 2 ^ 20 }
-    requires near { All IsContribution contributions.now }
-    ensures { IfOk result (λ sizes. sizes ≡ rule.paragraph_content (entries_of items.now) text.now contributions.now) }
-{
-    let mins = mins_of(alloc, contributions)?;
-    let maxs = maxs_of(alloc, contributions)?;
-    let sizes = paragraph_sizes(alloc, items, text, &mins, &maxs)?;
-    Ok(sizes)
+impl PreparedParagraph<'_> {
+    // What it comes to with these inline-blocks.
+    #[tactic(auto, using(crate::proofs::ContributionLaws::mins_near, crate::proofs::ContributionLaws::maxs_near))]
+    fn content_sizes(
+        &self,
+        alloc: Global,
+        contributions: Contributions<'_>,
+    ) -> Result<Intrinsic, AllocError>
+        ensures { IfOk result (λ sizes. sizes ≡ rule.paragraph_content (entries_of self.now.items.now) self.now.text.now contributions.entry.sizes.now) }
+    {
+        let mins = mins_of(alloc, contributions.sizes)?;
+        let maxs = maxs_of(alloc, contributions.sizes)?;
+        let sizes = paragraph_sizes(alloc, self.items, self.text, &mins, &maxs)?;
+        Ok(sizes)
+    }
 }
 
 fn cap_both(sizes: Intrinsic) -> Intrinsic
@@ -236,41 +235,37 @@ fn cap_both(sizes: Intrinsic) -> Intrinsic
     }
 }
 
-// What a content with these children comes to, before it is held.
-fn together(
-    alloc: Global,
-    content: &Content,
-    text: Option<&Prepared>,
-    contributions: &[Intrinsic],
-) -> Result<Intrinsic, AllocError>
-    requires ready { IsReadyIn (content_of content.now) (option_copied text) }
-    requires count { length contributions.now ≤ 2 ^ 20 }
-    requires near { All IsContribution contributions.now }
-    ensures { IfOk result (λ sizes. (faces : List (Option Table)) (style : styles.Style) → IsTextOf faces style (content_of content.now) (option_copied text.entry) → sizes ≡ rule.together faces style (content_of content.now) contributions.now) }
-{
-    match (content, text) {
-        (Content::Inline(items), Some(text)) => {
-            let sizes = paragraph_content(alloc, items, text, contributions)?;
-            Ok(sizes)
+impl FlowBox<'_> {
+    // What its content comes to with these children, before it is held.
+    fn content_together(
+        &self,
+        alloc: Global,
+        contributions: Contributions<'_>,
+    ) -> Result<Intrinsic, AllocError>
+        ensures { IfOk result (λ sizes. (faces : List (Option Table)) (style : styles.Style) → IsTextOf faces style (content_of self.now.node.now.content) (option_copied self.now.text) → sizes ≡ rule.together faces style (content_of self.now.node.now.content) contributions.entry.sizes.now) }
+    {
+        match (&self.node.content, self.text) {
+            (Content::Inline(items), Some(text)) => {
+                let own = PreparedParagraph { items, text };
+                let sizes = own.content_sizes(alloc, contributions)?;
+                Ok(sizes)
+            }
+            (Content::Blocks, _) | (Content::Inline(_), None) => {
+                Ok(greatest(contributions.sizes))
+            }
         }
-        (Content::Blocks, _) | (Content::Inline(_), None) => Ok(greatest(contributions)),
     }
-}
 
-/// The min-content and the max-content size of a box's content, by the contributions of its children. `text` is the prepared text of the
-/// paragraph that it holds, if it holds one.
-pub(crate) fn inner(
-    alloc: Global,
-    content: &Content,
-    text: Option<&Prepared>,
-    contributions: &[Intrinsic],
-) -> Result<Intrinsic, AllocError>
-    requires ready { IsReadyIn (content_of content.now) (option_copied text) }
-    requires count { length contributions.now ≤ 2 ^ 20 }
-    requires near { All IsContribution contributions.now }
-    ensures value { IfOk result (λ sizes. (faces : List (Option Table)) (style : styles.Style) → IsTextOf faces style (content_of content.now) (option_copied text.entry) → sizes ≡ rule.inner_by faces style (content_of content.now) contributions.now) }
-    ensures near { IfOk result IsContent }
-{
-    let sizes = together(alloc, content, text, contributions)?;
-    Ok(cap_both(sizes))
+    /// The min-content and the max-content size of its content, by the contributions of its children.
+    pub(crate) fn inner_sizes(
+        &self,
+        alloc: Global,
+        contributions: Contributions<'_>,
+    ) -> Result<Intrinsic, AllocError>
+        ensures value { IfOk result (λ sizes. (faces : List (Option Table)) (style : styles.Style) → IsTextOf faces style (content_of self.now.node.now.content) (option_copied self.now.text) → sizes ≡ rule.inner_by faces style (content_of self.now.node.now.content) contributions.entry.sizes.now) }
+        ensures near { IfOk result IsContent }
+    {
+        let sizes = self.content_together(alloc, contributions)?;
+        Ok(cap_both(sizes))
+    }
 }

@@ -5,15 +5,18 @@ mod atoms;
 mod boxed;
 mod content;
 mod edges;
+mod flow_box;
 mod flowed;
 mod flowing;
 mod inline;
+mod inside;
 mod intrinsic;
 pub mod laws;
 mod row;
 mod sizes;
 mod sizing;
 mod step;
+mod styled;
 mod whole;
 
 pub use whole::relayout;

@@ -2,11 +2,12 @@
 //! definite (CSS 2, 10.2 to 10.7; CSS Writing Modes 4, 7.1 to 7.3).
 
 ghost use Rattle.std.specs.Prelude.{◌≡◌, ◌^◌, pos, ◌≤ℤ◌};
-ghost use Rattle.style_types.specs.Style.{IsBounded, IsSize};
+ghost use Rattle.style_types.specs.Style.{IsSize};
 ghost use Rattle.relayout.specs.Reach as reach;
 ghost use Rattle.relayout.specs.Reach.{IsBase};
 ghost use Rattle.relayout.specs.Sizes as rule;
 
+use crate::styled::{BasedStyle, ContainedStyle};
 use fragment_types::Constraint;
 use line_fill::Intrinsic;
 use size_rules::{definite_block, resolved, resolved_or_zero, used_size};
@@ -86,54 +87,51 @@ struct DeclaredSizes {
     max: Size,
 }
 
-// What a style declares across the page or down the page.
-fn declared_on(across: bool, style: &Style) -> DeclaredSizes
-    requires style { IsBounded style.now }
-    ensures value { result ≡ rule.declared_on across style.now }
-    ensures size { IsSize result.size }
-    ensures min { IsSize result.min }
-    ensures max { IsSize result.max }
-{
-    if across {
-        DeclaredSizes {
-            size: style.width,
-            min: style.min_width,
-            max: style.max_width,
-        }
-    } else {
-        DeclaredSizes {
-            size: style.height,
-            min: style.min_height,
-            max: style.max_height,
+impl BasedStyle<'_> {
+    // What the style declares across the page or down the page.
+    fn declared_on(&self, across: bool) -> DeclaredSizes
+        ensures value { result ≡ rule.declared_on across self.now.style.now }
+        ensures size { IsSize result.size }
+        ensures min { IsSize result.min }
+        ensures max { IsSize result.max }
+    {
+        if across {
+            DeclaredSizes {
+                size: self.style.width,
+                min: self.style.min_width,
+                max: self.style.max_width,
+            }
+        } else {
+            DeclaredSizes {
+                size: self.style.height,
+                min: self.style.min_height,
+                max: self.style.max_height,
+            }
         }
     }
-}
 
-/// What a style asks for along the lines of a mode, where percentages refer to `base`.
-pub(crate) fn sizes_along(mode: WritingMode, style: &Style, base: Option<i64>) -> Sizes
-    requires style { IsBounded style.now }
-    requires base { IsBase base }
-    ensures { result ≡ rule.sizes_along mode style.now base }
-{
-    let declared = declared_on(mode.is_horizontal(), style);
-    Sizes {
-        size: resolved(declared.size, base),
-        min: resolved_or_zero(declared.min, base),
-        max: resolved(declared.max, base),
+    /// What the style asks for along the lines of a mode.
+    pub(crate) fn sizes_along(&self, mode: WritingMode) -> Sizes
+        ensures { result ≡ rule.sizes_along mode self.now.style.now self.now.base }
+    {
+        let declared = self.declared_on(mode.is_horizontal());
+        Sizes {
+            size: resolved(declared.size, self.base),
+            min: resolved_or_zero(declared.min, self.base),
+            max: resolved(declared.max, self.base),
+        }
     }
-}
 
-/// What a style asks for across the lines of a mode, where percentages refer to `base`: the size, where it is definite.
-pub(crate) fn sizes_across(mode: WritingMode, style: &Style, base: Option<i64>) -> Sizes
-    requires style { IsBounded style.now }
-    requires base { IsBase base }
-    ensures { result ≡ rule.sizes_across mode style.now base }
-{
-    let declared = declared_on(!mode.is_horizontal(), style);
-    Sizes {
-        size: definite_block(declared.size, base),
-        min: resolved_or_zero(declared.min, base),
-        max: resolved(declared.max, base),
+    /// What the style asks for across the lines of a mode: the size, where it is definite.
+    pub(crate) fn sizes_across(&self, mode: WritingMode) -> Sizes
+        ensures { result ≡ rule.sizes_across mode self.now.style.now self.now.base }
+    {
+        let declared = self.declared_on(!mode.is_horizontal());
+        Sizes {
+            size: definite_block(declared.size, self.base),
+            min: resolved_or_zero(declared.min, self.base),
+            max: resolved(declared.max, self.base),
+        }
     }
 }
 
@@ -151,34 +149,38 @@ pub(crate) fn block_base(parallel: bool, c: Constraint) -> Option<i64>
     if parallel { c.block } else { c.inline }
 }
 
-/// What a style asks for on its own inline axis.
-pub(crate) fn inline_sizes(containing: Containing, style: &Style, c: Constraint) -> Sizes
-    requires style { IsBounded style.now }
-    requires constraint { reach.IsBounded c }
-    ensures { result ≡ rule.inline_sizes containing style.now c }
-{
-    let base = inline_base(containing.is_parallel(style), c);
-    sizes_along(style.mode, style, base)
-}
+impl ContainedStyle<'_> {
+    /// What the style asks for on its own inline axis.
+    pub(crate) fn inline_sizes(&self) -> Sizes
+        ensures { result ≡ rule.inline_sizes self.now.containing self.now.style.now self.now.c }
+    {
+        let base = inline_base(self.containing.is_parallel(self.style), self.c);
+        let based = BasedStyle {
+            style: self.style,
+            base,
+        };
+        based.sizes_along(self.style.mode)
+    }
 
-/// What a style asks for on its own block axis.
-pub(crate) fn block_sizes(containing: Containing, style: &Style, c: Constraint) -> Sizes
-    requires style { IsBounded style.now }
-    requires constraint { reach.IsBounded c }
-    ensures { result ≡ rule.block_sizes containing style.now c }
-{
-    let base = block_base(containing.is_parallel(style), c);
-    sizes_across(style.mode, style, base)
-}
+    /// What the style asks for on its own block axis.
+    pub(crate) fn block_sizes(&self) -> Sizes
+        ensures { result ≡ rule.block_sizes self.now.containing self.now.style.now self.now.c }
+    {
+        let base = block_base(self.containing.is_parallel(self.style), self.c);
+        let based = BasedStyle {
+            style: self.style,
+            base,
+        };
+        based.sizes_across(self.style.mode)
+    }
 
-/// The block size of a box, where it is definite: a length, or a percentage of a size that is (CSS 2, 10.5).
-pub(crate) fn definite(containing: Containing, style: &Style, c: Constraint) -> Option<i64>
-    requires style { IsBounded style.now }
-    requires constraint { reach.IsBounded c }
-    ensures value { result ≡ rule.definite containing style.now c }
-    ensures near { IsBase result }
-{
-    block_sizes(containing, style, c).given()
+    /// The block size of the box, where it is definite: a length, or a percentage of a size that is (CSS 2, 10.5).
+    pub(crate) fn definite(&self) -> Option<i64>
+        ensures value { result ≡ rule.definite self.now.containing self.now.style.now self.now.c }
+        ensures near { IsBase result }
+    {
+        self.block_sizes().given()
+    }
 }
 
 /// Whether it stands in a paragraph as an inline-block.

@@ -1,19 +1,17 @@
 //! The inline size of a box before its content is laid out: whether it is definite, and on which children it depends (CSS Sizing 3, 2 and
 //! 5).
 
-ghost use Rattle.std.specs.Prelude.{◌≡◌, Some};
-ghost use Rattle.style_types.specs.Style.{IsBounded};
-ghost use Rattle.relayout.specs.Reach as reach;
+ghost use Rattle.std.specs.Prelude.{◌≡◌, None, Some};
 ghost use Rattle.relayout.specs.Reach.{IsBase};
+ghost use Rattle.relayout.specs.Sizes.{sizes_along};
 ghost use Rattle.relayout.specs.Step as rule;
 ghost use Rattle.relayout.specs.Step.{IsInlineSize, under};
 
-use crate::inline::known_size;
-use crate::sizes::{Containing, sizes_along};
+use crate::sizes::{Containing, Sizes};
+use crate::styled::{BasedStyle, ContainedStyle};
 use box_arena::BoxKey;
 use fragment_types::Constraint;
 use line_fill::Intrinsic;
-use style_types::Style;
 
 /// How a box is sized, as far as that doesn't depend on its content.
 #[derive(Clone, Copy, Debug, PartialEq, Eq)]
@@ -82,29 +80,35 @@ impl InlineSize {
     }
 }
 
-/// Whether a box is measured alone.
-pub(crate) fn is_measured(containing: Containing, style: &Style, c: Constraint) -> bool
-    ensures { result ≡ rule.is_measured containing style.now c }
-{
-    containing.is_parallel(style) && c.inline.is_none()
-}
+impl ContainedStyle<'_> {
+    /// Whether the box is measured alone.
+    pub(crate) fn is_measured(&self) -> bool
+        ensures { result ≡ rule.is_measured self.now.containing self.now.style.now self.now.c }
+    {
+        self.containing.is_parallel(self.style) && self.c.inline.is_none()
+    }
 
-/// Its inline size, where that is definite.
-pub(crate) fn definite_under(
-    measures: bool,
-    containing: Containing,
-    style: &Style,
-    c: Constraint,
-) -> Option<i64>
-    requires style { IsBounded style.now }
-    requires constraint { reach.IsBounded c }
-    ensures value { result ≡ rule.definite_under measures containing style.now c }
-    ensures near { IsBase result }
-{
-    if measures {
-        sizes_along(containing.mode, style, None).given()
-    } else {
-        known_size(containing, style, c)
+    /// Its inline size, where that is definite. `measures` tells whether it is measured alone.
+    pub(crate) fn definite_under(&self, measures: bool) -> Option<i64>
+        ensures value { result ≡ rule.definite_under measures self.now.containing self.now.style.now self.now.c }
+        ensures near { IsBase result }
+    {
+        if measures {
+            self.sizes_measured().given()
+        } else {
+            self.known_size()
+        }
+    }
+
+    /// What the style asks for on the containing block's inline axis, where its size isn't known.
+    pub(crate) fn sizes_measured(&self) -> Sizes
+        ensures { result ≡ sizes_along self.now.containing.mode self.now.style.now None }
+    {
+        let based = BasedStyle {
+            style: self.style,
+            base: None,
+        };
+        based.sizes_along(self.containing.mode)
     }
 }
 

@@ -12,25 +12,23 @@ ghost use Rattle.relayout.specs.Flowed.{AreLaid, Laid, Member, part_of};
 ghost use Rattle.relayout.specs.Inline.{Outside};
 ghost use Rattle.relayout.specs.Intrinsic as intrinsic;
 ghost use Rattle.relayout.specs.Intrinsic.{IsTextOf};
-ghost use Rattle.relayout.specs.Near.{HasReach, IsNearLaid};
+ghost use Rattle.relayout.specs.Near.{HasReach};
 ghost use Rattle.relayout.specs.Paragraph.{HasAtoms};
 ghost use Rattle.relayout.specs.Reach.{IsContribution, IsBase, IsContent, IsPageView};
 ghost use Rattle.relayout.specs.Row.{HasBox, IsBoxAt};
 ghost use Rattle.relayout.specs.Step as rule;
-ghost use Rattle.relayout.specs.Step.{AreUnder, HasChildren, IsFlowBox, IsInlineSize, under};
+ghost use Rattle.relayout.specs.Step.{AreUnder, HasChildren, IsInlineSize, under};
 
-use crate::boxed::{boxed, handed_on, measured};
-use crate::content::filled;
-use crate::flowed::LaidBox;
-use crate::inline::{PageView, shrunk};
-use crate::intrinsic::{contributed, inner};
+use crate::flow_box::FlowBox;
+use crate::inline::PageView;
+use crate::inside::{Contributions, LaidInside};
+use crate::intrinsic::contributed;
 use crate::row::RowBox;
-use crate::sizes::{Containing, sizes_along};
-use crate::sizing::{InlineSize, Sizing, definite_size, definite_under, is_measured};
+use crate::sizes::Containing;
+use crate::sizing::{InlineSize, Sizing, definite_size};
 use box_arena::BoxArena;
-use box_gen::BoxNode;
 use face_api::{Face, Faces};
-use fragment_types::{Constraint, Fragment};
+use fragment_types::Fragment;
 use line_fill::Intrinsic;
 use para_prepare::Prepared;
 use std::alloc::{AllocError, Global};
@@ -38,33 +36,22 @@ use std::sync::ledger::Ledger;
 use wm_modes::WritingMode;
 use wm_units::Steps;
 
-/// A box in its containing block: what that is to it, and its sizes; the box itself, and the prepared text of the paragraph that it
-/// holds, if it holds one.
-#[derive(Clone, Copy)]
-pub(crate) struct FlowBox<'a> {
-    pub(crate) containing: Containing,
-    pub(crate) c: Constraint,
-    pub(crate) node: &'a BoxNode,
-    pub(crate) text: Option<&'a Prepared>,
-}
-
 /// The min-content and max-content contributions of children.
-type Contributions = Vec<Intrinsic>;
+type IntrinsicSizes = Vec<Intrinsic>;
 
 // The contributions of children to a containing block of this mode.
-fn contributions(
+fn contributions_of(
     alloc: Global,
     mode: WritingMode,
-    children: &[LaidBox],
-) -> Result<Contributions, AllocError>
-    requires near { All IsNearLaid children.now }
-    ensures value { IfOk result (λ made. (handed : Option ℤ) (members : List Member) → AreUnder (under None handed) children.now members → made.items ≡ map (intrinsic.contribution mode handed) members) }
+    children: LaidInside<'_>,
+) -> Result<IntrinsicSizes, AllocError>
+    ensures value { IfOk result (λ made. (handed : Option ℤ) (members : List Member) → AreUnder (under None handed) children.entry.boxes.now members → made.items ≡ map (intrinsic.contribution mode handed) members) }
     ensures near { IfOk result (λ made. All IsContribution made.items) }
-    ensures count { IfOk result (λ made. length made.items ≡ length children.now) }
+    ensures count { IfOk result (λ made. length made.items ≡ length children.entry.boxes.now) }
 {
-    let mut made = Vec::with_capacity(alloc, children.len())?;
-    for child in children {
-        made.push(contributed(mode, &child.style, &child.fragment))?;
+    let mut made = Vec::with_capacity(alloc, children.boxes.len())?;
+    for child in children.boxes {
+        made.push(contributed(mode, child))?;
     }
     Ok(made)
 }
@@ -85,46 +72,45 @@ impl<'a> FlowBox<'a> {
 
     /// How it is sized.
     pub(crate) fn sizing(&self) -> Sizing
-        requires { IsFlowBox self.now }
         ensures sizing { result ≡ rule.sizing_of self.now.containing (node_of self.now.node.now) self.now.c }
         ensures handed { IsBase result.handed }
         ensures definite { IsBase result.definite }
     {
-        let style = &self.node.style;
-        let measures = is_measured(self.containing, style, self.c);
+        let own = self.contained_style();
+        let measures = own.is_measured();
         Sizing {
-            own: Containing::of(style),
-            handed: handed_on(self.containing, self.node, self.c),
+            own: Containing::of(&self.node.style),
+            handed: self.handed_on(),
             measures,
-            definite: definite_under(measures, self.containing, style, self.c),
+            definite: own.definite_under(measures),
         }
     }
 
     // The min-content and the max-content size of its content, where it has these children.
-    fn content_sizes(&self, alloc: Global, children: &[LaidBox]) -> Result<Intrinsic, AllocError>
-        requires own { IsFlowBox self.now }
-        requires near { All IsNearLaid children.now }
-        requires count { length children.now ≤ 2 ^ 18 }
-        ensures value { IfOk result (λ sizes. (faces : List (Option Table)) (handed : Option ℤ) (members : List Member) → IsTextOf faces self.now.node.now.style (content_of self.now.node.now.content) (option_copied self.now.text) → AreUnder (under None handed) children.now members → sizes ≡ intrinsic.inner faces self.now.node.now.style (content_of self.now.node.now.content) handed members) }
+    fn content_sizes(
+        &self,
+        alloc: Global,
+        children: LaidInside<'_>,
+    ) -> Result<Intrinsic, AllocError>
+        ensures value { IfOk result (λ sizes. (faces : List (Option Table)) (handed : Option ℤ) (members : List Member) → IsTextOf faces self.now.node.now.style (content_of self.now.node.now.content) (option_copied self.now.text) → AreUnder (under None handed) children.entry.boxes.now members → sizes ≡ intrinsic.inner faces self.now.node.now.style (content_of self.now.node.now.content) handed members) }
         ensures near { IfOk result IsContent }
     {
-        let contributions = contributions(alloc, self.node.style.mode, children)?;
-        let sizes = inner(alloc, &self.node.content, self.text, &contributions)?;
+        let made = contributions_of(alloc, self.node.style.mode, children)?;
+        let sizes = self.inner_sizes(alloc, Contributions { sizes: &made })?;
         Ok(sizes)
     }
 
     // Its inline size, where its content has these sizes.
     fn size_by_content(&self, view: PageView, measures: bool, content: Intrinsic) -> InlineSize
-        requires own { IsFlowBox self.now }
-        requires view { IsPageView view }
+        requires { IsPageView view }
         ensures value { result ≡ rule.size_by_content view measures self.now.containing self.now.node.now.style self.now.c content }
         ensures near { IsInlineSize result }
     {
-        let style = &self.node.style;
+        let own = self.contained_style();
         if measures {
-            InlineSize::MinMax(sizes_along(self.containing.mode, style, None).hold_both(content))
+            InlineSize::MinMax(own.sizes_measured().hold_both(content))
         } else {
-            InlineSize::Used(shrunk(view, self.containing, style, self.c, content))
+            InlineSize::Used(own.shrunk(view, content))
         }
     }
 
@@ -134,15 +120,12 @@ impl<'a> FlowBox<'a> {
         alloc: Global,
         view: PageView,
         sizing: Sizing,
-        children: &[LaidBox],
+        children: LaidInside<'_>,
     ) -> Result<InlineSize, AllocError>
-        requires own { IsFlowBox self.now }
         requires view { IsPageView view }
         requires sizing { sizing ≡ rule.sizing_of self.now.containing (node_of self.now.node.now) self.now.c }
         requires definite { IsBase sizing.definite }
-        requires near { All IsNearLaid children.now }
-        requires count { length children.now ≤ 2 ^ 18 }
-        ensures value { IfOk result (λ size. (outside : Outside) (members : List Member) → outside.view ≡ view → IsTextOf outside.faces self.now.node.now.style (content_of self.now.node.now.content) (option_copied self.now.text) → (sizing.definite ≡ None → AreUnder (under None sizing.handed) children.now members) → size ≡ rule.inline_size_of outside self.now.containing (node_of self.now.node.now) self.now.c members) }
+        ensures value { IfOk result (λ size. (outside : Outside) (members : List Member) → outside.view ≡ view → IsTextOf outside.faces self.now.node.now.style (content_of self.now.node.now.content) (option_copied self.now.text) → (sizing.definite ≡ None → AreUnder (under None sizing.handed) children.entry.boxes.now members) → size ≡ rule.inline_size_of outside self.now.containing (node_of self.now.node.now) self.now.c members) }
         ensures near { IfOk result IsInlineSize }
     {
         match sizing.definite {
@@ -161,21 +144,18 @@ impl<'a> FlowBox<'a> {
         alloc: Global,
         faces: &Faces,
         size: InlineSize,
-        children: &[LaidBox],
+        children: LaidInside<'_>,
         arranged: &mut Steps<L>,
     ) -> Result<Fragment, AllocError>
-        requires own { IsFlowBox self.now }
         requires size { IsInlineSize size }
-        requires near { All IsNearLaid children.now }
-        requires count { length children.now ≤ 2 ^ 18 }
-        requires children { HasChildren size (content_of self.now.node.now.content) (length children.now) }
+        requires children { HasChildren size (content_of self.now.node.now.content) (length children.boxes.now) }
         ensures most { (arranged.old ≤ arranged.new) × (arranged.new ≤ arranged.old + 1) }
-        ensures part { IfOk result (λ made. (outside : Outside) (members : List Member) → outside.faces ≡ faces_of ⟦<dyn Face as Face>⟧ faces.now → IsTextOf outside.faces self.now.node.now.style (content_of self.now.node.now.content) (option_copied self.now.text) → rule.AreInside self.now.containing (node_of self.now.node.now) self.now.c size children.now members → part_of made ≡ (rule.box_by outside self.now.containing (node_of self.now.node.now) self.now.c size members).part) }
-        ensures reach { IfOk result (λ made. (list : List Laid) (reach : ℕ) → AreLaid children.now list → All (HasReach reach) children.now → spread (part_of made).inner ≤ reach + room_in (content_of self.now.node.now.content) + (length children.now + 1) * 2 ^ 38) }
+        ensures part { IfOk result (λ made. (outside : Outside) (members : List Member) → outside.faces ≡ faces_of ⟦<dyn Face as Face>⟧ faces.now → IsTextOf outside.faces self.now.node.now.style (content_of self.now.node.now.content) (option_copied self.now.text) → rule.AreInside self.now.containing (node_of self.now.node.now) self.now.c size children.entry.boxes.now members → part_of made ≡ (rule.box_by outside self.now.containing (node_of self.now.node.now) self.now.c size members).part) }
+        ensures reach { IfOk result (λ made. (list : List Laid) (reach : ℕ) → AreLaid children.entry.boxes.now list → All (HasReach reach) children.entry.boxes.now → spread (part_of made).inner ≤ reach + room_in (content_of self.now.node.now.content) + (length children.entry.boxes.now + 1) * 2 ^ 38) }
     {
         match size {
             InlineSize::MinMax(content) => {
-                let made = measured(alloc, self, content)?;
+                let made = self.measured(alloc, content)?;
                 Ok(made)
             }
             InlineSize::Used(used) => {
@@ -191,20 +171,17 @@ impl<'a> FlowBox<'a> {
         alloc: Global,
         faces: &Faces,
         size: i64,
-        children: &[LaidBox],
+        children: LaidInside<'_>,
         arranged: &mut Steps<L>,
     ) -> Result<Fragment, AllocError>
-        requires own { IsFlowBox self.now }
         requires size { IsBase (Some size) }
-        requires near { All IsNearLaid children.now }
-        requires count { length children.now ≤ 2 ^ 18 }
-        requires atoms { HasAtoms (content_of self.now.node.now.content) (length children.now) }
+        requires atoms { HasAtoms (content_of self.now.node.now.content) (length children.boxes.now) }
         ensures most { (arranged.old ≤ arranged.new) × (arranged.new ≤ arranged.old + 1) }
-        ensures part { IfOk result (λ made. (outside : Outside) (members : List Member) → outside.faces ≡ faces_of ⟦<dyn Face as Face>⟧ faces.now → IsTextOf outside.faces self.now.node.now.style (content_of self.now.node.now.content) (option_copied self.now.text) → rule.AreLaidUnder self.now.containing (node_of self.now.node.now) self.now.c size children.now members → part_of made ≡ (rule.box_by outside self.now.containing (node_of self.now.node.now) self.now.c (rule.used_size size) members).part) }
-        ensures reach { IfOk result (λ made. (list : List Laid) (reach : ℕ) → AreLaid children.now list → All (HasReach reach) children.now → spread (part_of made).inner ≤ reach + room_in (content_of self.now.node.now.content) + (length children.now + 1) * 2 ^ 38) }
+        ensures part { IfOk result (λ made. (outside : Outside) (members : List Member) → outside.faces ≡ faces_of ⟦<dyn Face as Face>⟧ faces.now → IsTextOf outside.faces self.now.node.now.style (content_of self.now.node.now.content) (option_copied self.now.text) → rule.AreLaidUnder self.now.containing (node_of self.now.node.now) self.now.c size children.entry.boxes.now members → part_of made ≡ (rule.box_by outside self.now.containing (node_of self.now.node.now) self.now.c (rule.used_size size) members).part) }
+        ensures reach { IfOk result (λ made. (list : List Laid) (reach : ℕ) → AreLaid children.entry.boxes.now list → All (HasReach reach) children.entry.boxes.now → spread (part_of made).inner ≤ reach + room_in (content_of self.now.node.now.content) + (length children.entry.boxes.now + 1) * 2 ^ 38) }
     {
-        let content = filled(alloc, self, size, children, faces, arranged)?;
-        let made = boxed(alloc, self, size, content)?;
+        let content = self.filled(alloc, size, children, faces, arranged)?;
+        let made = self.boxed(alloc, size, content)?;
         Ok(made)
     }
 }

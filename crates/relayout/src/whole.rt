@@ -15,12 +15,13 @@ ghost use Rattle.relayout.specs.Relayout as rule;
 ghost use Rattle.relayout.specs.Relayout.{AreRightUnder, HasTree, IsLayout, IsSteadyUnder, IsView};
 ghost use Rattle.relayout.specs.Row.{from_outside};
 
-use crate::edges::{margin_or_zero, side_in};
+use crate::edges::side_in;
 use crate::flowed::LaidBox;
 use crate::flowing::Flow;
-use crate::inline::{PageView, inline_place};
+use crate::inline::PageView;
 use crate::row::{Page, Row};
 use crate::sizes::Containing;
+use crate::styled::ChildStyle;
 use box_arena::{BoxArena, BoxKey};
 use bumpalo::Bump;
 use face_api::{Face, Faces};
@@ -63,9 +64,14 @@ fn in_view(root: &LaidBox, view: View) -> Result<Fragment, AllocError>
     let style = &root.style;
     let rect = root.fragment.rect;
     let start = side_in(style.mode, FlowSide::BlockStart);
+    let styled = ChildStyle {
+        containing: Containing::of(style),
+        style,
+        inline: view.inline,
+    };
     let made = root.fragment.moved_to(FlowRect {
-        i: inline_place(Containing::of(style), view.inline, style, rect.inline),
-        b: margin_or_zero(style, Some(view.inline), start),
+        i: styled.inline_place(rect.inline),
+        b: styled.based_style().margin_or_zero(start),
         ..rect
     })?;
     Ok(made)

@@ -17,7 +17,7 @@ loop-child-preserved c =
     let P : List code.Atom → Type 0 = λ atoms. All near atoms in
     record {
       are = ap (map atom_of) c.in_ok-push.ensures.items
-          ∙ one_more_atom (λ own. atom_in c.args.style.now (to_z w64 (of_z w64 c.args.size)) (as_laid own)) c.loop-child.made.items c.in_ok-atom_in.field-0 c.args.laid.now c.loop-child.child-index c.child-item.result
+          ∙ one_more_atom (λ own. atom_in c.args.style.now (to_z w64 (of_z w64 c.args.size)) (as_laid own)) c.loop-child.made.items c.in_ok-atom_in.field-0 c.args.laid.boxes.now c.loop-child.child-index c.child-item.result
           c.loop-child-test.true c.child-item.is c.loop-child.invariant.are c.in_ok-atom_in.ensures.value;
       near = subst P (sym c.in_ok-push.ensures.items) (All-push near c.loop-child.made.items c.in_ok-atom_in.field-0 c.loop-child.invariant.near c.in_ok-atom_in.ensures.near);
     }
@@ -25,5 +25,5 @@ loop-child-preserved c =
 pub returns-clause-are : goal.returns-clause-are
 returns-clause-are c =
     c.loop-child.invariant.are
-    ∙ ap (map (λ own. atom_in c.args.style.now (to_z w64 (of_z w64 c.args.size)) (as_laid own))) (take_all c.loop-child.child-index c.args.laid.now (omega arith))
-    ∙ ap (λ z. map (λ own. atom_in c.args.style.now z (as_laid own)) c.args.laid.now) (to_z-of_z w64 c.args.size c.ranges.size)
+    ∙ ap (map (λ own. atom_in c.args.style.now (to_z w64 (of_z w64 c.args.size)) (as_laid own))) (take_all c.loop-child.child-index c.args.laid.boxes.now (omega arith))
+    ∙ ap (λ z. map (λ own. atom_in c.args.style.now z (as_laid own)) c.args.laid.boxes.now) (to_z-of_z w64 c.args.size c.ranges.size)

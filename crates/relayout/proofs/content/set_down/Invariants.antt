@@ -6,5 +6,5 @@ use Rattle.relayout.proofs.content.set_down.Given as goal
 
 abbrev pub invariant-loop-k : goal.invariant-loop-k
 invariant-loop-k l =
-    followed l.made.items (set_down l.own l.size (drop l.k (map as_laid l.laid)) (drop l.k l.places))
-    ≡ set_down l.own l.size (map as_laid l.laid) l.places
+    followed l.made.items (set_down l.own l.size (drop l.k (map as_laid l.laid.boxes.now)) (drop l.k l.places))
+    ≡ set_down l.own l.size (map as_laid l.laid.boxes.now) l.places

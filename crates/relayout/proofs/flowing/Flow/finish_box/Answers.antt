@@ -15,11 +15,10 @@ use Rattle.relayout.proofs.flowing.Flow.finish_box.Goals as goal
 pub at-flow_box-requires : goal.at-flow_box-requires
 at-flow_box-requires g c = c.requires.sized.seen.box
 
-pub laid-requires-clause-near : goal.laid-requires-clause-near
-laid-requires-clause-near g c = (sized_near _ _ _ _ _ c.requires.sized c.requires.flowed).0
-
-pub laid-requires-clause-count : goal.laid-requires-clause-count
-laid-requires-clause-count g c = (sized_near _ _ _ _ _ c.requires.sized c.requires.flowed).1
+pub invariant_of-children : goal.invariant_of-children
+invariant_of-children g c =
+    let near = sized_near _ _ _ _ _ c.requires.sized c.requires.flowed in
+    record { near = near.0; few = near.1 }
 
 pub laid-requires-clause-children : goal.laid-requires-clause-children
 laid-requires-clause-children g c =

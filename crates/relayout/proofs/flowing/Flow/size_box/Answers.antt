@@ -21,11 +21,10 @@ inline_size-requires-clause-sizing g c =
     let P : Containing → Node → Constraint → Option Preparation → Type 0 = λ containing node sizes text. c.args.begun.now.sizing ≡ sizing_of containing node sizes in
     to_code _ c.args.own.now c.requires.begun.seen.box c.at-flow_box.result c.at-flow_box.ensures P c.requires.begun.sizing
 
-pub inline_size-requires-clause-near : goal.inline_size-requires-clause-near
-inline_size-requires-clause-near g c = (begun_near _ _ _ _ _ c.requires.begun c.requires.flowed).0
-
-pub inline_size-requires-clause-count : goal.inline_size-requires-clause-count
-inline_size-requires-clause-count g c = (begun_near _ _ _ _ _ c.requires.begun c.requires.flowed).1
+pub invariant_of-children : goal.invariant_of-children
+invariant_of-children g c =
+    let near = begun_near _ _ _ _ _ c.requires.begun c.requires.flowed in
+    record { near = near.0; few = near.1 }
 
 pub first-requires : goal.first-requires
 first-requires g c = lives_there c.args.self.now.arena.now c.args.own.now.key c.requires.begun.seen.box.node c.requires.begun.seen.box.is
