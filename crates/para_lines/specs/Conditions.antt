@@ -40,7 +40,7 @@ pub record IsSetting (entries : List Entry) (container : Container) (standings :
 
 -- ---- in one way at most
 
-HasBounds-prop : (entry : Entry) → IsProp (HasBounds entry)
+pub HasBounds-prop : (entry : Entry) → IsProp (HasBounds entry)
 HasBounds-prop (begins node style edges) = IsBounded-prop style
 HasBounds-prop (ends node edges) = hlevel props
 HasBounds-prop (text node bytes style) = hlevel props

@@ -25,7 +25,7 @@ IsFontSize-prop style x y =
       high = high_prop x.high y.high i;
     }
 
-HasFontSize-prop : (entry : Entry) → IsProp (HasFontSize entry)
+pub HasFontSize-prop : (entry : Entry) → IsProp (HasFontSize entry)
 HasFontSize-prop (text node bytes style) = IsFontSize-prop style
 HasFontSize-prop (begins node style edges) = Unit-prop
 HasFontSize-prop (ends node edges) = Unit-prop
@@ -35,7 +35,7 @@ HasFontSize-prop (line_break node) = Unit-prop
 pub all_sized-prop : (entries : List Entry) → IsProp (All HasFontSize entries)
 all_sized-prop entries = Π_prop λ k. Π_prop λ d. Π_prop λ below. HasFontSize-prop _
 
-HasBounds-prop : (what : content.PreparedContent) → IsProp (HasBounds what)
+pub HasBounds-prop : (what : content.PreparedContent) → IsProp (HasBounds what)
 HasBounds-prop (contents.Unit form space node first end_ advance glyphs) = hlevel props
 HasBounds-prop (contents.Combined node first end_ advance natural glyphs) = hlevel props
 HasBounds-prop (contents.Atom name) = Unit-prop
