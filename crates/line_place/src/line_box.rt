@@ -5,9 +5,9 @@ ghost use Rattle.std.specs.Int.{int_max};
 ghost use Rattle.std.specs.List.{All, flat_map, fold};
 ghost use Rattle.fragment_types.specs.Fragment.{pieces_of};
 ghost use Rattle.line_place.specs.Line.{line_in, line_of};
-ghost use Rattle.line_place.specs.Marks.{ShowAtomsFirst, mark_of};
+ghost use Rattle.line_place.specs.Marks.{mark_of};
 ghost use Rattle.line_place.specs.Placing as rule;
-ghost use Rattle.line_place.specs.Reach.{AreInBoxes, AreInLimit, AreNested, AreOfBoxes, ArePaired, AreReached, HasLimit, IsAtomic, IsBefore, extents_reach, line_reach, mark_reach, total};
+ghost use Rattle.line_place.specs.Reach.{AreInLimit, AreLineMarks, AreNested, AreOfBoxes, AreReached, HasLimit, IsAtomic, IsBefore, extents_reach, line_reach, mark_reach, total};
 
 use crate::leaves::{LeafSlice, leaves};
 use crate::line::{LineFrame, LineInput};
@@ -74,10 +74,7 @@ fn of_marks<S: LineSource>(
     line: &LineFrame,
     marks: &[Mark<S>],
 ) -> Result<LineFragment, AllocError>
-    requires of_boxes { AreOfBoxes (length line.now.boxes.now) (map mark_of marks.now) }
-    requires in_boxes { AreInBoxes (length line.now.boxes.now) (map mark_of marks.now) }
-    requires atoms { ShowAtomsFirst (map mark_of marks.now) }
-    requires paired { ArePaired 0 (map mark_of marks.now) }
+    requires marks { AreLineMarks (length line.now.boxes.now) (map mark_of marks.now) }
     requires boxes { AreReached line.now.boxes.now }
     requires strut { extents_reach line.now.strut ≤ 2 ^ 60 }
     requires reach { unsigned_abs line.now.available + total (mark_reach line.now.boxes.now) (map mark_of marks.now) ≤ 2 ^ 60 }

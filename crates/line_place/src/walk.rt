@@ -7,7 +7,7 @@ ghost use Rattle.line_place.specs.Leaves.{nth_leaf, seen};
 ghost use Rattle.line_place.specs.Line.{line_in};
 ghost use Rattle.line_place.specs.Marks.{Mark as SeenMark, box_at, inside_of, mark_of};
 ghost use Rattle.line_place.specs.Placing as rule;
-ghost use Rattle.line_place.specs.Reach.{AreInBoxes, AreOfBoxes, ArePaired, AreReached, CanStand, IsBefore, IsInBox, IsOfBox, box_reach, extents_reach, leaf_reach, mark_reach, open_behind, total};
+ghost use Rattle.line_place.specs.Reach.{AreLineMarks, AreReached, CanStand, IsBefore, IsInBox, IsOfBox, box_reach, extents_reach, leaf_reach, mark_reach, open_behind, total};
 ghost use Rattle.line_place.specs.declared.walk.Open.{Open};
 ghost use Rattle.line_place.specs.Walk.{AreOpen, followed, followed_if, whole};
 
@@ -349,9 +349,7 @@ pub(crate) fn walked<S: LineSource>(
     at: i64,
     marks: &[Mark<S>],
 ) -> Result<Fragments, AllocError>
-    requires of_boxes { AreOfBoxes (length stage.now.frame.now.boxes.now) (map mark_of marks.now) }
-    requires in_boxes { AreInBoxes (length stage.now.frame.now.boxes.now) (map mark_of marks.now) }
-    requires paired { ArePaired 0 (map mark_of marks.now) }
+    requires marks { AreLineMarks (length stage.now.frame.now.boxes.now) (map mark_of marks.now) }
     requires at { unsigned_abs at ≤ 2 ^ 60 }
     requires reach { total (mark_reach stage.now.frame.now.boxes.now) (map mark_of marks.now) ≤ 2 ^ 60 }
     ensures { IfOk result (λ parts. pieces_of parts.items ≡ rule.outermost (rule.rows (line_in stage.now.frame.now []) stage.now.over at (map mark_of marks.now))) }

@@ -14,7 +14,7 @@ invariant_of-stage-clause-near g c =
     let o : c.line_over-over.result ≡ fold int_max c.args.line.now.strut.over (flat_map (rule.over_of c.args.line.now.boxes.now) (map mark_of c.args.marks.now)) =
     c.line_over-over.ensures
     ∙ ap (λ (z : ℤ). fold int_max z (flat_map (rule.over_of c.args.line.now.boxes.now) (map mark_of c.args.marks.now))) (held c.args.line.now.strut.over (omega (arith, c.requires.strut))) in
-    let k = over_close c.args.line.now.boxes.now (map mark_of c.args.marks.now) c.args.line.now.strut.over c.requires.of_boxes c.requires.boxes (omega (arith, c.requires.reach)) (omega (arith, c.requires.strut)) in
+    let k = over_close c.args.line.now.boxes.now (map mark_of c.args.marks.now) c.args.line.now.strut.over c.requires.marks.of_boxes c.requires.boxes (omega (arith, c.requires.reach)) (omega (arith, c.requires.strut)) in
     let h : unsigned_abs c.line_over-over.result ≤ 2 ^ 61 = omega (arith, ints, o, k) in
     let P : ℤ → Type 0 = λ z. unsigned_abs z ≤ 2 ^ 61 in
     subst P (sym (held c.line_over-over.result (omega (arith, h)))) h
@@ -24,7 +24,7 @@ returns-clause-over g c =
     let o : c.line_over-over.result ≡ fold int_max c.args.line.now.strut.over (flat_map (rule.over_of c.args.line.now.boxes.now) (map mark_of c.args.marks.now)) =
     c.line_over-over.ensures
     ∙ ap (λ (z : ℤ). fold int_max z (flat_map (rule.over_of c.args.line.now.boxes.now) (map mark_of c.args.marks.now))) (held c.args.line.now.strut.over (omega (arith, c.requires.strut))) in
-    let k = over_close c.args.line.now.boxes.now (map mark_of c.args.marks.now) c.args.line.now.strut.over c.requires.of_boxes c.requires.boxes (omega (arith, c.requires.reach)) (omega (arith, c.requires.strut)) in
+    let k = over_close c.args.line.now.boxes.now (map mark_of c.args.marks.now) c.args.line.now.strut.over c.requires.marks.of_boxes c.requires.boxes (omega (arith, c.requires.reach)) (omega (arith, c.requires.strut)) in
     held c.line_over-over.result (omega (arith, ints, o, k)) ∙ o
 
 pub returns-clause-under : goal.returns-clause-under
@@ -32,7 +32,7 @@ returns-clause-under g c =
     let o : c.line_under-under.result ≡ fold int_max c.args.line.now.strut.under (flat_map (rule.under_of c.args.line.now.boxes.now) (map mark_of c.args.marks.now)) =
     c.line_under-under.ensures
     ∙ ap (λ (z : ℤ). fold int_max z (flat_map (rule.under_of c.args.line.now.boxes.now) (map mark_of c.args.marks.now))) (held c.args.line.now.strut.under (omega (arith, c.requires.strut))) in
-    let k = under_close c.args.line.now.boxes.now (map mark_of c.args.marks.now) c.args.line.now.strut.under c.requires.of_boxes c.requires.boxes (omega (arith, c.requires.reach)) (omega (arith, c.requires.strut)) in
+    let k = under_close c.args.line.now.boxes.now (map mark_of c.args.marks.now) c.args.line.now.strut.under c.requires.marks.of_boxes c.requires.boxes (omega (arith, c.requires.reach)) (omega (arith, c.requires.strut)) in
     held c.line_under-under.result (omega (arith, ints, o, k)) ∙ o
 
 pub returns-clause-near : goal.returns-clause-near
@@ -43,8 +43,8 @@ returns-clause-near g c =
     let u : c.line_under-under.result ≡ fold int_max c.args.line.now.strut.under (flat_map (rule.under_of c.args.line.now.boxes.now) (map mark_of c.args.marks.now)) =
     c.line_under-under.ensures
     ∙ ap (λ (z : ℤ). fold int_max z (flat_map (rule.under_of c.args.line.now.boxes.now) (map mark_of c.args.marks.now))) (held c.args.line.now.strut.under (omega (arith, c.requires.strut))) in
-    let k = over_close c.args.line.now.boxes.now (map mark_of c.args.marks.now) c.args.line.now.strut.over c.requires.of_boxes c.requires.boxes (omega (arith, c.requires.reach)) (omega (arith, c.requires.strut)) in
-    let l = under_close c.args.line.now.boxes.now (map mark_of c.args.marks.now) c.args.line.now.strut.under c.requires.of_boxes c.requires.boxes (omega (arith, c.requires.reach)) (omega (arith, c.requires.strut)) in
+    let k = over_close c.args.line.now.boxes.now (map mark_of c.args.marks.now) c.args.line.now.strut.over c.requires.marks.of_boxes c.requires.boxes (omega (arith, c.requires.reach)) (omega (arith, c.requires.strut)) in
+    let l = under_close c.args.line.now.boxes.now (map mark_of c.args.marks.now) c.args.line.now.strut.under c.requires.marks.of_boxes c.requires.boxes (omega (arith, c.requires.reach)) (omega (arith, c.requires.strut)) in
     (omega (arith, ints, o, k), omega (arith, ints, u, l))
 
 pub returns-clause-parts : goal.returns-clause-parts

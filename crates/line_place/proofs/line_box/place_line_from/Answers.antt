@@ -6,9 +6,9 @@ use Rattle.line_place.specs.declared.leaves.Leaf as code_leaf
 use Rattle.line_place.specs.declared.marks.Mark as code_mark
 use Rattle.line_place.specs.Leaves.{Leaf, leaf_in, leaves}
 use Rattle.line_place.specs.Line.{Line, line_in}
-use Rattle.line_place.specs.Marks.{Mark, ShowAtomsFirst, mark_of, marks_of}
+use Rattle.line_place.specs.Marks.{Mark, mark_of, marks_of}
 use Rattle.line_place.specs.Placing as rule
-use Rattle.line_place.specs.Reach.{AreInBoxes, AreInLimit, AreOfBoxes, ArePaired, AreWithin, leaf_reach, line_reach, mark_reach, total}
+use Rattle.line_place.specs.Reach.{AreInLimit, AreLineMarks, AreWithin, leaf_reach, line_reach, mark_reach, total}
 use Rattle.line_place.proofs.AtomLaws.{marks_first}
 use Rattle.line_place.proofs.EdgeLaws.{marks_reach}
 use Rattle.line_place.proofs.FragmentLaws.{parts_in}
@@ -30,28 +30,19 @@ marks-requires-clause-within g c =
     let P : List Leaf → Type 0 = λ ls. AreWithin (length c.args.frame.now.boxes.now) ls in
     subst P (sym (c.of_list-leaves.ensures ∙ ap (map (leaf_in (g.S.LineSource.items c.args.source.now))) c.deref.ensures.value ∙ c.in_ok-list.ensures.are)) (leaves_within (length c.args.frame.now.boxes.now) (line_in c.args.frame.now (g.S.LineSource.items c.args.source.now)) c.requires.inside)
 
-pub of_marks-requires-clause-of_boxes : goal.of_marks-requires-clause-of_boxes
-of_marks-requires-clause-of_boxes g c =
-    let P : List Mark → Type 0 = λ ms. AreOfBoxes (length c.args.frame.now.boxes.now) ms in
-    subst P (sym (made (line_in c.args.frame.now (g.S.LineSource.items c.args.source.now)) _ _ _ c.in_ok-marks.ensures c.deref-2.ensures.value (c.of_list-leaves.ensures ∙ ap (map (leaf_in (g.S.LineSource.items c.args.source.now))) c.deref.ensures.value ∙ c.in_ok-list.ensures.are)))
-    (marks_of_boxes c.args.frame.now.boxes.now (leaves (line_in c.args.frame.now (g.S.LineSource.items c.args.source.now))))
-
-pub of_marks-requires-clause-in_boxes : goal.of_marks-requires-clause-in_boxes
-of_marks-requires-clause-in_boxes g c =
-    let P : List Mark → Type 0 = λ ms. AreInBoxes (length c.args.frame.now.boxes.now) ms in
-    subst P (sym (made (line_in c.args.frame.now (g.S.LineSource.items c.args.source.now)) _ _ _ c.in_ok-marks.ensures c.deref-2.ensures.value (c.of_list-leaves.ensures ∙ ap (map (leaf_in (g.S.LineSource.items c.args.source.now))) c.deref.ensures.value ∙ c.in_ok-list.ensures.are)))
-    (marks_in c.args.frame.now.boxes.now (leaves (line_in c.args.frame.now (g.S.LineSource.items c.args.source.now))) (leaves_within (length c.args.frame.now.boxes.now) (line_in c.args.frame.now (g.S.LineSource.items c.args.source.now)) c.requires.inside))
-
-pub of_marks-requires-clause-atoms : goal.of_marks-requires-clause-atoms
-of_marks-requires-clause-atoms g c =
-    subst ShowAtomsFirst (sym (made (line_in c.args.frame.now (g.S.LineSource.items c.args.source.now)) _ _ _ c.in_ok-marks.ensures c.deref-2.ensures.value (c.of_list-leaves.ensures ∙ ap (map (leaf_in (g.S.LineSource.items c.args.source.now))) c.deref.ensures.value ∙ c.in_ok-list.ensures.are)))
-    (marks_first c.args.frame.now.boxes.now (leaves (line_in c.args.frame.now (g.S.LineSource.items c.args.source.now))))
-
-pub of_marks-requires-clause-paired : goal.of_marks-requires-clause-paired
-of_marks-requires-clause-paired g c =
-    let P : List Mark → Type 0 = λ ms. ArePaired 0 ms in
-    subst P (sym (made (line_in c.args.frame.now (g.S.LineSource.items c.args.source.now)) _ _ _ c.in_ok-marks.ensures c.deref-2.ensures.value (c.of_list-leaves.ensures ∙ ap (map (leaf_in (g.S.LineSource.items c.args.source.now))) c.deref.ensures.value ∙ c.in_ok-list.ensures.are)))
-    (marks_paired c.args.frame.now.boxes.now (leaves (line_in c.args.frame.now (g.S.LineSource.items c.args.source.now))) c.requires.nested (leaves_within (length c.args.frame.now.boxes.now) (line_in c.args.frame.now (g.S.LineSource.items c.args.source.now)) c.requires.inside))
+pub of_marks-requires-clause-marks : goal.of_marks-requires-clause-marks
+of_marks-requires-clause-marks g c =
+    let items = g.S.LineSource.items c.args.source.now in
+    let ls : List Leaf = leaves (line_in c.args.frame.now items) in
+    let within = leaves_within (length c.args.frame.now.boxes.now) (line_in c.args.frame.now items) c.requires.inside in
+    let P : List Mark → Type 0 = λ ms. AreLineMarks (length c.args.frame.now.boxes.now) ms in
+    subst P (sym (made (line_in c.args.frame.now items) _ _ _ c.in_ok-marks.ensures c.deref-2.ensures.value (c.of_list-leaves.ensures ∙ ap (map (leaf_in items)) c.deref.ensures.value ∙ c.in_ok-list.ensures.are)))
+    (record {
+      of_boxes = marks_of_boxes c.args.frame.now.boxes.now ls;
+      in_boxes = marks_in c.args.frame.now.boxes.now ls within;
+      atoms = marks_first c.args.frame.now.boxes.now ls;
+      paired = marks_paired c.args.frame.now.boxes.now ls c.requires.nested within;
+    })
 
 pub of_marks-requires-clause-boxes : goal.of_marks-requires-clause-boxes
 of_marks-requires-clause-boxes g c = reached c.args.frame.now.boxes.now (omega (arith, c.requires.reach))

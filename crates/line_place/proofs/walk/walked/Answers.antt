@@ -13,10 +13,10 @@ use Rattle.line_place.proofs.WalkLaws.{advance_near, at_the_end, in_box, next_ma
 use Rattle.line_place.proofs.walk.walked.Goals as goal
 
 pub step-requires-clause-of_box : goal.step-requires-clause-of_box
-step-requires-clause-of_box g c = of_box _ c.loop-mark.mark-index c.args.marks.now _ c.requires.of_boxes c.loop-mark-test.true c.mark-item.is
+step-requires-clause-of_box g c = of_box _ c.loop-mark.mark-index c.args.marks.now _ c.requires.marks.of_boxes c.loop-mark-test.true c.mark-item.is
 
 pub step-requires-clause-in_box : goal.step-requires-clause-in_box
-step-requires-clause-in_box g c = in_box _ c.loop-mark.mark-index c.args.marks.now _ c.requires.in_boxes c.loop-mark-test.true c.mark-item.is
+step-requires-clause-in_box g c = in_box _ c.loop-mark.mark-index c.args.marks.now _ c.requires.marks.in_boxes c.loop-mark-test.true c.mark-item.is
 
 pub step-requires-clause-stands : goal.step-requires-clause-stands
 step-requires-clause-stands g c =
