@@ -19,4 +19,5 @@ pub mod RunLaws
 pub mod ShownLaws
 pub mod SpreadLaws
 pub mod SumLaws
+pub mod TextLaws
 pub mod WalkLaws

@@ -161,15 +161,15 @@ of_right n (mark ∷ marks) h = (of_right_one n marks mark h.0, of_right n marks
 
 -- ---- a line without boxes is a row of what it shows
 
-after_are : (inside : Option ℕ) (rs : List (List Leaf)) → marks_after [] inside rs ≡ map shows rs
+pub after_are : (inside : Option ℕ) (rs : List (List Leaf)) → marks_after [] inside rs ≡ map shows rs
 after_are inside [] = refl
 after_are inside (run ∷ rs) = ap (λ (ms : List Mark). shows run ∷ ms) (after_are (inside_of run) rs)
 
-right_are : (rs : List (List Leaf)) → rightmost (map shows rs) ≡ map shows rs
+pub right_are : (rs : List (List Leaf)) → rightmost (map shows rs) ≡ map shows rs
 right_are [] = refl
 right_are (run ∷ rs) = ap (λ (ms : List Mark). shows run ∷ ms) (right_are rs)
 
-left_are : (before : List Mark) (rs : List (List Leaf)) → leftmost before (map shows rs) ≡ map shows rs
+pub left_are : (before : List Mark) (rs : List (List Leaf)) → leftmost before (map shows rs) ≡ map shows rs
 left_are before [] = refl
 left_are before (run ∷ rs) = ap (λ (ms : List Mark). shows run ∷ ms) (left_are (before ++ shows run ∷ []) rs)
 

@@ -2,6 +2,7 @@ pub mod Laws
 pub mod Leading
 pub mod Leaves
 pub mod Line
+pub mod LineText
 pub mod Marks
 pub mod PieceCode
 pub mod Placing

@@ -7,6 +7,7 @@ mod leading;
 mod leaves;
 mod line;
 mod line_box;
+mod line_text;
 mod marks;
 mod measure;
 mod runs;
@@ -18,4 +19,5 @@ pub use line::{
     Extents, LineBox, LineBoxes, LineContent, LineFrame, LineInput, LineItem, LineItems,
 };
 pub use line_box::{place_line, place_line_from};
+pub use line_text::LineText;
 pub use source::LineSource;

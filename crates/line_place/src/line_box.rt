@@ -1,16 +1,18 @@
 //! A whole line (CSS 2, 9.4.2 and 10.8).
 
-ghost use Rattle.std.specs.Prelude.{◌≡◌, [], ℕ, ◌+◌, ◌*◌, ◌≤◌, ◌^◌, ◌-ℤ◌, IfOk, length, map, unsigned_abs};
+ghost use Rattle.std.specs.Prelude.{◌≡◌, [], ℕ, ◌+◌, ◌*◌, ◌≤◌, ◌^◌, ◌-ℤ◌, IfOk, IfSome, length, map, unsigned_abs};
 ghost use Rattle.std.specs.Int.{int_max};
 ghost use Rattle.std.specs.List.{All, flat_map, fold};
 ghost use Rattle.fragment_types.specs.Fragment.{pieces_of};
 ghost use Rattle.line_place.specs.Line.{line_in, line_of};
+ghost use Rattle.line_place.specs.LineText.{IsLineText, text_of};
 ghost use Rattle.line_place.specs.Marks.{mark_of};
 ghost use Rattle.line_place.specs.Placing as rule;
-ghost use Rattle.line_place.specs.Reach.{AreInLimit, AreLineMarks, AreNested, AreOfBoxes, AreReached, HasLimit, IsAtomic, IsBefore, extents_reach, line_reach, mark_reach, total};
+ghost use Rattle.line_place.specs.Reach.{AreInLimit, AreLineMarks, AreNested, AreOfBoxes, AreReached, HasLimit, IsAtomic, IsBefore, extents_reach, item_reach, line_reach, mark_reach, total};
 
 use crate::leaves::{LeafSlice, leaves};
 use crate::line::{LineFrame, LineInput};
+use crate::line_text::{LineText, place_text};
 use crate::marks::{Mark, marks};
 use crate::measure::{line_over, line_under, offset, starts_at_left, width};
 use crate::source::{LineSource, Listed};
@@ -37,11 +39,16 @@ pub fn place_line_from<S: LineSource>(
     ensures within { (limit : ℕ) → HasLimit limit (line_in frame.now (S.items source.now)) → IfOk result (λ made. (unsigned_abs made.over ≤ limit) × (unsigned_abs made.under ≤ limit)) }
     ensures reach { All (λ item. IsAtomic item.what) (S.items source.now) → IfOk result (λ made. AreInLimit (4 * line_reach (line_in frame.now (S.items source.now))) (pieces_of made.parts.items)) }
 {
-    let list = leaves(alloc, frame, source)?;
-    let leaves = LeafSlice::of_list(source, &list);
-    let marks = marks(alloc, frame.boxes, &leaves)?;
-    let made = of_marks(alloc, frame, &marks)?;
-    Ok(made)
+    match known_text(alloc, frame, source)? {
+        Some(text) => {
+            let made = place_text(alloc, frame, text)?;
+            Ok(made)
+        }
+        None => {
+            let made = place_items(alloc, frame, source)?;
+            Ok(made)
+        }
+    }
 }
 
 /// Places a line whose items are in a list, as `place_line_from` does.
@@ -65,6 +72,47 @@ pub fn place_line(alloc: Global, line: &LineInput) -> Result<LineFragment, Alloc
     };
     let source = Listed { items: &line.items };
     let made = place_line_from(alloc, &frame, &source)?;
+    Ok(made)
+}
+
+// The text that a line is, where its source knows it as one run and its base level is 0.
+fn known_text<S: LineSource>(
+    alloc: Global,
+    frame: &LineFrame,
+    source: &S,
+) -> Result<Option<LineText>, AllocError>
+    requires { total item_reach (S.items source.now) ≤ 2 ^ 60 }
+    ensures text { IfOk result (λ made. IfSome made (λ text. IsLineText (text_of text) (S.items source.now))) }
+    ensures base { IfOk result (λ made. IfSome made (λ text. frame.now.base ≡ 0)) }
+    ensures boxes { IfOk result (λ made. IfSome made (λ text. frame.now.boxes.now ≡ [])) }
+{
+    if frame.base == 0 && frame.boxes.is_empty() {
+        let made = source.text(alloc)?;
+        Ok(made)
+    } else {
+        Ok(None)
+    }
+}
+
+// Any line, by the row of marks of its items.
+fn place_items<S: LineSource>(
+    alloc: Global,
+    frame: &LineFrame,
+    source: &S,
+) -> Result<LineFragment, AllocError>
+    requires inside { All (λ item. IsBefore (length frame.now.boxes.now) item.inside) (S.items source.now) }
+    requires nested { AreNested frame.now.boxes.now }
+    requires reach { line_reach (line_in frame.now (S.items source.now)) ≤ 2 ^ 60 }
+    ensures over { IfOk result (λ made. made.over ≡ rule.line_over (line_in frame.now (S.items source.now))) }
+    ensures under { IfOk result (λ made. made.under ≡ rule.line_under (line_in frame.now (S.items source.now))) }
+    ensures parts { IfOk result (λ made. pieces_of made.parts.items ≡ rule.parts (line_in frame.now (S.items source.now))) }
+    ensures near { IfOk result (λ made. (unsigned_abs made.over ≤ 2 ^ 60) × (unsigned_abs made.under ≤ 2 ^ 60)) }
+    ensures reach { All (λ item. IsAtomic item.what) (S.items source.now) → IfOk result (λ made. AreInLimit (4 * line_reach (line_in frame.now (S.items source.now))) (pieces_of made.parts.items)) }
+{
+    let list = leaves(alloc, frame, source)?;
+    let leaves = LeafSlice::of_list(source, &list);
+    let marks = marks(alloc, frame.boxes, &leaves)?;
+    let made = of_marks(alloc, frame, &marks)?;
     Ok(made)
 }
 

@@ -1,12 +1,16 @@
 //! Where the items of a line are read from.
 
-ghost use Rattle.std.specs.Prelude.{◌≡◌, ◌<◌, true, List, length, map, slice_index_or};
+ghost use Rattle.std.specs.Prelude.{◌≡◌, ◌<◌, ◌≤◌, ◌^◌, true, IfOk, IfSome, List, length, map, slice_index_or};
 ghost use Rattle.std.specs.List.{All};
 ghost use Rattle.line_place.specs.Line.{Item, item_of};
+ghost use Rattle.line_place.specs.LineText.{IsLineText, text_of};
+ghost use Rattle.line_place.specs.Reach.{item_reach, total};
 ghost use Rattle.line_place.specs.Runs.{stand_alike};
 
 use crate::line::LineItem;
+use crate::line_text::LineText;
 use crate::runs::stand_alike;
+use std::alloc::{AllocError, Global};
 
 /// Items of a line in logical order, which are read one at a time.
 pub trait LineSource {
@@ -31,6 +35,15 @@ pub trait LineSource {
     /// Whether each of them has level 0.
     fn is_level_zero(&self) -> bool
         ensures { result ≡ true → All (λ item. item.level ≡ 0) (items self.now) };
+
+    /// All of them as one run of text, where they are units of one text node and one form outside all boxes at level 0, before
+    /// nothing but Spaces. A source that doesn't know may say that they aren't.
+    fn text(&self, _alloc: Global) -> Result<Option<LineText>, AllocError>
+        requires { total item_reach (items self.now) ≤ 2 ^ 60 }
+        ensures { IfOk result (λ made. IfSome made (λ text. IsLineText (text_of text) (items self.now))) }
+    {
+        Ok(None)
+    }
 }
 
 /// Items in a list.

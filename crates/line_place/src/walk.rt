@@ -72,8 +72,8 @@ struct AtomMargins {
 }
 
 impl<'a> LineStage<'a> {
-    // Text with these extents.
-    fn text_rect(&self, extents: &Extents, left: i64, extent: i64) -> FlowRect
+    /// Text with these extents.
+    pub(crate) fn text_rect(&self, extents: &Extents, left: i64, extent: i64) -> FlowRect
         requires extents { extents_reach extents.now ≤ 2 ^ 60 }
         ensures { result ≡ rule.text_rect extents.now self.now.over left extent }
     {
@@ -144,8 +144,8 @@ impl<'a> LineStage<'a> {
         Ok(made)
     }
 
-    // A fragment with none inside it.
-    fn without_inner(
+    /// A fragment with none inside it.
+    pub(crate) fn without_inner(
         &self,
         name: BoxName,
         rect: FlowRect,
@@ -264,8 +264,8 @@ impl<'a> LineStage<'a> {
     }
 }
 
-// The name of what stands in a line, by its node.
-fn unnumbered(node: u32) -> BoxName
+/// The name of what stands in a line, by its node.
+pub(crate) fn unnumbered(node: u32) -> BoxName
     ensures { result ≡ rule.unnumbered node }
 {
     BoxName { node, ordinal: 0 }
