@@ -13,3 +13,4 @@ pub mod SpreadLaws
 pub mod Spreading
 pub mod StackLaws
 pub mod StandLaws
+pub mod TextLines

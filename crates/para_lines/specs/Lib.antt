@@ -13,3 +13,4 @@ pub mod Prepared
 pub mod Reach
 pub mod Seats
 pub mod Setting
+pub mod Text

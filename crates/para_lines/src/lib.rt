@@ -15,6 +15,7 @@ mod seated_items;
 mod setting;
 mod sizes;
 mod standing;
+mod text;
 
 pub use lines::paragraph_lines;
 pub use paragraph::{Atom, Container};

@@ -14,10 +14,12 @@ use crate::edges::LineEdges;
 use crate::line::extents_in;
 use crate::seated::Seated;
 use crate::standing::Standing;
+use crate::text::{line_text, text_in};
 use face_api::{Face, Faces};
 use fragment_types::UnitKind;
-use line_place::{LineBox, LineFrame, LineItem, LineSource};
+use line_place::{LineBox, LineFrame, LineItem, LineSource, LineText};
 use para_prepare::PreparedContent;
+use std::alloc::{AllocError, Global};
 use std::marker::Model;
 
 /// The items of a line, with what they are made from: each stands in boxes of the line.
@@ -69,6 +71,17 @@ impl LineSource for SeatedItems<'_> {
             }
         }
         true
+    }
+
+    fn text(&self, alloc: Global) -> Result<Option<LineText>, AllocError> {
+        let standings = self.standings;
+        match text_in(self.seated.boxes, standings) {
+            Some(text) => {
+                let made = line_text(alloc, standings, text)?;
+                Ok(Some(made))
+            }
+            None => Ok(None),
+        }
     }
 }
 
