@@ -4,7 +4,6 @@ pub mod Chains
 pub mod EdgeLaws
 pub mod FragmentLaws
 pub mod Fragments
-pub mod FrameLaws
 pub mod Hanging
 pub mod Leaf
 pub mod Lengths
@@ -20,4 +19,5 @@ pub mod ShownLaws
 pub mod SpreadLaws
 pub mod SumLaws
 pub mod TextLaws
+pub mod UnitLaws
 pub mod WalkLaws

@@ -14,3 +14,4 @@ pub mod Spreading
 pub mod StackLaws
 pub mod StandLaws
 pub mod TextLines
+pub mod UnitLines

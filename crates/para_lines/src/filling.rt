@@ -12,7 +12,7 @@ ghost use Rattle.para_lines.specs.Prepared.{AreSources, edge_of, edges_of, prepa
 ghost use Rattle.para_lines.specs.Reach.{IsInlineSize};
 
 use crate::boxes::Boxes;
-use crate::edges::BoxEdges;
+use crate::edges::inline_edge;
 use crate::prepared::PreparedLists;
 use line_fill::FillItem;
 use para_prepare::{PreparedContent, PreparedItem};
@@ -132,21 +132,17 @@ impl FillInput<'_> {
         ensures near { unsigned_abs result ≤ 2 ^ 34 }
     {
         let own = self.boxes.at(place);
-        let edges = BoxEdges {
-            style: &own.style,
-            inline: self.inline,
-        };
         match side {
             BoxSide::Start => {
                 if own.opens {
-                    edges.inline_edge(FlowSide::InlineStart)
+                    inline_edge(self.inline, &own.style, FlowSide::InlineStart)
                 } else {
                     0
                 }
             }
             BoxSide::End => {
                 if own.closes {
-                    edges.inline_edge(FlowSide::InlineEnd)
+                    inline_edge(self.inline, &own.style, FlowSide::InlineEnd)
                 } else {
                     0
                 }

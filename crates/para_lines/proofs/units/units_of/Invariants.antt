@@ -1,0 +1,12 @@
+use Rattle.std.proofs.Common.{◌≡◌, ◌≤◌, ◌+◌, ◌-◌, length, map, take}
+use Rattle.std.specs.Vec.{vec_capacity, vec_len}
+use Rattle.line_place.specs.TextLine.{unit_in}
+use Rattle.line_place.specs.UnitLine.{unit_seen}
+use Rattle.para_lines.specs.Text.{bare}
+use Rattle.para_lines.proofs.units.units_of.Given as goal
+
+abbrev pub invariant-loop-k : goal.invariant-loop-k
+invariant-loop-k l = record {
+  items : map unit_seen l.made.items ≡ map unit_in (map bare (take l.k l.standings));
+  room : vec_len l.made + (length l.standings - l.k) ≤ vec_capacity l.made;
+}
