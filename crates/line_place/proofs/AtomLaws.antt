@@ -1,11 +1,10 @@
 -- An atom stands in a run of its own.
-use Rattle.std.proofs.Common.{◌≡◌, ◌∙◌, ap, sym, refl, arith, subst, Bool, true, false, ◌&&◌, ◌==◌, cond, ℕ, zero, suc, ◌<◌, List, [], ◌∷◌, ◌++◌, append-nil, length, map, get_or, drop, None, ℤ}
+use Rattle.std.proofs.Common.{◌≡◌, ◌∙◌, ap, sym, refl, subst, Bool, true, false, ◌&&◌, cond, ℕ, zero, suc, ◌<◌, List, [], ◌∷◌, ◌++◌, append-nil, length, map, get_or, drop, None, ℤ}
 use Rattle.std.specs.List.{flat_map}
 use Rattle.line_place.specs.declared.line.LineBox.{LineBox}
-use Rattle.line_place.specs.declared.leaves.Leaf as code_leaf
 use Rattle.line_place.specs.declared.marks.Mark as code_mark
 use Rattle.line_place.specs.Line.{Content, unit, combined, atom, nothing}
-use Rattle.line_place.specs.Leaves.{Leaf, leaf_of}
+use Rattle.line_place.specs.Leaves.{Leaf, what_of}
 use Rattle.line_place.specs.Runs.{HasAtomFirst, HaveNoAtom, IsNoAtom, are_alike, goes_on, joined, runs}
 use Rattle.line_place.specs.Marks.{Mark, ShowAtomsFirst, ShowsAtomFirst, begins, ends, shows, mark_of, marks_after, marks_of, rightmost}
 use Rattle.line_place.specs.Placing.{atom_over, atom_under}
@@ -63,14 +62,10 @@ first_rest zero marks h = h
 first_rest (suc k) [] h = h
 first_rest (suc k) (mark ∷ marks) h = first_rest k marks h.1
 
-pub shows_first : (k : ℕ) (marks : List code_mark.Mark) (x : code_mark.Mark) → ShowAtomsFirst (map mark_of marks) → k < length marks → x ≡ get_or marks k x → ShowsAtomFirst (mark_of x)
+pub shows_first : {S : Type 0} (k : ℕ) (marks : List (code_mark.Mark S)) (x : code_mark.Mark S) → ShowAtomsFirst (map mark_of marks) → k < length marks → x ≡ get_or marks k x → ShowsAtomFirst (mark_of x)
 shows_first k marks x h lt is = (subst ShowAtomsFirst (next_mark marks k x lt is) (first_rest k (map mark_of marks) h)).0
 
 -- ---- how far they reach
-
-pub some : (n : ℕ) (none : Bool) → none ≡ false → none ≡ (n == 0) → 0 < n
-some zero none off is = cc
-some (suc n) none off is = omega arith
 
 over_no : (what : Content) → IsNoAtom what → atom_over what ≡ []
 over_no (unit node first end_ form glyphs) h = refl
@@ -89,18 +84,12 @@ module _ (reach : Content → List ℤ) (no : (what : Content) → IsNoAtom what
   none [] h = refl
   none (leaf ∷ run) h = ap (λ (zs : List ℤ). zs ++ flat_map (λ leaf. reach leaf.what) run) (no leaf.what h.0) ∙ none run h.1
 
-  by_first : (run : List code_leaf.Leaf) (x : code_leaf.Leaf) → HasAtomFirst (map leaf_of run) → 0 < length run → x ≡ get_or run 0 x
-      → flat_map (λ leaf. reach leaf.what) (map leaf_of run) ≡ reach (leaf_of x).what
-  by_first [] x h some is = absurd (omega (arith, some))
-  by_first (leaf ∷ run) x h some is =
-      ap (λ (zs : List ℤ). reach (leaf_of leaf).what ++ zs) (none (map leaf_of run) h)
-      ∙ append-nil (reach (leaf_of leaf).what)
-      ∙ ap (λ (y : code_leaf.Leaf). reach (leaf_of y).what) (sym is)
+  by_first : (run : List Leaf) → HasAtomFirst run → reach nothing ≡ [] → flat_map (λ leaf. reach leaf.what) run ≡ reach (what_of run)
+  by_first [] h is = sym is
+  by_first (leaf ∷ run) h is = ap (λ (zs : List ℤ). reach leaf.what ++ zs) (none run h) ∙ append-nil (reach leaf.what)
 
-pub over_first : (run : List code_leaf.Leaf) (x : code_leaf.Leaf) → HasAtomFirst (map leaf_of run) → 0 < length run → x ≡ get_or run 0 x
-    → flat_map (λ leaf. atom_over leaf.what) (map leaf_of run) ≡ atom_over (leaf_of x).what
-over_first run x h some is = by_first atom_over over_no run x h some is
+pub over_first : (run : List Leaf) → HasAtomFirst run → flat_map (λ leaf. atom_over leaf.what) run ≡ atom_over (what_of run)
+over_first run h = by_first atom_over over_no run h refl
 
-pub under_first : (run : List code_leaf.Leaf) (x : code_leaf.Leaf) → HasAtomFirst (map leaf_of run) → 0 < length run → x ≡ get_or run 0 x
-    → flat_map (λ leaf. atom_under leaf.what) (map leaf_of run) ≡ atom_under (leaf_of x).what
-under_first run x h some is = by_first atom_under under_no run x h some is
+pub under_first : (run : List Leaf) → HasAtomFirst run → flat_map (λ leaf. atom_under leaf.what) run ≡ atom_under (what_of run)
+under_first run h = by_first atom_under under_no run h refl

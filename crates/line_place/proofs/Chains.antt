@@ -6,10 +6,8 @@ use Rattle.line_place.specs.declared.line.LineBox.{LineBox}
 use Rattle.line_place.specs.Runs.{is_place}
 use Rattle.line_place.specs.Marks.{Mark, ends, box_at, chain_below, chain, has, left_behind}
 use Rattle.line_place.specs.Marks.{inside_of}
-use Rattle.line_place.specs.declared.leaves.Leaf as code
-use Rattle.line_place.specs.Leaves.{Leaf, leaf_of}
+use Rattle.line_place.specs.Leaves.{Leaf}
 use Rattle.line_place.specs.Reach.{IsBefore, AreNested, AreWithin}
-use Rattle.std.proofs.lemmas.List.{length-map, take-map, drop-map}
 
 -- a test of two numbers
 pub same_place : (p : ℕ) → (p == p) ≡ true
@@ -187,13 +185,8 @@ first_within n zero leaves h some = absurd (omega arith)
 first_within n (suc k) [] h some = absurd (omega arith)
 first_within n (suc k) (leaf ∷ leaves) h some = h.0
 
-pub run_within : (n start k : ℕ) (leaves run : List code.Leaf) → AreWithin n (map leaf_of leaves) → run ≡ take k (drop start leaves) → 0 < length run
-    → IsBefore n (inside_of (map leaf_of run))
+pub run_within : (n start k : ℕ) (leaves run : List Leaf) → AreWithin n leaves → run ≡ take k (drop start leaves) → 0 < length run → IsBefore n (inside_of run)
 run_within n start k leaves run h is some =
-    let e : map leaf_of run ≡ take k (drop start (map leaf_of leaves)) =
-    ap (map leaf_of) is ∙ sym (take-map leaf_of k (drop start leaves)) ∙ ap (take k) (sym (drop-map leaf_of start leaves)) in
-    let l = length-map run leaf_of in
     let P : List Leaf → Type 0 = λ r. IsBefore n (inside_of r) in
     let Q : List Leaf → Type 0 = λ r. 0 < length r in
-    let q : 0 < length (map leaf_of run) = omega arith in
-    subst P (sym e) (first_within n k (drop start (map leaf_of leaves)) (within_rest n start (map leaf_of leaves) h) (subst Q e q))
+    subst P (sym is) (first_within n k (drop start leaves) (within_rest n start leaves h) (subst Q is some))

@@ -1,5 +1,5 @@
 -- Fragments as trees.
-use Rattle.std.proofs.Common.{◌≡◌, ◌∙◌, ap, sym, refl, arith, ℕ, ◌<◌, length, get_or, List, [], ◌∷◌, ◌++◌, map, Option, ℤ}
+use Rattle.std.proofs.Common.{◌≡◌, ◌∙◌, ap, sym, refl, ℕ, List, [], ◌∷◌, ◌++◌, map, Option, ℤ}
 use Rattle.wm_modes.specs.declared.rects.FlowRect.{FlowRect}
 use Rattle.fragment_types.specs.declared.item.BoxName.{BoxName}
 use Rattle.fragment_types.specs.declared.unit_kind.UnitKind.{UnitKind}
@@ -10,9 +10,8 @@ use Rattle.fragment_types.specs.Fragment.{Kind, Pieces, before, in_line, kind_of
 use Rattle.fragment_types.specs.Fragment as fragments
 use Rattle.line_place.specs.declared.line.Extents.{Extents}
 use Rattle.line_place.specs.declared.line.LineBox.{LineBox}
-use Rattle.line_place.specs.Line.{Content, Line, nothing}
-use Rattle.line_place.specs.declared.leaves.Leaf as code
-use Rattle.line_place.specs.Leaves.{Leaf, leaf_of}
+use Rattle.line_place.specs.Line.{Content, Line}
+use Rattle.line_place.specs.Leaves.{Leaf, what_of}
 use Rattle.line_place.specs.Marks.{inside_of}
 use Rattle.line_place.specs.Placing.{atom_at, box_rect, extent_of, extents_in, level_of, run_as, run_piece, text_piece, text_rect, unit_of, unnumbered}
 use Rattle.line_place.specs.Walk.{followed}
@@ -46,28 +45,10 @@ atom_moved own f rect i b next is p q r s =
     ∙ ap (λ (x : FlowRect). piece (out-Fragment f).name x (kind_of (out-Fragment f).kind) (in_line (map before (out-Fragment f).children.value.items)) next) e
     ∙ sym (ap (λ (x : Pieces). atom_at i b x next) (as_piece f none))
 
--- what the first leaf of a run gives it
-pub first_level : (run : List code.Leaf) (d : code.Leaf) → 0 < length run → (get_or run 0 d).level ≡ level_of (map leaf_of run)
-first_level [] d some = absurd (omega arith)
-first_level (leaf ∷ run) d some = refl
-
-pub first_inside : (run : List code.Leaf) (d : code.Leaf) → 0 < length run → (get_or run 0 d).item.now.inside ≡ inside_of (map leaf_of run)
-first_inside [] d some = absurd (omega arith)
-first_inside (leaf ∷ run) d some = refl
-
--- what the first leaf of a run is
-abbrev pub what_of : List Leaf → Content
-what_of [] = nothing
-what_of (leaf ∷ leaves) = leaf.what
-
-pub run_by : (line : Line) (over left : ℤ) (run : List Leaf) (next : Pieces) (what : Content) → what_of run ≡ what → 0 < length run
-    → run_as what line over left run next ≡ run_piece line over left run next
-run_by line over left [] next what is some = absurd (omega arith)
-run_by line over left (leaf ∷ leaves) next what is some = ap (λ (w : Content). run_as w line over left (leaf ∷ leaves) next) (sym is)
-
-pub first_what : (run : List code.Leaf) (d : code.Leaf) → 0 < length run → what_of (map leaf_of run) ≡ (leaf_of (get_or run 0 d)).what
-first_what [] d some = absurd (omega arith)
-first_what (leaf ∷ run) d some = refl
+-- a run by what its first leaf is
+pub run_by : (line : Line) (over left : ℤ) (run : List Leaf) (next : Pieces) (what : Content) → what_of run ≡ what → run_as what line over left run next ≡ run_piece line over left run next
+run_by line over left [] next what is = ap (λ (w : Content). run_as w line over left [] next) (sym is)
+run_by line over left (leaf ∷ leaves) next what is = ap (λ (w : Content). run_as w line over left (leaf ∷ leaves) next) (sym is)
 
 -- one fragment more
 pub followed_push : (parts : List Fragment) (f : Fragment) (next : Pieces) → followed (parts ++ f ∷ []) next ≡ followed parts (before f next)

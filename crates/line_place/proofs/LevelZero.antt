@@ -1,18 +1,15 @@
 -- A line whose items all have level 0, where that is the base level too, has them in their own order.
-use Rattle.std.proofs.Common.{◌≡◌, ◌∙◌, refl, sym, ap, arith, inl, inr, ℕ, zero, suc, ◌+◌, ◌<◌, Bool, true, false, ◌&&◌, ◌==◌, cond, add-one, List, [], ◌∷◌, ◌++◌, append_assoc, length, map, get_or, drop, Option}
+use Rattle.std.proofs.Common.{◌≡◌, ◌∙◌, refl, sym, ap, arith, ℕ, zero, suc, ◌+◌, ◌<◌, Bool, true, false, cond, add-one, List, [], ◌∷◌, ◌++◌, append_assoc, length, map, get_or, drop, ◌≤◌, Option}
 use Rattle.std.specs.Prelude.{slice_get}
-use Rattle.std.specs.List.{All, filter_map, list_all, range_with_len}
-use Rattle.std.proofs.lemmas.List.{drop_more, get_or-map, length-map, map_push}
-use Rattle.std.proofs.lemmas.Bool.Decides.{eqb_tells}
+use Rattle.std.specs.List.{All, filter_map, range_with_len}
+use Rattle.std.proofs.lemmas.List.{drop_all, drop_more, get_or-map, length-map, map_push}
 use Rattle.wm_chars.specs.declared.classes.BidiClass.{BidiClass}
 use Rattle.bidi_order.specs.Blanks.{leads_out, reset}
 use Rattle.bidi_order.specs.Laws.{LevelZeroStays}
 use Rattle.bidi_order.specs.Visual.{visual_order}
 use Rattle.line_place.specs.declared.leaves.Leaf as code
-use Rattle.line_place.specs.declared.line.LineInput.{LineInput}
-use Rattle.line_place.specs.declared.line.LineItem.{LineItem}
-use Rattle.line_place.specs.Line.{Item, Line, item_of, line_of}
-use Rattle.line_place.specs.Leaves.{Leaf, are_spaces, leaf, leaf_of, leaves, leaves_from, levels_of}
+use Rattle.line_place.specs.Line.{Item, Line, no_item}
+use Rattle.line_place.specs.Leaves.{Leaf, are_spaces, leaf, leaf_in, leaves, leaves_from, levels_of, in_logical_order}
 use Rattle.line_place.proofs.ReachLaws.{from_length}
 
 abbrev levels_in : List Item → List ℕ
@@ -20,42 +17,41 @@ levels_in items = map (λ (item : Item). item.level) items
 
 -- ---- one item more
 
-pub one_more : (items : List LineItem) (k : ℕ) (x : LineItem) (hangs : Bool) (made : List code.Leaf) (own : code.Leaf) (whole : List Leaf)
-    → k < length items → x ≡ get_or items k x → are_spaces (drop k (map item_of items)) ≡ hangs → leaf_of own ≡ leaf k x.level (item_of x) hangs
-    → map leaf_of made ++ leaves_from k (drop k (levels_in (map item_of items))) (drop k (map item_of items)) ≡ whole
-    → map leaf_of (made ++ own ∷ []) ++ leaves_from (k + 1) (drop (k + 1) (levels_in (map item_of items))) (drop (k + 1) (map item_of items)) ≡ whole
-one_more items k x hangs made own whole lt read spaces is before =
-    let its : List Item = map item_of items in
-    let n : length its ≡ length items = length-map items item_of in
-    let m : length (levels_in its) ≡ length its = length-map its (λ (item : Item). item.level) in
-    let at : get_or its k (item_of x) ≡ item_of x = get_or-map item_of items k x (item_of x) lt ∙ ap item_of (sym read) in
-    let level : get_or (levels_in its) k 0 ≡ x.level = get_or-map (λ (item : Item). item.level) its k (item_of x) 0 (omega arith) ∙ ap (λ (item : Item). item.level) at in
-    let d : drop k its ≡ item_of x ∷ drop (k + 1) its = drop_more its k (item_of x) (omega arith) ∙ ap (λ (item : Item). item ∷ drop (k + 1) its) at in
-    let e : drop k (levels_in its) ≡ x.level ∷ drop (k + 1) (levels_in its) = drop_more (levels_in its) k 0 (omega arith) ∙ ap (λ (l : ℕ). l ∷ drop (k + 1) (levels_in its)) level in
-    let s : are_spaces (item_of x ∷ drop (k + 1) its) ≡ hangs = ap are_spaces (sym d) ∙ spaces in
-    let first : leaves_from k (drop k (levels_in its)) (drop k its) ≡ leaf_of own ∷ leaves_from (k + 1) (drop (k + 1) (levels_in its)) (drop (k + 1) its) =
-    ap (λ (ls : List ℕ). leaves_from k ls (drop k its)) e
-    ∙ ap (λ (rest : List Item). leaves_from k (x.level ∷ drop (k + 1) (levels_in its)) rest) d
-    ∙ ap (λ (h : Bool). leaf k x.level (item_of x) h ∷ leaves_from (k + 1) (drop (k + 1) (levels_in its)) (drop (k + 1) its)) s
-    ∙ ap (λ (l : Leaf). l ∷ leaves_from (k + 1) (drop (k + 1) (levels_in its)) (drop (k + 1) its)) (sym is) in
-    ap (λ (l : List Leaf). l ++ leaves_from (k + 1) (drop (k + 1) (levels_in its)) (drop (k + 1) its)) (map_push leaf_of made own)
-    ∙ append_assoc (map leaf_of made) (leaf_of own ∷ []) (leaves_from (k + 1) (drop (k + 1) (levels_in its)) (drop (k + 1) its))
-    ∙ ap (λ (l : List Leaf). map leaf_of made ++ l) (sym first)
+pub one_more : (items : List Item) (k : ℕ) (hangs : Bool) (made : List code.Leaf) (whole : List Leaf)
+    → k < length items → (get_or items k no_item).level ≡ 0 → are_spaces (drop k items) ≡ hangs
+    → map (leaf_in items) made ++ leaves_from k (drop k (levels_in items)) (drop k items) ≡ whole
+    → map (leaf_in items) (made ++ record { place = k; level = 0; hangs = hangs } ∷ []) ++ leaves_from (k + 1) (drop (k + 1) (levels_in items)) (drop (k + 1) items) ≡ whole
+one_more items k hangs made whole lt zero_level spaces before =
+    let x : Item = get_or items k no_item in
+    let own : code.Leaf = record { place = k; level = 0; hangs = hangs } in
+    let rest : List Leaf = leaves_from (k + 1) (drop (k + 1) (levels_in items)) (drop (k + 1) items) in
+    let m : length (levels_in items) ≡ length items = length-map items (λ (item : Item). item.level) in
+    let level : get_or (levels_in items) k 0 ≡ 0 = get_or-map (λ (item : Item). item.level) items k no_item 0 lt ∙ zero_level in
+    let d : drop k items ≡ x ∷ drop (k + 1) items = drop_more items k no_item lt in
+    let e : drop k (levels_in items) ≡ 0 ∷ drop (k + 1) (levels_in items) = drop_more (levels_in items) k 0 (omega arith) ∙ ap (λ (l : ℕ). l ∷ drop (k + 1) (levels_in items)) level in
+    let s : are_spaces (x ∷ drop (k + 1) items) ≡ hangs = ap are_spaces (sym d) ∙ spaces in
+    let first : leaves_from k (drop k (levels_in items)) (drop k items) ≡ leaf_in items own ∷ rest =
+    ap (λ (ls : List ℕ). leaves_from k ls (drop k items)) e
+    ∙ ap (λ (is : List Item). leaves_from k (0 ∷ drop (k + 1) (levels_in items)) is) d
+    ∙ ap (λ (h : Bool). leaf k 0 x h ∷ rest) s in
+    ap (λ (l : List Leaf). l ++ rest) (map_push (leaf_in items) made own)
+    ∙ append_assoc (map (leaf_in items) made) (leaf_in items own ∷ []) rest
+    ∙ ap (λ (l : List Leaf). map (leaf_in items) made ++ l) (sym first)
     ∙ before
+
+no_items : (k : ℕ) (levels : List ℕ) → leaves_from k levels [] ≡ []
+no_items k [] = refl
+no_items k (level ∷ levels) = refl
+
+pub none_behind : (k : ℕ) (items : List Item) → length items ≤ k → leaves_from k (drop k (levels_in items)) (drop k items) ≡ []
+none_behind k items le = rw (drop_all k items le) (no_items k (drop k (levels_in items)))
 
 -- ---- L1 and L2
 
-both : (a b : Bool) → (a && b) ≡ true → (a ≡ true) × (b ≡ true)
-both true b h = (refl, h)
-both false b h = cc
-
-is_zero : (n : ℕ) → (n == 0) ≡ true → n ≡ 0
-is_zero n h = elim (eqb_tells n 0) [ inl (is, e) ↦ e | inr (is, ne) ↦ cc ]
-
-zeros : (items : List LineItem) → list_all (λ item. item.level == 0) items ≡ true → All (λ level. level ≡ 0) (levels_in (map item_of items))
-zeros [] h k d lt = absurd (omega arith)
-zeros (item ∷ items) h zero d lt = is_zero item.level (both (item.level == 0) (list_all (λ item. item.level == 0) items) h).0
-zeros (item ∷ items) h (suc k) d lt = zeros items (both (item.level == 0) (list_all (λ item. item.level == 0) items) h).1 k d (omega arith)
+zeros : (items : List Item) → All (λ (item : Item). item.level ≡ 0) items → All (λ level. level ≡ 0) (levels_in items)
+zeros [] all k d lt = absurd (omega arith)
+zeros (item ∷ items) all zero d lt = all 0 item (omega arith)
+zeros (item ∷ items) all (suc k) d lt = zeros items (λ j e less. all (suc j) e (omega arith)) k d (omega arith)
 
 one_reset : (b : Bool) (n : ℕ) → cond b n n ≡ n
 one_reset true n = refl
@@ -80,9 +76,10 @@ all_there : {X : Type 0} (xs : List X) → filter_map (λ p. slice_get xs p) (ra
 all_there [] = refl
 all_there {X = X} (x ∷ xs) = ap (λ (l : List X). x ∷ l) (shifted x xs 0 (length xs) ∙ all_there xs)
 
-pub in_order_of : LevelZeroStays → (line : Line) → line.base ≡ 0 → All (λ level. level ≡ 0) (levels_in line.items) → leaves line ≡ leaves_from 0 (levels_in line.items) line.items
+pub in_order : LevelZeroStays → (line : Line) → line.base ≡ 0 → All (λ (item : Item). item.level ≡ 0) line.items → leaves line ≡ in_logical_order line.items
 unfolding leaves
-in_order_of stays line base all =
+in_order stays line base zero_items =
+    let all = zeros line.items zero_items in
     let own : List ℕ = levels_in line.items in
     let aparts : List (Option ℕ) = map (λ (item : Item). item.apart) line.items in
     let classes : List BidiClass = map (λ (item : Item). item.class) line.items in
@@ -93,9 +90,3 @@ in_order_of stays line base all =
     ap (λ (ls : List ℕ). filter_map (λ place. slice_get (leaves_from 0 ls line.items) place) (visual_order ls aparts)) levels
     ∙ ap (filter_map (λ place. slice_get (leaves_from 0 own line.items) place)) (stays own aparts (l ∙ sym m) all ∙ ap (range_with_len 0) (sym n))
     ∙ all_there (leaves_from 0 own line.items)
-
-pub in_order : LevelZeroStays → (line : LineInput) → (line.base == 0 && list_all (λ item. item.level == 0) line.items.items) ≡ true
-    → leaves (line_of line) ≡ leaves_from 0 (levels_in (map item_of line.items.items)) (map item_of line.items.items)
-in_order stays line h =
-    let b = both (line.base == 0) (list_all (λ item. item.level == 0) line.items.items) h in
-    in_order_of stays (line_of line) (is_zero line.base b.0) (zeros line.items.items b.1)

@@ -4,6 +4,7 @@ pub mod Chains
 pub mod EdgeLaws
 pub mod FragmentLaws
 pub mod Fragments
+pub mod FrameLaws
 pub mod Hanging
 pub mod Leaf
 pub mod Lengths
@@ -19,5 +20,4 @@ pub mod ShownLaws
 pub mod SpreadLaws
 pub mod SumLaws
 pub mod TextLaws
-pub mod UnitLaws
 pub mod WalkLaws

@@ -1,12 +1,12 @@
 -- Rows of marks.
-use Rattle.std.proofs.Common.{◌≡◌, ◌∙◌, ap, sym, arith, Bool, true, false, not, cond, ℕ, zero, suc, ◌+◌, ◌-◌, ◌<◌, ◌≤◌, List, [], ◌∷◌, ◌++◌, length, map, get_or, take, drop, reverse, Option, Some, None, append_assoc, subst}
+use Rattle.std.proofs.Common.{◌≡◌, ◌∙◌, ◌==◌, ap, refl, sym, arith, Bool, true, false, not, cond, ℕ, zero, suc, ◌+◌, ◌-◌, ◌<◌, ◌≤◌, List, [], ◌∷◌, ◌++◌, length, map, get_or, take, drop, reverse, Option, Some, None, append_assoc, subst}
 use Rattle.std.specs.List.{filter}
 use Rattle.std.proofs.lemmas.List.{drop_more, take_more, get_or-map, get_or-reverse, length-map, length-reverse, map_push, reverse-append}
 use Rattle.line_place.specs.declared.line.LineBox.{LineBox}
 use Rattle.line_place.specs.declared.marks.Mark as code
 use Rattle.line_place.specs.Leaves.{Leaf}
-use Rattle.line_place.specs.Runs.{is_place}
-use Rattle.line_place.specs.Marks.{Mark, begins, ends, shows, at_left, at_right, between, chain, chain_below, has, inside_of, left_behind, leftmost, mark_of, marks_after, rightmost}
+use Rattle.line_place.specs.Runs.{is_place, runs}
+use Rattle.line_place.specs.Marks.{Mark, begins, ends, shows, at_left, at_right, between, chain, chain_below, has, inside_of, left_behind, leftmost, mark_of, marks_after, marks_of, rightmost}
 use Rattle.line_place.specs.Reach.{AreOfBoxes, IsOfBox}
 
 -- a run more
@@ -95,10 +95,10 @@ left_step marks k d lt =
 
 -- ---- the same for the code's marks
 
-pub mark_there : (marks : List code.Mark) (k : ℕ) (x : code.Mark) → k < length marks → x ≡ get_or marks k x → get_or (map mark_of marks) k (mark_of x) ≡ mark_of x
+pub mark_there : {S : Type 0} (marks : List (code.Mark S)) (k : ℕ) (x : code.Mark S) → k < length marks → x ≡ get_or marks k x → get_or (map mark_of marks) k (mark_of x) ≡ mark_of x
 mark_there marks k x lt is = get_or-map mark_of marks k x (mark_of x) lt ∙ ap mark_of (sym is)
 
-pub of_box : (n k : ℕ) (marks : List code.Mark) (x : code.Mark) → AreOfBoxes n (map mark_of marks) → k < length marks → x ≡ get_or marks k x → IsOfBox n (mark_of x)
+pub of_box : {S : Type 0} (n k : ℕ) (marks : List (code.Mark S)) (x : code.Mark S) → AreOfBoxes n (map mark_of marks) → k < length marks → x ≡ get_or marks k x → IsOfBox n (mark_of x)
 of_box n k marks x h lt is =
     let l = length-map marks mark_of in
     let P : Mark → Type 0 = λ m. IsOfBox n m in
@@ -118,7 +118,7 @@ left_more marks k m own done total lt is at all =
     ∙ all
 
 -- the mark at a place from line-right
-pub from_right_there : (marks : List code.Mark) (left : ℕ) (x : code.Mark) → 0 < left → left ≤ length marks → x ≡ get_or marks (left - 1) x
+pub from_right_there : {S : Type 0} (marks : List (code.Mark S)) (left : ℕ) (x : code.Mark S) → 0 < left → left ≤ length marks → x ≡ get_or marks (left - 1) x
     → get_or (reverse (map mark_of marks)) (length marks - left) (mark_of x) ≡ mark_of x
 from_right_there marks left x some le is =
     let l = length-map marks mark_of in
@@ -127,10 +127,10 @@ from_right_there marks left x some le is =
     ∙ ap (λ (k : ℕ). get_or (map mark_of marks) k (mark_of x)) e
     ∙ mark_there marks (left - 1) x (omega arith) is
 
-pub length_from_right : (marks : List code.Mark) → length (reverse (map mark_of marks)) ≡ length marks
+pub length_from_right : {S : Type 0} (marks : List (code.Mark S)) → length (reverse (map mark_of marks)) ≡ length marks
 length_from_right marks = length-reverse (map mark_of marks) ∙ length-map marks mark_of
 
-pub right_back : (marks : List code.Mark) (from : ℕ) (x : code.Mark) → 0 < from → from ≤ length marks → x ≡ get_or marks (from - 1) x
+pub right_back : {S : Type 0} (marks : List (code.Mark S)) (from : ℕ) (x : code.Mark S) → 0 < from → from ≤ length marks → x ≡ get_or marks (from - 1) x
     → drop (from - 1) (map mark_of marks) ≡ mark_of x ∷ drop from (map mark_of marks)
 right_back marks from x some le is =
     let l = length-map marks mark_of in
@@ -139,7 +139,7 @@ right_back marks from x some le is =
     ∙ ap (λ (m : Mark). m ∷ drop (from - 1 + 1) (map mark_of marks)) (mark_there marks (from - 1) x (omega arith) is)
     ∙ ap (λ (k : ℕ). mark_of x ∷ drop k (map mark_of marks)) e
 
-pub right_more : (marks made : List code.Mark) (from : ℕ) (x own : code.Mark) → 0 < from → from ≤ length marks → x ≡ get_or marks (from - 1) x
+pub right_more : {S : Type 0} (marks made : List (code.Mark S)) (from : ℕ) (x own : code.Mark S) → 0 < from → from ≤ length marks → x ≡ get_or marks (from - 1) x
     → mark_of own ≡ at_right (drop from (map mark_of marks)) (mark_of x)
     → reverse (map mark_of made) ≡ rightmost (drop from (map mark_of marks))
     → reverse (map mark_of (made ++ own ∷ [])) ≡ rightmost (drop (from - 1) (map mark_of marks))
@@ -158,3 +158,22 @@ of_right_one n after (shows run) h = h
 pub of_right : (n : ℕ) (marks : List Mark) → AreOfBoxes n marks → AreOfBoxes n (rightmost marks)
 of_right n [] h = tt
 of_right n (mark ∷ marks) h = (of_right_one n marks mark h.0, of_right n marks h.1)
+
+-- ---- a line without boxes is a row of what it shows
+
+pub after_are : (inside : Option ℕ) (rs : List (List Leaf)) → marks_after [] inside rs ≡ map shows rs
+after_are inside [] = refl
+after_are inside (run ∷ rs) = ap (λ (ms : List Mark). shows run ∷ ms) (after_are (inside_of run) rs)
+
+pub right_are : (rs : List (List Leaf)) → rightmost (map shows rs) ≡ map shows rs
+right_are [] = refl
+right_are (run ∷ rs) = ap (λ (ms : List Mark). shows run ∷ ms) (right_are rs)
+
+pub left_are : (before : List Mark) (rs : List (List Leaf)) → leftmost before (map shows rs) ≡ map shows rs
+left_are before [] = refl
+left_are before (run ∷ rs) = ap (λ (ms : List Mark). shows run ∷ ms) (left_are (before ++ shows run ∷ []) rs)
+
+pub bare_alone : (boxes : List LineBox) (ls : List Leaf) → (length boxes == 0) ≡ true → marks_after boxes None (runs ls) ≡ marks_of boxes ls
+bare_alone [] ls is_none =
+    sym (ap (λ (ms : List Mark). leftmost [] (rightmost ms)) (after_are None (runs ls)) ∙ ap (leftmost []) (right_are (runs ls)) ∙ left_are [] (runs ls) ∙ sym (after_are None (runs ls)))
+bare_alone (box ∷ boxes) ls is_none = let some : (length (box ∷ boxes) == 0) ≡ false = grind arith in absurd (cc)

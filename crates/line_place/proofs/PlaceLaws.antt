@@ -212,3 +212,9 @@ in_limit limit line has =
       greatest_close limit line.strut.over (flat_map (over_of line.boxes) (marks line)) has.strut_over low.0,
       greatest_close limit line.strut.under (flat_map (under_of line.boxes) (marks line)) has.strut_under low.1,
     )
+
+pub within_limit : (limit : ℕ) (line : Line) (over under : ℤ) → over ≡ line_over line → under ≡ line_under line → HasLimit limit line → (unsigned_abs over ≤ limit) × (unsigned_abs under ≤ limit)
+within_limit limit line over under o u has =
+    let k = in_limit limit line has in
+    let P : ℤ → Type 0 = λ z. unsigned_abs z ≤ limit in
+    (subst P (sym o) k.0, subst P (sym u) k.1)

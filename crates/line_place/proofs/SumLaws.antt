@@ -1,13 +1,11 @@
 -- Sums over lists from the end on.
-use Rattle.std.proofs.Common.{◌≡◌, ◌∙◌, ap, sym, refl, arith, ℕ, zero, suc, ◌+◌, ◌-◌, ◌<◌, ◌≤◌, ◌^◌, List, [], ◌∷◌, ◌++◌, length, map, get_or, drop, ℤ, ◌+ℤ◌, unsigned_abs, to_z, of_z, w64}
-use Rattle.std.proofs.lemmas.Int.{ints}
+use Rattle.std.proofs.Common.{◌≡◌, ◌∙◌, ap, sym, refl, arith, ℕ, zero, suc, ◌+◌, ◌-◌, ◌<◌, ◌≤◌, List, [], ◌∷◌, ◌++◌, length, map, get_or, drop, ℤ, ◌+ℤ◌}
 use Rattle.std.specs.Int.{int_max}
 use Rattle.std.specs.List.{flat_map, fold}
 use Rattle.std.proofs.lemmas.List.{drop_more, get_or-map, length-map}
 use Rattle.line_place.specs.declared.line.LineBox.{LineBox}
-use Rattle.line_place.specs.declared.leaves.Leaf as code_leaf
 use Rattle.line_place.specs.declared.marks.Mark as code_mark
-use Rattle.line_place.specs.Leaves.{leaf_of}
+use Rattle.line_place.specs.Leaves.{Leaf, nth_leaf, no_leaf}
 use Rattle.line_place.specs.Marks.{mark_of}
 use Rattle.line_place.specs.Placing.{advance, extent_of, width}
 use Rattle.line_place.specs.Reach.{total}
@@ -31,11 +29,21 @@ total_rest reach [] (suc k) = omega arith
 total_rest reach (x ∷ xs) zero = omega arith
 total_rest reach (x ∷ xs) (suc k) = let h = total_rest reach xs k in omega arith
 
-pub extent_back : (run : List code_leaf.Leaf) (from : ℕ) (x : code_leaf.Leaf) → 0 < from → from ≤ length run → x ≡ get_or run (from - 1) x
-    → extent_of (drop (from - 1) (map leaf_of run)) ≡ (leaf_of x).extent +ℤ extent_of (drop from (map leaf_of run))
-extent_back run from x some le is = ap extent_of (back_of leaf_of run from x some le is)
+-- one leaf more from the end on
+leaf_back : (run : List Leaf) (from : ℕ) → 0 < from → from ≤ length run → drop (from - 1) run ≡ nth_leaf run (from - 1) ∷ drop from run
+leaf_back run from some le =
+    let e : from - 1 + 1 ≡ from = omega arith in
+    drop_more run (from - 1) no_leaf (omega arith) ∙ ap (λ (k : ℕ). nth_leaf run (from - 1) ∷ drop k run) e
 
-pub width_back : (boxes : List LineBox) (marks : List code_mark.Mark) (from : ℕ) (x : code_mark.Mark) → 0 < from → from ≤ length marks → x ≡ get_or marks (from - 1) x
+pub reach_back : (reach : Leaf → ℕ) (run : List Leaf) (from : ℕ) → 0 < from → from ≤ length run
+    → total reach (drop (from - 1) run) ≡ reach (nth_leaf run (from - 1)) + total reach (drop from run)
+reach_back reach run from some le = ap (total reach) (leaf_back run from some le)
+
+pub extent_back : (run : List Leaf) (from : ℕ) → 0 < from → from ≤ length run
+    → extent_of (drop (from - 1) run) ≡ (nth_leaf run (from - 1)).extent +ℤ extent_of (drop from run)
+extent_back run from some le = ap extent_of (leaf_back run from some le)
+
+pub width_back : {S : Type 0} (boxes : List LineBox) (marks : List (code_mark.Mark S)) (from : ℕ) (x : code_mark.Mark S) → 0 < from → from ≤ length marks → x ≡ get_or marks (from - 1) x
     → width boxes (drop (from - 1) (map mark_of marks)) ≡ advance boxes (mark_of x) +ℤ width boxes (drop from (map mark_of marks))
 width_back boxes marks from x some le is = ap (width boxes) (back_of mark_of marks from x some le is)
 

@@ -1,56 +1,45 @@
 -- What a line that is one run of text outside all inline boxes comes to.
-use Rattle.std.proofs.Common.{◌≡◌, ◌∙◌, refl, sym, ap, arith, subst, ℕ, zero, suc, ◌+◌, ◌-◌, ◌<◌, Bool, true, false, ◌&&◌, List, [], ◌∷◌, ◌++◌, length, map, get_or, take, drop, Option, None, ℤ, pos, ◌+ℤ◌, ◌-ℤ◌}
-use Rattle.std.specs.Prelude.{⊤, All, ◌==◌}
+use Rattle.std.proofs.Common.{◌≡◌, ◌∙◌, refl, sym, ap, arith, subst, ℕ, zero, suc, ◌+◌, ◌-◌, ◌<◌, Bool, true, false, ◌&&◌, List, [], ◌∷◌, length, map, get_or, take, drop, Option, None, ℤ, pos, ◌+ℤ◌, ◌-ℤ◌, ◌*◌, ◌≤◌, unsigned_abs}
+use Rattle.std.specs.Prelude.{⊤, ◌==◌}
 use Rattle.std.specs.Int.{int_max}
-use Rattle.std.specs.List.{flat_map, fold}
+use Rattle.std.specs.List.{All, flat_map, fold}
 use Rattle.std.proofs.lemmas.Int.{ints}
 use Rattle.std.proofs.lemmas.Bool.{eq-eqb}
 use Rattle.std.proofs.lemmas.List.{length-take-le}
-use Rattle.style_types.specs.declared.style.Align.{Align}
+use Rattle.std.proofs.lemmas.List.Elements.{All-weaker}
 use Rattle.fragment_types.specs.declared.unit_kind.UnitKind.{UnitKind}
 use Rattle.fragment_types.specs.declared.unit_kind.UnitKind.TheVariants.{Along, Turned, Upright, Combined}
 use Rattle.fragment_types.specs.RunUnit.{RunUnit}
 use Rattle.fragment_types.specs.Fragment as fragments
 use Rattle.fragment_types.specs.Fragment.{Pieces, none, piece}
 use Rattle.bidi_order.specs.Laws.{LevelZeroStays}
-use Rattle.line_place.specs.declared.line.Extents.{Extents}
 use Rattle.line_place.specs.declared.line.LineBox.{LineBox}
 use Rattle.line_place.specs.Line.{Content, unit, combined, atom, nothing, Item, Line}
 use Rattle.line_place.specs.Leaves.{Leaf, are_spaces, leaf, leaves, leaves_from}
 use Rattle.line_place.specs.Runs.{are_alike, follows, goes_on, is_form, is_place, joined, runs}
-use Rattle.line_place.specs.Marks.{Mark, shows, inside_of, leftmost, marks, marks_after, marks_of, rightmost}
+use Rattle.line_place.specs.Marks.{Mark, shows, leftmost, marks, marks_of, rightmost}
 use Rattle.line_place.specs.Placing as rule
-use Rattle.line_place.specs.Placing.{Row, extent_of, level_of, line_over, line_under, offset, outermost, over_of, parts, put_first, rows, run_as, run_piece, under_of, unit_of, width}
-use Rattle.line_place.specs.TextLine as text
-use Rattle.line_place.specs.TextLine.{AreSolid, IsText, IsTextItem, IsUnit, Text, extent_in, shown, unit_in}
-use Rattle.line_place.proofs.LevelZero.{in_order_of}
+use Rattle.line_place.specs.Placing.{Row, extent_of, line_over, line_under, offset, outermost, over_of, parts, put_first, rows, run_as, run_piece, under_of, unit_of, width}
+use Rattle.line_place.specs.LineText as text
+use Rattle.line_place.specs.LineText.{IsLineText, IsTextItem, IsUnit, Text, extent_in, shown, unit_in}
+use Rattle.line_place.specs.Reach.{AreInLimit, IsAtomic, IsBefore, item_reach, leaf_reach, line_reach, mark_reach, total}
+use Rattle.line_place.proofs.EdgeLaws.{marks_reach}
+use Rattle.line_place.proofs.FragmentLaws.{parts_in}
+use Rattle.line_place.proofs.LevelZero.{in_order}
+use Rattle.line_place.proofs.MarkLaws.{after_are, left_are, right_are}
+use Rattle.line_place.proofs.PlaceLaws.{marks_are}
+use Rattle.line_place.proofs.ReachLaws.{from_reach}
+use Rattle.line_place.proofs.WalkLaws.{sum_near}
 
 -- ---- a line without boxes is a row of what it shows
 
-after_are : (inside : Option ℕ) (rs : List (List Leaf)) → marks_after [] inside rs ≡ map shows rs
-after_are inside [] = refl
-after_are inside (run ∷ rs) = ap (λ (ms : List Mark). shows run ∷ ms) (after_are (inside_of run) rs)
-
-right_are : (rs : List (List Leaf)) → rightmost (map shows rs) ≡ map shows rs
-right_are [] = refl
-right_are (run ∷ rs) = ap (λ (ms : List Mark). shows run ∷ ms) (right_are rs)
-
-left_are : (before : List Mark) (rs : List (List Leaf)) → leftmost before (map shows rs) ≡ map shows rs
-left_are before [] = refl
-left_are before (run ∷ rs) = ap (λ (ms : List Mark). shows run ∷ ms) (left_are (before ++ shows run ∷ []) rs)
-
-pub marks_shown : (line : Line) → line.boxes ≡ [] → marks line ≡ map shows (runs (leaves line))
+marks_shown : (line : Line) → line.boxes ≡ [] → marks line ≡ map shows (runs (leaves line))
 unfolding marks
 marks_shown line bare =
     ap (λ (bs : List LineBox). marks_of bs (leaves line)) bare
     ∙ ap (λ (ms : List Mark). leftmost [] (rightmost ms)) (after_are None (runs (leaves line)))
     ∙ ap (leftmost []) (right_are (runs (leaves line)))
     ∙ left_are [] (runs (leaves line))
-
-pub bare_alone : (boxes : List LineBox) (ls : List Leaf) → (length boxes == 0) ≡ true → marks_after boxes None (runs ls) ≡ marks_of boxes ls
-bare_alone [] ls is_none =
-    sym (ap (λ (ms : List Mark). leftmost [] (rightmost ms)) (after_are None (runs ls)) ∙ ap (leftmost []) (right_are (runs ls)) ∙ left_are [] (runs ls) ∙ sym (after_are None (runs ls)))
-bare_alone (box ∷ boxes) ls is_none = let some : (length (box ∷ boxes) == 0) ≡ false = grind arith in absurd (cc)
 
 -- ---- what hangs
 
@@ -102,14 +91,14 @@ none_under boxes [] h = refl
 none_under boxes (l ∷ ls) h = rw (h.0.what, none_under boxes ls h.1) refl
 
 -- where a row of runs ends
-abbrev pub right_of : (left : ℤ) → List (List Leaf) → ℤ
+abbrev right_of : (left : ℤ) → List (List Leaf) → ℤ
 right_of left [] = left
 right_of left (run ∷ rs) = right_of (left +ℤ extent_of run) rs
 
-abbrev pub row_with : Pieces → ℤ → Row
+abbrev row_with : Pieces → ℤ → Row
 row_with pieces right = record { pieces = pieces; right = right }
 
-pub rows_shown : (line : Line) (over left : ℤ) (rs : List (List Leaf)) → rows line over left (map shows rs) ≡ row_with (shown line over left rs) (right_of left rs) ∷ []
+rows_shown : (line : Line) (over left : ℤ) (rs : List (List Leaf)) → rows line over left (map shows rs) ≡ row_with (shown line over left rs) (right_of left rs) ∷ []
 rows_shown line over left [] = refl
 rows_shown line over left (run ∷ rs) = ap (put_first (run_piece line over left run)) (rows_shown line over (left +ℤ extent_of run) rs)
 
@@ -134,10 +123,8 @@ take_text node form zero items h = tt
 take_text node form (suc n) [] h = tt
 take_text node form (suc n) (item ∷ items) h = (h.0, take_text node form n items h.1)
 
-levels_zero : (node : ℕ) (form : UnitKind) (items : List Item) → AreText node form items → All (λ level. level ≡ 0) (levels_in items)
-levels_zero node form [] h k d lt = absurd (omega arith)
-levels_zero node form (item ∷ items) h zero d lt = h.0.level
-levels_zero node form (item ∷ items) h (suc k) d lt = levels_zero node form items h.1 k d (omega arith)
+levels_zero : (node : ℕ) (form : UnitKind) (items : List Item) → All (IsTextItem node form) items → All (λ (item : Item). item.level ≡ 0) items
+levels_zero node form items are k d lt = (are k d lt).level
 
 abbrev solid_leaf : (place : ℕ) → Item → Leaf
 solid_leaf place item = leaf place item.level item false
@@ -263,16 +250,19 @@ piece_is t line over left (item ∷ items) next h some =
     what_by t line over left (front 0 (item ∷ items)) next item.what h.0.what
     ∙ rw (h.0.inside, h.0.level, front_extent 0 (item ∷ items), front_units 0 (item ∷ items)) refl
 
-runs_are : LevelZeroStays → (t : Text) (line : Line) (is : IsText t line)
+abbrev IsOn : Text → Line → Type 0
+IsOn t line = IsLineText t line.items
+
+runs_are : LevelZeroStays → (t : Text) (line : Line) (is : IsOn t line) → line.base ≡ 0
     → runs (leaves line) ≡ front 0 (take is.count line.items) ∷ map single (leaves_of is.count (drop is.count line.items))
-runs_are stays t line is =
+runs_are stays t line is base =
     let some = is.solid.some in
     let within = is.solid.within in
-    let own : AreText t.node t.form line.items = each_text t.node t.form line.items is.items in
+    let own : AreText t.node t.form line.items = each_text t.node t.form line.items is.are in
     let e : suc (is.count - 1) ≡ is.count = omega arith in
     let z : 0 + suc (is.count - 1) ≡ is.count = omega arith in
     let P : ℕ → Type 0 = λ n. are_spaces (drop n line.items) ≡ true in
-    ap runs (in_order_of stays line is.base (levels_zero t.node t.form line.items own))
+    ap runs (in_order stays line base (levels_zero t.node t.form line.items is.are))
     ∙ solid_runs t.node t.form 0 line.items (is.count - 1) own (omega arith) is.solid.last (subst P (sym e) is.solid.spaces)
     ∙ ap (λ (p : ℕ). front 0 (take (suc (is.count - 1)) line.items) ∷ map single (leaves_of p (drop (suc (is.count - 1)) line.items))) z
     ∙ ap (λ (n : ℕ). front 0 (take n line.items) ∷ map single (leaves_of is.count (drop n line.items))) e
@@ -280,56 +270,84 @@ runs_are stays t line is =
 abbrev marks_with : List Leaf → List Leaf → List Mark
 marks_with run nones = map shows (run ∷ map single nones)
 
-marks_text : LevelZeroStays → (t : Text) (line : Line) (is : IsText t line) → marks line ≡ marks_with (front 0 (take is.count line.items)) (leaves_of is.count (drop is.count line.items))
-marks_text stays t line is = marks_shown line is.boxes ∙ ap (map shows) (runs_are stays t line is)
+marks_text : LevelZeroStays → (t : Text) (line : Line) (is : IsOn t line) → line.base ≡ 0 → line.boxes ≡ []
+    → marks line ≡ marks_with (front 0 (take is.count line.items)) (leaves_of is.count (drop is.count line.items))
+marks_text stays t line is base boxes = marks_shown line boxes ∙ ap (map shows) (runs_are stays t line is base)
 
-pub text_over : LevelZeroStays → (t : Text) (line : Line) → IsText t line → t.strut.over ≡ line_over line
-text_over stays t line is =
-    let own = take_text t.node t.form is.count line.items (each_text t.node t.form line.items is.items) in
-    sym (ap (λ (ms : List Mark). fold int_max line.strut.over (flat_map (over_of line.boxes) ms)) (marks_text stays t line is)
-    ∙ rw (front_over t.node t.form 0 (take is.count line.items) own, none_over line.boxes (leaves_of is.count (drop is.count line.items)) (none_leaves is.count (drop is.count line.items) is.solid.spaces))
-    (ap (λ (e : Extents). e.over) is.strut))
+pub text_over : LevelZeroStays → (t : Text) (line : Line) → IsOn t line → line.base ≡ 0 → line.boxes ≡ [] → line.strut.over ≡ line_over line
+text_over stays t line is base boxes =
+    let own = take_text t.node t.form is.count line.items (each_text t.node t.form line.items is.are) in
+    sym (ap (λ (ms : List Mark). fold int_max line.strut.over (flat_map (over_of line.boxes) ms)) (marks_text stays t line is base boxes)
+    ∙ rw (front_over t.node t.form 0 (take is.count line.items) own, none_over line.boxes (leaves_of is.count (drop is.count line.items)) (none_leaves is.count (drop is.count line.items) is.solid.spaces)) refl)
 
-pub text_under : LevelZeroStays → (t : Text) (line : Line) → IsText t line → t.strut.under ≡ line_under line
-text_under stays t line is =
-    let own = take_text t.node t.form is.count line.items (each_text t.node t.form line.items is.items) in
-    sym (ap (λ (ms : List Mark). fold int_max line.strut.under (flat_map (under_of line.boxes) ms)) (marks_text stays t line is)
-    ∙ rw (front_under t.node t.form 0 (take is.count line.items) own, none_under line.boxes (leaves_of is.count (drop is.count line.items)) (none_leaves is.count (drop is.count line.items) is.solid.spaces))
-    (ap (λ (e : Extents). e.under) is.strut))
+pub text_under : LevelZeroStays → (t : Text) (line : Line) → IsOn t line → line.base ≡ 0 → line.boxes ≡ [] → line.strut.under ≡ line_under line
+text_under stays t line is base boxes =
+    let own = take_text t.node t.form is.count line.items (each_text t.node t.form line.items is.are) in
+    sym (ap (λ (ms : List Mark). fold int_max line.strut.under (flat_map (under_of line.boxes) ms)) (marks_text stays t line is base boxes)
+    ∙ rw (front_under t.node t.form 0 (take is.count line.items) own, none_under line.boxes (leaves_of is.count (drop is.count line.items)) (none_leaves is.count (drop is.count line.items) is.solid.spaces)) refl)
 
 width_text : (boxes : List LineBox) (run nones : List Leaf) → AreNone nones → width boxes (marks_with run nones) ≡ extent_of run
 width_text boxes run nones h = ap (λ z. extent_of run +ℤ z) (none_width boxes nones h) ∙ and_zero (extent_of run) where
   and_zero : (z : ℤ) → z +ℤ pos 0 ≡ z
   and_zero z = omega (arith, ints)
 
-abbrev start_in : Text → ℤ
-start_in t = offset t.align 0 (t.available -ℤ t.extent)
-
 abbrev start_of : Line → ℤ → ℤ
 start_of line wide = offset line.align line.base (line.available -ℤ wide)
 
-pub text_parts : LevelZeroStays → (t : Text) (line : Line) → IsText t line → text.text_piece t none ≡ parts line
-text_parts stays t line is =
+abbrev start_in : Line → ℤ → ℤ
+start_in line wide = offset line.align 0 (line.available -ℤ wide)
+
+pub text_parts : LevelZeroStays → (t : Text) (line : Line) → IsOn t line → line.base ≡ 0 → line.boxes ≡ []
+    → text.text_piece line.strut line.strut.over (start_in line t.extent) t none ≡ parts line
+text_parts stays t line is base boxes =
     let items : List Item = take is.count line.items in
     let nones : List Leaf = leaves_of is.count (drop is.count line.items) in
     let hang : AreNone nones = none_leaves is.count (drop is.count line.items) is.solid.spaces in
-    let own : AreText t.node t.form items = take_text t.node t.form is.count line.items (each_text t.node t.form line.items is.items) in
+    let own : AreText t.node t.form items = take_text t.node t.form is.count line.items (each_text t.node t.form line.items is.are) in
     let some = is.solid.some in
     let within = is.solid.within in
     let l = length-take-le is.count line.items within in
     let w : width line.boxes (marks_with (front 0 items) nones) ≡ t.extent = width_text line.boxes (front 0 items) nones hang ∙ front_extent 0 items ∙ sym is.extent in
-    let o : line_over line ≡ t.strut.over = sym (text_over stays t line is) in
-    let at : start_of line t.extent ≡ offset t.align 0 (t.available -ℤ t.extent) =
-    ap (λ (a : Align). offset a line.base (line.available -ℤ t.extent)) is.align
-    ∙ ap (λ b. offset t.align b (line.available -ℤ t.extent)) is.base
-    ∙ ap (λ z. offset t.align 0 (z -ℤ t.extent)) is.available in
-    sym (ap (λ (ms : List Mark). outermost (rows line (line_over line) (start_of line (width line.boxes ms)) ms)) (marks_text stays t line is)
+    let o : line_over line ≡ line.strut.over = sym (text_over stays t line is base boxes) in
+    let at : start_of line t.extent ≡ start_in line t.extent = ap (λ b. offset line.align b (line.available -ℤ t.extent)) base in
+    sym (ap (λ (ms : List Mark). outermost (rows line (line_over line) (start_of line (width line.boxes ms)) ms)) (marks_text stays t line is base boxes)
     ∙ ap outermost (rows_shown line (line_over line) (start_of line (width line.boxes (marks_with (front 0 items) nones))) (front 0 items ∷ map single nones))
     ∙ ap (λ z. shown line (line_over line) (start_of line z) (front 0 items ∷ map single nones)) w
     ∙ ap (λ z. shown line z (start_of line t.extent) (front 0 items ∷ map single nones)) o
-    ∙ ap (λ z. shown line t.strut.over z (front 0 items ∷ map single nones)) at
-    ∙ ap (run_piece line t.strut.over (start_in t) (front 0 items)) (none_shown line t.strut.over (start_in t +ℤ extent_of (front 0 items)) nones hang)
-    ∙ piece_is t line t.strut.over (start_in t) items none own (omega arith)
-    ∙ ap (λ (e : Extents). piece (rule.unnumbered t.node) (rule.text_rect e t.strut.over (start_in t) (extent_in items)) (fragments.run t.form 0 None (map unit_in items)) none none) is.strut
-    ∙ ap (λ z. piece (rule.unnumbered t.node) (rule.text_rect t.strut t.strut.over (start_in t) z) (fragments.run t.form 0 None (map unit_in items)) none none) (sym is.extent)
-    ∙ ap (λ (us : List RunUnit). piece (rule.unnumbered t.node) (rule.text_rect t.strut t.strut.over (start_in t) t.extent) (fragments.run t.form 0 None us) none none) (sym is.units))
+    ∙ ap (λ z. shown line line.strut.over z (front 0 items ∷ map single nones)) at
+    ∙ ap (run_piece line line.strut.over (start_in line t.extent) (front 0 items)) (none_shown line line.strut.over (start_in line t.extent +ℤ extent_of (front 0 items)) nones hang)
+    ∙ piece_is t line line.strut.over (start_in line t.extent) items none own (omega arith)
+    ∙ ap (λ z. piece (rule.unnumbered t.node) (rule.text_rect line.strut line.strut.over (start_in line t.extent) z) (fragments.run t.form 0 None (map unit_in items)) none none) (sym is.extent)
+    ∙ ap (λ (us : List RunUnit). piece (rule.unnumbered t.node) (rule.text_rect line.strut line.strut.over (start_in line t.extent) t.extent) (fragments.run t.form 0 None us) none none) (sym is.units))
+
+-- ---- how far it reaches
+
+extent_near : (items : List Item) (n : ℕ) → unsigned_abs (extent_in (take n items)) ≤ total item_reach items
+extent_near items zero = omega arith
+extent_near [] (suc n) = omega arith
+extent_near (item ∷ items) (suc n) = let h = extent_near items n in let s = sum_near item.extent (extent_in (take n items)) in omega (arith, h, s)
+
+pub text_near : (t : Text) (items : List Item) → IsLineText t items → unsigned_abs t.extent ≤ total item_reach items
+text_near t items is = let h = extent_near items is.count in let e = is.extent in omega (arith, h, ap unsigned_abs e)
+
+text_reach : LevelZeroStays → (t : Text) (line : Line) → IsOn t line → line.base ≡ 0 → total leaf_reach (leaves line) ≤ total item_reach line.items
+text_reach stays t line is base =
+    let e = ap (total leaf_reach) (in_order stays line base (levels_zero t.node t.form line.items is.are)) in
+    let r = from_reach 0 (levels_in line.items) line.items in
+    omega (arith, e, r)
+
+one_atomic : (node : ℕ) (form : UnitKind) (what : Content) → IsUnit node form what → IsAtomic what
+one_atomic node form (unit n f e k g) h = tt
+one_atomic node form (combined n f e natural g) h = tt
+one_atomic node form (atom fragment left over top bottom) h = absurd h
+one_atomic node form nothing h = tt
+
+pub text_parts_in : LevelZeroStays → (t : Text) (line : Line) → IsOn t line → line.base ≡ 0 → AreInLimit (4 * line_reach line) (parts line)
+text_parts_in stays t line is base =
+    let m = ap (total (mark_reach line.boxes)) (marks_are line) in
+    let r = marks_reach line.boxes (leaves line) in
+    let l = text_reach stays t line is base in
+    let own : All (λ (item : Item). IsAtomic item.what) line.items = All-weaker (IsTextItem t.node t.form) (λ (item : Item). IsAtomic item.what) (λ item k. one_atomic t.node t.form item.what k.what) line.items is.are in
+    let inside : All (λ (item : Item). IsBefore (length line.boxes) item.inside) line.items =
+    All-weaker (IsTextItem t.node t.form) (λ (item : Item). IsBefore (length line.boxes) item.inside) (λ item k. let P : Option ℕ → Type 0 = λ o. IsBefore (length line.boxes) o in subst P (sym k.inside) tt) line.items is.are in
+    parts_in line own inside (omega (arith, m, r, l))

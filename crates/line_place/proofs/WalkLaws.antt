@@ -205,7 +205,7 @@ advance_near boxes (shows run) = extent_near run
 
 -- ---- one mark more of the code's
 
-pub next_mark : (marks : List code.Mark) (k : ℕ) (x : code.Mark) → k < length marks → x ≡ get_or marks k x → drop k (map mark_of marks) ≡ mark_of x ∷ drop (k + 1) (map mark_of marks)
+pub next_mark : {S : Type 0} (marks : List (code.Mark S)) (k : ℕ) (x : code.Mark S) → k < length marks → x ≡ get_or marks k x → drop k (map mark_of marks) ≡ mark_of x ∷ drop (k + 1) (map mark_of marks)
 next_mark marks k x lt is =
     let l = length-map marks mark_of in
     drop_more (map mark_of marks) k (mark_of x) (omega arith) ∙ ap (λ (m : Mark). m ∷ drop (k + 1) (map mark_of marks)) (get_or-map mark_of marks k x (mark_of x) lt ∙ ap mark_of (sym is))
@@ -215,7 +215,7 @@ in_rest n zero marks h = h
 in_rest n (suc k) [] h = h
 in_rest n (suc k) (mark ∷ marks) h = in_rest n k marks h.1
 
-pub in_box : (n k : ℕ) (marks : List code.Mark) (x : code.Mark) → AreInBoxes n (map mark_of marks) → k < length marks → x ≡ get_or marks k x → IsInBox n (mark_of x)
+pub in_box : {S : Type 0} (n k : ℕ) (marks : List (code.Mark S)) (x : code.Mark S) → AreInBoxes n (map mark_of marks) → k < length marks → x ≡ get_or marks k x → IsInBox n (mark_of x)
 in_box n k marks x h lt is =
     let P : List Mark → Type 0 = λ l. AreInBoxes n l in
     (subst P (next_mark marks k x lt is) (in_rest n k (map mark_of marks) h)).0

@@ -1,10 +1,9 @@
 -- The items of a line from line-left. CSS Text 3, 4.1.2; UAX 9, 3.4.
-use Rattle.std.specs.Prelude.{ℕ, ◌+◌, Bool, true, ◌&&◌, cond, List, [], ◌∷◌, map, Option, Some, None, slice_get, ℤ, pos}
+use Rattle.std.specs.Prelude.{ℕ, ◌+◌, Bool, true, false, ◌&&◌, cond, List, [], ◌∷◌, map, Option, Some, None, slice_get, slice_index_or, ℤ, pos}
 use Rattle.std.specs.List.{filter_map}
 use Rattle.bidi_order.specs.Blanks.{reset}
 use Rattle.bidi_order.specs.Visual.{visual_order}
-use Rattle.line_place.specs.Line.{Content, content_of, nothing, Item, item_of, Line}
-use Rattle.std.proofs.Common.{Bor}
+use Rattle.line_place.specs.Line.{Content, content_of, nothing, Item, no_item, Line}
 use Rattle.line_place.specs.declared.leaves.Leaf as code
 use Rattle.line_place.specs.declared.line.LineContent.{LineContent}
 
@@ -30,6 +29,10 @@ leaves_from place [] items = []
 leaves_from place (level ∷ levels) [] = []
 leaves_from place (level ∷ levels) (item ∷ items) = leaf place level item (are_spaces (item ∷ items)) ∷ leaves_from (place + 1) levels items
 
+-- the items of a line in logical order, with their own levels
+abbrev pub in_logical_order : List Item → List Leaf
+in_logical_order items = leaves_from 0 (map (λ item. item.level) items) items
+
 -- L1 on the levels of the line's items
 abbrev pub levels_of : Line → List ℕ
 levels_of line = reset line.base (map (λ item. item.level) line.items) (map (λ item. item.class) line.items)
@@ -40,10 +43,21 @@ leaves line =
     let levels = levels_of line in
     filter_map (λ place. slice_get (leaves_from 0 levels line.items) place) (visual_order levels (map (λ item. item.apart) line.items))
 
--- the same of a leaf of the code
-abbrev pub leaf_of : code.Leaf → Leaf
-leaf_of made = leaf made.place made.level (item_of made.item.now) made.hangs
+-- the leaf that a leaf of the code stands for, by the items of its source
+abbrev pub leaf_in : List Item → code.Leaf → Leaf
+leaf_in items made = leaf made.place made.level (slice_index_or items made.place no_item) made.hangs
 
-abbrev pub seen : Option (Bor LineContent) → Content
+abbrev pub no_leaf : Leaf
+no_leaf = leaf 0 0 no_item false
+
+abbrev pub nth_leaf : List Leaf → ℕ → Leaf
+nth_leaf leaves k = slice_index_or leaves k no_leaf
+
+-- what is seen of the first one
+abbrev pub what_of : List Leaf → Content
+what_of [] = nothing
+what_of (leaf ∷ leaves) = leaf.what
+
+abbrev pub seen : Option LineContent → Content
 seen None = nothing
-seen (Some what) = content_of what.now
+seen (Some what) = content_of what

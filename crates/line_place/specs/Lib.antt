@@ -2,11 +2,11 @@ pub mod Laws
 pub mod Leading
 pub mod Leaves
 pub mod Line
+pub mod LineText
 pub mod Marks
+pub mod PieceCode
 pub mod Placing
 pub mod Reach
 pub mod Runs
 pub mod Spread
-pub mod TextLine
-pub mod UnitLine
 pub mod Walk

@@ -5,7 +5,7 @@ use Rattle.line_place.specs.declared.marks.Mark as code
 use Rattle.line_place.specs.declared.marks.Mark.TheVariants as codes
 use Rattle.line_place.specs.declared.line.LineBox.{LineBox}
 use Rattle.line_place.specs.Line.{no_box, Line}
-use Rattle.line_place.specs.Leaves.{Leaf, leaf_of, leaves}
+use Rattle.line_place.specs.Leaves.{Leaf, leaves}
 use Rattle.line_place.specs.Runs.{HasAtomFirst, runs, is_place}
 
 -- a fragment of a box, by the box's place, begins or ends: `edge` says that it is the leftmost one where it begins, and the
@@ -85,10 +85,10 @@ unfoldable pub marks : Line → List Mark
 marks line = marks_of line.boxes (leaves line)
 
 -- the same of a mark of the code
-abbrev pub mark_of : code.Mark → Mark
+abbrev pub mark_of : {S : Type 0} → code.Mark S → Mark
 mark_of (codes.Begins p edge) = begins p edge
 mark_of (codes.Ends p edge) = ends p edge
-mark_of (codes.Shows run) = shows (map leaf_of run.now)
+mark_of (codes.Shows run) = shows run
 
 -- in each run that is shown only the first leaf can be an atom
 abbrev pub ShowsAtomFirst : Mark → Type 0

@@ -1,13 +1,14 @@
 -- How far the lengths of a line reach.
-use Rattle.std.specs.Prelude.{◌≡◌, ℕ, suc, ◌+◌, ◌-◌, ◌<◌, ◌≤◌, ◌^◌, ⊤, Bool, true, false, List, [], ◌∷◌, length, Option, IfSome, slice_index_or, unsigned_abs}
+use Rattle.std.specs.Prelude.{◌≡◌, ℕ, suc, ◌+◌, ◌-◌, ◌<◌, ◌≤◌, ◌^◌, ⊤, Bool, true, false, List, [], ◌∷◌, length, Option, IfSome, slice_index_or, unsigned_abs, ℤ, pos, ◌≤ℤ◌}
 use Rattle.std.specs.List.{All, list_any}
+use Rattle.line_place.specs.declared.leading.TextExtents.{TextExtents}
 use Rattle.line_place.specs.declared.line.Extents.{Extents}
 use Rattle.line_place.specs.declared.line.LineBox.{LineBox}
 use Rattle.wm_modes.specs.declared.rects.FlowRect.{FlowRect}
 use Rattle.fragment_types.specs.Fragment.{Pieces, none, piece, span}
 use Rattle.line_place.specs.Line.{Content, unit, combined, atom, nothing, Item, Line}
 use Rattle.line_place.specs.Leaves.{Leaf}
-use Rattle.line_place.specs.Marks.{Mark, begins, ends, shows, box_at, inside_of}
+use Rattle.line_place.specs.Marks.{Mark, ShowAtomsFirst, begins, ends, shows, box_at, inside_of}
 
 -- the extents of an inline box in a style
 pub record AreNear (extents : Extents) : Type 0 where
@@ -16,6 +17,23 @@ pub record AreNear (extents : Extents) : Type 0 where
   pub over : unsigned_abs extents.over ≤ 2 ^ 34
   pub under : unsigned_abs extents.under ≤ 2 ^ 34
   pub raised : unsigned_abs extents.raised ≤ 2 ^ 32
+
+-- how far text reaches over and under its own baseline in a style
+pub record IsTextNear (text : TextExtents) : Type 0 where
+  pub over_low : pos 0 ≤ℤ text.over
+  pub over_high : text.over ≤ℤ pos (2 ^ 18)
+  pub under_low : pos 0 ≤ℤ text.under
+  pub under_high : text.under ≤ℤ pos (2 ^ 19)
+
+-- the font size of a style
+pub record IsFontSize (size : ℤ) : Type 0 where
+  pub low : pos 0 ≤ℤ size
+  pub high : size ≤ℤ pos 65536
+
+-- a share of a font size, of at most four of it
+pub record IsShare (length : ℤ) : Type 0 where
+  pub low : pos 0 ≤ℤ length
+  pub high : length ≤ℤ pos (2 ^ 18)
 
 -- no box, or one before that place
 abbrev pub IsBefore : (end_ : ℕ) → Option ℕ → Type 0
@@ -152,6 +170,14 @@ CanStand n (shows run) = ⊤
 abbrev pub ArePaired : (open_before : ℕ) → List Mark → Type 0
 ArePaired n [] = n ≡ 0
 ArePaired n (mark ∷ marks) = CanStand n mark × ArePaired (open_behind n mark) marks
+
+-- marks of a line with so many boxes: each is of boxes that there are, each box that begins ends, and in each run only the first leaf
+-- can be an atom
+pub record AreLineMarks (count : ℕ) (marks : List Mark) : Type 0 where
+  pub of_boxes : AreOfBoxes count marks
+  pub in_boxes : AreInBoxes count marks
+  pub atoms : ShowAtomsFirst marks
+  pub paired : ArePaired 0 marks
 
 -- no box reaches further than that
 abbrev pub AreReached : List LineBox → Type 0

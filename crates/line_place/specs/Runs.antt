@@ -2,7 +2,7 @@
 use Rattle.std.specs.Prelude.{ℕ, ◌+◌, ◌%◌, ⊤, Bool, true, false, ◌&&◌, ◌==◌, cond, List, [], ◌∷◌, Option, Some, None}
 use Rattle.fragment_types.specs.declared.unit_kind.UnitKind.{UnitKind}
 use Rattle.fragment_types.specs.declared.unit_kind.UnitKind.TheVariants.{Along, Turned, Upright, Combined}
-use Rattle.line_place.specs.Line.{Content, unit, combined, atom, nothing}
+use Rattle.line_place.specs.Line.{Content, unit, combined, atom, nothing, Item}
 use Rattle.line_place.specs.Leaves.{Leaf}
 
 abbrev pub is_form : UnitKind → UnitKind → Bool
@@ -21,6 +21,10 @@ is_place _ _ = false
 abbrev pub are_alike : Content → Content → Bool
 are_alike (unit node first end_ form glyphs) (unit node' first' end' form' glyphs') = (node == node') && is_form form form'
 are_alike _ _ = false
+
+-- items that may stand in one run: units of one text node and one form, inside the same box
+abbrev pub stand_alike : Item → Item → Bool
+stand_alike item other = are_alike item.what other.what && is_place item.inside other.inside
 
 -- whether the second item follows the first one, where text of this level goes from line-left, or the other way
 abbrev pub follows : (level : ℕ) → (place : ℕ) → (next : ℕ) → Bool

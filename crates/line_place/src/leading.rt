@@ -2,7 +2,7 @@
 
 ghost use Rattle.std.specs.Prelude.{◌≡◌, ◌≤◌, ◌^◌, ℤ, pos, ◌+ℤ◌, ◌≤ℤ◌, unsigned_abs};
 ghost use Rattle.line_place.specs.Leading as rule;
-ghost use Rattle.line_place.specs.Reach.{AreNear};
+ghost use Rattle.line_place.specs.Reach.{AreNear, IsFontSize, IsShare, IsTextNear};
 ghost use Rattle.style_types.specs.Style.{IsLineHeight};
 
 use crate::line::Extents;
@@ -41,21 +41,17 @@ struct TextExtents {
 // These thousandths of the font size, cut downwards.
 fn share(thousandths: u32, font_size: i64) -> i64
     requires thousandths { thousandths ≤ 4000 }
-    requires low { pos 0 ≤ℤ font_size }
-    requires high { font_size ≤ℤ pos 65536 }
+    requires font_size { IsFontSize font_size }
     ensures is { result ≡ rule.share thousandths font_size }
-    ensures low { pos 0 ≤ℤ result }
-    ensures high { result ≤ℤ pos (2 ^ 18) }
+    ensures near { IsShare result }
 {
     (i64::from(thousandths) * font_size).div_euclid(1000)
 }
 
 // With a central baseline both halves of the text, the smaller one over (CSS Writing Modes 4, 4.2).
 fn by_baseline(ascent: i64, descent: i64, baseline: Baseline) -> TextExtents
-    requires ascent_low { pos 0 ≤ℤ ascent }
-    requires ascent_high { ascent ≤ℤ pos (2 ^ 18) }
-    requires descent_low { pos 0 ≤ℤ descent }
-    requires descent_high { descent ≤ℤ pos (2 ^ 18) }
+    requires ascent { IsShare ascent }
+    requires descent { IsShare descent }
     ensures is { result ≡ rule.by_baseline ascent descent baseline }
     ensures over_low { pos 0 ≤ℤ result.over }
     ensures over_high { result.over ≤ℤ pos (2 ^ 18) }
@@ -79,13 +75,9 @@ fn by_baseline(ascent: i64, descent: i64, baseline: Baseline) -> TextExtents
 
 // The used `line-height` (CSS 2, 10.8.1).
 fn line_height(style: &Style, text: TextExtents) -> i64
-    requires font_size_low { pos 0 ≤ℤ style.now.font_size }
-    requires font_size_high { style.now.font_size ≤ℤ pos 65536 }
+    requires font_size { IsFontSize style.now.font_size }
     requires line_height { IsLineHeight style.now.line_height }
-    requires over_low { pos 0 ≤ℤ text.over }
-    requires over_high { text.over ≤ℤ pos (2 ^ 18) }
-    requires under_low { pos 0 ≤ℤ text.under }
-    requires under_high { text.under ≤ℤ pos (2 ^ 19) }
+    requires text { IsTextNear text }
     ensures is { result ≡ rule.line_height style.now (text.over +ℤ text.under) }
     ensures near { unsigned_abs result ≤ 2 ^ 32 }
 {
@@ -98,10 +90,7 @@ fn line_height(style: &Style, text: TextExtents) -> i64
 
 // Half of the leading stands over the text and the rest under it; both move over with the box (CSS 2, 10.8.1).
 fn spread(text: TextExtents, line_height: i64, raised: i64) -> Extents
-    requires over_low { pos 0 ≤ℤ text.over }
-    requires over_high { text.over ≤ℤ pos (2 ^ 18) }
-    requires under_low { pos 0 ≤ℤ text.under }
-    requires under_high { text.under ≤ℤ pos (2 ^ 19) }
+    requires text { IsTextNear text }
     requires line_height { unsigned_abs line_height ≤ 2 ^ 32 }
     requires raised { unsigned_abs raised ≤ 2 ^ 32 }
     ensures are { result ≡ rule.spread text.over text.under line_height raised }
@@ -121,10 +110,7 @@ fn spread(text: TextExtents, line_height: i64, raised: i64) -> Extents
 // How far the line height reaches over the baseline of its box.
 #[tactic(auto, using(crate::proofs::Lengths::half_near))]
 fn with_leading(text: TextExtents, line_height: i64) -> i64
-    requires over_low { pos 0 ≤ℤ text.over }
-    requires over_high { text.over ≤ℤ pos (2 ^ 18) }
-    requires under_low { pos 0 ≤ℤ text.under }
-    requires under_high { text.under ≤ℤ pos (2 ^ 19) }
+    requires text { IsTextNear text }
     requires line_height { unsigned_abs line_height ≤ 2 ^ 32 }
     ensures is { result ≡ rule.over_baseline text.over text.under line_height }
     ensures near { unsigned_abs result ≤ 2 ^ 33 }

@@ -1,127 +1,262 @@
 //! The items of a line from line-left (CSS Text 3, 4.1.2; UAX 9, 3.4).
 
-ghost use Rattle.std.specs.Prelude.{◌≡◌, ◌==◌, ◌&&◌, ℕ, ◌<◌, ◌≤◌, leb, length, map, drop, slice_get, Some, IfOk};
-ghost use Rattle.std.specs.List.{list_all};
-ghost use Rattle.line_place.specs.Leaves.{are_spaces, leaf_of, seen, leaves, leaves_from, levels_of};
-ghost use Rattle.line_place.specs.Line.{item_of, line_of};
+ghost use Rattle.std.specs.Prelude.{◌≡◌, ℕ, ◌+◌, ◌<◌, ◌≤◌, leb, length, map, take, drop, slice_get, Some, IfOk};
+ghost use Rattle.std.specs.List.{All};
+ghost use Rattle.line_place.specs.Leaves.{are_spaces, leaf_in, nth_leaf, what_of, seen, leaves, leaves_from, levels_of, in_logical_order};
+ghost use Rattle.line_place.specs.Line.{line_in};
+ghost use Rattle.line_place.specs.Marks.{inside_of};
+ghost use Rattle.line_place.specs.Placing as rule;
 ghost use Rattle.line_place.specs.Reach.{item_reach, leaf_reach, total};
+ghost use Rattle.line_place.specs.Runs.{goes_on};
 
-use crate::line::{LineContent, LineInput, LineItem};
+use crate::line::{LineContent, LineFrame};
+use crate::runs::follows;
+use crate::source::LineSource;
 use bidi_explicit::{ClassList, LevelList};
 use bidi_order::laws::level_zero_stays;
 use bidi_order::{reset, visual_order};
 use std::alloc::{AllocError, Global};
+use std::marker::Model;
 
 /// An item of a line: its place in logical order, its level after L1, and whether it is a Space at the end of the line, which
 /// has no extent there and isn't seen.
 #[derive(Clone, Copy)]
-pub(crate) struct Leaf<'a> {
-    pub(crate) item: &'a LineItem<'a>,
+pub(crate) struct Leaf {
     pub(crate) place: usize,
     pub(crate) level: u8,
     pub(crate) hangs: bool,
 }
 
-pub(crate) type Leaves<'a> = Vec<Leaf<'a>>;
+pub(crate) type LeafList = Vec<Leaf>;
 
 type Aparts = Vec<Option<u8>>;
 
-impl Leaf<'_> {
-    /// Its extent along the line.
-    pub(crate) fn extent(&self) -> i64
-        ensures { result ≡ (leaf_of self.now).extent }
+/// Leaves that stand side by side on a line, with the source that their items are read from.
+#[derive(Drop)]
+pub(crate) struct LeafSlice<'a, S: LineSource> {
+    source: &'a S,
+    list: &'a [Leaf],
+}
+
+impl<'a, S: LineSource> Model for LeafSlice<'a, S> {
+    ghost use Rattle.std.specs.Prelude.{◌<◌, List, length, map};
+    ghost use Rattle.std.specs.List.{All};
+    ghost use Rattle.std.specs.Coded.{codes};
+    ghost use Rattle.line_place.specs.Leaves.{Leaf as SeenLeaf, leaf_in};
+    ghost use Rattle.line_place.specs.PieceCode.{pieces_code};
+
+    ghost Value = { List SeenLeaf };
+
+    ghost coded = { Prim.hlevel (codes, pieces_code (Prim.hlevel codes)) };
+
+    ghost view = { λ l. map (leaf_in (S.items l.source.now)) l.list.now };
+
+    ghost invariant = { λ l. All (λ leaf. leaf.place < length (S.items l.source.now)) l.list.now };
+}
+
+impl<'a, S: LineSource> LeafSlice<'a, S> {
+    /// The leaves of a list, by the places of their items in the source.
+    pub(crate) fn of_list(source: &'a S, list: &'a [Leaf]) -> LeafSlice<'a, S>
+        requires { All (λ leaf. leaf.place < length (S.items source.now)) list.now }
+        ensures { result ≡ map (leaf_in (S.items source.now)) list.now }
     {
-        if self.hangs { 0 } else { self.item.extent }
+        LeafSlice { source, list }
     }
 
-    /// What is seen of it.
-    pub(crate) fn what(&self) -> Option<&LineContent>
-        ensures { seen result ≡ (leaf_of self.now).what }
+    /// All of them once more.
+    pub(crate) fn same_leaves(&self) -> LeafSlice<'a, S>
+        ensures { result ≡ self.now }
     {
-        if self.hangs {
+        LeafSlice {
+            source: self.source,
+            list: self.list,
+        }
+    }
+
+    /// How many they are.
+    #[inline(always)]
+    pub(crate) fn len(&self) -> usize
+        ensures { result ≡ length self.now }
+    {
+        self.list.len()
+    }
+
+    /// Those from a place on.
+    pub(crate) fn rest_from(&self, start: usize) -> LeafSlice<'a, S>
+        requires { start ≤ length self.now }
+        ensures { result ≡ drop start self.now }
+    {
+        let (_, list) = self.list.split_at(start);
+        LeafSlice {
+            source: self.source,
+            list,
+        }
+    }
+
+    /// The first ones.
+    pub(crate) fn front_of(&self, count: usize) -> LeafSlice<'a, S>
+        requires { count ≤ length self.now }
+        ensures { result ≡ take count self.now }
+    {
+        LeafSlice {
+            source: self.source,
+            list: &self.list[..count],
+        }
+    }
+
+    /// The level of the first one.
+    pub(crate) fn first_level(&self) -> u8
+        ensures { result ≡ rule.level_of self.now }
+    {
+        if self.list.is_empty() {
+            0
+        } else {
+            self.list[0].level
+        }
+    }
+
+    /// The innermost inline box round the first one.
+    pub(crate) fn first_inside(&self) -> Option<usize>
+        ensures { result ≡ inside_of self.now }
+    {
+        if self.list.is_empty() {
             None
         } else {
-            Some(&self.item.what)
+            self.source.item(self.list[0].place).inside
         }
+    }
+
+    /// What is seen of the first one.
+    pub(crate) fn first_what(&self) -> Option<LineContent<'a>>
+        ensures { seen result ≡ what_of self.now }
+    {
+        if self.list.is_empty() {
+            None
+        } else {
+            let (what, _) = self.content_at(0);
+            what
+        }
+    }
+
+    /// The extent of one along the line.
+    #[inline(always)]
+    pub(crate) fn extent_at(&self, k: usize) -> i64
+        requires { k < length self.now }
+        ensures { result ≡ (nth_leaf self.now k).extent }
+    {
+        let list = self.list;
+        let leaf = list[k];
+        if leaf.hangs {
+            0
+        } else {
+            self.source.item(leaf.place).extent
+        }
+    }
+
+    /// What is seen of one, and its extent along the line.
+    #[inline(always)]
+    pub(crate) fn content_at(&self, k: usize) -> (Option<LineContent<'a>>, i64)
+        requires { k < length self.now }
+        ensures what { seen result.0 ≡ (nth_leaf self.now k).what }
+        ensures extent { result.1 ≡ (nth_leaf self.now k).extent }
+    {
+        let list = self.list;
+        let Leaf { place, hangs, .. } = list[k];
+        if hangs {
+            (None, 0)
+        } else {
+            let item = self.source.item(place);
+            (Some(item.what), item.extent)
+        }
+    }
+
+    /// Whether a run goes on from one to the next. Levels and places tell most runs apart, and need no look at the items.
+    #[inline(always)]
+    pub(crate) fn goes_on_at(&self, k: usize) -> bool
+        requires { k + 1 < length self.now }
+        ensures { result ≡ goes_on (nth_leaf self.now k) (nth_leaf self.now (k + 1)) }
+    {
+        let list = self.list;
+        let (leaf, next) = (list[k], list[k + 1]);
+        leaf.level == next.level
+            && follows(leaf.level, leaf.place, next.place)
+            && !leaf.hangs
+            && !next.hangs
+            && self.source.stand_alike(leaf.place, next.place)
     }
 }
 
 /// The items of a line from line-left.
-pub(crate) fn leaves<'a>(alloc: Global, line: &'a LineInput<'a>) -> Result<Leaves<'a>, AllocError>
-    ensures are { IfOk result (λ made. map leaf_of made.items ≡ leaves (line_of line.now)) }
-    ensures reach { IfOk result (λ made. total leaf_reach (map leaf_of made.items) ≤ total item_reach (line_of line.now).items) }
+pub(crate) fn leaves<S: LineSource>(
+    alloc: Global,
+    frame: &LineFrame,
+    source: &S,
+) -> Result<LeafList, AllocError>
+    ensures are { IfOk result (λ made. map (leaf_in (S.items source.now)) made.items ≡ leaves (line_in frame.now (S.items source.now))) }
+    ensures within { IfOk result (λ made. All (λ leaf. leaf.place < length (S.items source.now)) made.items) }
+    ensures reach { IfOk result (λ made. total leaf_reach (map (leaf_in (S.items source.now)) made.items) ≤ total item_reach (S.items source.now)) }
 {
-    if is_level_zero(line) {
+    // A line of level 0 throughout stands in visual order already, so neither L1 nor L2 nor their lists are needed.
+    if frame.base == 0 && source.is_level_zero() {
         level_zero_stays();
-        let leaves = leaves_in_order(alloc, &line.items)?;
+        let leaves = logical_leaves(alloc, source)?;
         Ok(leaves)
     } else {
-        let leaves = ordered_leaves(alloc, line)?;
+        let leaves = ordered_leaves(alloc, frame, source)?;
         Ok(leaves)
     }
 }
 
-// Whether each item has level 0, which is the base level too: then L1 changes no level, and L2 turns nothing round.
-fn is_level_zero(line: &LineInput) -> bool
-    ensures { result ≡ (line.now.base == 0 && list_all (λ item. item.level == 0) line.now.items.items) }
+// The items in logical order, each with level 0.
+fn logical_leaves<S: LineSource>(alloc: Global, source: &S) -> Result<LeafList, AllocError>
+    requires { All (λ item. item.level ≡ 0) (S.items source.now) }
+    ensures are { IfOk result (λ made. map (leaf_in (S.items source.now)) made.items ≡ in_logical_order (S.items source.now)) }
+    ensures within { IfOk result (λ made. All (λ leaf. leaf.place < length (S.items source.now)) made.items) }
 {
-    line.base == 0 && are_level_zero(&line.items)
-}
-
-fn are_level_zero(items: &[LineItem]) -> bool
-    ensures { result ≡ list_all (λ item. item.level == 0) items.now }
-{
-    items.iter().all(
-        |item| -> bool
-            ensures { result ≡ (item.now.level == 0) }
-        { item.level == 0 },
-    )
-}
-
-// The items in their own order, with their own levels.
-fn leaves_in_order<'a>(alloc: Global, items: &'a [LineItem<'a>]) -> Result<Leaves<'a>, AllocError>
-    ensures { IfOk result (λ made. map leaf_of made.items ≡ leaves_from 0 (map (λ item. item.level) (map item_of items.now)) (map item_of items.now)) }
-{
-    let hanging = hanging_from(items);
-    let mut leaves = Vec::with_capacity(alloc, items.len())?;
-    for place in 0..items.len() {
-        let item = &items[place];
-        leaves.push(Leaf {
-            item,
+    let hanging = hanging_from(source);
+    let mut leaves = Vec::with_capacity(alloc, source.count())?;
+    for place in 0..source.count() {
+        leaves.push_reserved(Leaf {
             place,
-            level: item.level,
+            level: 0,
             hangs: place >= hanging,
-        })?;
+        });
     }
     Ok(leaves)
 }
 
 // The items by L1 and L2, whatever their levels.
 #[tactic(auto, unfolding(crate::specs::Leaves::leaves))]
-fn ordered_leaves<'a>(alloc: Global, line: &'a LineInput<'a>) -> Result<Leaves<'a>, AllocError>
-    ensures are { IfOk result (λ made. map leaf_of made.items ≡ leaves (line_of line.now)) }
-    ensures reach { IfOk result (λ made. total leaf_reach (map leaf_of made.items) ≤ total item_reach (line_of line.now).items) }
+fn ordered_leaves<S: LineSource>(
+    alloc: Global,
+    frame: &LineFrame,
+    source: &S,
+) -> Result<LeafList, AllocError>
+    ensures are { IfOk result (λ made. map (leaf_in (S.items source.now)) made.items ≡ leaves (line_in frame.now (S.items source.now))) }
+    ensures within { IfOk result (λ made. All (λ leaf. leaf.place < length (S.items source.now)) made.items) }
+    ensures reach { IfOk result (λ made. total leaf_reach (map (leaf_in (S.items source.now)) made.items) ≤ total item_reach (S.items source.now)) }
 {
-    let levels = levels_of(alloc, line)?;
-    let aparts = own_aparts(alloc, &line.items)?;
+    let levels = levels_of(alloc, frame, source)?;
+    let aparts = own_aparts(alloc, source)?;
     let order = visual_order(alloc, &levels, &aparts)?;
-    let hanging = hanging_from(&line.items);
+    let hanging = hanging_from(source);
     let mut leaves = Vec::with_capacity(alloc, order.len())?;
     for place in &order {
-        leaves.push(leaf_at(line, &levels, hanging, *place))?;
+        leaves.push(leaf_at(source, &levels, hanging, *place))?;
     }
     Ok(leaves)
 }
 
 // The item at this place of the line, where its Spaces hang from `hanging` on.
-fn leaf_at<'a>(line: &'a LineInput<'a>, levels: &[u8], hanging: usize, place: usize) -> Leaf<'a>
-    requires place { place < length line.now.items.items }
-    requires levels { length levels.now ≡ length line.now.items.items }
-    requires hanging { (k : ℕ) → k < length line.now.items.items → are_spaces (drop k (map item_of line.now.items.items)) ≡ leb hanging k }
-    ensures { Some (leaf_of result) ≡ slice_get (leaves_from 0 levels.now (map item_of line.now.items.items)) place }
+#[inline(always)]
+fn leaf_at<S: LineSource>(source: &S, levels: &[u8], hanging: usize, place: usize) -> Leaf
+    requires place { place < length (S.items source.now) }
+    requires levels { length levels.now ≡ length (S.items source.now) }
+    requires hanging { (k : ℕ) → k < length (S.items source.now) → are_spaces (drop k (S.items source.now)) ≡ leb hanging k }
+    ensures is { Some (leaf_in (S.items source.now) result) ≡ slice_get (leaves_from 0 levels.now (S.items source.now)) place }
+    ensures within { result.place < length (S.items source.now) }
 {
     Leaf {
-        item: &line.items[place],
         place,
         level: levels[place],
         hangs: place >= hanging,
@@ -129,54 +264,61 @@ fn leaf_at<'a>(line: &'a LineInput<'a>, levels: &[u8], hanging: usize, place: us
 }
 
 // The levels of the line's items after L1.
-fn levels_of(alloc: Global, line: &LineInput) -> Result<LevelList, AllocError>
-    ensures levels { IfOk result (λ levels. levels.items ≡ levels_of (line_of line.now)) }
-    ensures length { IfOk result (λ levels. length levels.items ≡ length line.now.items.items) }
+fn levels_of<S: LineSource>(
+    alloc: Global,
+    frame: &LineFrame,
+    source: &S,
+) -> Result<LevelList, AllocError>
+    ensures levels { IfOk result (λ levels. levels.items ≡ levels_of (line_in frame.now (S.items source.now))) }
+    ensures length { IfOk result (λ levels. length levels.items ≡ length (S.items source.now)) }
 {
-    let classes = own_classes(alloc, &line.items)?;
-    let mut levels = own_levels(alloc, &line.items)?;
-    reset(&mut levels, &classes, line.base);
+    let classes = own_classes(alloc, source)?;
+    let mut levels = own_levels(alloc, source)?;
+    reset(&mut levels, &classes, frame.base);
     Ok(levels)
 }
 
-#[tactic(auto, using(crate::proofs::Lists::levels_are))]
-fn own_levels(alloc: Global, items: &[LineItem]) -> Result<LevelList, AllocError>
-    ensures levels { IfOk result (λ levels. levels.items ≡ map (λ item. item.level) (map item_of items.now)) }
-    ensures length { IfOk result (λ levels. length levels.items ≡ length items.now) }
+fn own_levels<S: LineSource>(alloc: Global, source: &S) -> Result<LevelList, AllocError>
+    ensures levels { IfOk result (λ made. made.items ≡ map (λ item. item.level) (S.items source.now)) }
+    ensures length { IfOk result (λ made. length made.items ≡ length (S.items source.now)) }
 {
-    items.iter().map(|item| item.level).collect(alloc)
+    let mut made = Vec::with_capacity(alloc, source.count())?;
+    for place in 0..source.count() {
+        made.push(source.item(place).level)?;
+    }
+    Ok(made)
 }
 
 // What parts each item from the one before it.
-fn own_aparts(alloc: Global, items: &[LineItem]) -> Result<Aparts, AllocError>
-    ensures aparts { IfOk result (λ aparts. aparts.items ≡ map (λ item. item.apart) (map item_of items.now)) }
-    ensures length { IfOk result (λ aparts. length aparts.items ≡ length items.now) }
+fn own_aparts<S: LineSource>(alloc: Global, source: &S) -> Result<Aparts, AllocError>
+    ensures aparts { IfOk result (λ made. made.items ≡ map (λ item. item.apart) (S.items source.now)) }
+    ensures length { IfOk result (λ made. length made.items ≡ length (S.items source.now)) }
 {
-    let mut aparts = Vec::with_capacity(alloc, items.len())?;
-    for item in items {
-        aparts.push(item.apart)?;
+    let mut made = Vec::with_capacity(alloc, source.count())?;
+    for place in 0..source.count() {
+        made.push(source.item(place).apart)?;
     }
-    Ok(aparts)
+    Ok(made)
 }
 
-fn own_classes(alloc: Global, items: &[LineItem]) -> Result<ClassList, AllocError>
-    ensures classes { IfOk result (λ classes. classes.items ≡ map (λ item. item.class) (map item_of items.now)) }
-    ensures length { IfOk result (λ classes. length classes.items ≡ length items.now) }
+fn own_classes<S: LineSource>(alloc: Global, source: &S) -> Result<ClassList, AllocError>
+    ensures classes { IfOk result (λ made. made.items ≡ map (λ item. item.class) (S.items source.now)) }
+    ensures length { IfOk result (λ made. length made.items ≡ length (S.items source.now)) }
 {
-    let mut classes = Vec::with_capacity(alloc, items.len())?;
-    for item in items {
-        classes.push(item.class)?;
+    let mut made = Vec::with_capacity(alloc, source.count())?;
+    for place in 0..source.count() {
+        made.push(source.item(place).class)?;
     }
-    Ok(classes)
+    Ok(made)
 }
 
 // The place from which on the line has nothing but Spaces.
-fn hanging_from(items: &[LineItem]) -> usize
-    ensures within { result ≤ length items.now }
-    ensures is { (k : ℕ) → k < length items.now → are_spaces (drop k (map item_of items.now)) ≡ leb result k }
+fn hanging_from<S: LineSource>(source: &S) -> usize
+    ensures within { result ≤ length (S.items source.now) }
+    ensures is { (k : ℕ) → k < length (S.items source.now) → are_spaces (drop k (S.items source.now)) ≡ leb result k }
 {
-    let mut from = items.len();
-    while from > 0 && items[from - 1].space {
+    let mut from = source.count();
+    while from > 0 && source.item(from - 1).space {
         from -= 1;
     }
     from

@@ -6,17 +6,18 @@ pub mod laws;
 mod leading;
 mod leaves;
 mod line;
+mod line_box;
+mod line_text;
 mod marks;
 mod measure;
-mod place;
 mod runs;
-mod text_line;
-mod unit_line;
+mod source;
 mod walk;
 
 pub use leading::extents;
-pub use line::{Extents, LineBox, LineBoxes, LineContent, LineInput, LineItem, LineItems};
-pub use place::place_line;
-pub use text_line::{TextLine, place_text};
-pub use unit_line::{TextUnit, TextUnits, UnitLine, place_units};
-pub use walk::run_unit;
+pub use line::{
+    Extents, LineBox, LineBoxes, LineContent, LineFrame, LineInput, LineItem, LineItems,
+};
+pub use line_box::{place_line, place_line_from};
+pub use line_text::LineText;
+pub use source::LineSource;

@@ -97,6 +97,19 @@ pub struct LineBox {
     pub last: bool,
 }
 
+/// What a line is placed in: all of it but its items. Lengths are in units of 1/64 px.
+#[derive(Clone, Copy, Debug)]
+pub struct LineFrame<'a> {
+    /// The base level of its bidi paragraph, 0 or 1.
+    pub base: u8,
+    pub align: Align,
+    /// The inline size that the line may take.
+    pub available: i64,
+    /// The extents of the container's strut.
+    pub strut: Extents,
+    pub boxes: &'a [LineBox],
+}
+
 /// A line that is to be placed. Lengths are in units of 1/64 px.
 #[derive(Debug, Drop)]
 pub struct LineInput<'a> {

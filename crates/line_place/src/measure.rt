@@ -4,15 +4,16 @@
 ghost use Rattle.std.specs.Prelude.{◌≡◌, ◌+◌, ◌<◌, ◌≤◌, ◌^◌, ◌-ℤ◌, true, ℤ, pos, length, map, unsigned_abs};
 ghost use Rattle.std.specs.Int.{int_max};
 ghost use Rattle.std.specs.List.{flat_map, fold};
-ghost use Rattle.line_place.specs.Leaves.{leaf_of, seen};
+ghost use Rattle.line_place.specs.Leaves.{seen, what_of};
 ghost use Rattle.line_place.specs.Marks.{ShowAtomsFirst, ShowsAtomFirst, box_at, mark_of};
 ghost use Rattle.line_place.specs.Placing as rule;
 ghost use Rattle.line_place.specs.Runs.{HasAtomFirst};
 ghost use Rattle.line_place.specs.Reach.{AreOfBoxes, IsOfBox, box_reach, leaf_reach, left_reach, mark_reach, right_reach, total};
 
-use crate::leaves::Leaf;
+use crate::leaves::LeafSlice;
 use crate::line::{LineBox, LineContent};
 use crate::marks::Mark;
+use crate::source::LineSource;
 use style_types::Align;
 use wm_modes::Direction;
 use wm_units::half;
@@ -82,22 +83,22 @@ pub(crate) fn right_margin(inline_box: &LineBox, edge: bool) -> i64
 }
 
 /// The extent of a run along the line.
-pub(crate) fn extent_of(run: &[Leaf]) -> i64
-    requires { total leaf_reach (map leaf_of run.now) ≤ 2 ^ 60 }
-    ensures is { result ≡ rule.extent_of (map leaf_of run.now) }
-    ensures near { unsigned_abs result ≤ total leaf_reach (map leaf_of run.now) }
+pub(crate) fn extent_of<S: LineSource>(run: &LeafSlice<S>) -> i64
+    requires { total leaf_reach run.now ≤ 2 ^ 60 }
+    ensures is { result ≡ rule.extent_of run.now }
+    ensures near { unsigned_abs result ≤ total leaf_reach run.now }
 {
     let mut extent = 0;
     let mut from = run.len();
     while from > 0 {
         from -= 1;
-        extent += run[from].extent();
+        extent += run.extent_at(from);
     }
     extent
 }
 
 /// How far a mark advances along the line.
-pub(crate) fn advance(boxes: &[LineBox], mark: &Mark) -> i64
+pub(crate) fn advance<S: LineSource>(boxes: &[LineBox], mark: &Mark<S>) -> i64
     requires of_box { IsOfBox (length boxes.now) (mark_of mark.now) }
     requires reach { mark_reach boxes.now (mark_of mark.now) ≤ 2 ^ 60 }
     ensures is { result ≡ rule.advance boxes.now (mark_of mark.now) }
@@ -115,7 +116,7 @@ pub(crate) fn advance(boxes: &[LineBox], mark: &Mark) -> i64
 }
 
 /// The width of a line.
-pub(crate) fn width(boxes: &[LineBox], marks: &[Mark]) -> i64
+pub(crate) fn width<S: LineSource>(boxes: &[LineBox], marks: &[Mark<S>]) -> i64
     requires of_boxes { AreOfBoxes (length boxes.now) (map mark_of marks.now) }
     requires reach { total (mark_reach boxes.now) (map mark_of marks.now) ≤ 2 ^ 60 }
     ensures is { result ≡ rule.width boxes.now (map mark_of marks.now) }
@@ -181,7 +182,7 @@ fn at_end(base: u8, rest: i64) -> i64
 }
 
 /// How far a line reaches over its baseline: as far as the strut, its inline boxes and its atoms do (CSS 2, 10.8.1).
-pub(crate) fn line_over(boxes: &[LineBox], strut: i64, marks: &[Mark]) -> i64
+pub(crate) fn line_over<S: LineSource>(boxes: &[LineBox], strut: i64, marks: &[Mark<S>]) -> i64
     requires atoms { ShowAtomsFirst (map mark_of marks.now) }
     requires of_boxes { AreOfBoxes (length boxes.now) (map mark_of marks.now) }
     ensures { result ≡ fold int_max strut (flat_map (rule.over_of boxes.now) (map mark_of marks.now)) }
@@ -194,7 +195,7 @@ pub(crate) fn line_over(boxes: &[LineBox], strut: i64, marks: &[Mark]) -> i64
 }
 
 /// How far a line reaches under its baseline (CSS 2, 10.8.1).
-pub(crate) fn line_under(boxes: &[LineBox], strut: i64, marks: &[Mark]) -> i64
+pub(crate) fn line_under<S: LineSource>(boxes: &[LineBox], strut: i64, marks: &[Mark<S>]) -> i64
     requires atoms { ShowAtomsFirst (map mark_of marks.now) }
     requires of_boxes { AreOfBoxes (length boxes.now) (map mark_of marks.now) }
     ensures { result ≡ fold int_max strut (flat_map (rule.under_of boxes.now) (map mark_of marks.now)) }
@@ -206,7 +207,7 @@ pub(crate) fn line_under(boxes: &[LineBox], strut: i64, marks: &[Mark]) -> i64
     under
 }
 
-fn with_over(boxes: &[LineBox], over: i64, mark: &Mark) -> i64
+fn with_over<S: LineSource>(boxes: &[LineBox], over: i64, mark: &Mark<S>) -> i64
     requires atoms { ShowsAtomFirst (mark_of mark.now) }
     requires of_box { IsOfBox (length boxes.now) (mark_of mark.now) }
     ensures { result ≡ fold int_max over (rule.over_of boxes.now (mark_of mark.now)) }
@@ -218,7 +219,7 @@ fn with_over(boxes: &[LineBox], over: i64, mark: &Mark) -> i64
     }
 }
 
-fn with_under(boxes: &[LineBox], under: i64, mark: &Mark) -> i64
+fn with_under<S: LineSource>(boxes: &[LineBox], under: i64, mark: &Mark<S>) -> i64
     requires atoms { ShowsAtomFirst (mark_of mark.now) }
     requires of_box { IsOfBox (length boxes.now) (mark_of mark.now) }
     ensures { result ≡ fold int_max under (rule.under_of boxes.now (mark_of mark.now)) }
@@ -231,29 +232,21 @@ fn with_under(boxes: &[LineBox], under: i64, mark: &Mark) -> i64
 }
 
 // An atom stands in a run of its own.
-fn with_atoms_over(over: i64, run: &[Leaf]) -> i64
-    requires { HasAtomFirst (map leaf_of run.now) }
-    ensures { result ≡ fold int_max over (flat_map (λ leaf. rule.atom_over leaf.what) (map leaf_of run.now)) }
+fn with_atoms_over<S: LineSource>(over: i64, run: &LeafSlice<S>) -> i64
+    requires { HasAtomFirst run.now }
+    ensures { result ≡ fold int_max over (flat_map (λ leaf. rule.atom_over leaf.what) run.now) }
 {
-    if run.is_empty() {
-        over
-    } else {
-        with_atom_over(over, run[0].what())
-    }
+    with_atom_over(over, run.first_what())
 }
 
-fn with_atoms_under(under: i64, run: &[Leaf]) -> i64
-    requires { HasAtomFirst (map leaf_of run.now) }
-    ensures { result ≡ fold int_max under (flat_map (λ leaf. rule.atom_under leaf.what) (map leaf_of run.now)) }
+fn with_atoms_under<S: LineSource>(under: i64, run: &LeafSlice<S>) -> i64
+    requires { HasAtomFirst run.now }
+    ensures { result ≡ fold int_max under (flat_map (λ leaf. rule.atom_under leaf.what) run.now) }
 {
-    if run.is_empty() {
-        under
-    } else {
-        with_atom_under(under, run[0].what())
-    }
+    with_atom_under(under, run.first_what())
 }
 
-fn with_atom_over(over: i64, what: Option<&LineContent>) -> i64
+fn with_atom_over(over: i64, what: Option<LineContent>) -> i64
     ensures { result ≡ fold int_max over (rule.atom_over (seen what.entry)) }
 {
     match what {
@@ -262,13 +255,13 @@ fn with_atom_over(over: i64, what: Option<&LineContent>) -> i64
                 over: atom_over,
                 ..
             },
-        ) => over.max(*atom_over),
+        ) => over.max(atom_over),
         Some(LineContent::Unit { .. } | LineContent::Combined { .. } | LineContent::Break) | None =>
             over,
     }
 }
 
-fn with_atom_under(under: i64, what: Option<&LineContent>) -> i64
+fn with_atom_under(under: i64, what: Option<LineContent>) -> i64
     ensures { result ≡ fold int_max under (rule.atom_under (seen what.entry)) }
 {
     match what {
@@ -277,7 +270,7 @@ fn with_atom_under(under: i64, what: Option<&LineContent>) -> i64
                 under: atom_under,
                 ..
             },
-        ) => under.max(*atom_under),
+        ) => under.max(atom_under),
         Some(LineContent::Unit { .. } | LineContent::Combined { .. } | LineContent::Break) | None =>
             under,
     }

@@ -14,4 +14,3 @@ pub mod Spreading
 pub mod StackLaws
 pub mod StandLaws
 pub mod TextLines
-pub mod UnitLines

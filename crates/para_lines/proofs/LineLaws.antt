@@ -1,6 +1,8 @@
 -- The boxes of a line.
-use Rattle.std.proofs.Common.{◌≡◌, ◌∙◌, refl, sym, ap, Bool, true, ℕ, ◌+◌, ◌<◌, ◌≤◌, List, [], ◌∷◌, ◌++◌, length, map, get_or, drop, reverse, append-nil, Option, Some, ℤ, pos}
+use Rattle.std.proofs.Common.{◌≡◌, ◌∙◌, refl, sym, ap, arith, subst, Bool, true, ℕ, ◌+◌, ◌<◌, ◌≤◌, List, [], ◌∷◌, ◌++◌, length, map, get_or, drop, reverse, append-nil, Option, Some, None, ◌&&◌, ℤ, pos}
 use Rattle.std.specs.Prelude.{option_map}
+use Rattle.std.proofs.lemmas.Bool.{eq-eqb}
+use Rattle.std.proofs.lemmas.List.{get_or-map, length-map}
 use Rattle.std.proofs.lemmas.Simd.{map-map}
 use Rattle.face_api.specs.Table.{Table}
 use Rattle.wm_chars.specs.declared.classes.BidiClass.{BidiClass}
@@ -11,6 +13,7 @@ use Rattle.fragment_types.specs.Item.{Entry}
 use Rattle.line_place.specs.declared.line.Extents.{Extents}
 use Rattle.line_place.specs.declared.line.LineBox.{LineBox}
 use Rattle.line_place.specs.Line as place
+use Rattle.line_place.specs.Runs.{are_alike, is_place, stand_alike}
 use Rattle.para_prepare.specs.declared.item.PreparedContent.{PreparedContent}
 use Rattle.para_prepare.specs.declared.item.PreparedContent.TheVariants.{Unit, Combined, Atom, Break}
 use Rattle.para_lines.specs.declared.boxes.Round.{Round}
@@ -21,7 +24,7 @@ use Rattle.para_lines.specs.Filling.{is_space}
 use Rattle.para_lines.specs.Lines as rule
 use Rattle.para_lines.specs.Around.{fresh, has}
 use Rattle.para_lines.specs.Boxes.{apart, chain_at, chain_behind, innermost, round_of}
-use Rattle.para_lines.specs.Line.{content_in, first_atom, on_line, standing_of}
+use Rattle.para_lines.specs.Line.{ItemsOn, box_on, content_in, first_atom, items_on, line_on, on_line, seat_in, standing_of, units_alike}
 use Rattle.para_lines.specs.Lines.{innermost_in, place_in}
 use Rattle.para_lines.proofs.Chaining.{none_apart}
 
@@ -88,6 +91,54 @@ line_item_is entries boxes standing round extent inside space what is e f g h =
     h ∙ ap (λ (r : Round). content_in r.shifts standing.item.now.what (first_atom standing.atoms.now)) is ∙ content_by entries chain standing.item.now.what (first_atom standing.atoms.now) in
     rw (e, i, g, w) refl
 
+content_alike : (entries : List Entry) (chain chain2 : List ℕ) (atom atom2 : rule.Atom) (one other : PreparedContent)
+    → are_alike (rule.content_of entries chain atom one) (rule.content_of entries chain2 atom2 other) ≡ units_alike one other
+content_alike entries chain chain2 atom atom2 (Unit form space node first end_ advance glyphs) (Unit form' space' node' first' end' advance' glyphs') = refl
+content_alike entries chain chain2 atom atom2 (Unit form space node first end_ advance glyphs) (Combined node' first' end' advance' natural glyphs') = refl
+content_alike entries chain chain2 atom atom2 (Unit form space node first end_ advance glyphs) (Atom name) = refl
+content_alike entries chain chain2 atom atom2 (Unit form space node first end_ advance glyphs) (Break node') = refl
+content_alike entries chain chain2 atom atom2 (Combined node first end_ advance natural glyphs) other = refl
+content_alike entries chain chain2 atom atom2 (Atom name) other = refl
+content_alike entries chain chain2 atom atom2 (Break node) other = refl
+
+-- whether two items may stand in one run is told by what is prepared of them and by their places among the boxes
+pub alike_is : (entries : List Entry) (places : List ℕ) (one other : code.Standing) (units together : Bool) → units ≡ units_alike one.item.now.what other.item.now.what
+    → together ≡ is_place (innermost_in places (chain_at entries one.item.now.source)) (innermost_in places (chain_at entries other.item.now.source))
+    → (units && together) ≡ stand_alike (rule.line_item entries places (standing_of entries one)) (rule.line_item entries places (standing_of entries other))
+alike_is entries places one other units together alike is =
+    let chain : List ℕ = chain_at entries one.item.now.source in
+    let chain2 : List ℕ = chain_at entries other.item.now.source in
+    ap (λ b. units && b) is
+    ∙ ap (λ b. b && is_place (innermost_in places chain) (innermost_in places chain2))
+    (alike ∙ sym (content_alike entries chain chain2 (first_atom one.atoms.now) (first_atom other.atoms.now) one.item.now.what other.item.now.what))
+
+-- whether the items at two places of a line may stand in one run
+pub alike_at : (own : ItemsOn) (at_one other : ℕ) (one next : code.Standing) (units together : Bool) (d : place.Item) → at_one < length (items_on own) → other < length (items_on own)
+    → one ≡ get_or own.standings at_one one → next ≡ get_or own.standings other one → units ≡ units_alike one.item.now.what next.item.now.what
+    → together ≡ is_place (seat_in own (get_or own.standings at_one one)) (seat_in own (get_or own.standings other one))
+    → (units && together) ≡ stand_alike (get_or (items_on own) at_one d) (get_or (items_on own) other d)
+alike_at own at_one other one next units together d lt lt2 at_ at2 alike is =
+    let entries : List Entry = own.seated.boxes.now in
+    let made : code.Standing → place.Item = λ s. rule.line_item entries own.seated.places.now (standing_of entries s) in
+    let many = length-map own.standings made in
+    let x : code.Standing = get_or own.standings at_one one in
+    let y : code.Standing = get_or own.standings other one in
+    alike_is entries own.seated.places.now x y units together
+    (alike ∙ ap (λ (s : code.Standing). units_alike s.item.now.what next.item.now.what) at_ ∙ ap (λ (s : code.Standing). units_alike x.item.now.what s.item.now.what) at2) is
+    ∙ sym (ap (λ (i : place.Item). stand_alike i (get_or (items_on own) other d)) (get_or-map made own.standings at_one one d (omega (arith, many, lt)))
+    ∙ ap (stand_alike (made x)) (get_or-map made own.standings other one d (omega (arith, many, lt2))))
+
+is_own_place : (place : Option ℕ) → is_place place place ≡ true
+is_own_place None = refl
+is_own_place (Some place) = eq-eqb place place refl
+
+-- what comes from one entry stands inside the same box
+pub in_one_place : (entries : List Entry) (places : List ℕ) (source other : ℕ) → source ≡ other
+    → is_place (innermost_in places (chain_at entries source)) (innermost_in places (chain_at entries other)) ≡ true
+in_one_place entries places source other same =
+    ap (λ (s : ℕ). is_place (innermost_in places (chain_at entries source)) (innermost_in places (chain_at entries s))) (sym same)
+    ∙ is_own_place (innermost_in places (chain_at entries source))
+
 abbrev atom_with : Pieces → ℤ → ℤ → ℤ → ℤ → place.Content
 atom_with fragment left over_margin over under = place.atom fragment left over_margin over under
 
@@ -112,3 +163,13 @@ line_is tables container entries before after places standings base size strut i
     both_is _ _ container.style.align _ _ _ _ _ _ _ _ is_base is_size is_strut
     (are_items ∙ sym (map-map (rule.line_item entries places) (standing_of entries) standings) ∙ ap (λ (bs : List ℕ). map (rule.line_item entries bs) (map (standing_of entries) standings)) on)
     (are_boxes ∙ ap (λ (bs : List ℕ). map (rule.line_box tables container entries bs before after) bs) on)
+
+pub frame_is : (tables : List (Option Table)) (inside own : ItemsOn) (base : ℕ) (size : ℤ) (strut : Extents) (boxes : List LineBox) → inside ≡ own → inside.seated.places.now ≡ on_line inside.seated.boxes.now [] inside.standings
+    → base ≡ rule.first_base (map (standing_of inside.seated.boxes.now) inside.standings) → size ≡ inside.seated.container.now.size
+    → strut ≡ rule.extents_in tables inside.seated.container.now inside.seated.container.now.style (pos 0) → boxes ≡ map (box_on own.seated tables) own.seated.places.now
+    → line_with base inside.seated.container.now.style.align size strut (items_on own) boxes ≡ line_on tables own
+frame_is tables inside own base size strut boxes same on is_base is_size is_strut are_boxes =
+    let P : ItemsOn → Type 0 = λ o. boxes ≡ map (box_on o.seated tables) o.seated.places.now → line_with base inside.seated.container.now.style.align size strut (items_on o) boxes ≡ line_on tables o in
+    subst P same
+    (line_is tables inside.seated.container.now inside.seated.boxes.now _ _ inside.seated.places.now inside.standings base size strut _ boxes on is_base is_size is_strut refl)
+    are_boxes

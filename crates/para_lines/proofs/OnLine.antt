@@ -7,7 +7,8 @@ use Rattle.fragment_types.specs.Item.{Entry}
 use Rattle.para_lines.specs.declared.standing.Standing as code
 use Rattle.para_lines.specs.Around.{fresh, has, no_entry}
 use Rattle.para_lines.specs.Boxes.{Begins, apart, chain_at, innermost}
-use Rattle.para_lines.specs.Line.{AreOnLine, IsAble, IsOnLine, on_line}
+use Rattle.para_lines.specs.Line.{IsAble, on_line}
+use Rattle.para_lines.specs.Seats.{AreOnLine, IsOnLine}
 use Rattle.para_lines.proofs.Chaining.{AreLinked, at, linked, outer_too, there}
 
 has_append : (xs ys : List ℕ) (x : ℕ) → has (xs ++ ys) x ≡ (has xs x || has ys x)

@@ -21,10 +21,10 @@ use Rattle.para_prepare.specs.Preparation.{AreFrom, HasBounds as prepared_bounds
 use Rattle.para_lines.specs.declared.standing.Standing as code
 use Rattle.para_lines.specs.declared.paragraph.Atom as code_atom
 use Rattle.para_lines.specs.declared.paragraph.Container.{Container}
-use Rattle.para_lines.specs.declared.setting.Setting as code_setting
 use Rattle.para_lines.specs.declared.filled.ParagraphInput as code_input
 use Rattle.para_lines.specs.declared.prepared.PreparedLists as code_lists
 use Rattle.para_lines.specs.Boxes.{AreBounded, HasBounds, chain_at}
+use Rattle.para_lines.specs.Conditions.{IsSetting}
 use Rattle.para_lines.specs.Filled.{IsFilled, fills_in}
 use Rattle.para_lines.specs.Filling.{advance_of, fill_items, fill_items_from, item_chains, past}
 use Rattle.para_lines.specs.Line.{IsAble, IsNearAtom, RiseIn, standing_of}
@@ -33,7 +33,6 @@ use Rattle.para_lines.specs.Lines.{Standing, atom_extents, lines_from, no_atom, 
 use Rattle.para_lines.specs.Paragraph.{IsContainer, atom_of}
 use Rattle.para_lines.specs.Prepared.{AreSources, preparation_of}
 use Rattle.para_lines.specs.Reach.{AreNear, HasAdvance, Rise, atom_part, atom_reach, lengths_of, standing_reach}
-use Rattle.para_lines.specs.Setting.{IsSetting, entries_in}
 use Rattle.para_lines.proofs.PreparedLaws.{prepared_near, sources_there}
 use Rattle.para_lines.proofs.Spreading.{AdvanceAll, all_advance}
 
@@ -202,16 +201,14 @@ filled_with input fills s made ends is are able at same divide = record {
   divide = divide;
 }
 
-pub setting_ready : (setting : code_setting.Setting) (prepared : Preparation) (atoms : List code_atom.Atom) (inline : Option ℤ) (made : List code.Standing)
-    → AreBounded setting.boxes.now → IsContainer setting.container.now → setting.standings.now ≡ made
-    → map (standing_of (entries_in setting)) made
-    ≡ rule.standings (entries_in setting) prepared (map atom_of atoms) (advances (fill_items inline (entries_in setting) prepared (atom_extents (map atom_of atoms))))
-    → All (IsAble (length setting.boxes.now)) made → AreWhole prepared → AreNear prepared.items → length prepared.items ≤ 2 ^ 21 → total atom_reach (map atom_of atoms) ≤ 2 ^ 57 → setting.empty.now.value.items ≡ []
-    → IsSetting setting
-setting_ready setting prepared atoms inline made bounded container same are able whole near few most empty =
-    let entries : List Entry = entries_in setting in
+pub setting_ready : (entries : List Entry) (container : Container) (standings : List code.Standing) (prepared : Preparation) (atoms : List code_atom.Atom) (inline : Option ℤ) (made : List code.Standing)
+    → AreBounded entries → IsContainer container → standings ≡ made
+    → map (standing_of entries) made ≡ rule.standings entries prepared (map atom_of atoms) (advances (fill_items inline entries prepared (atom_extents (map atom_of atoms))))
+    → All (IsAble (length entries)) made → AreWhole prepared → AreNear prepared.items → length prepared.items ≤ 2 ^ 21 → total atom_reach (map atom_of atoms) ≤ 2 ^ 57
+    → IsSetting entries container standings
+setting_ready entries container standings prepared atoms inline made bounded container_is same are able whole near few most =
     let fills : List FillItem = fill_items inline entries prepared (atom_extents (map atom_of atoms)) in
-    let P : List code.Standing → Type 0 = λ ss. All (IsAble (length setting.boxes.now)) ss in
+    let P : List code.Standing → Type 0 = λ ss. All (IsAble (length entries)) ss in
     let Q : List code.Standing → Type 0 = λ ss. RiseIn 0 ss in
     let R : List code.Standing → Type 0 = λ ss. length ss ≤ 2 ^ 21 in
     let S : List code.Standing → Type 0 = λ ss. total standing_reach (map (standing_of entries) ss) ≤ 2 ^ 58 in
@@ -219,12 +216,11 @@ setting_ready setting prepared atoms inline made bounded container same are able
     let count = count_of entries prepared (map atom_of atoms) inline (atom_extents (map atom_of atoms)) fills made whole refl are in
     record {
       bounded = bounded;
-      container = container;
+      container_is = container_is;
       able = subst P (sym same) able;
       rise = subst Q (sym same) (standings_rise entries made prepared.items prepared.levels prepared.classes prepared.bases (advances fills) (map atom_of atoms) are near.rise);
       few = subst R (sym same) (omega arith);
       reach = subst S (sym same) (subst T (sym are) (standings_reach inline entries prepared (map atom_of atoms) near.advances few most));
-      empty = empty;
     }
 
 pub lines_all : (tables : List (Option Table)) (container : Container) (entries given : List Entry) (prepared asked : Preparation) (atoms : List rule.Atom) (standings : List Standing) (ends : List ℕ) (made : Pieces)

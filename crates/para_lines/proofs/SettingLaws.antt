@@ -8,8 +8,7 @@ use Rattle.std.proofs.lemmas.List.Elements.{All-cons}
 use Rattle.wm_units.specs.Numbers.{cap}
 use Rattle.face_api.specs.Table.{Table}
 use Rattle.fragment_types.specs.Item.{Entry}
-use Rattle.line_place.specs.declared.line.LineInput.{LineInput}
-use Rattle.line_place.specs.Line.{Item, Line, line_of}
+use Rattle.line_place.specs.Line.{Item, Line}
 use Rattle.line_place.specs.Reach.{AreNear, HasLimit, IsInLimit, total}
 use Rattle.line_place.proofs.SumLaws.{total_rest}
 use Rattle.para_prepare.specs.declared.item.PreparedContent.{PreparedContent}
@@ -104,8 +103,8 @@ items_limit entries boxes limit (s ∷ own) h =
     All-cons (λ (item : Item). IsInLimit limit item.what) (line_item entries boxes s) (map (line_item entries boxes) own)
     (item_limit entries limit s.chain s.item.what s.atom (omega arith)) (items_limit entries boxes limit own (omega arith))
 
-pub limit_of : (tables : List (Option Table)) (container : Container) (entries : List Entry) (before after : List ℕ) (own : List Standing) (made : LineInput)
-    → line_of made ≡ line tables container entries before after own → AreNear made.strut → All (λ b. AreNear b.extents) made.boxes.items → HasLimit (2 ^ 34 + total standing_reach own) (line_of made)
+pub limit_of : (tables : List (Option Table)) (container : Container) (entries : List Entry) (before after : List ℕ) (own : List Standing) (made : Line)
+    → made ≡ line tables container entries before after own → AreNear made.strut → All (λ b. AreNear b.extents) made.boxes → HasLimit (2 ^ 34 + total standing_reach own) made
 limit_of tables container entries before after own made is strut boxes =
     let P : List Item → Type 0 = λ items. All (λ item. IsInLimit (2 ^ 34 + total standing_reach own) item.what) items in
     let o = strut.over in
@@ -119,6 +118,14 @@ limit_of tables container entries before after own made is strut boxes =
 
 -- ---- the line of some items
 
+pub between_is : (tables : List (Option Table)) (container : Container) (entries : List Entry) (standings : List code.Standing) (from end_ : ℕ)
+    → line tables container entries (chain_of_last [] (take from (map (standing_of entries) standings))) (chain_of_first (drop end_ (map (standing_of entries) standings)))
+    (map (standing_of entries) (slice_range standings from end_))
+    ≡ line_between tables container entries (map (standing_of entries) standings) from end_
+between_is tables container entries standings from end_ =
+    ap (line tables container entries (chain_of_last [] (take from (map (standing_of entries) standings))) (chain_of_first (drop end_ (map (standing_of entries) standings))))
+    (sym (range_map (standing_of entries) standings from end_))
+
 pub line_is : (tables : List (Option Table)) (container : Container) (entries : List Entry) (standings : List code.Standing) (before after : Option ℕ) (from end_ : ℕ) (made : Line)
     → made ≡ line tables container entries (chain_behind entries before) (chain_behind entries after) (map (standing_of entries) (slice_range standings from end_))
     → chain_behind entries before ≡ chain_of_last [] (take from (map (standing_of entries) standings)) → chain_behind entries after ≡ chain_of_first (drop end_ (map (standing_of entries) standings))
@@ -127,4 +134,4 @@ line_is tables container entries standings before after from end_ made is b a =
     is
     ∙ ap (λ (x : List ℕ). line tables container entries x (chain_behind entries after) (map (standing_of entries) (slice_range standings from end_))) b
     ∙ ap (λ (x : List ℕ). line tables container entries (chain_of_last [] (take from (map (standing_of entries) standings))) x (map (standing_of entries) (slice_range standings from end_))) a
-    ∙ ap (line tables container entries (chain_of_last [] (take from (map (standing_of entries) standings))) (chain_of_first (drop end_ (map (standing_of entries) standings)))) (sym (range_map (standing_of entries) standings from end_))
+    ∙ between_is tables container entries standings from end_

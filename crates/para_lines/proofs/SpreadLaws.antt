@@ -18,7 +18,7 @@ use Rattle.line_place.specs.Laws.{content_inside}
 use Rattle.line_place.specs.Line as place
 use Rattle.line_place.specs.Line.{Item, Line}
 use Rattle.line_place.specs.Placing.{line_over, line_under, parts}
-use Rattle.line_place.specs.Reach.{AreNear, IsAtomic, box_reach, line_reach, total}
+use Rattle.line_place.specs.Reach.{IsAtomic, line_reach, total}
 use Rattle.line_place.specs.Spread.{spread}
 use Rattle.line_place.proofs.Fragments.{as_piece}
 use Rattle.line_place.proofs.SpreadLaws.{spread_of_line}
@@ -28,8 +28,6 @@ use Rattle.para_prepare.specs.declared.item.PreparedContent.{PreparedContent}
 use Rattle.para_prepare.specs.declared.item.PreparedContent.TheVariants.{Unit, Combined, Atom, Break}
 use Rattle.para_lines.specs.declared.paragraph.Container.{Container}
 use Rattle.para_lines.specs.declared.standing.Standing as code
-use Rattle.para_lines.specs.declared.text.Text as code_text
-use Rattle.para_lines.specs.declared.text.TextName.{TextName}
 use Rattle.para_lines.specs.Boxes.{chain_at}
 use Rattle.para_lines.specs.Edges.{raised_in}
 use Rattle.para_lines.specs.Filling.{advance_of, fill_items, fill_items_from, item_chains, past}
@@ -37,16 +35,13 @@ use Rattle.para_lines.specs.Line.{IsAble, standing_of}
 use Rattle.para_lines.specs.Lines as rule
 use Rattle.para_lines.specs.Lines.{Standing, atom_extents, chain_of_first, chain_of_last, line_piece, no_atom, standings_by}
 use Rattle.para_lines.specs.Reach.{HasAdvance, HoldsWithin, IsAtomWithin, IsBoxed, IsInReach, IsLineWithin, atom_part, atom_reach, standing_reach}
-use Rattle.para_lines.specs.Setting.{line_between, lines_reach, reach_between, room_between}
-use Rattle.para_lines.specs.Text.{IsText}
-use Rattle.para_lines.specs.Units.{AreUnits}
-use Rattle.para_lines.proofs.LineReach.{extents_near, items_near, size_near}
+use Rattle.para_lines.specs.Setting.{line_between, lines_reach, room_between}
+use Rattle.para_lines.proofs.LineReach.{size_near}
 use Rattle.para_lines.proofs.Nesting.{line_inside}
 use Rattle.para_lines.proofs.RoomLaws.{AreWhole, fills_count, past_extents, standings_count}
-use Rattle.para_lines.proofs.SettingLaws.{all_range}
+use Rattle.para_lines.proofs.SettingLaws.{all_range, between_is}
 use Rattle.para_lines.proofs.Spreading.{AdvanceAll, all_advance}
-use Rattle.para_lines.proofs.StackLaws.{range_map, room_on, total_part}
-use Rattle.para_lines.proofs.TextLines.{between_is, no_boxes}
+use Rattle.para_lines.proofs.StackLaws.{room_on, total_part}
 
 -- ---- the atoms of items
 
@@ -165,34 +160,6 @@ between_spread tables container entries standings from end_ reach most made le w
     (All-map (λ (item : Item). content_inside item.what ≤ most) (rule.line_item entries boxes) own (λ k d lt. let s : Standing = get_or own k d in (content_within most entries s.chain s.atom s.item.what (held k d lt)).1)) in
     let P : Pieces → Type 0 = λ ps. spread ps ≤ 12 * reach + most in
     subst P (sym is) (omega (arith, s, far))
-
--- a line of items outside all inline boxes has no boxes
-outside_far : (tables : List (Option Table)) (container : Container) (entries : List Entry) (standings : List code.Standing) (from end_ count : ℕ)
-    → All (λ standing. chain_at entries standing.item.now.source ≡ []) (slice_range standings from end_)
-    → pos 0 ≤ℤ container.size → container.size ≤ℤ pos (2 ^ 32) → AreNear (rule.extents_in tables container container.style (pos 0))
-    → line_reach (line_between tables container entries (map (standing_of entries) standings) from end_) ≤ reach_between count (map (standing_of entries) standings) from end_
-outside_far tables container entries standings from end_ count chains low high near =
-    let all : List Standing = map (standing_of entries) standings in
-    let own : List Standing = slice_range all from end_ in
-    let before : List ℕ = chain_of_last [] (take from all) in
-    let after : List ℕ = chain_of_first (drop end_ all) in
-    let size = size_near container.size low high in
-    let strut = extents_near (rule.extents_in tables container container.style (pos 0)) near in
-    let items = items_near entries (rule.boxes_on [] own) own in
-    let bare : rule.boxes_on [] own ≡ [] = ap (rule.boxes_on []) (range_map (standing_of entries) standings from end_) ∙ no_boxes entries (slice_range standings from end_) chains in
-    let boxes : total box_reach (map (rule.line_box tables container entries (rule.boxes_on [] own) before after) (rule.boxes_on [] own)) ≡ 0 =
-    ap (λ (bs : List ℕ). total box_reach (map (rule.line_box tables container entries bs before after) bs)) bare in
-    omega (arith, size, strut, items, boxes)
-
-pub text_far : (tables : List (Option Table)) (container : Container) (entries : List Entry) (standings : List code.Standing) (from end_ count : ℕ) (text : code_text.Text)
-    → IsText entries (slice_range standings from end_) text → pos 0 ≤ℤ container.size → container.size ≤ℤ pos (2 ^ 32) → AreNear (rule.extents_in tables container container.style (pos 0))
-    → line_reach (line_between tables container entries (map (standing_of entries) standings) from end_) ≤ reach_between count (map (standing_of entries) standings) from end_
-text_far tables container entries standings from end_ count text is = outside_far tables container entries standings from end_ count is.chains
-
-pub units_far : (tables : List (Option Table)) (container : Container) (entries : List Entry) (standings : List code.Standing) (from end_ count : ℕ) (name : TextName)
-    → AreUnits entries (slice_range standings from end_) name → pos 0 ≤ℤ container.size → container.size ≤ℤ pos (2 ^ 32) → AreNear (rule.extents_in tables container container.style (pos 0))
-    → line_reach (line_between tables container entries (map (standing_of entries) standings) from end_) ≤ reach_between count (map (standing_of entries) standings) from end_
-units_far tables container entries standings from end_ count name are = outside_far tables container entries standings from end_ count are.chains
 
 sum_near : (a b : ℤ) → unsigned_abs (a +ℤ b) ≤ unsigned_abs a + unsigned_abs b
 sum_near a b = omega (arith, ints)

@@ -1,6 +1,8 @@
 pub mod Alone
 pub mod Around
+pub mod Bounded
 pub mod Boxes
+pub mod Conditions
 pub mod Edges
 pub mod Filled
 pub mod Filling
@@ -9,6 +11,6 @@ pub mod Lines
 pub mod Paragraph
 pub mod Prepared
 pub mod Reach
+pub mod Seats
 pub mod Setting
 pub mod Text
-pub mod Units

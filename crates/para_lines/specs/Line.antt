@@ -1,24 +1,20 @@
 -- The boxes of a line by their places among the paragraph's entries.
-use Rattle.std.specs.Prelude.{◌≡◌, ℕ, ◌<◌, ◌≤◌, ◌^◌, ⊤, true, List, [], ◌∷◌, All, length, map, IfSome, Option, slice_index_or, ℤ, ◌+ℤ◌, ◌-ℤ◌, unsigned_abs}
+use Rattle.std.specs.Prelude.{◌≡◌, ℕ, ◌<◌, ◌≤◌, ◌^◌, ⊤, Bool, false, ◌&&◌, ◌==◌, List, [], ◌∷◌, All, length, map, Option, ℤ, ◌+ℤ◌, ◌-ℤ◌, unsigned_abs}
 use Rattle.wm_units.specs.Numbers.{cap}
 use Rattle.face_api.specs.Table.{Table}
 use Rattle.line_place.specs.declared.line.LineBox.{LineBox}
 use Rattle.line_place.specs.Line as place
+use Rattle.line_place.specs.Runs.{is_form}
 use Rattle.para_prepare.specs.declared.item.PreparedContent.{PreparedContent}
 use Rattle.para_prepare.specs.declared.item.PreparedContent.TheVariants.{Unit, Combined, Atom as atoms_of, Break}
 use Rattle.para_lines.specs.declared.standing.Standing as code
 use Rattle.para_lines.specs.declared.paragraph.Atom as code_atom
-use Rattle.para_lines.specs.declared.line.Seated as code_seated
-use Rattle.para_lines.specs.Paragraph.{IsContainer, atom_of}
+use Rattle.para_lines.specs.declared.seated.Seated as code_seated
+use Rattle.para_lines.specs.Paragraph.{atom_of}
 use Rattle.fragment_types.specs.Item.{Entry}
-use Rattle.para_lines.specs.Around.{has, no_entry}
-use Rattle.para_lines.specs.Boxes.{Begins, chain_at, chain_behind, innermost}
+use Rattle.para_lines.specs.Boxes.{chain_at, chain_behind}
 use Rattle.para_lines.specs.Lines as rule
-use Rattle.para_lines.specs.Lines.{boxes_on, no_atom, place_in}
-
--- a table by box tells for each of these boxes its place in their list
-abbrev pub AreSeats : (boxes seats : List ℕ) → Type 0
-AreSeats boxes seats = (box : ℕ) → has boxes box ≡ true → (box < length seats) × (slice_index_or seats box 0 ≡ place_in boxes box)
+use Rattle.para_lines.specs.Lines.{boxes_on, innermost_in, no_atom}
 
 -- ---- an item of a line
 
@@ -62,29 +58,16 @@ content_in shifts (Combined node first end_ advance natural glyphs) atom = place
 content_in shifts (atoms_of name) atom = atom_in shifts atom
 content_in shifts (Break node) atom = place.nothing
 
+-- units of one text node and one form
+abbrev pub units_alike : PreparedContent → PreparedContent → Bool
+units_alike (Unit form space node first end_ advance glyphs) (Unit form' space' node' first' end' advance' glyphs') = (node == node') && is_form form form'
+units_alike _ _ = false
+
 -- ---- the boxes of a line
 
 -- the boxes on the line of these items, where the item before the first stands in these
 abbrev pub on_line : List Entry → (before : List ℕ) → List code.Standing → List ℕ
 on_line entries before standings = boxes_on before (map (standing_of entries) standings)
-
--- a box of a line is one that begins, and the box round it is on the line too
-pub record IsOnLine (entries : List Entry) (places : List ℕ) (box : ℕ) : Type 0 where
-  pub within : box < length entries
-  pub begins : Begins (slice_index_or entries box no_entry)
-  pub outer : IfSome (innermost (chain_at entries box)) (λ outer. has places outer ≡ true)
-
-abbrev pub AreOnLine : List Entry → (places : List ℕ) → Type 0
-AreOnLine entries places = (box : ℕ) → has places box ≡ true → IsOnLine entries places box
-
--- what a line's boxes are made from: its container, the boxes that stand on it, each after those round it, with the table of
--- their places, and entries that there are on both sides
-pub record IsSeated (seated : code_seated.Seated) : Type 0 where
-  pub container : IsContainer seated.container.now
-  pub seats : AreSeats seated.places.now seated.seats.now
-  pub on_line : AreOnLine seated.boxes.now seated.places.now
-  pub before : IfSome seated.sides.before (λ before. before < length seated.boxes.now)
-  pub after : IfSome seated.sides.after (λ after. after < length seated.boxes.now)
 
 -- a box on this line
 abbrev pub box_on : code_seated.Seated → List (Option Table) → (box : ℕ) → LineBox
@@ -104,3 +87,27 @@ pub record IsAble (count : ℕ) (standing : code.Standing) : Type 0 where
 abbrev pub RiseIn : (from : ℕ) → List code.Standing → Type 0
 RiseIn from [] = ⊤
 RiseIn from (standing ∷ standings) = (from ≤ standing.item.now.source) × RiseIn standing.item.now.source standings
+
+-- the items of a line, with what they are made from
+pub record ItemsOn : Type 0 where
+  pub seated : code_seated.Seated
+  pub standings : List code.Standing
+
+-- each stands in boxes of the line
+pub record AreSeated (seated : code_seated.Seated) (standings : List code.Standing) : Type 0 where
+  pub able : All (IsAble (length seated.boxes.now)) standings
+  pub places : seated.places.now ≡ on_line seated.boxes.now [] standings
+
+-- the items of the definition
+abbrev pub items_on : ItemsOn → List place.Item
+items_on own = map (λ standing. rule.line_item own.seated.boxes.now own.seated.places.now (standing_of own.seated.boxes.now standing)) own.standings
+
+-- the line that they are on
+abbrev pub line_on : List (Option Table) → ItemsOn → place.Line
+line_on tables own =
+    rule.line tables own.seated.container.now own.seated.boxes.now
+    (chain_behind own.seated.boxes.now own.seated.sides.before) (chain_behind own.seated.boxes.now own.seated.sides.after) (map (standing_of own.seated.boxes.now) own.standings)
+
+-- where among the boxes of the line an item stands
+abbrev pub seat_in : ItemsOn → code.Standing → Option ℕ
+seat_in own standing = innermost_in own.seated.places.now (chain_at own.seated.boxes.now standing.item.now.source)

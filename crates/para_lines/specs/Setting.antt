@@ -10,10 +10,8 @@ use Rattle.line_place.specs.Reach.{total}
 use Rattle.line_place.specs.Spread.{spread}
 use Rattle.para_lines.specs.declared.paragraph.Container.{Container}
 use Rattle.para_lines.specs.declared.setting.Setting as code
-use Rattle.para_lines.specs.Boxes.{AreBounded}
-use Rattle.para_lines.specs.Line.{IsAble, RiseIn, standing_of}
+use Rattle.para_lines.specs.Line.{standing_of}
 use Rattle.para_lines.specs.Lines.{Standing, chain_of_first, chain_of_last, line}
-use Rattle.para_lines.specs.Paragraph.{IsContainer}
 use Rattle.para_lines.specs.Reach.{HoldsWithin, standing_reach}
 
 abbrev pub entries_in : code.Setting → List Entry
@@ -39,15 +37,10 @@ reach_between count standings from end_ = 2 ^ 32 + 2 ^ 36 + room_between standin
 abbrev pub lines_reach : (count : ℕ) → List Standing → ℕ
 lines_reach count standings = count * (5 * 2 ^ 39) + length standings * 2 ^ 35 + 16 * total standing_reach standings
 
--- lines can be made from it: few items, in order, each with its atom, and lengths within bounds
-pub record IsSetting (setting : code.Setting) : Type 0 where
-  pub bounded : AreBounded setting.boxes.now
-  pub container : IsContainer setting.container.now
-  pub able : All (IsAble (length setting.boxes.now)) setting.standings.now
-  pub rise : RiseIn 0 setting.standings.now
-  pub few : length setting.standings.now ≤ 2 ^ 21
-  pub reach : total standing_reach (standings_in setting) ≤ 2 ^ 58
-  pub empty : setting.empty.now.value.items ≡ []
+-- the items from one place up to another are some of so many
+pub record IsPart (from end_ count : ℕ) : Type 0 where
+  pub order : from ≤ end_
+  pub within : end_ ≤ count
 
 -- the line box of a line: how far it reaches over and under its baseline, and its fragments
 pub record IsLineBox (line : Line) (over under : ℤ) (made : Pieces) : Type 0 where

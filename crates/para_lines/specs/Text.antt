@@ -2,15 +2,14 @@
 use Rattle.std.specs.Prelude.{◌≡◌, ℕ, ◌-◌, ◌<◌, ◌≤◌, true, false, List, [], All, drop, length, map, None, pos, slice_index_or}
 use Rattle.line_place.specs.Leaves.{are_spaces}
 use Rattle.line_place.specs.Line as place
-use Rattle.line_place.specs.TextLine.{IsTextItem}
+use Rattle.line_place.specs.LineText.{IsTextItem}
 use Rattle.fragment_types.specs.Item.{Entry}
 use Rattle.para_lines.specs.declared.standing.Standing as code
 use Rattle.para_lines.specs.declared.text.Text as code_text
 use Rattle.para_lines.specs.declared.text.TextName.{TextName}
 use Rattle.para_lines.specs.Boxes.{chain_at}
 use Rattle.para_lines.specs.Filling.{is_space}
-use Rattle.para_lines.specs.Line.{HasAtom, IsNearAtom, content_in, first_atom, standing_of}
-use Rattle.para_lines.specs.Lines as rule
+use Rattle.para_lines.specs.Line.{content_in, first_atom}
 
 -- an item outside all inline boxes
 abbrev pub bare : code.Standing → place.Item
@@ -23,11 +22,6 @@ bare standing = record {
   apart = standing.item.now.apart;
   what = content_in (pos 0) standing.item.now.what (first_atom standing.atoms.now);
 }
-
--- there is an atom for an item that is one, and all are near
-pub record HasOwnAtom (standing : code.Standing) : Type 0 where
-  pub atom : HasAtom standing.item.now.what standing.atoms.now
-  pub near : All IsNearAtom standing.atoms.now
 
 -- a unit of this node and form at level 0, which comes from this entry
 pub record IsUnitFrom (source : ℕ) (name : TextName) (standing : code.Standing) : Type 0 where
@@ -42,7 +36,6 @@ pub record AreSpacesFrom (standings : List code.Standing) (count : ℕ) : Type 0
 
 -- the items of a line are this text and Spaces behind it, outside all inline boxes
 pub record IsText (entries : List Entry) (standings : List code.Standing) (text : code_text.Text) : Type 0 where
-  pub base : rule.first_base (map (standing_of entries) standings) ≡ 0
   pub chains : All (λ standing. chain_at entries standing.item.now.source ≡ []) standings
   pub items : All (IsTextItem text.name.node text.name.form) (map bare standings)
   pub some : 0 < text.count

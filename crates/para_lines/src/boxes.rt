@@ -122,6 +122,7 @@ impl Boxes<'_> {
     }
 
     /// What stands round the item at a place.
+    #[inline(always)]
     pub(crate) fn round(&self, place: usize) -> Round
         requires { place < length self.now }
         ensures is { result ≡ round_of self.now (chain_at self.now place) }

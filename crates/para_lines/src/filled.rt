@@ -1,7 +1,7 @@
 //! The items of a paragraph on their way to its lines, and where these end (CSS 2, 9.4.2).
 
 ghost use Rattle.std.specs.Prelude.{◌≡◌, ◌+◌, ◌≤◌, Some, IfOk, OnOk, length, map};
-ghost use Rattle.para_lines.specs.Filled.{IsFilled, IsInput, fills_in};
+ghost use Rattle.para_lines.specs.Conditions.{IsInput, IsInput-prop};
 
 use crate::alone::{Alone, standings_alone};
 use crate::boxes::Boxes;
@@ -22,6 +22,8 @@ pub(crate) struct ParagraphInput<'a> {
     pub(crate) lists: PreparedLists<'a>,
     pub(crate) container: &'a Container,
     pub(crate) atoms: &'a [Atom],
+
+    ghost is_input: { IsInput boxes.now lists.items.now container.now atoms.now } by { IsInput-prop boxes.now lists.items.now container.now atoms.now },
 }
 
 /// All items of a paragraph on their way to its lines, and where these end.
@@ -32,13 +34,14 @@ pub(crate) struct Filled<'a> {
 }
 
 impl<'a> ParagraphInput<'a> {
+    ghost use Rattle.para_lines.specs.Filled.{IsFilled, fills_in};
+
     /// Fills the lines, and counts one step.
     pub(crate) fn filled<L: Ledger>(
         &self,
         alloc: Global,
         arranged: &mut Steps<L>,
     ) -> Result<Filled<'a>, AllocError>
-        requires { IsInput self.now }
         ensures ticks { OnOk result (arranged.new ≡ arranged.old + 1) }
         ensures most { (arranged.old ≤ arranged.new) × (arranged.new ≤ arranged.old + 1) }
         ensures filled { IfOk result (λ made. IsFilled self.now made.standings.items made.lines) }
@@ -58,8 +61,7 @@ impl<'a> ParagraphInput<'a> {
         alloc: Global,
         arranged: &mut Steps<L>,
     ) -> Result<Filled<'a>, AllocError>
-        requires input { IsInput self.now }
-        requires one { length self.now.boxes.now ≡ 1 }
+        requires { length self.now.boxes.now ≡ 1 }
         ensures ticks { OnOk result (arranged.new ≡ arranged.old + 1) }
         ensures most { (arranged.old ≤ arranged.new) × (arranged.new ≤ arranged.old + 1) }
         ensures filled { IfOk result (λ made. IsFilled self.now made.standings.items made.lines) }
@@ -79,7 +81,6 @@ impl<'a> ParagraphInput<'a> {
         alloc: Global,
         arranged: &mut Steps<L>,
     ) -> Result<Filled<'a>, AllocError>
-        requires { IsInput self.now }
         ensures ticks { OnOk result (arranged.new ≡ arranged.old + 1) }
         ensures most { (arranged.old ≤ arranged.new) × (arranged.new ≤ arranged.old + 1) }
         ensures filled { IfOk result (λ made. IsFilled self.now made.standings.items made.lines) }
@@ -92,7 +93,6 @@ impl<'a> ParagraphInput<'a> {
 
     // The items as lines are filled with them.
     fn fill_items(&self, alloc: Global) -> Result<FillItems, AllocError>
-        requires { IsInput self.now }
         ensures { IfOk result (λ made. made.items ≡ fills_in self.now) }
     {
         let mut extents = Vec::with_capacity(alloc, self.atoms.len())?;

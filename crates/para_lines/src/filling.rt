@@ -12,7 +12,7 @@ ghost use Rattle.para_lines.specs.Prepared.{AreSources, edge_of, edges_of, prepa
 ghost use Rattle.para_lines.specs.Reach.{IsInlineSize};
 
 use crate::boxes::Boxes;
-use crate::edges::inline_edge;
+use crate::edges::BoxEdges;
 use crate::prepared::PreparedLists;
 use line_fill::FillItem;
 use para_prepare::{PreparedContent, PreparedItem};
@@ -132,17 +132,21 @@ impl FillInput<'_> {
         ensures near { unsigned_abs result ≤ 2 ^ 34 }
     {
         let own = self.boxes.at(place);
+        let edges = BoxEdges {
+            style: &own.style,
+            inline: self.inline,
+        };
         match side {
             BoxSide::Start => {
                 if own.opens {
-                    inline_edge(self.inline, &own.style, FlowSide::InlineStart)
+                    edges.inline_edge(FlowSide::InlineStart)
                 } else {
                     0
                 }
             }
             BoxSide::End => {
                 if own.closes {
-                    inline_edge(self.inline, &own.style, FlowSide::InlineEnd)
+                    edges.inline_edge(FlowSide::InlineEnd)
                 } else {
                     0
                 }

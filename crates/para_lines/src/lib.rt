@@ -6,16 +6,16 @@ mod boxes;
 mod edges;
 mod filled;
 mod filling;
-mod input;
 mod line;
 mod lines;
 mod paragraph;
 mod prepared;
+mod seated;
+mod seated_items;
 mod setting;
 mod sizes;
 mod standing;
 mod text;
-mod units;
 
 pub use lines::paragraph_lines;
 pub use paragraph::{Atom, Container};

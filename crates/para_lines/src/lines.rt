@@ -16,7 +16,7 @@ ghost use Rattle.para_lines.specs.Lines as rule;
 ghost use Rattle.para_lines.specs.Lines.{extent_of, line_piece, lines_from};
 ghost use Rattle.para_lines.specs.Paragraph.{atom_of};
 ghost use Rattle.para_lines.specs.Reach.{HoldsWithin, IsInReach, IsLineWithin, IsNearLine, atom_reach};
-ghost use Rattle.para_lines.specs.Setting.{IsSetting, entries_in, line_between, lines_reach, room_between, standings_in};
+ghost use Rattle.para_lines.specs.Setting.{IsPart, entries_in, line_between, lines_reach, room_between, standings_in};
 
 use crate::boxes::{Places, inline_boxes};
 use crate::filled::ParagraphInput;
@@ -71,12 +71,10 @@ pub fn paragraph_lines<L: Ledger>(
         atoms,
     };
     let filled = input.filled(alloc, arranged)?;
-    let empty = Rc::new(alloc, Vec::new(alloc))?;
     let setting = Setting {
         boxes: &boxes,
         container,
         standings: &filled.standings,
-        empty: &empty,
     };
     let made = stacked(alloc, &setting, faces, filled.lines.ends())?;
     Ok(made)
@@ -89,8 +87,7 @@ fn stacked(
     faces: &Faces,
     ends: &[usize],
 ) -> Result<Fragments, AllocError>
-    requires set { IsSetting setting.now }
-    requires divide { Divide 0 (length setting.now.standings.now) ends.now }
+    requires { Divide 0 (length setting.now.standings.now) ends.now }
     ensures lines { IfOk result (λ made. pieces_of made.items ≡ lines_from (faces_of ⟦<dyn Face as Face>⟧ faces.now) setting.now.container.now (entries_in setting.now) 0 0 (pos 0) [] (standings_in setting.now) ends.now) }
     ensures near { IfOk result (λ made. All IsNearLine made.items) }
     ensures spread { IfOk result (λ made. (most : ℕ) → All (HoldsWithin most) (standings_in setting.now) → spread (pieces_of made.items) ≤ lines_reach (length setting.now.boxes.now) (standings_in setting.now) + most) }
@@ -129,10 +126,8 @@ impl LineStack {
         faces: &Faces,
         end: usize,
     ) -> Result<(), AllocError>
-        requires set { IsSetting setting.now }
         requires seats { length self.old.seats.items ≡ length setting.now.boxes.now }
-        requires from { self.old.from ≤ end }
-        requires end { end ≤ length setting.now.standings.now }
+        requires part { IsPart self.old.from end (length setting.now.standings.now) }
         requires block { unsigned_abs self.old.block + 2 * (2 ^ 34 + room_between (standings_in setting.now) self.old.from end) ≤ 2 ^ 60 }
         ensures seats { OnOk result (length self.new.seats.items ≡ length self.old.seats.items) }
         ensures from { OnOk result (self.new.from ≡ end) }

@@ -1,12 +1,11 @@
 //! The intrinsic sizes of a paragraph (CSS 2, 10.3.5).
 
-ghost use Rattle.std.specs.Prelude.{◌≡◌, ◌≤◌, ◌^◌, All, IfOk, None, length};
+ghost use Rattle.std.specs.Prelude.{◌≡◌, ◌≤◌, ◌^◌, All, IfOk, length};
 ghost use Rattle.fragment_types.specs.Item.{entries_of};
 ghost use Rattle.para_prepare.specs.Preparation.{AreFrom, HasBounds as prepared_bounds};
-ghost use Rattle.para_lines.specs.Boxes.{AreBounded, HasBounds};
+ghost use Rattle.para_lines.specs.Boxes.{HasBounds};
 ghost use Rattle.para_lines.specs.Filling as rule;
-ghost use Rattle.para_lines.specs.Prepared.{preparation_of};
-ghost use Rattle.para_lines.specs.Reach.{AreNear, lengths_of};
+ghost use Rattle.para_lines.specs.Reach.{lengths_of};
 
 use crate::boxes::inline_boxes;
 use crate::filling::FillInput;
@@ -42,24 +41,6 @@ pub fn paragraph_sizes(
         lists: PreparedLists::of(prepared),
         inline: None,
     };
-    let sizes = sizes_of(alloc, &input, mins, maxs)?;
-    Ok(sizes)
-}
-
-// The min-content and the max-content size of a paragraph whose inline boxes are known (CSS 2, 10.3.5).
-fn sizes_of(
-    alloc: Global,
-    input: &FillInput,
-    mins: &[i64],
-    maxs: &[i64],
-) -> Result<Intrinsic, AllocError>
-    requires unknown { input.now.inline ≡ None }
-    requires bounded { AreBounded input.now.boxes.now }
-    requires near { AreNear input.now.lists.items.now }
-    requires mins { lengths_of mins.now ≤ 2 ^ 59 }
-    requires maxs { lengths_of maxs.now ≤ 2 ^ 59 }
-    ensures { IfOk result (λ sizes. sizes ≡ rule.paragraph_sizes input.now.boxes.now (preparation_of input.now.lists) mins.now maxs.now) }
-{
     let narrow = input.items(alloc, mins)?;
     let wide = input.items(alloc, maxs)?;
     Ok(Intrinsic {

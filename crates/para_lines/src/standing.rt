@@ -7,19 +7,20 @@ ghost use Rattle.para_prepare.specs.Preparation.{atoms_in};
 ghost use Rattle.para_lines.specs.Filling.{item_chains};
 ghost use Rattle.para_lines.specs.Boxes.{chain_at, innermost};
 ghost use Rattle.line_place.specs.Line.{content_of, item_of};
-ghost use Rattle.para_lines.specs.Line.{HasAtom, IsAble, IsNearAtom, IsSeated, atom_in, content_in, first_atom, on_line, standing_of};
+ghost use Rattle.para_lines.specs.Line.{HasAtom, IsAble, IsNearAtom, atom_in, content_in, first_atom, standing_of};
 ghost use Rattle.para_lines.specs.Paragraph.{atom_of};
 ghost use Rattle.para_lines.specs.Lines as rule;
 ghost use Rattle.para_lines.specs.Prepared.{AreSources};
 ghost use Rattle.para_lines.specs.Around.{has};
 
 use crate::filling::{is_space, past};
-use crate::line::{Seated, raised};
+use crate::line::raised;
 use crate::paragraph::Atom;
 use crate::prepared::PreparedLists;
+use crate::seated::Seated;
 use fragment_types::Breaking;
 use line_fill::FillItem;
-use line_place::{LineContent, LineItem, LineItems};
+use line_place::{LineContent, LineItem};
 use para_prepare::{PreparedContent, PreparedItem};
 use std::alloc::{AllocError, Global};
 use wm_chars::BidiClass;
@@ -91,27 +92,9 @@ fn standing_at<'a>(
 }
 
 impl Seated<'_> {
-    /// The items of the line.
-    pub(crate) fn line_items<'b>(
-        &self,
-        alloc: Global,
-        standings: &[Standing<'b>],
-    ) -> Result<LineItems<'b>, AllocError>
-        requires seated { IsSeated self.now }
-        requires able { All (IsAble (length self.now.boxes.now)) standings.now }
-        requires places { self.now.places.now ≡ on_line self.now.boxes.now [] standings.now }
-        ensures { IfOk result (λ made. map item_of made.items ≡ map (λ standing. rule.line_item self.now.boxes.now self.now.places.now (standing_of self.now.boxes.now standing)) standings.now) }
-    {
-        let mut made = Vec::with_capacity(alloc, standings.len())?;
-        for k in 0..standings.len() {
-            made.push_reserved(self.line_item(&standings[k]));
-        }
-        Ok(made)
-    }
-
-    // An item on the line: what it is, its level and its extent, and in which box of the line it stands.
-    fn line_item<'b>(&self, standing: &Standing<'b>) -> LineItem<'b>
-        requires seated { IsSeated self.now }
+    /// An item on the line: what it is, its level and its extent, and in which box of the line it stands.
+    #[inline(always)]
+    pub(crate) fn line_item<'b>(&self, standing: &Standing<'b>) -> LineItem<'b>
         requires able { IsAble (length self.now.boxes.now) standing.now }
         requires inside { IfSome (innermost (chain_at self.now.boxes.now standing.now.item.now.source)) (λ box. has self.now.places.now box ≡ true) }
         ensures { item_of result ≡ rule.line_item self.now.boxes.now self.now.places.now (standing_of self.now.boxes.now standing.now) }
@@ -131,42 +114,9 @@ impl Seated<'_> {
     }
 }
 
-/// What an item is, inside boxes with these lengths of `vertical-align`.
-pub(crate) fn content<'a>(
-    what: &'a PreparedContent,
-    shifts: i64,
-    atoms: &'a [Atom],
-) -> LineContent<'a>
-    requires shifts { unsigned_abs shifts ≤ 2 ^ 53 }
-    requires atom { HasAtom what.now atoms.now }
-    requires near { All IsNearAtom atoms.now }
-    ensures { content_of result ≡ content_in shifts what.now (first_atom atoms.now) }
-{
-    match what {
-        PreparedContent::Unit {
-            node,
-            first,
-            end,
-            form,
-            advance: _,
-            space: _,
-            glyphs,
-        } => LineContent::Unit {
-            node: *node,
-            first: *first,
-            end: *end,
-            form: *form,
-            glyphs,
-        },
-        PreparedContent::Combined { .. }
-        | PreparedContent::Atom { .. }
-        | PreparedContent::Break { .. } => other_content(what, shifts, atoms),
-    }
-}
-
-// What an item that is no unit is, inside boxes with these lengths of `vertical-align`.
-#[inline(never)]
-fn other_content<'a>(what: &'a PreparedContent, shifts: i64, atoms: &'a [Atom]) -> LineContent<'a>
+// What an item is, inside boxes with these lengths of `vertical-align`.
+#[inline(always)]
+fn content<'a>(what: &'a PreparedContent, shifts: i64, atoms: &'a [Atom]) -> LineContent<'a>
     requires shifts { unsigned_abs shifts ≤ 2 ^ 53 }
     requires atom { HasAtom what.now atoms.now }
     requires near { All IsNearAtom atoms.now }
@@ -207,7 +157,8 @@ fn other_content<'a>(what: &'a PreparedContent, shifts: i64, atoms: &'a [Atom]) 
     }
 }
 
-// An atom, raised by its own length and those of the boxes round it.
+// An atom, raised by its own length and those of the boxes round it. Few items are atoms.
+#[inline(never)]
 fn atom_content(atom: &Atom, shifts: i64) -> LineContent<'_>
     requires shifts { unsigned_abs shifts ≤ 2 ^ 53 }
     requires near { IsNearAtom atom.now }

@@ -1,18 +1,11 @@
 -- Facts that hold in one way at most, as a fact that a type carries must.
 use Rattle.std.specs.Prelude.{ℕ, List, [], ◌∷◌, All, IfSome, Option, Some, None}
 use Rattle.std.specs.Coded.{Π_prop, ×_prop}
-use Rattle.style_types.specs.declared.style.Combine.{Combine}
-use Rattle.style_types.specs.declared.style.Combine.TheVariants as combines
-use Rattle.style_types.specs.declared.style.LineHeight.{LineHeight}
-use Rattle.style_types.specs.declared.style.LineHeight.TheVariants as line_heights
-use Rattle.style_types.specs.declared.style.Size.{Size}
-use Rattle.style_types.specs.declared.style.Size.TheVariants as sizes
-use Rattle.style_types.specs.declared.style.Style.{Style}
-use Rattle.style_types.specs.Style.{IsBounded, IsCombine, IsLineHeight, IsMargin, IsPadding, IsSize}
 use Rattle.fragment_types.specs.Fragment.{Kind, block, line, measure, run, span}
-use Rattle.fragment_types.specs.Item.{Entry, text, begins, ends, atom, line_break}
+use Rattle.fragment_types.specs.Item.{Entry}
 use Rattle.box_gen.specs.Tree.{Content, blocks, inline}
-use Rattle.para_lines.specs.Boxes.{HasBounds}
+use Rattle.para_lines.specs.Bounded.{IsBounded-prop}
+use Rattle.para_lines.specs.Conditions.{HasBounds-prop}
 use Rattle.para_prepare.specs.declared.item.PreparedItem.{PreparedItem}
 use Rattle.para_prepare.specs.Facts.{HasFontSize-prop, HasBounds-prop as HasTextBounds-prop}
 use Rattle.para_prepare.specs.Preparation.{AreFrom, Preparation}
@@ -20,36 +13,6 @@ use Rattle.relayout.specs.declared.flowed.LaidBox.{LaidBox}
 use Rattle.relayout.specs.Near.{IsNearKind, IsNearLaid}
 use Rattle.relayout.specs.Paragraph.{IsParagraph, IsReady, IsReadyIn}
 use denote.Struct.Props.{props}
-
--- ---- styles
-
-IsSize-prop : (size : Size) → IsProp (IsSize size)
-IsSize-prop sizes.Auto = hlevel props
-IsSize-prop (sizes.Length length) = hlevel props
-IsSize-prop (sizes.Percent hundredths) = hlevel props
-
-IsMargin-prop : (size : Size) → IsProp (IsMargin size)
-IsMargin-prop sizes.Auto = hlevel props
-IsMargin-prop (sizes.Length length) = hlevel props
-IsMargin-prop (sizes.Percent hundredths) = hlevel props
-
-IsPadding-prop : (size : Size) → IsProp (IsPadding size)
-IsPadding-prop sizes.Auto = hlevel props
-IsPadding-prop (sizes.Length length) = hlevel props
-IsPadding-prop (sizes.Percent hundredths) = hlevel props
-
-IsLineHeight-prop : (height : LineHeight) → IsProp (IsLineHeight height)
-IsLineHeight-prop line_heights.Normal = hlevel props
-IsLineHeight-prop (line_heights.Number hundredths) = hlevel props
-IsLineHeight-prop (line_heights.Length length) = hlevel props
-
-IsCombine-prop : (combine : Combine) → IsProp (IsCombine combine)
-IsCombine-prop combines.Never = hlevel props
-IsCombine-prop combines.All = hlevel props
-IsCombine-prop (combines.Digits most) = hlevel props
-
-pub IsBounded-prop : (style : Style) → IsProp (IsBounded style)
-IsBounded-prop style = hlevel (props, IsSize-prop, IsMargin-prop, IsPadding-prop, IsLineHeight-prop, IsCombine-prop)
 
 -- ---- what has been laid out
 
@@ -67,13 +30,6 @@ pub AreNear-prop : (laid : List LaidBox) → IsProp (All IsNearLaid laid)
 AreNear-prop laid = Π_prop λ k. Π_prop λ d. Π_prop λ below. IsNearLaid-prop _
 
 -- ---- paragraphs and their prepared text
-
-HasBounds-prop : (entry : Entry) → IsProp (HasBounds entry)
-HasBounds-prop (text node bytes style) = hlevel props
-HasBounds-prop (begins node style edges) = IsBounded-prop style
-HasBounds-prop (ends node edges) = hlevel props
-HasBounds-prop (atom name) = hlevel props
-HasBounds-prop (line_break node) = hlevel props
 
 pub IsParagraph-prop : (entries : List Entry) → IsProp (IsParagraph entries)
 IsParagraph-prop entries = hlevel (props, HasFontSize-prop, HasBounds-prop)

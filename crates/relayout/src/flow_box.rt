@@ -5,7 +5,8 @@ ghost use Rattle.std.proofs.Props.{props};
 ghost use Rattle.style_types.specs.Style.{IsBounded};
 ghost use Rattle.box_gen.specs.Tree.{content_of};
 ghost use Rattle.relayout.specs.Paragraph.{IsReadyIn};
-ghost use Rattle.relayout.specs.Props.{IsBounded-prop, IsReadyIn-prop};
+ghost use Rattle.para_lines.specs.Bounded.{IsBounded-prop};
+ghost use Rattle.relayout.specs.Props.{IsReadyIn-prop};
 ghost use Rattle.relayout.specs.Reach as reach;
 
 use crate::sizes::Containing;

@@ -5,7 +5,7 @@ ghost use Rattle.std.proofs.Props.{props};
 ghost use Rattle.style_types.specs.Style.{IsBounded};
 ghost use Rattle.relayout.specs.Reach as reach;
 ghost use Rattle.relayout.specs.Reach.{IsBase};
-ghost use Rattle.relayout.specs.Props.{IsBounded-prop};
+ghost use Rattle.para_lines.specs.Bounded.{IsBounded-prop};
 
 use crate::sizes::Containing;
 use fragment_types::Constraint;

@@ -6,7 +6,7 @@ use Rattle.line_place.proofs.Chains.{the_one, the_other, within_place, more_befo
 use Rattle.line_place.proofs.marks.end_boxes.Goals as goal
 
 pub loop-place-preserved-then-is_place : goal.loop-place-preserved-then-is_place
-loop-place-preserved-then-is_place c =
+loop-place-preserved-then-is_place g c =
     let d = the_one c.loop-place.one c.loop-place.other c.in-Some.place c.in-Some.ensures.deeper (sym c.if-is_place.ensures) in
     let lt = within_place c.loop-place.one c.in-Some.place _ c.loop-place.invariant.one d.0 in
     let pushed = ap (map mark_of) c.in_ok-push.ensures.items ∙ map_push mark_of c.loop-place.marks.items _ in
@@ -20,7 +20,7 @@ loop-place-preserved-then-is_place c =
     }
 
 pub loop-place-preserved : goal.loop-place-preserved
-loop-place-preserved c =
+loop-place-preserved g c =
     let d = the_other c.loop-place.one c.loop-place.other c.in-Some.place c.in-Some.ensures.deeper (sym c.if-is_place.ensures) in
     let lt = within_place c.loop-place.other c.in-Some.place _ c.loop-place.invariant.other d.0 in
     record {
@@ -43,7 +43,7 @@ none_begin boxes one other fresh total is all =
     sym (append-nil fresh) ∙ ap (λ (l : List ℕ). fresh ++ l) (sym e) ∙ all
 
 pub returns-clause-ends : goal.returns-clause-ends
-returns-clause-ends c = none_end c.args.boxes.now _ _ _ _ c.in_default.ensures.same c.loop-place.invariant.ends
+returns-clause-ends g c = none_end c.args.boxes.now _ _ _ _ c.in_default.ensures.same c.loop-place.invariant.ends
 
 pub returns-clause-fresh : goal.returns-clause-fresh
-returns-clause-fresh c = none_begin c.args.boxes.now _ _ _ _ c.in_default.ensures.same c.loop-place.invariant.fresh
+returns-clause-fresh g c = none_begin c.args.boxes.now _ _ _ _ c.in_default.ensures.same c.loop-place.invariant.fresh

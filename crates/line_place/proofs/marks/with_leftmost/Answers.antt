@@ -6,7 +6,7 @@ use Rattle.line_place.proofs.MarkLaws.{from_right_there, left_front, left_more, 
 use Rattle.line_place.proofs.marks.with_leftmost.Goals as goal
 
 pub at_left-requires : goal.at_left-requires
-at_left-requires c =
+at_left-requires g c =
     let len = length_from_right c.args.from_right.now in
     let there = from_right_there c.args.from_right.now c.loop-left.left c.index-from_right-left.result c.loop-left-test.true c.loop-left.invariant.within c.index-from_right-left.is in
     let P : ℕ → Type 0 = λ n. IsOfBox n (mark_of c.index-from_right-left.result) in
@@ -16,7 +16,7 @@ at_left-requires c =
     (of_at c.args.count (length c.args.from_right.now - c.loop-left.left) (reverse (map mark_of c.args.from_right.now)) (mark_of c.index-from_right-left.result) c.requires (omega arith)))
 
 pub loop-left-preserved : goal.loop-left-preserved
-loop-left-preserved c =
+loop-left-preserved g c =
     let marks = reverse (map mark_of c.args.from_right.now) in
     let k = length c.args.from_right.now - c.loop-left.left in
     let len = length_from_right c.args.from_right.now in

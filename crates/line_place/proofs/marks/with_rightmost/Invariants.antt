@@ -4,7 +4,7 @@ use Rattle.line_place.specs.Reach.{Tells}
 use Rattle.line_place.proofs.marks.with_rightmost.Given as goal
 
 abbrev pub invariant-loop-from : goal.invariant-loop-from
-invariant-loop-from l = record {
+invariant-loop-from g l = record {
   all : reverse (map mark_of l.made.items) ≡ rightmost (drop l.from (map mark_of l.marks));
   tells : Tells is_end_of l.ended.items (drop l.from (map mark_of l.marks));
   count : length l.ended.items ≡ l.count;
@@ -12,4 +12,4 @@ invariant-loop-from l = record {
 }
 
 abbrev pub decreases-loop-from : goal.decreases-loop-from
-decreases-loop-from l = l.from
+decreases-loop-from g l = l.from

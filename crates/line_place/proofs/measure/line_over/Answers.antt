@@ -8,13 +8,13 @@ use Rattle.line_place.proofs.SumLaws.{more_max}
 use Rattle.line_place.proofs.measure.line_over.Goals as goal
 
 pub with_over-over-requires-clause-atoms : goal.with_over-over-requires-clause-atoms
-with_over-over-requires-clause-atoms c = shows_first c.loop-mark.mark-index c.args.marks.now _ c.requires.atoms c.loop-mark-test.true c.mark-item.is
+with_over-over-requires-clause-atoms g c = shows_first c.loop-mark.mark-index c.args.marks.now _ c.requires.atoms c.loop-mark-test.true c.mark-item.is
 
 pub with_over-over-requires-clause-of_box : goal.with_over-over-requires-clause-of_box
-with_over-over-requires-clause-of_box c = of_box _ c.loop-mark.mark-index c.args.marks.now _ c.requires.of_boxes c.loop-mark-test.true c.mark-item.is
+with_over-over-requires-clause-of_box g c = of_box _ c.loop-mark.mark-index c.args.marks.now _ c.requires.of_boxes c.loop-mark-test.true c.mark-item.is
 
 pub loop-mark-preserved : goal.loop-mark-preserved
-loop-mark-preserved c =
+loop-mark-preserved g c =
     let own : to_z w64 (of_z w64 c.with_over-over.result) ≡ c.with_over-over.result = to_z-of_z w64 c.with_over-over.result (search rules) in
     more_max mark_of (over_of c.args.boxes.now) c.args.marks.now c.loop-mark.mark-index c.mark-item.result _ _ _ _ _ c.loop-mark.invariant c.loop-mark-test.true c.mark-item.is
     refl refl (own ∙ c.with_over-over.ensures)

@@ -6,5 +6,5 @@ use Rattle.line_place.specs.Placing.{over_of}
 use Rattle.line_place.proofs.measure.line_over.Given as goal
 
 abbrev pub invariant-loop-mark : goal.invariant-loop-mark
-invariant-loop-mark l =
+invariant-loop-mark g l =
     fold int_max l.over (flat_map (over_of l.boxes) (drop l.mark-index (map mark_of l.marks))) ≡ fold int_max l.fn.strut (flat_map (over_of l.boxes) (map mark_of l.marks))

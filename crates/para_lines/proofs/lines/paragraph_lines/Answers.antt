@@ -14,30 +14,34 @@ use Rattle.para_lines.proofs.RoomLaws.{bounded_of, lines_all, near_of, setting_r
 use Rattle.para_lines.proofs.SpreadLaws.{lines_within}
 use Rattle.para_lines.proofs.lines.paragraph_lines.Goals as goal
 
-pub filled-requires : goal.filled-requires
-filled-requires g c =
+pub invariant_of-input : goal.invariant_of-input
+invariant_of-input g c =
     let near = near_of c.of-lists.result c.args.prepared.now (length c.args.items.now) c.of-lists.ensures c.requires.few c.requires.sources c.requires.lengths in
     let P : Preparation → Type 0 = λ prepared. atoms_in prepared.items ≤ length c.args.atoms.now in
     record {
-      bounded = bounded_of _ c.args.items.now c.in_ok-boxes.ensures c.requires.count c.requires.bounds;
-      sources = sources_of c.of-lists.result c.args.prepared.now _ c.args.items.now c.of-lists.ensures c.in_ok-boxes.ensures c.requires.sources;
-      near = near.0;
-      few = near.1;
-      container = record { style = c.requires.style; low = c.requires.low; high = c.requires.high };
-      atoms = subst P (sym c.of-lists.ensures) c.requires.atoms;
-      reach = c.requires.reach;
+      is_input = record {
+        bounded = bounded_of _ c.args.items.now c.in_ok-boxes.ensures c.requires.count c.requires.bounds;
+        sources = sources_of c.of-lists.result c.args.prepared.now _ c.args.items.now c.of-lists.ensures c.in_ok-boxes.ensures c.requires.sources;
+        near = near.0;
+        few = near.1;
+        container_is = record { style = c.requires.style; low = c.requires.low; high = c.requires.high };
+        atoms_there = subst P (sym c.of-lists.ensures) c.requires.atoms;
+        reach = c.requires.reach;
+      };
     }
 
-pub stacked-requires-clause-set : goal.stacked-requires-clause-set
-stacked-requires-clause-set g c =
+pub invariant_of-setting : goal.invariant_of-setting
+invariant_of-setting g c =
     let near = near_of c.of-lists.result c.args.prepared.now (length c.args.items.now) c.of-lists.ensures c.requires.few c.requires.sources c.requires.lengths in
     let made = c.in_ok-filled.ensures.filled in
-    setting_ready _ (preparation_of c.of-lists.result) c.args.atoms.now (Some c.args.container.now.size) c.in_ok-filled.filled.standings.items
-    (bounded_of _ c.args.items.now c.in_ok-boxes.ensures c.requires.count c.requires.bounds) (record { style = c.requires.style; low = c.requires.low; high = c.requires.high })
-    c.deref.ensures.value made.are made.able (whole_lists c.of-lists.result) near.0 near.1 c.requires.reach (ap (λ (v : _). v.items) c.in_ok-empty.ensures.ok ∙ c.new.ensures.items)
+    record {
+      is_setting = setting_ready c.in_ok-boxes.boxes c.args.container.now c.deref.result.now (preparation_of c.of-lists.result) c.args.atoms.now (Some c.args.container.now.size) c.in_ok-filled.filled.standings.items
+          (bounded_of _ c.args.items.now c.in_ok-boxes.ensures c.requires.count c.requires.bounds) (record { style = c.requires.style; low = c.requires.low; high = c.requires.high })
+          c.deref.ensures.value made.are made.able (whole_lists c.of-lists.result) near.0 near.1 c.requires.reach;
+    }
 
-pub stacked-requires-clause-divide : goal.stacked-requires-clause-divide
-stacked-requires-clause-divide g c =
+pub stacked-requires : goal.stacked-requires
+stacked-requires g c =
     let P : List ℕ → Type 0 = λ ends. Divide 0 (length c.deref.result.now) ends in
     let Q : List Standing → Type 0 = λ standings. Divide 0 (length standings) c.in_ok-filled.filled.lines in
     subst P (sym c.ends.ensures) (subst Q (sym c.deref.ensures.value) c.in_ok-filled.ensures.filled.divide)

@@ -1,6 +1,6 @@
 use Rattle.std.proofs.Common.{◌≡◌, ◌≤◌, map, drop, length, unsigned_abs}
 use Rattle.line_place.specs.Reach.{item_reach, total}
-use Rattle.line_place.specs.TextLine.{extent_in}
+use Rattle.line_place.specs.LineText.{extent_in}
 use Rattle.para_lines.specs.Text.{bare}
 use Rattle.para_lines.proofs.text.extent_of.Given as goal
 

@@ -1,6 +1,6 @@
 use Rattle.std.proofs.Common.{◌≡◌, ◌≤◌, ◌+◌, ◌-◌, length, map, take}
 use Rattle.std.specs.Vec.{vec_capacity, vec_len}
-use Rattle.line_place.specs.TextLine.{unit_in}
+use Rattle.line_place.specs.LineText.{unit_in}
 use Rattle.para_lines.specs.Text.{bare}
 use Rattle.para_lines.proofs.text.units_of.Given as goal
 

@@ -1,4 +1,4 @@
-use Rattle.std.proofs.Common.{◌∙◌, ap, sym, arith, Global}
+use Rattle.std.proofs.Common.{refl, ◌∙◌, ap, sym, arith, Global}
 use Rattle.std.proofs.lemmas.List.{same_from_push}
 use Rattle.std.specs.declared.vec.Vec.{Vec}
 use Rattle.fragment_types.specs.declared.fragment.Fragment.{Fragment}
@@ -13,13 +13,10 @@ close-requires-clause-place c = (innermost _ _ c.pop.new.self.items c.in-Some.be
 pub close-requires-clause-left : goal.close-requires-clause-left
 close-requires-clause-left c = (innermost _ _ c.pop.new.self.items c.in-Some.begun c.requires.opened c.in-Some.ensures.items).1
 
-pub close-requires-clause-reach : goal.close-requires-clause-reach
-close-requires-clause-reach c = c.requires.boxes c.in-Some.begun.place (innermost _ _ c.pop.new.self.items c.in-Some.begun c.requires.opened c.in-Some.ensures.items).0
-
 pub returns-in_ok-self-clause-closed : goal.returns-in_ok-self-clause-closed
 returns-in_ok-self-clause-closed c os o is =
     let e = same_from_push c.pop.new.self.items os c.in-Some.begun o (sym c.in-Some.ensures.items ∙ is) in (
       e.0,
-      λ next. ended_as c.args.line.now.boxes.items _ o c.args.over c.args.end _ _ _ _ _ c.args.self.now.parts.items _ next (c.in_ok-self.ensures next)
-          (ap (λ (x : Open). x.place) e.1) (ap (λ (x : Open). x.left) e.1) (ap (λ (x : Open). x.before.items) e.1) (held c.args.over (omega (arith, c.requires.over))) (held c.args.end (omega (arith, c.requires.end))) (ap (λ (x : Vec Fragment Global). x.items) c.replace-parts.ensures.value),
+      λ next. ended_as c.args.stage.now.frame.now.boxes.now _ o c.args.stage.now.over c.args.end _ _ _ _ _ c.args.self.now.parts.items _ next (c.in_ok-self.ensures next)
+          (ap (λ (x : Open). x.place) e.1) (ap (λ (x : Open). x.left) e.1) (ap (λ (x : Open). x.before.items) e.1) refl (held c.args.end (omega (arith, c.requires.end))) (ap (λ (x : Vec Fragment Global). x.items) c.replace-parts.ensures.value),
     )

@@ -14,7 +14,7 @@ use Rattle.para_lines.proofs.filled.ParagraphInput.filled_in_boxes.Goals as goal
 
 pub fill-requires : goal.fill-requires
 fill-requires g c =
-    let own = c.requires in
+    let own = c.args.self.now.is_input in
     let most = own.reach in
     let extents = extents_reach (map atom_of c.args.self.now.atoms.now) in
     let P : List FillItem → Type 0 = λ is. spread is ≤ 2 ^ 60 in
@@ -31,7 +31,7 @@ returns-clause-filled g c =
     let entries : List Entry = c.args.self.now.boxes.now in
     let prepared : Preparation = preparation_of c.args.self.now.lists in
     let advances : List ℤ = atom_extents (map atom_of c.args.self.now.atoms.now) in
-    let own = c.requires in
+    let own = c.args.self.now.is_input in
     let fills = c.deref-2.ensures.value ∙ c.in_ok-fills.ensures in
     let near = atoms_near (2 ^ 57) c.args.self.now.atoms.now own.reach (omega arith) in
     let size : to_z w64 (of_z w64 c.args.self.now.container.now.size) ≡ c.args.self.now.container.now.size = to_z-of_z w64 c.args.self.now.container.now.size (search rules) in
@@ -41,6 +41,6 @@ returns-clause-filled g c =
     let P : ℕ → Type 0 = λ n. Divide 0 n c.in_ok-lines.lines in
     filled_with c.args.self.now c.deref-2.result.now _ c.in_ok-standings.standings.items c.in_ok-lines.lines
     fills (c.in_ok-standings.ensures.are entries)
-    (c.in_ok-standings.ensures.able (length entries) own.sources own.atoms near)
+    (c.in_ok-standings.ensures.able (length entries) own.sources own.atoms_there near)
     (c.in_ok-lines.ensures.lines ∙ ap (lines (to_z w64 (of_z w64 c.args.self.now.container.now.size))) (c.deref.ensures.value ∙ sym c.deref-2.ensures.value)) size
     (subst P (many ∙ sym count) c.in_ok-lines.ensures.divide)

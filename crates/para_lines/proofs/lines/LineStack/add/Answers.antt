@@ -44,5 +44,5 @@ returns-clause-spread g c bound most held near = λ all.
     ∙ piece_is c.args.setting.now.container.now (length c.args.self.now.made.items) _ c.args.self.now.block _ _ _ _ none _ i b c.in_ok-line.ensures.placed.line_box.over_is c.in_ok-line.ensures.placed.line_box.under_is c.in_ok-line.ensures.placed.line_box.parts_are))
     (piece_within c.args.setting.now.container.now (length c.args.self.now.made.items) c.args.self.now.block _ _ _ _ (length c.args.setting.now.boxes.now)
     (room_between (standings_in c.args.setting.now) c.args.self.now.from c.args.end) most bound c.in_ok-line.ensures.placed.line_box.over_is c.in_ok-line.ensures.placed.line_box.under_is c.in_ok-line.ensures.placed.line_box.parts_are
-    c.requires.set.container.low c.requires.set.container.high c.in_ok-line.ensures.placed.over_near c.in_ok-line.ensures.placed.under_near (c.in_ok-line.ensures.placed.within most held) near) in
+    c.args.setting.now.is_setting.container_is.low c.args.setting.now.is_setting.container_is.high c.in_ok-line.ensures.placed.over_near c.in_ok-line.ensures.placed.under_near (c.in_ok-line.ensures.placed.within most held) near) in
     subst P (sym c.in_ok-push.ensures.items) (All-push (IsLineWithin bound) c.args.self.now.made.items c.in_ok-line_fragment.field-0 all line)

@@ -1,0 +1,81 @@
+//! Where the items of a line are read from.
+
+ghost use Rattle.std.specs.Prelude.{◌≡◌, ◌<◌, ◌≤◌, ◌^◌, true, IfOk, IfSome, List, length, map, slice_index_or};
+ghost use Rattle.std.specs.List.{All};
+ghost use Rattle.line_place.specs.Line.{Item, item_of};
+ghost use Rattle.line_place.specs.LineText.{IsLineText, text_of};
+ghost use Rattle.line_place.specs.Reach.{item_reach, total};
+ghost use Rattle.line_place.specs.Runs.{stand_alike};
+
+use crate::line::LineItem;
+use crate::line_text::LineText;
+use crate::runs::stand_alike;
+use std::alloc::{AllocError, Global};
+
+/// Items of a line in logical order, which are read one at a time.
+pub trait LineSource {
+    /// All of them.
+    ghost items: { Self → List Item };
+
+    /// How many there are.
+    fn count(&self) -> usize
+        ensures { result ≡ length (items self.now) };
+
+    /// The item at a place.
+    fn item(&self, place: usize) -> LineItem<'_>
+        requires { place < length (items self.now) }
+        ensures { (d : Item) → item_of result ≡ slice_index_or (items self.now) place d };
+
+    /// Whether the items at two places are units of one text node and one form inside the same box, as the units of one run are.
+    fn stand_alike(&self, place: usize, other: usize) -> bool
+        requires place { place < length (items self.now) }
+        requires other { other < length (items self.now) }
+        ensures { (d : Item) → result ≡ stand_alike (slice_index_or (items self.now) place d) (slice_index_or (items self.now) other d) };
+
+    /// Whether each of them has level 0.
+    fn is_level_zero(&self) -> bool
+        ensures { result ≡ true → All (λ item. item.level ≡ 0) (items self.now) };
+
+    /// All of them as one run of text, where they are units of one text node and one form outside all boxes at level 0, before
+    /// nothing but Spaces. A source that doesn't know may say that they aren't.
+    fn text(&self, _alloc: Global) -> Result<Option<LineText>, AllocError>
+        requires { total item_reach (items self.now) ≤ 2 ^ 60 }
+        ensures { IfOk result (λ made. IfSome made (λ text. IsLineText (text_of text) (items self.now))) }
+    {
+        Ok(None)
+    }
+}
+
+/// Items in a list.
+#[derive(Clone, Copy, Debug)]
+pub(crate) struct Listed<'a> {
+    pub(crate) items: &'a [LineItem<'a>],
+}
+
+impl LineSource for Listed<'_> {
+    ghost items = { λ listed. map item_of listed.items.now };
+
+    #[inline(always)]
+    fn count(&self) -> usize {
+        self.items.len()
+    }
+
+    #[inline(always)]
+    fn item(&self, place: usize) -> LineItem<'_> {
+        self.items[place]
+    }
+
+    #[inline(always)]
+    fn stand_alike(&self, place: usize, other: usize) -> bool {
+        stand_alike(&self.items[place], &self.items[other])
+    }
+
+    fn is_level_zero(&self) -> bool {
+        for item in self.items {
+            if item.level != 0 {
+                return false;
+            }
+        }
+        true
+    }
+}
