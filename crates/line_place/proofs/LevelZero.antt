@@ -2,7 +2,7 @@
 use Rattle.std.proofs.Common.{◌≡◌, ◌∙◌, refl, sym, ap, arith, ℕ, zero, suc, ◌+◌, ◌<◌, Bool, true, false, cond, add-one, List, [], ◌∷◌, ◌++◌, append_assoc, length, map, get_or, drop, ◌≤◌, Option}
 use Rattle.std.specs.Prelude.{slice_get}
 use Rattle.std.specs.List.{All, filter_map, range_with_len}
-use Rattle.std.proofs.lemmas.List.{drop_all, drop_more, get_or-map, length-map, map_push}
+use Rattle.std.proofs.lemmas.List.{drop_more, get_or-map, length-map, map_push}
 use Rattle.wm_chars.specs.declared.classes.BidiClass.{BidiClass}
 use Rattle.bidi_order.specs.Blanks.{leads_out, reset}
 use Rattle.bidi_order.specs.Laws.{LevelZeroStays}
@@ -38,13 +38,6 @@ one_more items k hangs made whole lt zero_level spaces before =
     ∙ append_assoc (map (leaf_in items) made) (leaf_in items own ∷ []) rest
     ∙ ap (λ (l : List Leaf). map (leaf_in items) made ++ l) (sym first)
     ∙ before
-
-no_items : (k : ℕ) (levels : List ℕ) → leaves_from k levels [] ≡ []
-no_items k [] = refl
-no_items k (level ∷ levels) = refl
-
-pub none_behind : (k : ℕ) (items : List Item) → length items ≤ k → leaves_from k (drop k (levels_in items)) (drop k items) ≡ []
-none_behind k items le = rw (drop_all k items le) (no_items k (drop k (levels_in items)))
 
 -- ---- L1 and L2
 

@@ -242,7 +242,7 @@ fn ordered_leaves<S: LineSource>(
     let hanging = hanging_from(source);
     let mut leaves = Vec::with_capacity(alloc, order.len())?;
     for place in &order {
-        leaves.push(leaf_at(source, &levels, hanging, *place))?;
+        leaves.push_reserved(leaf_at(source, &levels, hanging, *place));
     }
     Ok(leaves)
 }
@@ -284,7 +284,7 @@ fn own_levels<S: LineSource>(alloc: Global, source: &S) -> Result<LevelList, All
 {
     let mut made = Vec::with_capacity(alloc, source.count())?;
     for place in 0..source.count() {
-        made.push(source.item(place).level)?;
+        made.push_reserved(source.item(place).level);
     }
     Ok(made)
 }
@@ -296,7 +296,7 @@ fn own_aparts<S: LineSource>(alloc: Global, source: &S) -> Result<Aparts, AllocE
 {
     let mut made = Vec::with_capacity(alloc, source.count())?;
     for place in 0..source.count() {
-        made.push(source.item(place).apart)?;
+        made.push_reserved(source.item(place).apart);
     }
     Ok(made)
 }
@@ -307,7 +307,7 @@ fn own_classes<S: LineSource>(alloc: Global, source: &S) -> Result<ClassList, Al
 {
     let mut made = Vec::with_capacity(alloc, source.count())?;
     for place in 0..source.count() {
-        made.push(source.item(place).class)?;
+        made.push_reserved(source.item(place).class);
     }
     Ok(made)
 }

@@ -182,7 +182,7 @@ impl<'a> LineStage<'a> {
     }
 
     // What a run of leaves with this extent shows, from `left` on.
-    fn shown<S: LineSource>(
+    fn run_fragment<S: LineSource>(
         &self,
         alloc: Global,
         left: i64,
@@ -237,7 +237,7 @@ impl<'a> LineStage<'a> {
 
     // What stands in the box round an inline box once the fragment with these parts has ended.
     #[tactic(auto, using(crate::proofs::Fragments::followed_push))]
-    fn close(
+    fn close_box(
         &self,
         alloc: Global,
         right: i64,
@@ -469,7 +469,7 @@ impl Walk {
     {
         if let Some(begun) = self.opened.pop() {
             let parts = mem::replace(&mut self.parts, Vec::new(alloc));
-            self.parts = stage.close(alloc, end, begun, parts)?;
+            self.parts = stage.close_box(alloc, end, begun, parts)?;
         }
         Ok(())
     }
@@ -489,7 +489,7 @@ impl Walk {
         ensures parts { OnOk result ((next : Pieces) → followed self.new.parts.items next ≡ followed self.old.parts.items (rule.run_piece (line_in stage.now.frame.now []) stage.now.over self.old.at run.now next)) }
     {
         let extent = extent_of(run);
-        let made = stage.shown(alloc, self.at, run, extent)?;
+        let made = stage.run_fragment(alloc, self.at, run, extent)?;
         add_shown(&mut self.parts, made)?;
         self.at += extent;
         Ok(())

@@ -1,6 +1,6 @@
 -- The boxes of a line.
-use Rattle.std.proofs.Common.{◌≡◌, ◌∙◌, refl, sym, ap, arith, subst, Bool, true, ℕ, ◌+◌, ◌<◌, ◌≤◌, List, [], ◌∷◌, ◌++◌, length, map, get_or, drop, reverse, append-nil, Option, Some, None, ◌&&◌, ℤ, pos}
-use Rattle.std.specs.Prelude.{option_map}
+use Rattle.std.proofs.Common.{◌≡◌, ◌∙◌, refl, sym, ap, arith, subst, Bool, true, ℕ, suc, ◌+◌, ◌<◌, ◌≤◌, List, [], ◌∷◌, ◌++◌, length, map, get_or, drop, reverse, append-nil, Option, Some, None, ◌&&◌, ℤ, pos}
+use Rattle.std.specs.Prelude.{All, option_map}
 use Rattle.std.proofs.lemmas.Bool.{eq-eqb}
 use Rattle.std.proofs.lemmas.List.{get_or-map, length-map}
 use Rattle.std.proofs.lemmas.Simd.{map-map}
@@ -24,15 +24,27 @@ use Rattle.para_lines.specs.Filling.{is_space}
 use Rattle.para_lines.specs.Lines as rule
 use Rattle.para_lines.specs.Around.{fresh, has}
 use Rattle.para_lines.specs.Boxes.{apart, chain_at, chain_behind, innermost, round_of}
-use Rattle.para_lines.specs.Line.{ItemsOn, box_on, content_in, first_atom, items_on, line_on, on_line, seat_in, standing_of, units_alike}
+use Rattle.para_lines.specs.Line.{IsAble, ItemsOn, box_on, content_in, first_atom, items_on, line_on, on_line, seat_in, standing_of, units_alike}
 use Rattle.para_lines.specs.Lines.{innermost_in, place_in}
 use Rattle.para_lines.proofs.Chaining.{none_apart}
+use Rattle.para_lines.proofs.FillLaws.{chain_alone}
 
 -- no box begins where an item comes from the same entry as the one before it
 pub none_fresh : (entries : List Entry) (place : ℕ) (other : Option ℕ) (places : List ℕ) → other ≡ Some place → places ≡ places ++ fresh (chain_at entries place) (chain_behind entries other)
 none_fresh entries place other places at_ =
     sym (ap (λ (o : Option ℕ). places ++ fresh (chain_at entries place) (chain_behind entries o)) at_
     ∙ ap (λ (bs : List ℕ). places ++ reverse bs) (none_apart (chain_at entries place) (chain_at entries place) (λ box in_. in_)) ∙ append-nil places)
+
+-- no box stands on a line of a paragraph of one item
+pub none_alone : (entries : List Entry) (standings : List code.Standing) → length entries ≡ 1 → All (IsAble (length entries)) standings → [] ≡ on_line entries [] standings
+none_alone entries [] one able = refl
+none_alone entries (standing ∷ standings) one able =
+    let source : IsAble (length entries) standing = able 0 standing (omega arith) in
+    let none : chain_at entries standing.item.now.source ≡ [] = chain_alone entries standing.item.now.source one (first_of source.source) in
+    none_alone entries standings one (λ k d less. able (suc k) d (omega arith))
+    ∙ ap (λ (chain : List ℕ). fresh chain [] ++ rule.boxes_on chain (map (standing_of entries) standings)) (sym none) where
+      first_of : standing.item.now.source < length entries → standing.item.now.source < 1
+      first_of less = omega arith
 
 -- the boxes from one on are seated
 pub record Seating (places seats old : List ℕ) (left : ℕ) : Type 0 where

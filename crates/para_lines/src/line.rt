@@ -19,7 +19,8 @@ use std::alloc::{AllocError, Global};
 use wm_units::cap;
 
 /// The boxes that stand on the line of these items, the outer before the inner: those round its first item, then those that
-/// begin on it.
+/// begin on it. In a paragraph of one item there are none.
+#[tactic(auto, using(crate::proofs::LineLaws::none_alone))]
 pub(crate) fn boxes_on(
     alloc: Global,
     boxes: &Boxes,
@@ -29,6 +30,9 @@ pub(crate) fn boxes_on(
     ensures { IfOk result (λ made. made.items ≡ on_line boxes.now [] standings.now) }
 {
     let mut places = Vec::new(alloc);
+    if boxes.count() == 1 {
+        return Ok(places);
+    }
     let mut before = None;
     for k in 0..standings.len() {
         let source = standings[k].item.source as usize;

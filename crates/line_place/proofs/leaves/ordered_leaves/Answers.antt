@@ -33,11 +33,16 @@ loop-place-preserved g c =
     let items : List Item = g.S.LineSource.items c.args.source.now in
     let P : List code.Leaf → Type 0 = λ made. All (λ (leaf : code.Leaf). leaf.place < length items) made in
     record {
-      are = ap (map (leaf_in items)) c.in_ok-push.ensures.items ∙ step (leaf_in items) _ c.deref-place-items.result.now c.loop-place.place-index _ _ c.loop-place.invariant.are
+      are = ap (map (leaf_in items)) c.push_reserved.ensures.items ∙ step (leaf_in items) _ c.deref-place-items.result.now c.loop-place.place-index _ _ c.loop-place.invariant.are
           (c.leaf_at.ensures.is
           ∙ ap (λ (ls : List ℕ). slice_get (leaves_from 0 ls items) (get_or c.deref-place-items.result.now c.loop-place.place-index 0)) c.deref-in-loop-place.ensures.value)
           (omega arith);
-      within = subst P (sym c.in_ok-push.ensures.items) (All-push (λ (leaf : code.Leaf). leaf.place < length items) c.loop-place.leaves.items c.leaf_at.result c.loop-place.invariant.within c.leaf_at.ensures.within);
+      within = subst P (sym c.push_reserved.ensures.items) (All-push (λ (leaf : code.Leaf). leaf.place < length items) c.loop-place.leaves.items c.leaf_at.result c.loop-place.invariant.within c.leaf_at.ensures.within);
+      room =
+          let r = c.loop-place.invariant.room in
+          let n = c.push_reserved.ensures.len in
+          let w = c.push_reserved.ensures.capacity in
+          omega arith;
     }
 
 all : (line : Line) (levels order places own : List ℕ) (aparts given : List (Option ℕ)) (i : ℕ) (made : List Leaf)

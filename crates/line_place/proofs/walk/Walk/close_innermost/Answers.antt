@@ -7,11 +7,11 @@ use Rattle.line_place.proofs.Lengths.{held}
 use Rattle.line_place.proofs.WalkLaws.{ended_as, innermost}
 use Rattle.line_place.proofs.walk.Walk.close_innermost.Goals as goal
 
-pub close-requires-clause-place : goal.close-requires-clause-place
-close-requires-clause-place c = (innermost _ _ c.pop.new.self.items c.in-Some.begun c.requires.opened c.in-Some.ensures.items).0
+pub close_box-requires-clause-place : goal.close_box-requires-clause-place
+close_box-requires-clause-place c = (innermost _ _ c.pop.new.self.items c.in-Some.begun c.requires.opened c.in-Some.ensures.items).0
 
-pub close-requires-clause-left : goal.close-requires-clause-left
-close-requires-clause-left c = (innermost _ _ c.pop.new.self.items c.in-Some.begun c.requires.opened c.in-Some.ensures.items).1
+pub close_box-requires-clause-left : goal.close_box-requires-clause-left
+close_box-requires-clause-left c = (innermost _ _ c.pop.new.self.items c.in-Some.begun c.requires.opened c.in-Some.ensures.items).1
 
 pub returns-in_ok-self-clause-closed : goal.returns-in_ok-self-clause-closed
 returns-in_ok-self-clause-closed c os o is =

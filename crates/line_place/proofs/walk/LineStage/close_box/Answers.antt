@@ -3,7 +3,7 @@ use Rattle.std.proofs.lemmas.Int.{ints}
 use Rattle.fragment_types.specs.declared.fragment.Fragment.{Fragment}
 use Rattle.line_place.specs.Walk.{followed}
 use Rattle.line_place.proofs.Fragments.{followed_push, span_same}
-use Rattle.line_place.proofs.walk.LineStage.close.Goals as goal
+use Rattle.line_place.proofs.walk.LineStage.close_box.Goals as goal
 
 pub returns : goal.returns
 returns c next =

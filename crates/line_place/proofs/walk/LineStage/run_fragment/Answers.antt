@@ -3,7 +3,7 @@ use Rattle.std.proofs.lemmas.Int.{ints, to_z-of_z}
 use Rattle.line_place.specs.Line.{content_of, line_in}
 use Rattle.line_place.specs.Leaves.{seen}
 use Rattle.line_place.proofs.Fragments.{run_by}
-use Rattle.line_place.proofs.walk.LineStage.shown.Goals as goal
+use Rattle.line_place.proofs.walk.LineStage.run_fragment.Goals as goal
 
 pub returns-in_ok-made-in-Some-Unit : goal.returns-in_ok-made-in-Some-Unit
 returns-in_ok-made-in-Some-Unit g c next =
