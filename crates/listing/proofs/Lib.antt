@@ -1,4 +1,3 @@
-mod Bounds
 mod Examples
 mod Hexadecimal
 mod Pushed

@@ -5,7 +5,7 @@ ghost use Rattle.io_edge.specs.Edge.{Rose, AppendsFront, AppendsUpTo};
 ghost use Rattle.listing.specs.Lines as spec;
 ghost use Rattle.listing.specs.Runs as run;
 
-use crate::runs::{combined_width, end_of, first_of, push_form, put_units};
+use crate::runs::{bounds_of, combined_width, push_form, put_units};
 use crate::words::{Line, push_count, push_name, push_node, push_number, push_pair, push_rect};
 use fragment_types::{BoxName, FragmentKind, RunUnit};
 use io_edge::{Sink, Waiting, WriteError};
@@ -123,8 +123,9 @@ fn run_place(node: u32, rect: &Rect, units: &[RunUnit]) -> Line
     let mut line = Line::new();
     line.push_str("run");
     push_node(&mut line, node);
-    push_count(&mut line, first_of(units) as usize);
-    push_count(&mut line, end_of(units) as usize);
+    let bounds = bounds_of(units);
+    push_count(&mut line, bounds.first as usize);
+    push_count(&mut line, bounds.end as usize);
     push_rect(&mut line, rect);
     line
 }

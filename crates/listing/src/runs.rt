@@ -10,20 +10,34 @@ use io_edge::{Sink, Waiting, WriteError};
 use itoa::Buffer;
 use wm_modes::WritingMode;
 
-/// The least place at which a unit begins.
-#[tactic(auto, unfolding(crate::specs::Runs::first_of))]
-pub(crate) fn first_of(units: &[RunUnit]) -> u32
-    ensures { result ≡ spec.first_of units.now }
-{
-    units.iter().map(|unit| unit.first()).min().unwrap_or(0)
+/// Where the units of a run begin and end in the node's text.
+#[derive(Clone, Copy)]
+pub(crate) struct Bounds {
+    pub(crate) first: u32,
+    pub(crate) end: u32,
 }
 
-/// The greatest place at which one ends.
-#[tactic(auto, unfolding(crate::specs::Runs::end_of))]
-pub(crate) fn end_of(units: &[RunUnit]) -> u32
-    ensures { result ≡ spec.end_of units.now }
+/// The least place at which a unit begins, and the greatest at which one ends.
+#[tactic(auto, unfolding(crate::specs::Runs::first_of, crate::specs::Runs::end_of))]
+pub(crate) fn bounds_of(units: &[RunUnit]) -> Bounds
+    ensures first { result.first ≡ spec.first_of units.now }
+    ensures end { result.end ≡ spec.end_of units.now }
 {
-    units.iter().map(|unit| unit.end()).max().unwrap_or(0)
+    if units.is_empty() {
+        return Bounds { first: 0, end: 0 };
+    }
+    let mut bounds = Bounds {
+        first: units[0].first(),
+        end: units[0].end(),
+    };
+    for k in 1..units.len() {
+        let unit = &units[k];
+        bounds = Bounds {
+            first: bounds.first.min(unit.first()),
+            end: bounds.end.max(unit.end()),
+        };
+    }
+    bounds
 }
 
 /// How wide a combined run is.
