@@ -15,6 +15,7 @@ use crate::source::LineSource;
 use bidi_explicit::{ClassList, LevelList};
 use bidi_order::laws::level_zero_stays;
 use bidi_order::{reset, visual_order};
+use fragment_types::{Glyphs, RunUnit};
 use std::alloc::{AllocError, Global};
 use std::marker::Model;
 
@@ -130,11 +131,16 @@ impl<'a, S: LineSource> LeafSlice<'a, S> {
     pub(crate) fn first_what(&self) -> Option<LineContent<'a>>
         ensures { seen result ≡ what_of self.now }
     {
-        if self.list.is_empty() {
+        let list = self.list;
+        if list.is_empty() {
             None
         } else {
-            let (what, _) = self.content_at(0);
-            what
+            let Leaf { place, hangs, .. } = list[0];
+            if hangs {
+                None
+            } else {
+                Some(self.source.item(place).what)
+            }
         }
     }
 
@@ -153,20 +159,19 @@ impl<'a, S: LineSource> LeafSlice<'a, S> {
         }
     }
 
-    /// What is seen of one, and its extent along the line.
+    /// One as a unit of its run. Of what hangs nothing is seen.
     #[inline(always)]
-    pub(crate) fn content_at(&self, k: usize) -> (Option<LineContent<'a>>, i64)
+    pub(crate) fn unit_at(&self, alloc: Global, k: usize) -> Result<RunUnit, AllocError>
         requires { k < length self.now }
-        ensures what { seen result.0 ≡ (nth_leaf self.now k).what }
-        ensures extent { result.1 ≡ (nth_leaf self.now k).extent }
+        ensures { IfOk result (λ made. made ≡ rule.unit_of (nth_leaf self.now k)) }
     {
         let list = self.list;
-        let Leaf { place, hangs, .. } = list[k];
-        if hangs {
-            (None, 0)
+        let leaf = list[k];
+        if leaf.hangs {
+            RunUnit::new(alloc, 0, 0, 0, &Glyphs::none())
         } else {
-            let item = self.source.item(place);
-            (Some(item.what), item.extent)
+            let made = self.source.unit(alloc, leaf.place)?;
+            Ok(made)
         }
     }
 

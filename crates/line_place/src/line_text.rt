@@ -15,14 +15,15 @@ use fragment_types::{Fragment, FragmentKind, LineFragment, RunUnits, UnitKind};
 use std::alloc::{AllocError, Global};
 use std::rc::Rc;
 
-/// A line as one run of text: units of one text node and one form, which stand outside all inline boxes at level 0, before
-/// nothing but Spaces. Lengths are in units of 1/64 px.
+/// A line as one run of text: units of one text node and one form, which stand outside all inline boxes at level 0. The Spaces at
+/// its end hang, and are left out. Lengths are in units of 1/64 px.
 #[derive(Debug, Drop)]
 pub struct LineText {
     pub node: u32,
     pub form: UnitKind,
-    /// The extent of the units together.
+    /// The extent of the units before those Spaces together.
     pub extent: i64,
+    /// These units, one at least, of which the last is no Space.
     pub units: RunUnits,
 }
 

@@ -1,13 +1,15 @@
 //! Runs of text: units that stand side by side on a line and follow each other in the text.
 
-ghost use Rattle.std.specs.Prelude.{◌≡◌, ◌+◌, ◌<◌, ◌≤◌, ◌∷◌, length, take, drop};
+ghost use Rattle.std.specs.Prelude.{◌≡◌, ◌+◌, ◌<◌, ◌≤◌, ◌∷◌, IfOk, length, take, drop};
 ghost use Rattle.line_place.specs.Line.{content_of, item_of};
+ghost use Rattle.line_place.specs.LineText.{unit_in};
 ghost use Rattle.line_place.specs.Runs.{are_alike, follows, is_form, is_place, runs, stand_alike};
 
 use crate::leaves::LeafSlice;
 use crate::line::{LineContent, LineItem};
 use crate::source::LineSource;
-use fragment_types::UnitKind;
+use fragment_types::{Glyphs, RunUnit, UnitKind};
+use std::alloc::{AllocError, Global};
 
 /// The run of leaves that begins at this place.
 pub(crate) fn run_at<'a, S: LineSource>(leaves: &LeafSlice<'a, S>, start: usize) -> LeafSlice<'a, S>
@@ -33,6 +35,29 @@ fn run_length<S: LineSource>(leaves: &LeafSlice<S>) -> usize
         length += 1;
     }
     length
+}
+
+/// An item as a unit of its run. What isn't text shows nothing.
+pub(crate) fn unit_of(alloc: Global, item: &LineItem) -> Result<RunUnit, AllocError>
+    ensures { IfOk result (λ made. made ≡ unit_in (item_of item.now)) }
+{
+    match item.what {
+        LineContent::Unit {
+            first,
+            end,
+            glyphs,
+            ..
+        }
+        | LineContent::Combined {
+            first,
+            end,
+            glyphs,
+            ..
+        } => RunUnit::new(alloc, first, end, item.extent, glyphs),
+        LineContent::Atom { .. } | LineContent::Break => {
+            RunUnit::new(alloc, 0, 0, item.extent, &Glyphs::none())
+        }
+    }
 }
 
 /// Whether two items may stand in one run: units of one text node and one form, inside the same box.

@@ -1,18 +1,20 @@
-//! Where the items of a line are read from.
+//! Where the items of a line are read from (CSS 2, 9.4.2).
 
 ghost use Rattle.std.specs.Prelude.{◌≡◌, ◌<◌, ◌≤◌, ◌^◌, true, IfOk, IfSome, List, length, map, slice_index_or};
 ghost use Rattle.std.specs.List.{All};
 ghost use Rattle.line_place.specs.Line.{Item, item_of};
-ghost use Rattle.line_place.specs.LineText.{IsLineText, text_of};
+ghost use Rattle.line_place.specs.LineText.{IsLineText, text_of, unit_in};
 ghost use Rattle.line_place.specs.Reach.{item_reach, total};
 ghost use Rattle.line_place.specs.Runs.{stand_alike};
 
 use crate::line::LineItem;
 use crate::line_text::LineText;
-use crate::runs::stand_alike;
+use crate::runs::{stand_alike, unit_of};
+use fragment_types::RunUnit;
 use std::alloc::{AllocError, Global};
 
-/// Items of a line in logical order, which are read one at a time.
+/// Items of a line in logical order, which are read one at a time, and some of them several times: what is asked of all of them
+/// should cost a few steps.
 pub trait LineSource {
     /// All of them.
     ghost items: { Self → List Item };
@@ -32,12 +34,21 @@ pub trait LineSource {
         requires other { other < length (items self.now) }
         ensures { (d : Item) → result ≡ stand_alike (slice_index_or (items self.now) place d) (slice_index_or (items self.now) other d) };
 
-    /// Whether each of them has level 0.
+    /// What the item at a place shows as a unit of its run, with its whole extent. What isn't text shows nothing.
+    #[inline(always)]
+    fn unit(&self, alloc: Global, place: usize) -> Result<RunUnit, AllocError>
+        requires { place < length (items self.now) }
+        ensures { (d : Item) → IfOk result (λ made. made ≡ unit_in (slice_index_or (items self.now) place d)) }
+    {
+        unit_of(alloc, &self.item(place))
+    }
+
+    /// Whether each of them has level 0. A source that doesn't know may say no.
     fn is_level_zero(&self) -> bool
         ensures { result ≡ true → All (λ item. item.level ≡ 0) (items self.now) };
 
-    /// All of them as one run of text, where they are units of one text node and one form outside all boxes at level 0, before
-    /// nothing but Spaces. A source that doesn't know may say that they aren't.
+    /// All of them as one run of text, where all, the Spaces at the end too, are units of one text node and one form outside all
+    /// boxes at level 0, and not all are Spaces. A source that doesn't know may say that they aren't.
     fn text(&self, _alloc: Global) -> Result<Option<LineText>, AllocError>
         requires { total item_reach (items self.now) ≤ 2 ^ 60 }
         ensures { IfOk result (λ made. IfSome made (λ text. IsLineText (text_of text) (items self.now))) }

@@ -3,7 +3,7 @@
 ghost use Rattle.std.specs.Prelude.{◌≡◌, ◌+◌, ◌<◌, ◌≤◌, ◌^◌, ◌++◌, ◌+ℤ◌, ◌-ℤ◌, [], ◌∷◌, List, IfOk, IfSome, OnOk, length, map, reverse, unsigned_abs};
 ghost use Rattle.fragment_types.specs.Fragment.{Pieces, before, kind_of, none, piece, piece_of, pieces_of, run as run_kind, span as span_kind};
 ghost use Rattle.fragment_types.specs.declared.fragment.Fragment.{out-Fragment};
-ghost use Rattle.line_place.specs.Leaves.{nth_leaf, seen};
+ghost use Rattle.line_place.specs.Leaves.{nth_leaf};
 ghost use Rattle.line_place.specs.Line.{line_in};
 ghost use Rattle.line_place.specs.Marks.{Mark as SeenMark, box_at, inside_of, mark_of};
 ghost use Rattle.line_place.specs.Placing as rule;
@@ -16,9 +16,7 @@ use crate::line::{Extents, LineBox, LineContent, LineFrame};
 use crate::marks::Mark;
 use crate::measure::{extent_of, left, left_margin, right, right_margin};
 use crate::source::LineSource;
-use fragment_types::{
-    BoxName, Fragment, FragmentKind, Fragments, Glyphs, RunUnit, RunUnits, UnitKind,
-};
+use fragment_types::{BoxName, Fragment, FragmentKind, Fragments, RunUnits, UnitKind};
 use std::alloc::{AllocError, Global};
 use std::mem;
 use std::rc::Rc;
@@ -271,45 +269,13 @@ pub(crate) fn unnumbered(node: u32) -> BoxName
     BoxName { node, ordinal: 0 }
 }
 
-// A leaf as a unit of its run. What isn't text shows nothing.
-#[inline(always)]
-fn run_unit<S: LineSource>(
-    alloc: Global,
-    run: &LeafSlice<S>,
-    k: usize,
-) -> Result<RunUnit, AllocError>
-    requires { k < length run.now }
-    ensures { IfOk result (λ made. made ≡ rule.unit_of (nth_leaf run.now k)) }
-{
-    let (what, extent) = run.content_at(k);
-    match what {
-        Some(
-            LineContent::Unit {
-                first,
-                end,
-                glyphs,
-                ..
-            }
-            | LineContent::Combined {
-                first,
-                end,
-                glyphs,
-                ..
-            },
-        ) => RunUnit::new(alloc, first, end, extent, glyphs),
-        Some(LineContent::Atom { .. } | LineContent::Break) | None => {
-            RunUnit::new(alloc, 0, 0, extent, &Glyphs::none())
-        }
-    }
-}
-
 // The units of a run.
 fn run_units<S: LineSource>(alloc: Global, run: &LeafSlice<S>) -> Result<RunUnits, AllocError>
     ensures { IfOk result (λ made. made.items ≡ map rule.unit_of run.now) }
 {
     let mut units = Vec::with_capacity(alloc, run.len())?;
     for k in 0..run.len() {
-        units.push_reserved(run_unit(alloc, run, k)?);
+        units.push_reserved(run.unit_at(alloc, k)?);
     }
     Ok(units)
 }

@@ -7,6 +7,7 @@ use Rattle.fragment_types.specs.Item.{Entry}
 use Rattle.line_place.specs.Leaves.{are_spaces}
 use Rattle.line_place.specs.Reach.{item_reach, total}
 use Rattle.line_place.specs.LineText as place_text
+use Rattle.line_place.specs.Placing.{unit_with}
 use Rattle.line_place.specs.LineText.{IsTextItem, extent_in, unit_in}
 use Rattle.line_place.proofs.SumLaws.{back_of}
 use Rattle.para_prepare.specs.declared.item.PreparedContent.{PreparedContent}
@@ -87,3 +88,12 @@ items_are_bare own none = one_by_one own.seated.boxes.now own.seated.places.now 
   one_by_one entries boxes [] none = refl
   one_by_one entries boxes (s ∷ standings) none =
       rw (item_bare entries boxes s (none 0 s (omega arith)), one_by_one entries boxes standings (λ k d lt. none (suc k) d (omega arith))) refl
+
+-- what an item shows as a unit of a run hangs on no box
+pub unit_bare : (entries : List Entry) (boxes : List ℕ) (s : code.Standing) → unit_in (line_item entries boxes (standing_of entries s)) ≡ unit_in (bare s)
+unit_bare entries boxes s = by_what s.item.now.what where
+  by_what : (what : PreparedContent) → unit_with (rule.content_of entries (chain_at entries s.item.now.source) (first_atom s.atoms.now) what) s.extent ≡ unit_with (content_in (pos 0) what (first_atom s.atoms.now)) s.extent
+  by_what (Unit form space node first end_ advance glyphs) = refl
+  by_what (Combined node first end_ advance natural glyphs) = refl
+  by_what (Atom name) = refl
+  by_what (Break node) = refl

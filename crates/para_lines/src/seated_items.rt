@@ -14,9 +14,9 @@ use crate::edges::LineEdges;
 use crate::line::extents_in;
 use crate::seated::Seated;
 use crate::standing::Standing;
-use crate::text::{line_text, text_in};
+use crate::text::{line_text, text_in, unit_of};
 use face_api::{Face, Faces};
-use fragment_types::UnitKind;
+use fragment_types::{RunUnit, UnitKind};
 use line_place::{LineBox, LineFrame, LineItem, LineSource, LineText};
 use para_prepare::PreparedContent;
 use std::alloc::{AllocError, Global};
@@ -62,6 +62,12 @@ impl LineSource for SeatedItems<'_> {
         let one = self.standing(place).item;
         let next = self.standing(other).item;
         are_alike(&one.what, &next.what) && self.stand_together(place, other)
+    }
+
+    #[inline(always)]
+    fn unit(&self, alloc: Global, place: usize) -> Result<RunUnit, AllocError> {
+        let made = unit_of(alloc, self.standing(place))?;
+        Ok(made)
     }
 
     fn is_level_zero(&self) -> bool {

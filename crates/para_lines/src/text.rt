@@ -170,9 +170,9 @@ fn units_of(alloc: Global, standings: &[Standing]) -> Result<RunUnits, AllocErro
     Ok(made)
 }
 
-// Most are units, and most of these are one character.
+/// An item as a unit of its run, straight from what is prepared of it. Most are units, and most of these are one character.
 #[inline(always)]
-fn unit_of(alloc: Global, standing: &Standing) -> Result<RunUnit, AllocError>
+pub(crate) fn unit_of(alloc: Global, standing: &Standing) -> Result<RunUnit, AllocError>
     ensures { IfOk result (λ made. made ≡ unit_in (bare standing.now)) }
 {
     match &standing.item.what {
