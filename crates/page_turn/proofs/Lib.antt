@@ -1,3 +1,4 @@
+mod Examples
 mod PageLaws
 mod RectLaws
 mod Trees

@@ -9,8 +9,8 @@ use std::alloc::{AllocError, Global};
 use std::rc::Rc;
 use wm_modes::WritingMode;
 
-/// The kind of a fragment in a mode: a box and a line are of that mode, the text of a run stands as it does there. The units of
-/// a run are shared.
+/// The kind of a fragment in a mode: a box and a line are of that mode, a run stands as sideways text does in its lines. The units
+/// of a run are shared.
 pub(crate) fn kind_in(
     alloc: Global,
     mode: WritingMode,
@@ -51,8 +51,8 @@ pub(crate) fn kind_in(
     Ok(own)
 }
 
-// How text that stands so in the flow stands in the lines of a mode. Only where text can stand upright in the lines is text that
-// lies along them told as turned.
+// How sideways text that stands so in the lines of horizontal-tb stands in those of a mode: where text can stand upright in them,
+// what is along the line is turned by a quarter.
 fn form_in(mode: WritingMode, form: UnitKind) -> UnitKind
     ensures { result ≡ rule.form_in mode form }
 {

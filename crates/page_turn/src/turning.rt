@@ -13,9 +13,9 @@ use place_map::{Placed, PlacedPart, PlacedParts};
 use std::alloc::{AllocError, Global};
 use wm_modes::WritingMode;
 
-/// A page of the flow, which is made in horizontal-tb, turned to another mode: each rectangle stands as far from line-left and
-/// from block-start of the view, boxes and lines are of the mode, and the text of runs stands as it does there. Takes memory for
-/// the tree; units of runs are shared.
+/// A page of the flow, which was placed in horizontal-tb, turned to another mode: each rectangle stands as far from line-left and
+/// from block-start of the view, boxes and lines are of the mode, and runs stand as sideways text does in its lines. Takes
+/// memory for the tree; the units of runs are shared.
 ///
 /// The mode is any but vertical-lr, over whose lines isn't where its blocks begin. The sizes of the view are from 0 to 2^32
 /// units, and all rectangles of the page and their content areas lie within 2^60 units of 0.
@@ -25,15 +25,10 @@ pub fn turn(alloc: Global, flow: &Placed, mode: WritingMode) -> Result<Placed, A
     requires near { AreNearParts (placed_of flow.now).parts }
     ensures page { IfOk result (λ made. placed_of made ≡ rule.turned mode (placed_of flow.now)) }
 {
-    let turn = Turn {
-        mode,
-        view: flow.view,
-    };
+    let view = flow.view;
+    let turn = Turn { mode, view };
     let root = turned_part(alloc, turn, &flow.root)?;
-    Ok(Placed {
-        view: flow.view,
-        root,
-    })
+    Ok(Placed { view, root })
 }
 
 // Fragments of the flow's page, turned.
