@@ -1,11 +1,13 @@
 pub mod BoxLines
-pub mod CaughtNodes
 pub mod Contents
 pub mod Examples
 pub mod Fillings
 pub mod Founds
 pub mod Least
 pub mod NodeLines
+pub mod Pieces
+pub mod Puts
 pub mod Results
 pub mod Runs
 pub mod Sites
+pub mod Walks

@@ -3,5 +3,6 @@ pub mod Building
 pub mod Found
 pub mod Limit
 pub mod Orthogonal
+pub mod Parts
 pub mod Site
 pub mod Tree
