@@ -1,8 +1,10 @@
 pub mod BoxLines
+pub mod ContainerLaws
 pub mod Contents
 pub mod Examples
 pub mod Fillings
 pub mod Founds
+pub mod HiddenLaws
 pub mod Least
 pub mod NodeLines
 pub mod Pieces
@@ -10,4 +12,5 @@ pub mod Puts
 pub mod Results
 pub mod Runs
 pub mod Sites
+pub mod TextLaws
 pub mod Walks

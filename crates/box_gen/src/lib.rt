@@ -5,6 +5,7 @@ mod checked;
 mod filling;
 mod found;
 mod generate;
+pub mod laws;
 mod limit;
 mod opened;
 mod orthogonal;
