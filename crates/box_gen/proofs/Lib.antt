@@ -7,6 +7,7 @@ pub mod Founds
 pub mod HiddenLaws
 pub mod Least
 pub mod NodeLines
+pub mod PairLaws
 pub mod Pieces
 pub mod Puts
 pub mod Results

@@ -1,5 +1,6 @@
 -- Laws of boxes.
 use Rattle.std.specs.Prelude.{◌≡◌, ℕ, zero, suc, Bool, true, false, List, [], ◌∷◌, ◌++◌}
+use Rattle.std.specs.Bool.{⊤}
 use Rattle.fragment_types.specs.Item as item
 use Rattle.fragment_types.specs.Item.{Entry}
 use Rattle.style_types.specs.declared.style.Style.{Style}
@@ -120,3 +121,29 @@ solid (text ∷ others) = put_unless (is_blank text.1) text (solid others)
 abbrev pub TextsStandOnce : Type 0
 TextsStandOnce = (number : ℕ) (kind : NodeKind) (style : Style) (inner next : Nodes)
     → solid (texts (root_boxes (styled.node number kind style inner next))) ≡ solid (shown_texts inner)
+
+-- ---- items in pairs
+
+-- where inline boxes of these numbers are open, the innermost first, each of them and each that begins in these items ends in them, as
+-- brackets do
+unfoldable pub ArePaired : List Entry → (around : List ℕ) → Type 0
+ArePaired [] around = around ≡ []
+ArePaired (item.text number letters style ∷ items) around = ArePaired items around
+ArePaired (item.begins number style edges ∷ items) around = ArePaired items (number ∷ around)
+ArePaired (item.ends number edges ∷ items) [] = ⊥
+ArePaired (item.ends number edges ∷ items) (innermost ∷ outer) = (number ≡ innermost) × ArePaired items outer
+ArePaired (item.line_break number ∷ items) around = ArePaired items around
+ArePaired (item.atom name ∷ items) around = ArePaired items around
+
+abbrev pub IsPaired : Content → Type 0
+IsPaired blocks = ⊤
+IsPaired (inline items) = ArePaired items []
+
+-- so are those of each paragraph in these boxes
+unfoldable pub HavePairs : Boxes → Type 0
+HavePairs none = ⊤
+HavePairs (box name style content inner next) = IsPaired content × (HavePairs inner × HavePairs next)
+
+-- in each paragraph inline boxes and pieces of them begin and end as brackets do: also where a block-level box cuts some of them
+abbrev pub ItemsArePaired : Type 0
+ItemsArePaired = (root : Nodes) → HavePairs (root_boxes root)
