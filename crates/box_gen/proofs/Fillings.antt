@@ -1,5 +1,5 @@
 -- A container with its run made a block.
-use Rattle.std.proofs.Common.{◌≡◌, ◌∙◌, refl, ap, sym, ℕ, suc, Bool, true, false, not, List, [], ◌∷◌, ◌++◌}
+use Rattle.std.proofs.Common.{◌≡◌, ◌∙◌, refl, ap, sym, ℕ, suc, Bool, true, false, not, List, [], ◌∷◌, ◌++◌, length, arith}
 use Rattle.box_gen.specs.declared.tree.BoxTree.{BoxTree}
 use Rattle.box_gen.specs.Tree.{Boxes, none, box, inline, boxes_of, all_boxes_of}
 use Rattle.box_gen.specs.Boxes.{Run, no_run, join, anonymous}
@@ -32,3 +32,7 @@ not_true false e = refl
 pub not_false : (b : Bool) → not b ≡ false → b ≡ true
 not_false true e = refl
 not_false false e = sym e
+
+pub empty_is : (trees : List BoxTree) → length trees ≡ 0 → trees ≡ []
+empty_is [] e = refl
+empty_is (tree ∷ trees) e = absurd (omega arith)

@@ -168,7 +168,3 @@ blocks_are trees f all are some is =
     ap (λ (g : Filling). box (own_name f.number) g.style blocks g.blocks none) is
     ∙ ap (λ (r : Run). with_blocks f.blocks f.number f.anonymous f.style r no_more) (sym (and_then_nothing f.run))
     ∙ sym (filled_some f.blocks f.number f.anonymous f.style (and_then f.run no_run) no_more (subst IsSome are (line_some trees some)))
-
-pub empty_is : (trees : List BoxTree) → length trees ≡ 0 → trees ≡ []
-empty_is [] e = refl
-empty_is (tree ∷ trees) e = absurd (omega arith)

@@ -1,5 +1,6 @@
 -- Nodes put one after the other.
-use Rattle.std.proofs.Common.{◌≡◌, ◌∙◌, refl, ap, sym, Bool, true, false, ◌||◌, List, [], ◌∷◌, ◌++◌, append_assoc, append-nil}
+use Rattle.std.proofs.Common.{◌≡◌, ◌∙◌, ap, sym, Bool, ◌||◌, List, [], ◌∷◌, ◌++◌, append_assoc, append-nil}
+use Rattle.std.proofs.Math.Bool.{or-false, or_assoc}
 use Rattle.std.proofs.lemmas.List.Folds.{list_any-append}
 use Rattle.style_types.specs.declared.tree.StyledNode.{StyledNode}
 use Rattle.style_types.specs.declared.tree.StyledNode.TheViews.{out-StyledNode}
@@ -28,14 +29,6 @@ pub put_all : (was now : Filling) (all left : Nodes) → left ≡ styled.none �
 unfolding content
 put_all was now all left none_left so_far behind = so_far behind ∙ ap (λ (ns : Nodes). filled now (content ns ++ behind)) none_left
 
-or_assoc : (a b c : Bool) → ((a || b) || c) ≡ (a || (b || c))
-or_assoc true b c = refl
-or_assoc false b c = refl
-
-or_false : (a : Bool) → (a || false) ≡ a
-or_false true = refl
-or_false false = refl
-
 -- whether a block-level box is among the nodes that are put, or among those that are left
 abbrev pub IsCut : (cut : Bool) (left all : Nodes) → Type 0
 IsCut cut left all = (cut || has_block (content left)) ≡ has_block (content all)
@@ -50,7 +43,7 @@ cut_more all left next n cut one more is has more_is so_far =
 
 pub cut_all : (all left : Nodes) (cut : Bool) → left ≡ styled.none → IsCut cut left all → cut ≡ has_block (content all)
 unfolding content
-cut_all all left cut none_left so_far = sym (or_false cut) ∙ ap (λ (ns : Nodes). cut || has_block (content ns)) (sym none_left) ∙ so_far
+cut_all all left cut none_left so_far = sym (or-false cut) ∙ ap (λ (ns : Nodes). cut || has_block (content ns)) (sym none_left) ∙ so_far
 
 -- ---- a node with what is inside it
 
@@ -86,6 +79,6 @@ module _ (n : StyledNode) (children : List StyledNode) (are : children ≡ (out-
     pub box_cut : (cut : Bool) → cut ≡ has_block inner → cut ≡ has_block (content (nodes_of n))
     box_cut cut cut_is =
         cut_is
-        ∙ sym (or_false (has_block inner))
+        ∙ sym (or-false (has_block inner))
         ∙ sym (list_any-append is_block inner (part.stops (out-StyledNode n).node (has_block inner) ∷ []))
         ∙ ap has_block (sym around_is)

@@ -6,7 +6,8 @@ use Rattle.box_gen.specs.Tree.{box, none, blocks, inline, all_boxes_of}
 use Rattle.box_gen.specs.Boxes.{own_name}
 use Rattle.box_gen.specs.Building.{filling_of, run_of}
 use Rattle.box_gen.proofs.BoxLines.{rolled}
-use Rattle.box_gen.proofs.Puts.{paragraph_is, blocks_are, empty_is}
+use Rattle.box_gen.proofs.Fillings.{empty_is}
+use Rattle.box_gen.proofs.Puts.{paragraph_is, blocks_are}
 use Rattle.box_gen.proofs.filling.Filling.finished.Goals as goal
 
 pub returns-then-is_empty : goal.returns-then-is_empty
