@@ -65,6 +65,15 @@ pub enum Property {
     BorderBlockEndStyle,
     BorderInlineStartStyle,
     BorderInlineEndStyle,
+    Position,
+    Top,
+    Right,
+    Bottom,
+    Left,
+    InsetBlockStart,
+    InsetBlockEnd,
+    InsetInlineStart,
+    InsetInlineEnd,
 }
 
 impl Property {
