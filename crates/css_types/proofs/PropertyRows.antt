@@ -118,10 +118,10 @@ of_borders = refl
 -- position and insets
 of_positions : drop 55 table ≡
     (row (codes "position") properties.Position groups.Positions ranges.Nowhere ranges.Nowhere more.Nothing (values.Keyword words.Static) false Whole
-    ∷ row (codes "top") properties.Top groups.Auto ranges.Anywhere ranges.Anywhere more.Nothing (values.Keyword words.Auto) false (PhysicalSide Inset Top)
-    ∷ row (codes "right") properties.Right groups.Auto ranges.Anywhere ranges.Anywhere more.Nothing (values.Keyword words.Auto) false (PhysicalSide Inset Right)
-    ∷ row (codes "bottom") properties.Bottom groups.Auto ranges.Anywhere ranges.Anywhere more.Nothing (values.Keyword words.Auto) false (PhysicalSide Inset Bottom)
-    ∷ row (codes "left") properties.Left groups.Auto ranges.Anywhere ranges.Anywhere more.Nothing (values.Keyword words.Auto) false (PhysicalSide Inset Left)
+    ∷ row (codes "top") properties.InsetTop groups.Auto ranges.Anywhere ranges.Anywhere more.Nothing (values.Keyword words.Auto) false (PhysicalSide Inset Top)
+    ∷ row (codes "right") properties.InsetRight groups.Auto ranges.Anywhere ranges.Anywhere more.Nothing (values.Keyword words.Auto) false (PhysicalSide Inset Right)
+    ∷ row (codes "bottom") properties.InsetBottom groups.Auto ranges.Anywhere ranges.Anywhere more.Nothing (values.Keyword words.Auto) false (PhysicalSide Inset Bottom)
+    ∷ row (codes "left") properties.InsetLeft groups.Auto ranges.Anywhere ranges.Anywhere more.Nothing (values.Keyword words.Auto) false (PhysicalSide Inset Left)
     ∷ row (codes "inset-block-start") properties.InsetBlockStart groups.Auto ranges.Anywhere ranges.Anywhere more.Nothing (values.Keyword words.Auto) false (FlowSide Inset BlockStart)
     ∷ row (codes "inset-block-end") properties.InsetBlockEnd groups.Auto ranges.Anywhere ranges.Anywhere more.Nothing (values.Keyword words.Auto) false (FlowSide Inset BlockEnd)
     ∷ row (codes "inset-inline-start") properties.InsetInlineStart groups.Auto ranges.Anywhere ranges.Anywhere more.Nothing (values.Keyword words.Auto) false (FlowSide Inset InlineStart)

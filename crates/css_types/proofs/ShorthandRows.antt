@@ -64,7 +64,7 @@ all : map (λ row. (row.0.now, row.1)) SHORTHANDS ≡
     ∷ border (codes "border-inline-end") (longhands.One properties.BorderInlineEndWidth) (longhands.One properties.BorderInlineEndStyle)
     ∷ border (codes "border-block") (ends properties.BorderBlockStartWidth properties.BorderBlockEndWidth) (ends properties.BorderBlockStartStyle properties.BorderBlockEndStyle)
     ∷ border (codes "border-inline") (ends properties.BorderInlineStartWidth properties.BorderInlineEndWidth) (ends properties.BorderInlineStartStyle properties.BorderInlineEndStyle)
-    ∷ round (codes "inset") of_insets (sides properties.Top properties.Right properties.Bottom properties.Left)
+    ∷ round (codes "inset") of_insets (sides properties.InsetTop properties.InsetRight properties.InsetBottom properties.InsetLeft)
     ∷ round (codes "inset-block") of_insets (ends properties.InsetBlockStart properties.InsetBlockEnd)
     ∷ round (codes "inset-inline") of_insets (ends properties.InsetInlineStart properties.InsetInlineEnd)
     ∷ [])

@@ -54,10 +54,10 @@ side_property BorderStyle Top = properties.BorderTopStyle
 side_property BorderStyle Right = properties.BorderRightStyle
 side_property BorderStyle Bottom = properties.BorderBottomStyle
 side_property BorderStyle Left = properties.BorderLeftStyle
-side_property Inset Top = properties.Top
-side_property Inset Right = properties.Right
-side_property Inset Bottom = properties.Bottom
-side_property Inset Left = properties.Left
+side_property Inset Top = properties.InsetTop
+side_property Inset Right = properties.InsetRight
+side_property Inset Bottom = properties.InsetBottom
+side_property Inset Left = properties.InsetLeft
 
 abbrev pub axis_property : AxisFamily → axis.Axis → Property
 axis_property Size Horizontal = properties.Width

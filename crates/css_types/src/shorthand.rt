@@ -162,7 +162,10 @@ pub static SHORTHANDS: [(&str, Shorthand); 26] = [
         "border-inline",
         border!(Ends BorderInlineStartWidth BorderInlineEndWidth, Ends BorderInlineStartStyle BorderInlineEndStyle),
     ),
-    ("inset", round!(INSETS, Sides Top Right Bottom Left)),
+    (
+        "inset",
+        round!(INSETS, Sides InsetTop InsetRight InsetBottom InsetLeft),
+    ),
     (
         "inset-block",
         round!(INSETS, Ends InsetBlockStart InsetBlockEnd),

@@ -177,10 +177,10 @@ pub static PROPERTIES: [(&str, PropertyRow); PROPERTY_COUNT] = rows! {
     BorderInlineStartStyle "border-inline-start-style" LINES        Value::Keyword(Keyword::None),         false Reach::FlowSide(SideFamily::BorderStyle, FlowSide::InlineStart);
     BorderInlineEndStyle   "border-inline-end-style"   LINES        Value::Keyword(Keyword::None),         false Reach::FlowSide(SideFamily::BorderStyle, FlowSide::InlineEnd);
     Position               "position"                  POSITIONS    Value::Keyword(Keyword::Static),       false Reach::Whole;
-    Top                    "top"                       INSETS       Value::Keyword(Keyword::Auto),         false Reach::PhysicalSide(SideFamily::Inset, Side::Top);
-    Right                  "right"                     INSETS       Value::Keyword(Keyword::Auto),         false Reach::PhysicalSide(SideFamily::Inset, Side::Right);
-    Bottom                 "bottom"                    INSETS       Value::Keyword(Keyword::Auto),         false Reach::PhysicalSide(SideFamily::Inset, Side::Bottom);
-    Left                   "left"                      INSETS       Value::Keyword(Keyword::Auto),         false Reach::PhysicalSide(SideFamily::Inset, Side::Left);
+    InsetTop               "top"                       INSETS       Value::Keyword(Keyword::Auto),         false Reach::PhysicalSide(SideFamily::Inset, Side::Top);
+    InsetRight             "right"                     INSETS       Value::Keyword(Keyword::Auto),         false Reach::PhysicalSide(SideFamily::Inset, Side::Right);
+    InsetBottom            "bottom"                    INSETS       Value::Keyword(Keyword::Auto),         false Reach::PhysicalSide(SideFamily::Inset, Side::Bottom);
+    InsetLeft              "left"                      INSETS       Value::Keyword(Keyword::Auto),         false Reach::PhysicalSide(SideFamily::Inset, Side::Left);
     InsetBlockStart        "inset-block-start"         INSETS       Value::Keyword(Keyword::Auto),         false Reach::FlowSide(SideFamily::Inset, FlowSide::BlockStart);
     InsetBlockEnd          "inset-block-end"           INSETS       Value::Keyword(Keyword::Auto),         false Reach::FlowSide(SideFamily::Inset, FlowSide::BlockEnd);
     InsetInlineStart       "inset-inline-start"        INSETS       Value::Keyword(Keyword::Auto),         false Reach::FlowSide(SideFamily::Inset, FlowSide::InlineStart);
