@@ -1,8 +1,8 @@
 -- The units of plain text in a style by which none are combined.
-use Rattle.std.proofs.Common.{◌≡◌, ℕ, ◌+◌, Bool, true, false, ◌&&◌, not, List, [], ◌∷◌, Option, Some, None, inl, inr, unwrap_or, ap, sym, ◌∙◌, refl}
+use Rattle.std.proofs.Common.{◌≡◌, ℕ, ◌+◌, Bool, true, false, ◌&&◌, not, List, [], ◌∷◌, Option, Some, None, inl, inr, ap, sym, ◌∙◌, refl}
 use Rattle.std.specs.Prelude.{◌||◌}
 use Rattle.std.proofs.lemmas.Bool.{cases_Bool}
-use Rattle.std.proofs.lemmas.Option.{none-some}
+use Rattle.std.proofs.lemmas.Option.{none-some, same_Some}
 use Rattle.face_api.specs.Table.{Table}
 use Rattle.style_types.specs.declared.style.Combine.{Combine}
 use Rattle.style_types.specs.declared.style.Combine.TheVariants.{All, Digits, Never}
@@ -26,14 +26,11 @@ never_joins style cluster h = either (is_vertical style.mode) style.combine h
     either true (Digits most) h = absurd (cc)
     either false combine h = refl
 
-some_same : {x y : Unit} → Some x ≡ Some y → x ≡ y
-some_same {x = x} e = ap (λ o. unwrap_or o x) e
-
 module _ (style : Style) (table : Table) where
   unit_is : (cluster : Cluster) (unit : Unit) (found : Option Unit) → Some unit ≡ found → (control : Bool) → is_control cluster.head ≡ control
       → ((is_control cluster.head ≡ true → found ≡ None) × (is_control cluster.head ≡ false → found ≡ Some (single style table cluster))) → unit ≡ single style table cluster
   unit_is cluster unit found one true e is = absurd (none-some unit (sym (one ∙ is.0 e)))
-  unit_is cluster unit found one false e is = some_same (one ∙ is.1 e)
+  unit_is cluster unit found one false e is = same_Some unit (single style table cluster) (one ∙ is.1 e)
 
   -- one more character in front
   one_more : combines_none style ≡ true → (place c : ℕ) (others : List Cluster) (later : List Unit) → units_by style table (uncontrolled others) ≡ later
