@@ -1,6 +1,6 @@
 -- The units of a text stand in order.
-use Rattle.std.proofs.Common.{◌≡◌, ℕ, ◌+◌, ◌-◌, ◌*◌, ◌/◌, ◌<◌, ◌≤◌, Bool, true, false, ◌&&◌, List, [], ◌∷◌, ◌++◌, length, map, Option, Some, inl, inr, ap, sym, subst, refl, ◌∙◌, arith}
-use Rattle.std.specs.Prelude.{if◌then◌else◌, unwrap_or, ⊤, ℤ, pos, negsuc, ◌≤ℤ◌, ◌+ℤ◌}
+use Rattle.std.proofs.Common.{◌≡◌, ℕ, ◌+◌, ◌-◌, ◌*◌, ◌/◌, ◌<◌, ◌≤◌, Bool, true, false, ◌&&◌, List, [], ◌∷◌, ◌++◌, length, map, Some, inl, inr, sym, subst, refl, arith}
+use Rattle.std.specs.Prelude.{if◌then◌else◌, unwrap_or, ⊤, ℤ, pos, negsuc, ◌≤ℤ◌}
 use Rattle.std.specs.List.{flat_map, last_or}
 use Rattle.std.proofs.lemmas.Bool.{cases_Bool}
 use Rattle.std.proofs.lemmas.Int.{ints}
@@ -17,8 +17,8 @@ use Rattle.cluster_units.specs.Laws.{IsUnitIn, AreInOrder, StandInOrder}
 use Rattle.cluster_units.specs.Runs.{Run, items, last, runs_of, with_front}
 use Rattle.cluster_units.specs.Unit.{scaled, combines, combined_unit, joins, single_unit, kind_of, is_upright, plain_advance, run_units, sum_of}
 use Rattle.cluster_units.proofs.Pieces.{total, total_is}
-use Rattle.cluster_units.proofs.RunLaws.{alone, front_apart, front_joins}
-use Rattle.cluster_units.proofs.Walk.{gone, kept, units_by, whole}
+use Rattle.cluster_units.proofs.RunLaws.{front_apart, front_joins}
+use Rattle.cluster_units.proofs.Walk.{gone, kept, whole}
 
 -- ---- no piece is empty
 

@@ -10,7 +10,7 @@ use Rattle.cluster_units.specs.Plain.{is_plain}
 use Rattle.cluster_units.specs.Gathering.{made_of}
 use Rattle.cluster_units.proofs.Pieces.{fewer_chars}
 use Rattle.cluster_units.proofs.PlainLaws.{pieces, plain_pieces, total_pieces}
-use Rattle.cluster_units.proofs.Walk.{IsUnderway, begins, finished, finished_is, goes_on, ends, place_within, units_by, whole}
+use Rattle.cluster_units.proofs.Walk.{IsUnderway, begins, finished_is, goes_on, ends, place_within, units_by, whole}
 use Rattle.cluster_units.proofs.plain.plain_units.Goals as goal
 
 pub loop-c-init : goal.loop-c-init
