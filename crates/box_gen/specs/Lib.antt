@@ -1,9 +1,7 @@
 pub mod Boxes
 pub mod Building
 pub mod Found
-pub mod Laws
 pub mod Limit
 pub mod Orthogonal
-pub mod Parts
 pub mod Site
 pub mod Tree

@@ -1,5 +1,4 @@
 pub mod Cluster
-pub mod Gathering
 pub mod Laws
 pub mod Plain
 pub mod Runs

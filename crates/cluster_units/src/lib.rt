@@ -2,7 +2,6 @@
 #![tactic(auto)]
 
 mod cluster;
-mod gathering;
 pub mod laws;
 mod plain;
 mod single;

@@ -65,15 +65,6 @@ pub enum Property {
     BorderBlockEndStyle,
     BorderInlineStartStyle,
     BorderInlineEndStyle,
-    Position,
-    InsetTop,
-    InsetRight,
-    InsetBottom,
-    InsetLeft,
-    InsetBlockStart,
-    InsetBlockEnd,
-    InsetInlineStart,
-    InsetInlineEnd,
 }
 
 impl Property {

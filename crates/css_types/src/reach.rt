@@ -13,7 +13,6 @@ pub enum SideFamily {
     Padding,
     BorderWidth,
     BorderStyle,
-    Inset,
 }
 
 /// Properties that mean the same of different axes of a box.

@@ -24,8 +24,7 @@ pub enum TextOrientation {
     Sideways,
 }
 
-/// `text-combine-upright` (CSS Writing Modes 4, 9.1). `Never` is `none`; `Digits` has the greatest count of digits that are
-/// combined: 2, 3 or 4.
+/// `text-combine-upright` (CSS Writing Modes 4, 9.1). `Never` is `none`.
 #[derive(Clone, Copy, Debug, PartialEq, Eq)]
 pub enum Combine {
     Never,
@@ -69,7 +68,7 @@ pub enum Baseline {
     Central,
 }
 
-/// A size, margin, padding or inset: a length in units of 1/64 px, or hundredths of a percent. A maximum of none is
+/// A size, margin or padding: a length in units of 1/64 px, or hundredths of a percent. A maximum of none is
 /// `Auto`.
 #[derive(Clone, Copy, Debug, PartialEq, Eq)]
 pub enum Size {
@@ -81,15 +80,6 @@ pub enum Size {
 /// A size for each side of the page.
 #[derive(Clone, Copy, Debug, PartialEq, Eq)]
 pub struct SideSizes {
-    pub top: Size,
-    pub right: Size,
-    pub bottom: Size,
-    pub left: Size,
-}
-
-/// The insets of a relatively positioned element, one for each side of the page (CSS Positioned Layout 3, 3.1).
-#[derive(Clone, Copy, Debug, PartialEq, Eq)]
-pub struct Insets {
     pub top: Size,
     pub right: Size,
     pub bottom: Size,
@@ -129,9 +119,6 @@ pub struct Style {
     pub margin: SideSizes,
     pub padding: SideSizes,
     pub border: SideWidths,
-    /// `position: relative`; else `static` (CSS Positioned Layout 3, 2).
-    pub relative: bool,
-    pub insets: Insets,
 }
 
 impl Style {
