@@ -9,24 +9,23 @@ use Rattle.style_types.specs.Tree.{Nodes, NodeKind, all_nodes_of, before, kind_o
 use Rattle.box_gen.specs.declared.found.Found.{Found}
 use Rattle.box_gen.specs.declared.role.Role as code_role
 use Rattle.box_gen.specs.declared.site.Site.{Site}
-use Rattle.box_gen.specs.Boxes.{caught, put_if, role_of, root_caught}
+use Rattle.box_gen.specs.Boxes.{role_of}
 use Rattle.box_gen.specs.Building.{code_of, least, lesser, role_in}
-use Rattle.box_gen.specs.Found.{both, caught_from, found_at, found_from, nothing_found, number_if, past_from}
-use Rattle.box_gen.specs.Orthogonal.{IsLeastOf, past, root_past}
-use Rattle.box_gen.specs.Site.{in_node, in_root, is_caught, is_past}
+use Rattle.box_gen.specs.Found.{both, found_at, found_from, nothing_found, number_if, past_from}
+use Rattle.box_gen.specs.Orthogonal.{IsLeastOf, past, put_if, root_past}
+use Rattle.box_gen.specs.Site.{in_node, in_root, is_past}
 use Rattle.box_gen.proofs.Least.{least_append, least_of, lesser_assoc, lesser_none}
 use Rattle.box_gen.proofs.NodeLines.{left_at, none_left, opened, role_opened}
-use Rattle.box_gen.proofs.Sites.{caught_ends, caught_steps, past_ends, past_steps}
+use Rattle.box_gen.proofs.Sites.{past_ends, past_steps}
 
-same_found : (past past_too caught caught_too : Option ℕ) → past ≡ past_too → caught ≡ caught_too → (let one : Found = record { past = past; caught = caught } in one) ≡ record { past = past_too; caught = caught_too }
-same_found past past_too caught caught_too one two =
-    ap (λ (o : Option ℕ). (let f : Found = record { past = o; caught = caught } in f)) one ∙ ap (λ (o : Option ℕ). (let f : Found = record { past = past_too; caught = o } in f)) two
+same_found : (past past_too : Option ℕ) → past ≡ past_too → (let one : Found = record { past = past } in one) ≡ record { past = past_too }
+same_found past past_too one = ap (λ (o : Option ℕ). (let f : Found = record { past = o } in f)) one
 
 pub both_assoc : (one two three : Found) → both (both one two) three ≡ both one (both two three)
-both_assoc one two three = same_found _ _ _ _ (lesser_assoc one.past two.past three.past) (lesser_assoc one.caught two.caught three.caught)
+both_assoc one two three = same_found _ _ (lesser_assoc one.past two.past three.past)
 
 pub both_nothing : (one : Found) → both one nothing_found ≡ one
-both_nothing one = same_found _ _ _ _ (lesser_none one.past) (lesser_none one.caught)
+both_nothing one = same_found _ _ (lesser_none one.past)
 
 least_put : (is : Bool) (number : ℕ) (others : List ℕ) → least (put_if is number others) ≡ lesser (number_if is number) (least others)
 unfolding least
@@ -38,20 +37,19 @@ least_at is number inner next = least_append (put_if is number inner) next ∙ a
 
 pub found_none : (site : Site) → found_from site styled.none ≡ nothing_found
 unfolding least
-found_none site = same_found _ _ _ _ (ap least (past_ends site)) (ap least (caught_ends site))
+found_none site = same_found _ _ (ap least (past_ends site))
 
 module _ (site : Site) (number : ℕ) (kind : NodeKind) (style : Style) (inner : Nodes) where
   abbrev role : code_role.Role
   role = code_of (role_of kind style)
 
   abbrev at_node : Found
-  at_node = both (found_at number (is_past role style.mode site) (is_caught role site)) (found_from (in_node role style.mode site) inner)
+  at_node = both (found_at number (is_past role style.mode site)) (found_from (in_node role style.mode site) inner)
 
   found_step : (next : Nodes) → found_from site (styled.node number kind style inner next) ≡ both at_node (found_from site next)
   found_step next =
-      same_found _ _ _ _
+      same_found _ _
       (ap least (past_steps site number kind style inner next) ∙ least_at (is_past role style.mode site) number (past_from (in_node role style.mode site) inner) (past_from site next))
-      (ap least (caught_steps site number kind style inner next) ∙ least_at (is_caught role site) number (caught_from (in_node role style.mode site) inner) (caught_from site next))
 
   pub found_alone : found_from site (styled.node number kind style inner styled.none) ≡ at_node
   found_alone = found_step styled.none ∙ ap (both at_node) (found_none site) ∙ both_nothing _
@@ -84,25 +82,25 @@ module _ (site : Site) where
 
   -- what is found of a node with those inside it
   pub found_in_node : (n : StyledNode) → found_from site (nodes_of n)
-      ≡ both (found_at (out-StyledNode n).node (is_past (role_in (nodes_of n)) (out-StyledNode n).style.mode site) (is_caught (role_in (nodes_of n)) site))
+      ≡ both (found_at (out-StyledNode n).node (is_past (role_in (nodes_of n)) (out-StyledNode n).style.mode site))
       (found_from (in_node (role_in (nodes_of n)) (out-StyledNode n).style.mode site) (all_nodes_of (out-StyledNode n).children.items))
   found_in_node n =
       let out = out-StyledNode n in
       let inner = all_nodes_of out.children.items in
       ap (found_from site) (opened n styled.none)
       ∙ found_alone site out.node (kind_of out.kind) out.style inner
-      ∙ ap (λ (r : code_role.Role). both (found_at out.node (is_past r out.style.mode site) (is_caught r site)) (found_from (in_node r out.style.mode site) inner)) (sym (role_opened n))
+      ∙ ap (λ (r : code_role.Role). both (found_at out.node (is_past r out.style.mode site)) (found_from (in_node r out.style.mode site) inner)) (sym (role_opened n))
 
   -- so it is by its parts
-  pub found_here : (n : StyledNode) (role : code_role.Role) (mode : WritingMode) (past caught : Bool) (own below all : Found) (inside : Site) (children : List StyledNode)
-      → role ≡ role_in (nodes_of n) → mode ≡ (out-StyledNode n).style.mode → past ≡ is_past role mode site → caught ≡ is_caught role site → own ≡ found_at (out-StyledNode n).node past caught
+  pub found_here : (n : StyledNode) (role : code_role.Role) (mode : WritingMode) (past : Bool) (own below all : Found) (inside : Site) (children : List StyledNode)
+      → role ≡ role_in (nodes_of n) → mode ≡ (out-StyledNode n).style.mode → past ≡ is_past role mode site → own ≡ found_at (out-StyledNode n).node past
       → inside ≡ in_node role mode site → children ≡ (out-StyledNode n).children.items → below ≡ found_from inside (all_nodes_of children) → all ≡ both own below → all ≡ found_from site (nodes_of n)
-  found_here n role mode past caught own below all inside children role_is mode_is past_is caught_is own_is inside_is are below_is all_is =
+  found_here n role mode past own below all inside children role_is mode_is past_is own_is inside_is are below_is all_is =
       let out = out-StyledNode n in
-      let with_ : code_role.Role → WritingMode → Found = λ r m. both (found_at out.node (is_past r m site) (is_caught r site)) (found_from (in_node r m site) (all_nodes_of out.children.items)) in
+      let with_ : code_role.Role → WritingMode → Found = λ r m. both (found_at out.node (is_past r m site)) (found_from (in_node r m site) (all_nodes_of out.children.items)) in
       all_is
-      ∙ ap (λ (f : Found). both f below) (own_is ∙ ap (λ (b : Bool). found_at out.node b caught) past_is ∙ ap (found_at out.node (is_past role mode site)) caught_is)
-      ∙ ap (both (found_at out.node (is_past role mode site) (is_caught role site)))
+      ∙ ap (λ (f : Found). both f below) (own_is ∙ ap (found_at out.node) past_is)
+      ∙ ap (both (found_at out.node (is_past role mode site)))
       (below_is ∙ ap (λ (s : Site). found_from s (all_nodes_of children)) inside_is ∙ ap (λ (l : List StyledNode). found_from (in_node role mode site) (all_nodes_of l)) are)
       ∙ ap (λ (r : code_role.Role). with_ r mode) role_is
       ∙ ap (with_ (role_in (nodes_of n))) mode_is
@@ -111,13 +109,11 @@ module _ (site : Site) where
 -- what is found in the root are the least of all nodes of the tree
 pub found_in_root : (root : StyledNode) (mode : WritingMode) (children : List StyledNode) (site : Site) (found : Found)
     → mode ≡ (out-StyledNode root).style.mode → children ≡ (out-StyledNode root).children.items → site ≡ in_root mode → found ≡ found_from site (all_nodes_of children)
-    → IsLeastOf (root_past (nodes_of root)) found.past × IsLeastOf (root_caught (nodes_of root)) found.caught
+    → IsLeastOf (root_past (nodes_of root)) found.past
 found_in_root root mode children site found is are at here =
     let out = out-StyledNode root in
     let all : found ≡ found_from (in_root out.style.mode) (all_nodes_of out.children.items) =
     here ∙ ap (λ (s : Site). found_from s (all_nodes_of children)) at
     ∙ ap (λ (m : WritingMode). found_from (in_root m) (all_nodes_of children)) is
-    ∙ ap (λ (l : List StyledNode). found_from (in_root out.style.mode) (all_nodes_of l)) are in (
-      subst (λ (l : List ℕ). IsLeastOf l found.past) (sym (ap root_past (opened root styled.none))) (least_of (past (all_nodes_of out.children.items) out.style.mode 0) found.past (ap (λ (f : Found). f.past) all)),
-      subst (λ (l : List ℕ). IsLeastOf l found.caught) (sym (ap root_caught (opened root styled.none))) (least_of (caught (all_nodes_of out.children.items) false) found.caught (ap (λ (f : Found). f.caught) all)),
-    )
+    ∙ ap (λ (l : List StyledNode). found_from (in_root out.style.mode) (all_nodes_of l)) are in
+    subst (λ (l : List ℕ). IsLeastOf l found.past) (sym (ap root_past (opened root styled.none))) (least_of (past (all_nodes_of out.children.items) out.style.mode 0) found.past (ap (λ (f : Found). f.past) all))

@@ -1,4 +1,4 @@
--- The boxes that a styled tree makes. CSS 2, 9.2.1 and 9.2.2, narrowed.
+-- The boxes that a styled tree makes. CSS 2, 9.2.1 and 9.2.2.
 use Rattle.std.specs.Prelude.{ℕ, suc, Bool, true, false, ◌||◌, ◌&&◌, eqb, List, [], ◌∷◌, ◌++◌}
 use Rattle.fragment_types.specs.declared.item.BoxName.{BoxName}
 use Rattle.style_types.specs.declared.style.Display.{Display}
@@ -9,6 +9,9 @@ use Rattle.fragment_types.specs.Item as item
 use Rattle.fragment_types.specs.Item.{Entry}
 use Rattle.style_types.specs.Tree as styled
 use Rattle.style_types.specs.Tree.{Nodes, NodeKind}
+use Rattle.box_gen.specs.declared.opened.Opened.{Opened}
+use Rattle.box_gen.specs.Parts as part
+use Rattle.box_gen.specs.Parts.{Part, around}
 use Rattle.box_gen.specs.Tree.{blocks, inline, Boxes, none, box}
 
 -- ---- what a node is to its container
@@ -40,26 +43,6 @@ abbrev pub role_of : NodeKind → Style → Role
 role_of styled.element style = element_role style.display
 role_of styled.line_break style = role_by style.display line_break
 role_of (styled.text letters) style = words letters
-
--- ---- block-level boxes in inline boxes
-
-abbrev pub put_if : Bool → ℕ → List ℕ → List ℕ
-put_if true number others = number ∷ others
-put_if false number others = others
-
--- by the node's role, from those inside it where they stand in an inline box or not
-abbrev pub caught_by : Role → (inside : Bool) → (number : ℕ) → (inner : Bool → List ℕ) → List ℕ
-caught_by nothing inside number inner = []
-caught_by (words letters) inside number inner = []
-caught_by line_break inside number inner = []
-caught_by inline_box inside number inner = inner true
-caught_by atom inside number inner = inner false
-caught_by block_level inside number inner = put_if inside number (inner false)
-
--- the block-level nodes that stand in an inline box, in document order; an atom and a block are containers anew
-unfoldable pub caught : Nodes → (inside : Bool) → List ℕ
-caught styled.none inside = []
-caught (styled.node number kind style inner next) inside = caught_by (role_of kind style) inside number (caught inner) ++ caught next inside
 
 -- ---- inline content
 
@@ -133,35 +116,61 @@ container number style first no_more = box (own_name number) style (inline first
 container number style first (then block run others) =
     box (own_name number) style blocks (wrapped first.blank number 0 style first (stacked number style (then block run others))) none
 
-abbrev pub made : (number : ℕ) → Style → Held → Boxes
-made number style held = container number style held.first held.others
+-- ---- the content cut at its block-level boxes
+
+-- the innermost of some open inline boxes is the first; from it outwards they end, each without its inline-end edges
+unfoldable pub closed : List Opened → List Entry
+closed [] = []
+closed (innermost ∷ opened) = item.ends innermost.node false ∷ closed opened
+
+-- and from the outermost inwards they begin, each without its inline-start edges
+unfoldable pub opened_again : List Opened → List Entry
+opened_again [] = []
+opened_again (innermost ∷ opened) = opened_again opened ++ (item.begins innermost.node innermost.style false ∷ [])
+
+abbrev pub without_innermost : List Opened → List Opened
+without_innermost [] = []
+without_innermost (innermost ∷ opened) = opened
 
 -- inline content before what follows it
-abbrev pub inline_before : (items : List Entry) → (atoms : Boxes) → (blank : Bool) → Held → Held
-inline_before items atoms blank held = record { first = before_run items atoms blank held.first; others = held.others }
+abbrev pub in_front : (items : List Entry) → (atoms : Boxes) → (blank : Bool) → Held → Held
+in_front items atoms blank held = record { first = before_run items atoms blank held.first; others = held.others }
 
--- a node by its role before those that follow it; of an inline box without blocks all is in its first run
-abbrev pub placed : Role → (number : ℕ) → Style → (inner next : Held) → Held
-placed nothing number style inner next = next
-placed (words letters) number style inner next = inline_before (item.text number letters style ∷ []) none (is_blank letters) next
-placed line_break number style inner next = inline_before (item.line_break number ∷ []) none false next
-placed inline_box number style inner next =
-    inline_before (item.begins number style true ∷ inner.first.items ++ item.ends number true ∷ []) inner.first.atoms false next
-placed atom number style inner next = inline_before (item.atom (own_name number) ∷ []) (made number style inner) false next
-placed block_level number style inner next = record { first = no_run; others = then (made number style inner) next.first next.others }
+-- where these inline boxes are open, what is left of the content. Each of them ends before a block-level box and begins again behind
+-- it; only where it starts and stops itself it has its edges. One that is cut counts as white space, and one that isn't as an element.
+unfoldable pub runs : (opened : List Opened) → List Part → Held
+runs opened [] = record { first = no_run; others = no_more }
+runs opened (part.words number letters style ∷ parts) = in_front (item.text number letters style ∷ []) none (is_blank letters) (runs opened parts)
+runs opened (part.line_break number ∷ parts) = in_front (item.line_break number ∷ []) none false (runs opened parts)
+runs opened (part.atom number own ∷ parts) = in_front (item.atom (own_name number) ∷ []) own false (runs opened parts)
+runs opened (part.starts number style ∷ parts) =
+    in_front (item.begins number style true ∷ []) none true (runs ((record { node = number; style = style }) ∷ opened) parts)
+runs opened (part.stops number is_cut ∷ parts) = in_front (item.ends number true ∷ []) none is_cut (runs (without_innermost opened) parts)
+runs opened (part.block_level own ∷ parts) =
+    let behind = in_front (opened_again opened) none true (runs opened parts) in
+    record { first = before_run (closed opened) none true no_run; others = then own behind.first behind.others }
 
-unfoldable pub held : Nodes → Held
-held styled.none = record { first = no_run; others = no_more }
-held (styled.node number kind style inner next) = placed (role_of kind style) number style (held inner) (held next)
+-- ---- the boxes of a tree
 
--- ---- the answers
+-- the box of a block container with this content
+abbrev pub made : (number : ℕ) → Style → List Part → Boxes
+made number style parts = container number style (runs [] parts).first (runs [] parts).others
+
+-- what a node is in its container, by its role and its own content
+abbrev pub parts_by : Role → (number : ℕ) → Style → (inner : List Part) → List Part
+parts_by nothing number style inner = []
+parts_by (words letters) number style inner = part.words number letters style ∷ []
+parts_by line_break number style inner = part.line_break number ∷ []
+parts_by inline_box number style inner = around number style inner
+parts_by atom number style inner = part.atom number (made number style inner) ∷ []
+parts_by block_level number style inner = part.block_level (made number style inner) ∷ []
+
+-- the content of these nodes
+unfoldable pub content : Nodes → List Part
+content styled.none = []
+content (styled.node number kind style inner next) = parts_by (role_of kind style) number style (content inner) ++ content next
 
 -- the box of the root, whatever its display
 abbrev pub root_boxes : Nodes → Boxes
 root_boxes styled.none = none
-root_boxes (styled.node number kind style inner next) = made number style (held inner)
-
--- the block-level nodes in inline boxes below the root
-abbrev pub root_caught : Nodes → List ℕ
-root_caught styled.none = []
-root_caught (styled.node number kind style inner next) = caught inner false
+root_boxes (styled.node number kind style inner next) = made number style (content inner)

@@ -1,15 +1,17 @@
 -- What a part of the work comes to, by the words of Boxes.
-use Rattle.std.specs.Prelude.{ℕ, suc, Bool, true, false, min, List, [], ◌∷◌, Option, Some, None}
+use Rattle.std.specs.Prelude.{◌≡◌, ℕ, suc, Bool, true, false, min, List, [], ◌∷◌, ◌++◌, reverse, Option, Some, None}
 use Rattle.style_types.specs.declared.style.Style.{Style}
 use Rattle.fragment_types.specs.Item.{Entry, entries_of}
 use Rattle.style_types.specs.Tree as styled
 use Rattle.style_types.specs.Tree.{Nodes}
 use Rattle.box_gen.specs.declared.filling.Filling as code_filling
+use Rattle.box_gen.specs.declared.opened.Opened.{Opened}
 use Rattle.box_gen.specs.declared.role.Role as code_role
 use Rattle.box_gen.specs.declared.role.Role.TheVariants as code_roles
 use Rattle.box_gen.specs.declared.run.Run as code_run
 use Rattle.box_gen.specs.Tree.{Boxes, none, box, blocks, inline, all_boxes_of}
-use Rattle.box_gen.specs.Boxes.{Role, nothing, words, line_break, inline_box, atom, block_level, role_of, Run, no_run, join, before_run, Held, Blocks, no_more, then, own_name, wrapped, stacked, held}
+use Rattle.box_gen.specs.Parts.{Part}
+use Rattle.box_gen.specs.Boxes.{Role, nothing, words, line_break, inline_box, atom, block_level, role_of, Run, no_run, join, before_run, Blocks, no_more, then, own_name, wrapped, stacked, runs}
 
 -- ---- roles
 
@@ -49,33 +51,41 @@ and_then run other = before_run run.items run.atoms run.blank other
 abbrev pub run_with : (items : List Entry) → (atoms : Boxes) → (blank : Bool) → Run
 run_with items atoms blank = record { items = items; atoms = atoms; blank = blank }
 
--- the inline content before the first block-level one of these nodes
-abbrev pub first_run : Nodes → Run
-first_run nodes = (held nodes).first
-
 -- ---- a container in part
 
--- the boxes up to the last block-level one, how many of them are anonymous, and the run behind them
+-- a container of this node and style, with what is put so far: the boxes up to the last block-level one, how many of them are anonymous, the
+-- run behind them, and the inline boxes that are open, the innermost first
 pub record Filling : Type 0 where
+  pub number : ℕ
+  pub style : Style
   pub blocks : Boxes
   pub anonymous : ℕ
   pub run : Run
+  pub opened : List Opened
 
 abbrev pub filling_of : code_filling.Filling → Filling
-filling_of filling = record { blocks = all_boxes_of filling.boxes.items; anonymous = filling.anonymous; run = run_of filling.run }
+filling_of filling = record {
+  number = filling.node;
+  style = filling.style;
+  blocks = all_boxes_of filling.boxes.items;
+  anonymous = filling.anonymous;
+  run = run_of filling.run;
+  opened = reverse filling.opened.items;
+}
 
-abbrev pub no_filling : Filling
-no_filling = record { blocks = none; anonymous = 0; run = no_run }
+-- with nothing put
+abbrev pub no_filling : (number : ℕ) → Style → Filling
+no_filling number style = record { number = number; style = style; blocks = none; anonymous = 0; run = no_run; opened = [] }
 
 -- the count of anonymous blocks with one for this run, but where it is white space alone
 abbrev pub counted : (blank : Bool) → ℕ → ℕ
 counted true anonymous = anonymous
 counted false anonymous = suc anonymous
 
--- the blocks with the run behind them made a block, and then this block
-abbrev pub with_block : (number : ℕ) → Style → Filling → (block : Boxes) → Filling
-with_block number style filling block = record {
-  blocks = join filling.blocks (wrapped filling.run.blank number filling.anonymous style filling.run (λ anonymous. block));
+-- the run behind the blocks made a block, but where it is white space alone
+abbrev pub with_run : Filling → Filling
+with_run filling = record filling {
+  blocks = join filling.blocks (wrapped filling.run.blank filling.number filling.anonymous filling.style filling.run (λ anonymous. none));
   anonymous = counted filling.run.blank filling.anonymous;
   run = no_run;
 }
@@ -93,5 +103,11 @@ filled_by (box name block_style content inner next) number anonymous style run o
     with_blocks (box name block_style content inner next) number anonymous style run others
 
 -- the container's box, from what it has so far and what is left of its content
-abbrev pub filled : (number : ℕ) → Style → Filling → Held → Boxes
-filled number style filling held = filled_by filling.blocks number filling.anonymous style (and_then filling.run held.first) held.others
+abbrev pub filled : Filling → (left : List Part) → Boxes
+filled filling left =
+    let held = runs filling.opened left in
+    filled_by filling.blocks filling.number filling.anonymous filling.style (and_then filling.run held.first) held.others
+
+-- a container with these parts put: whatever is left behind them, the box is the one that it was before them
+abbrev pub Puts : (was : Filling) → List Part → (now : Filling) → Type 0
+Puts was parts now = (left : List Part) → filled was (parts ++ left) ≡ filled now left

@@ -1,7 +1,9 @@
 pub mod Boxes
 pub mod Building
 pub mod Found
+pub mod Laws
 pub mod Limit
 pub mod Orthogonal
+pub mod Parts
 pub mod Site
 pub mod Tree

@@ -1,12 +1,12 @@
 -- Boxes that turn inside boxes: how many on a line of ancestors are orthogonal to their containing blocks. CSS Writing Modes 4, 7.3,
 -- with a limit of this project's own.
-use Rattle.std.specs.Prelude.{◌≡◌, ℕ, suc, min, nat_lt, ◌≤◌, Bool, true, false, List, [], ◌++◌, Option, Some, None}
+use Rattle.std.specs.Prelude.{◌≡◌, ℕ, suc, min, nat_lt, ◌≤◌, Bool, true, false, List, [], ◌∷◌, ◌++◌, Option, Some, None}
 use Rattle.std.specs.List.{Contains}
 use Rattle.wm_modes.specs.Mode.{are_parallel}
 use Rattle.wm_modes.specs.declared.mode.WritingMode.{WritingMode}
 use Rattle.style_types.specs.Tree as styled
 use Rattle.style_types.specs.Tree.{Nodes}
-use Rattle.box_gen.specs.Boxes.{Role, atom, block_level, inline_box, line_break, nothing, put_if, role_of, words}
+use Rattle.box_gen.specs.Boxes.{Role, atom, block_level, inline_box, line_break, nothing, role_of, words}
 
 -- so many may be
 abbrev pub most_orthogonal : ℕ
@@ -20,6 +20,10 @@ turns_by false turns = min (suc turns) 7
 -- with a box of its own mode in a containing block of this mode
 abbrev pub turns_in : (mode own : WritingMode) → (turns : ℕ) → ℕ
 turns_in mode own turns = turns_by (are_parallel mode own) turns
+
+abbrev pub put_if : Bool → ℕ → List ℕ → List ℕ
+put_if true number others = number ∷ others
+put_if false number others = others
 
 -- the number of a box with so many, where these are too many, and those inside it
 abbrev pub past_box : (number turns : ℕ) → (inner : ℕ → List ℕ) → List ℕ

@@ -8,26 +8,26 @@ use Rattle.box_gen.specs.Orthogonal.{most_orthogonal, turns_in}
 
 -- in the root, which has this mode
 abbrev pub in_root : WritingMode → Site
-in_root mode = record { mode = mode; turns = 0; inside = false; shown = true }
+in_root mode = record { mode = mode; turns = 0; shown = true }
 
 -- where no boxes are made
 abbrev pub hidden : WritingMode → Site
-hidden mode = record { mode = mode; turns = 0; inside = false; shown = false }
+hidden mode = record { mode = mode; turns = 0; shown = false }
 
 -- in a box of this mode that is a container anew
 abbrev pub in_container : WritingMode → Site → Site
-in_container mode site = record { mode = mode; turns = turns_in site.mode mode site.turns; inside = false; shown = site.shown }
+in_container mode site = record { mode = mode; turns = turns_in site.mode mode site.turns; shown = site.shown }
 
 -- in a node of this role and mode that stands there
 abbrev pub in_node : Role → WritingMode → Site → Site
 in_node Nothing mode site = record site { shown = false }
 in_node Words mode site = record site { shown = false }
 in_node LineBreak mode site = record site { shown = false }
-in_node InlineBox mode site = record site { inside = true }
+in_node InlineBox mode site = site
 in_node Atom mode site = in_container mode site
 in_node BlockLevel mode site = in_container mode site
 
--- ---- the two limits
+-- ---- the limit
 
 abbrev pub is_container : Role → Bool
 is_container Nothing = false
@@ -37,18 +37,6 @@ is_container InlineBox = false
 is_container Atom = true
 is_container BlockLevel = true
 
-abbrev pub is_block_level : Role → Bool
-is_block_level Nothing = false
-is_block_level Words = false
-is_block_level LineBreak = false
-is_block_level InlineBox = false
-is_block_level Atom = false
-is_block_level BlockLevel = true
-
 -- with the box of a node of this role and mode that stands there too many are orthogonal to their containing blocks
 abbrev pub is_past : Role → WritingMode → Site → Bool
 is_past role mode site = site.shown && (is_container role && nat_lt most_orthogonal (turns_in site.mode mode site.turns))
-
--- a node of this role that stands there is a block-level box in an inline box
-abbrev pub is_caught : Role → Site → Bool
-is_caught role site = site.shown && (is_block_level role && site.inside)

@@ -1,4 +1,4 @@
-//! A tree of styles is held against the two limits of boxes.
+//! A tree of styles is held against the limit of boxes.
 
 ghost use Rattle.std.specs.Prelude.{◌≡◌};
 ghost use Rattle.style_types.specs.Tree.{all_nodes_of, nodes_of};
@@ -11,9 +11,9 @@ use crate::role::role_of;
 use crate::site::Site;
 use style_types::StyledNode;
 
-/// Whether the boxes of a styled tree are within both limits. Refused are first more than six boxes on a line of ancestors that
-/// are orthogonal to their containing blocks, then block-level boxes in inline boxes, each with the least number of the node of
-/// such a box. Takes no memory, and time in proportion to the tree.
+/// Whether the boxes of a styled tree are within the limit: more than six boxes on a line of ancestors that are orthogonal to
+/// their containing blocks are refused, with the least number of the node of such a box. Takes no memory, and time in
+/// proportion to the tree.
 pub fn check_boxes(root: &StyledNode) -> Result<(), BoxLimit>
     ensures { ChecksBoxes (nodes_of root.now) result }
 {
@@ -39,6 +39,6 @@ fn found_at(node: &StyledNode, site: Site) -> Found
 {
     let role = role_of(node);
     let mode = node.style.mode;
-    let own = Found::at(node.node, site.is_past(role, mode), site.is_caught(role));
+    let own = Found::at(node.node, site.is_past(role, mode));
     own.and(found_in(&node.children, site.in_node(role, mode)))
 }

@@ -1,146 +1,146 @@
 //! A block container while it is filled from left to right (CSS 2, 9.2.1.1).
 
-ghost use Rattle.std.specs.Prelude.{◌≡◌, ◌<◌, ◌≤◌, ◌+◌, ◌^◌, IfOk};
-ghost use Rattle.box_gen.specs.Tree.{boxes_of, box, none, inline};
-ghost use Rattle.box_gen.specs.Boxes.{anonymous, no_run, no_more, own_name};
-ghost use Rattle.box_gen.specs.Building.{filling_of, no_filling, run_of, with_block, filled};
+ghost use Rattle.std.specs.Prelude.{◌≤◌, length};
 
+use crate::opened::Opened;
+use crate::paragraph::{anonymous_style, own_name, paragraph};
 use crate::run::Run;
 use crate::tree::{BoxNode, BoxTree, BoxTrees, Content};
-use fragment_types::BoxName;
+use fragment_types::{BoxName, Item};
+use letters::SharedText;
 use std::alloc::{AllocError, Global};
-use style_types::{Display, Style};
+use std::mem;
+use style_types::SharedStyle;
 
-/// The boxes up to the last block-level one, how many of them are anonymous, and the inline content behind them.
+/// A block container of this node and style, with what is put so far: the boxes up to the last block-level one, how many of
+/// them are anonymous, the inline content behind them, and the inline boxes that are open, the innermost last.
 #[derive(Drop)]
 pub struct Filling {
+    pub node: u32,
+    pub style: SharedStyle,
     pub boxes: BoxTrees,
     pub anonymous: usize,
     pub run: Run,
+    pub opened: Vec<Opened>,
+    ghost counted: { anonymous ≤ length boxes.items },
 }
 
 impl Filling {
-    /// Nothing so far.
-    pub fn new(alloc: Global) -> Filling
-        ensures { filling_of result ≡ no_filling }
+    ghost use Rattle.std.specs.Prelude.{◌≡◌, IfOk, true, false, [], ◌∷◌};
+    ghost use Rattle.std.specs.String.{string_bytes};
+    ghost use Rattle.box_gen.specs.Tree.{boxes_of};
+    ghost use Rattle.box_gen.specs.Parts as part;
+    ghost use Rattle.box_gen.specs.Building.{filling_of, no_filling, with_run, filled, Puts};
+
+    /// With nothing put.
+    pub fn new(alloc: Global, node: u32, style: &SharedStyle) -> Result<Filling, AllocError>
+        ensures { IfOk result (λ filling. filling_of filling ≡ no_filling node style.now) }
     {
-        Filling {
+        Ok(Filling {
+            node,
+            style: style.clone()?,
             boxes: Vec::new(alloc),
             anonymous: 0,
             run: Run::new(alloc),
-        }
+            opened: Vec::new(alloc),
+        })
     }
 
-    /// Puts a block-level box behind what is there, which ends the run.
-    pub fn with_block(
-        self,
-        alloc: Global,
-        number: u32,
-        style: &Style,
-        block: BoxTree,
-    ) -> Result<Filling, AllocError>
-        requires { self.anonymous < 2 ^ 63 }
-        ensures made { IfOk result (λ f. filling_of f ≡ with_block number style.now (filling_of self) (boxes_of block)) }
-        ensures count { IfOk result (λ f. f.anonymous ≤ self.anonymous + 1) }
+    /// Puts a text.
+    pub fn put_text(
+        &mut self,
+        node: u32,
+        text: &SharedText,
+        style: &SharedStyle,
+    ) -> Result<(), AllocError>
+        ensures { IfOk result (λ _. Puts (filling_of self.old) (part.words node (string_bytes text.now) style.now ∷ []) (filling_of self.new)) }
     {
-        let mut filling = self.closed(alloc, number, style)?;
-        filling.boxes.push(block)?;
-        Ok(filling)
+        self.run.put_text(node, text, style)?;
+        Ok(())
+    }
+
+    /// Puts a line break.
+    pub fn put_break(&mut self, node: u32) -> Result<(), AllocError>
+        ensures { IfOk result (λ _. Puts (filling_of self.old) (part.line_break node ∷ []) (filling_of self.new)) }
+    {
+        self.run.put_item(Item::Break { node }, false)?;
+        Ok(())
+    }
+
+    /// Puts an atom with its box.
+    pub fn put_atom(&mut self, node: u32, atom: BoxTree) -> Result<(), AllocError>
+        ensures { IfOk result (λ _. Puts (filling_of self.old) (part.atom node (boxes_of atom) ∷ []) (filling_of self.new)) }
+    {
+        self.run.put_atom(own_name(node), atom)?;
+        Ok(())
+    }
+
+    /// An inline box starts.
+    pub fn start(&mut self, node: u32, style: &SharedStyle) -> Result<(), AllocError>
+        ensures { IfOk result (λ _. Puts (filling_of self.old) (part.starts node style.now ∷ []) (filling_of self.new)) }
+    {
+        self.run.put_begin(node, style, true)?;
+        self.opened.push(Opened {
+            node,
+            style: style.clone()?,
+        })?;
+        Ok(())
+    }
+
+    /// The innermost inline box stops. One that a block-level box has cut counts as white space.
+    pub fn stop(&mut self, node: u32, is_cut: bool) -> Result<(), AllocError>
+        ensures { IfOk result (λ _. Puts (filling_of self.old) (part.stops node is_cut ∷ []) (filling_of self.new)) }
+    {
+        let end = Item::Close { node, closes: true };
+        self.run.put_item(end, is_cut)?;
+        self.opened.pop();
+        Ok(())
+    }
+
+    /// Puts a block-level box, which ends the run: the inline boxes that are open end before it, and begin again behind it.
+    pub fn put_block(&mut self, alloc: Global, block: BoxTree) -> Result<(), AllocError>
+        ensures { IfOk result (λ _. Puts (filling_of self.old) (part.block_level (boxes_of block) ∷ []) (filling_of self.new)) }
+    {
+        self.run.put_closed(&self.opened)?;
+        self.end_run(alloc)?;
+        self.boxes.push(block)?;
+        self.run.put_opened_again(&self.opened)?;
+        Ok(())
     }
 
     /// The box of the container, which has all its content.
-    pub fn finished(self, alloc: Global, number: u32, style: &Style) -> Result<BoxTree, AllocError>
-        requires { self.anonymous < 2 ^ 63 }
-        ensures { IfOk result (λ tree. boxes_of tree ≡ filled number style.now (filling_of self) (record { first = no_run; others = no_more })) }
+    pub fn finished(mut self, alloc: Global) -> Result<BoxTree, AllocError>
+        ensures { IfOk result (λ tree. boxes_of tree ≡ filled (filling_of self) []) }
     {
-        let name = own_name(number);
+        let name = own_name(self.node);
         if self.boxes.is_empty() {
-            return Ok(paragraph(name, *style, self.run));
+            return Ok(paragraph(name, *self.style, self.run));
         }
-        let filling = self.closed(alloc, number, style)?;
+        self.end_run(alloc)?;
         Ok(BoxTree {
             node: BoxNode {
                 name,
-                style: *style,
+                style: *self.style,
                 content: Content::Blocks,
             },
-            children: filling.boxes,
+            children: self.boxes,
         })
     }
 
     // The run made an anonymous block, but where it is white space alone.
-    fn closed(self, alloc: Global, number: u32, style: &Style) -> Result<Filling, AllocError>
-        requires { self.anonymous < 2 ^ 63 }
-        ensures made { IfOk result (λ f. filling_of f ≡ with_block number style.now (filling_of self) none) }
-        ensures count { IfOk result (λ f. f.anonymous ≤ self.anonymous + 1) }
+    fn end_run(&mut self, alloc: Global) -> Result<(), AllocError>
+        ensures { IfOk result (λ _. filling_of self.new ≡ with_run (filling_of self.old)) }
     {
-        let Filling {
-            mut boxes,
-            mut anonymous,
-            run,
-        } = self;
+        let run = mem::replace(&mut self.run, Run::new(alloc));
         if !run.blank {
-            anonymous += 1;
             let name = BoxName {
-                node: number,
-                ordinal: anonymous,
+                node: self.node,
+                ordinal: self.anonymous + 1,
             };
-            boxes.push(paragraph(name, anonymous_style(style), run))?;
+            let style = anonymous_style(&self.style);
+            self.boxes.push(paragraph(name, style, run))?;
+            self.anonymous += 1;
         }
-        Ok(Filling {
-            boxes,
-            anonymous,
-            run: Run::new(alloc),
-        })
-    }
-}
-
-/// The name of a node's own box.
-pub fn own_name(number: u32) -> BoxName
-    ensures { result ≡ own_name number }
-{
-    BoxName {
-        node: number,
-        ordinal: 0,
-    }
-}
-
-// A box whose content is all inline. Most paragraphs have one item, so no room is kept for more.
-fn paragraph(name: BoxName, style: Style, run: Run) -> BoxTree
-    ensures { boxes_of result ≡ box name style (inline (run_of run).items) (run_of run).atoms none }
-{
-    let Run {
-        mut items,
-        atoms,
-        ..
-    } = run;
-    items.shrink_to_fit();
-    BoxTree {
-        node: BoxNode {
-            name,
-            style,
-            content: Content::Inline(items),
-        },
-        children: atoms,
-    }
-}
-
-// An anonymous block inherits what is inherited, takes the `unicode-bidi` of its container (CSS Writing Modes 4,
-// 2.2), and is initial else.
-fn anonymous_style(container: &Style) -> Style
-    ensures { result ≡ anonymous container.now }
-{
-    Style {
-        display: Display::Block,
-        mode: container.mode,
-        direction: container.direction,
-        orientation: container.orientation,
-        combine: container.combine,
-        bidi: container.bidi,
-        font_size: container.font_size,
-        face: container.face,
-        line_height: container.line_height,
-        align: container.align,
-        ..Style::initial()
+        Ok(())
     }
 }

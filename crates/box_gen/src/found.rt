@@ -1,42 +1,35 @@
-//! The least numbers of nodes whose boxes pass a limit.
+//! The least number of a node whose box passes the limit.
 
 ghost use Rattle.std.specs.Prelude.{◌≡◌};
 ghost use Rattle.style_types.specs.Tree.{Nodes};
 ghost use Rattle.box_gen.specs.Building as building;
 ghost use Rattle.box_gen.specs.Found as definitions;
 ghost use Rattle.box_gen.specs.Limit.{ChecksBoxes};
-ghost use Rattle.box_gen.specs.Boxes.{root_caught};
 ghost use Rattle.box_gen.specs.Orthogonal.{IsLeastOf, root_past};
 
 use crate::limit::BoxLimit;
 
-/// Of some nodes the least number of one whose box passes each limit.
+/// Of some nodes the least number of one whose box passes the limit.
 #[derive(Clone, Copy)]
 pub struct Found {
     /// With its box too many are orthogonal.
     pub past: Option<u32>,
-    /// It is a block-level box in an inline box.
-    pub caught: Option<u32>,
 }
 
 impl Found {
-    /// None passes one.
+    /// None passes it.
     pub fn nothing() -> Found
         ensures { result ≡ definitions.nothing_found }
     {
-        Found {
-            past: None,
-            caught: None,
-        }
+        Found { past: None }
     }
 
-    /// One node, which passes them or not.
-    pub fn at(number: u32, past: bool, caught: bool) -> Found
-        ensures { result ≡ definitions.found_at number past caught }
+    /// One node, which passes it or not.
+    pub fn at(number: u32, past: bool) -> Found
+        ensures { result ≡ definitions.found_at number past }
     {
         Found {
             past: number_if(past, number),
-            caught: number_if(caught, number),
         }
     }
 
@@ -46,18 +39,16 @@ impl Found {
     {
         Found {
             past: lesser(self.past, other.past),
-            caught: lesser(self.caught, other.caught),
         }
     }
 
-    /// The limit that is told, where this is of all nodes of a tree: boxes that turn are judged first.
+    /// The limit that is told, where this is of all nodes of a tree.
     pub fn judged(self) -> Result<(), BoxLimit>
-        ensures { (nodes : Nodes) → IsLeastOf (root_past nodes) self.past → IsLeastOf (root_caught nodes) self.caught → ChecksBoxes nodes result }
+        ensures { (nodes : Nodes) → IsLeastOf (root_past nodes) self.past → ChecksBoxes nodes result }
     {
-        match (self.past, self.caught) {
-            (Some(number), _) => Err(BoxLimit::TooManyOrthogonal(number)),
-            (None, Some(number)) => Err(BoxLimit::BlockInInline(number)),
-            (None, None) => Ok(()),
+        match self.past {
+            Some(number) => Err(BoxLimit::TooManyOrthogonal(number)),
+            None => Ok(()),
         }
     }
 }

@@ -1,19 +1,16 @@
-//! The two limits of boxes (docs/PROFILE/boxes.md).
+//! The limit of boxes (docs/PROFILE/boxes.md).
 
 ghost use Rattle.std.specs.Prelude.{◌≡◌, ◌≤◌, length};
 ghost use Rattle.box_gen.specs.Limit.{limit_node, limit_word};
 
 use thiserror::Error;
 
-/// A limit of boxes that a document passes, with the least number of the node of such a box.
+/// The limit of boxes where a document passes it, with the least number of the node of such a box.
 #[derive(Error, Clone, Copy, Debug, PartialEq, Eq)]
 pub enum BoxLimit {
     /// More than six boxes on a line of ancestors are orthogonal to their containing blocks.
     #[error("TooManyOrthogonal {0}")]
     TooManyOrthogonal(u32),
-    /// A block-level box stands in an inline box.
-    #[error("BlockInInline {0}")]
-    BlockInInline(u32),
 }
 
 impl BoxLimit {
@@ -25,7 +22,6 @@ impl BoxLimit {
     {
         match self {
             BoxLimit::TooManyOrthogonal(_) => "TooManyOrthogonal",
-            BoxLimit::BlockInInline(_) => "BlockInInline",
         }
     }
 
@@ -35,7 +31,6 @@ impl BoxLimit {
     {
         match self {
             BoxLimit::TooManyOrthogonal(number) => number,
-            BoxLimit::BlockInInline(number) => number,
         }
     }
 }

@@ -4,7 +4,7 @@ ghost use Rattle.std.specs.Prelude.{◌≡◌};
 ghost use Rattle.style_types.specs.Tree.{nodes_of};
 ghost use Rattle.box_gen.specs.Boxes.{role_by, element_role, line_break};
 ghost use Rattle.box_gen.specs.Building.{code_of, role_in};
-ghost use Rattle.box_gen.specs.Site.{is_block_level, is_container};
+ghost use Rattle.box_gen.specs.Site.{is_container};
 
 use style_types::{Display, StyledKind, StyledNode};
 
@@ -27,16 +27,6 @@ impl Role {
         match self {
             Role::Atom | Role::BlockLevel => true,
             Role::Nothing | Role::Words | Role::LineBreak | Role::InlineBox => false,
-        }
-    }
-
-    /// Whether its box is block-level.
-    pub(crate) fn is_block_level(self) -> bool
-        ensures { result ≡ is_block_level self }
-    {
-        match self {
-            Role::BlockLevel => true,
-            Role::Nothing | Role::Words | Role::LineBreak | Role::InlineBox | Role::Atom => false,
         }
     }
 }

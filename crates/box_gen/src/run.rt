@@ -1,13 +1,14 @@
 //! Inline content that stands together.
 
-ghost use Rattle.std.specs.Prelude.{◌≡◌, IfOk, false, [], ◌∷◌};
+ghost use Rattle.std.specs.Prelude.{◌≡◌, IfOk, true, false, [], ◌∷◌, reverse};
 ghost use Rattle.std.specs.String.{string_bytes};
 ghost use Rattle.fragment_types.specs.Item as item;
 ghost use Rattle.fragment_types.specs.Item.{entry_of};
 ghost use Rattle.box_gen.specs.Tree.{boxes_of, none};
-ghost use Rattle.box_gen.specs.Boxes.{is_blank, is_space, no_run};
+ghost use Rattle.box_gen.specs.Boxes.{closed, is_blank, is_space, no_run, opened_again};
 ghost use Rattle.box_gen.specs.Building.{run_of, and_then, run_with};
 
+use crate::opened::Opened;
 use crate::tree::{BoxTree, BoxTrees};
 use fragment_types::{BoxName, Item, Items};
 use letters::SharedText;
@@ -52,12 +53,12 @@ impl Run {
         Ok(())
     }
 
-    /// Puts an item that isn't white space at its end.
-    pub fn put_item(&mut self, item: Item) -> Result<(), AllocError>
-        ensures { IfOk result (λ _. run_of self.new ≡ and_then (run_of self.old) (run_with (entry_of item ∷ []) none false)) }
+    /// Puts an item at its end, which counts as white space or doesn't.
+    pub fn put_item(&mut self, item: Item, blank: bool) -> Result<(), AllocError>
+        ensures { IfOk result (λ _. run_of self.new ≡ and_then (run_of self.old) (run_with (entry_of item ∷ []) none blank)) }
     {
         self.items.push(item)?;
-        self.blank = false;
+        self.blank &= blank;
         Ok(())
     }
 
@@ -66,7 +67,44 @@ impl Run {
         ensures { IfOk result (λ _. run_of self.new ≡ and_then (run_of self.old) (run_with (item.atom name ∷ []) (boxes_of atom) false)) }
     {
         self.atoms.push(atom)?;
-        self.put_item(Item::Atom { name })
+        self.put_item(Item::Atom { name }, false)
+    }
+
+    /// Puts where a piece of an inline box begins, with its inline-start edges or without. That counts as white space.
+    pub fn put_begin(
+        &mut self,
+        node: u32,
+        style: &SharedStyle,
+        opens: bool,
+    ) -> Result<(), AllocError>
+        ensures { IfOk result (λ _. run_of self.new ≡ and_then (run_of self.old) (run_with (item.begins node style.now opens ∷ []) none true)) }
+    {
+        let style = style.clone()?;
+        self.put_item(Item::Open { node, style, opens }, true)
+    }
+
+    /// Puts where these inline boxes end without their inline-end edges, the innermost first. The last of the list is the innermost.
+    pub fn put_closed(&mut self, opened: &[Opened]) -> Result<(), AllocError>
+        ensures { IfOk result (λ _. run_of self.new ≡ and_then (run_of self.old) (run_with (closed (reverse opened.now)) none true)) }
+    {
+        for inline_box in opened.iter().rev() {
+            let end = Item::Close {
+                node: inline_box.node,
+                closes: false,
+            };
+            self.put_item(end, true)?;
+        }
+        Ok(())
+    }
+
+    /// Puts where they begin again without their inline-start edges, the outermost first.
+    pub fn put_opened_again(&mut self, opened: &[Opened]) -> Result<(), AllocError>
+        ensures { IfOk result (λ _. run_of self.new ≡ and_then (run_of self.old) (run_with (opened_again (reverse opened.now)) none true)) }
+    {
+        for inline_box in opened {
+            self.put_begin(inline_box.node, &inline_box.style, false)?;
+        }
+        Ok(())
     }
 }
 

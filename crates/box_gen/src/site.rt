@@ -14,8 +14,6 @@ pub struct Site {
     pub mode: WritingMode,
     /// How many boxes from the root down to their containing block are orthogonal to theirs; seven stand for more.
     pub turns: u32,
-    /// They stand in an inline box.
-    pub inside: bool,
     /// They make boxes at all.
     pub shown: bool,
 }
@@ -28,7 +26,6 @@ impl Site {
         Site {
             mode,
             turns: 0,
-            inside: false,
             shown: true,
         }
     }
@@ -52,14 +49,10 @@ impl Site {
                 shown: false,
                 ..self
             },
-            Role::InlineBox => Site {
-                inside: true,
-                ..self
-            },
+            Role::InlineBox => self,
             Role::Atom | Role::BlockLevel => Site {
                 mode,
                 turns: turns_in(self.mode, mode, self.turns),
-                inside: false,
                 shown: self.shown,
             },
         }
@@ -70,13 +63,5 @@ impl Site {
         ensures { result ≡ definitions.is_past role mode self }
     {
         self.shown && role.is_container() && turns_in(self.mode, mode, self.turns) > MOST_ORTHOGONAL
-    }
-
-    /// Whether a node of this role that stands here is a block-level box in an inline box (CSS 2, 9.2.1.1, breaks the inline
-    /// box there).
-    pub fn is_caught(self, role: Role) -> bool
-        ensures { result ≡ definitions.is_caught role self }
-    {
-        self.shown && role.is_block_level() && self.inside
     }
 }

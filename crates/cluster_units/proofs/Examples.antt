@@ -1,12 +1,12 @@
 -- The units of some texts, computed. The right sides are from outside.
-use Rattle.std.specs.Prelude.{◌≡◌, refl, ℕ, [], ◌∷◌, ℤ, pos}
+use Rattle.std.specs.Prelude.{◌≡◌, refl, false, ℕ, [], ◌∷◌, ℤ, pos}
 use Rattle.face_api.specs.Kinds.{mono_table, first_table}
 use Rattle.face_api.specs.Table.{advance_of}
 use Rattle.style_types.specs.declared.style.Style.{Style}
 use Rattle.style_types.specs.declared.style.TextOrientation.{TextOrientation}
 use Rattle.style_types.specs.declared.style.TextOrientation.TheVariants.{Mixed, Sideways, Upright as set_upright}
 use Rattle.style_types.specs.declared.style.Combine.{Combine}
-use Rattle.style_types.specs.declared.style.Combine.TheVariants.{All, Never}
+use Rattle.style_types.specs.declared.style.Combine.TheVariants.{All, Digits, Never}
 use Rattle.style_types.specs.declared.style.Display.TheVariants.{Inline}
 use Rattle.style_types.specs.declared.style.UnicodeBidi.TheVariants.{Normal as no_bidi}
 use Rattle.style_types.specs.declared.style.LineHeight.TheVariants.{Normal as normal_height}
@@ -14,7 +14,7 @@ use Rattle.style_types.specs.declared.style.Align.TheVariants.{Start}
 use Rattle.style_types.specs.declared.style.SideSizes.{SideSizes}
 use Rattle.style_types.specs.declared.style.Size.TheVariants.{Auto, Length}
 use Rattle.wm_modes.specs.declared.mode.WritingMode.{WritingMode}
-use Rattle.wm_modes.specs.declared.mode.WritingMode.TheVariants.{HorizontalTb, VerticalRl, VerticalLr, SidewaysLr}
+use Rattle.wm_modes.specs.declared.mode.WritingMode.TheVariants.{HorizontalTb, VerticalRl, VerticalLr, SidewaysLr, SidewaysRl}
 use Rattle.wm_modes.specs.declared.mode.Direction.TheVariants.{Ltr}
 use Rattle.wm_chars.specs.declared.classes.BreakClass.{BreakClass}
 use Rattle.wm_chars.specs.declared.classes.BreakClass.TheVariants.{Space, Ideographic, Other}
@@ -50,6 +50,8 @@ style_of mode turning combine font =
       margin = zero;
       padding = zero;
       border = record { top = pos 0; right = pos 0; bottom = pos 0; left = pos 0 };
+      relative = false;
+      insets = record { top = Auto; right = Auto; bottom = Auto; left = Auto };
     }
 
 abbrev unit : ℕ → ℕ → UnitKind → ℤ → ℤ → BreakClass → Unit
@@ -114,3 +116,33 @@ rows = refl
 no_text : units_of (style_of VerticalRl Mixed All (pos 1024)) mono_table ([]) ≡ ([])
 unfolding units_of unit_clusters advance_of row_of break_class orientation unicode_segmentation
 no_text = refl
+
+-- two digits are combined where two may be, three aren't
+two_of_digits : units_of (style_of VerticalRl Mixed (Digits 2) (pos 1024)) mono_table (0x61 ∷ 0x31 ∷ 0x32 ∷ 0x62 ∷ 0x33 ∷ 0x34 ∷ 0x35 ∷ []) ≡ (unit 0 1 Turned (pos 512) (pos 512) Other ∷ unit 1 3 Combined (pos 1024) (pos 1024) Ideographic ∷ unit 3 4 Turned (pos 512) (pos 512) Other ∷ unit 4 5 Turned (pos 512) (pos 512) Other ∷ unit 5 6 Turned (pos 512) (pos 512) Other ∷ unit 6 7 Turned (pos 512) (pos 512) Other ∷ [])
+unfolding units_of unit_clusters advance_of row_of break_class orientation unicode_segmentation
+two_of_digits = refl
+
+-- three and four digits
+more_digits : units_of (style_of VerticalLr Mixed (Digits 4) (pos 1024)) mono_table (0x31 ∷ 0x32 ∷ 0x33 ∷ 0x20 ∷ 0x31 ∷ 0x32 ∷ 0x33 ∷ 0x34 ∷ 0x20 ∷ 0x31 ∷ 0x32 ∷ 0x33 ∷ 0x34 ∷ 0x35 ∷ []) ≡ (unit 0 3 Combined (pos 1024) (pos 1536) Ideographic ∷ unit 3 4 Turned (pos 512) (pos 512) Space ∷ unit 4 8 Combined (pos 1024) (pos 2048) Ideographic ∷ unit 8 9 Turned (pos 512) (pos 512) Space ∷ unit 9 10 Turned (pos 512) (pos 512) Other ∷ unit 10 11 Turned (pos 512) (pos 512) Other ∷ unit 11 12 Turned (pos 512) (pos 512) Other ∷ unit 12 13 Turned (pos 512) (pos 512) Other ∷ unit 13 14 Turned (pos 512) (pos 512) Other ∷ [])
+unfolding units_of unit_clusters advance_of row_of break_class orientation unicode_segmentation
+more_digits = refl
+
+-- digits on both sides of a letter are two runs, and a letter is no part of one
+digits_by_themselves : units_of (style_of VerticalRl Sideways (Digits 2) (pos 1024)) mono_table (0x31 ∷ 0x61 ∷ 0x32 ∷ []) ≡ (unit 0 1 Combined (pos 1024) (pos 512) Ideographic ∷ unit 1 2 Turned (pos 512) (pos 512) Other ∷ unit 2 3 Combined (pos 1024) (pos 512) Ideographic ∷ [])
+unfolding units_of unit_clusters advance_of row_of break_class orientation unicode_segmentation
+digits_by_themselves = refl
+
+-- a control parts no digits, as it makes no unit
+digits_with_a_control : units_of (style_of VerticalRl Mixed (Digits 2) (pos 1024)) mono_table (0x31 ∷ 0x202B ∷ 0x32 ∷ []) ≡ (unit 0 3 Combined (pos 1024) (pos 1024) Ideographic ∷ [])
+unfolding units_of unit_clusters advance_of row_of break_class orientation unicode_segmentation
+digits_with_a_control = refl
+
+-- a digit with a mark is no single digit
+digits_with_a_mark : units_of (style_of VerticalRl Mixed (Digits 2) (pos 1024)) mono_table (0x31 ∷ 0x32 ∷ 0x301 ∷ 0x33 ∷ []) ≡ (unit 0 1 Combined (pos 1024) (pos 512) Ideographic ∷ unit 1 3 Turned (pos 512) (pos 512) Other ∷ unit 3 4 Combined (pos 1024) (pos 512) Ideographic ∷ [])
+unfolding units_of unit_clusters advance_of row_of break_class orientation unicode_segmentation
+digits_with_a_mark = refl
+
+-- text of sideways modes isn't combined
+digits_sideways : units_of (style_of SidewaysRl Mixed (Digits 2) (pos 1024)) mono_table (0x31 ∷ 0x32 ∷ []) ≡ (unit 0 1 Along (pos 512) (pos 512) Other ∷ unit 1 2 Along (pos 512) (pos 512) Other ∷ [])
+unfolding units_of unit_clusters advance_of row_of break_class orientation unicode_segmentation
+digits_sideways = refl

@@ -1,8 +1,8 @@
 pub mod Examples
-pub mod JoinLaws
 pub mod Order
 pub mod Pieces
 pub mod PlainLaws
 pub mod PlainUnits
+pub mod RunLaws
 pub mod Upright
 pub mod Walk

@@ -1,77 +1,60 @@
 -- The units of plain text in a style by which none are combined.
-use Rattle.std.proofs.Common.{◌≡◌, ℕ, ◌+◌, Bool, true, false, ◌&&◌, not, List, [], ◌∷◌, Option, Some, None, ap, sym, ◌∙◌, refl}
-use Rattle.std.proofs.lemmas.Option.{none-some}
+use Rattle.std.proofs.Common.{◌≡◌, ℕ, ◌+◌, Bool, true, false, ◌&&◌, not, List, [], ◌∷◌, Option, Some, None, inl, inr, ap, sym, ◌∙◌, refl}
+use Rattle.std.specs.Prelude.{◌||◌}
+use Rattle.std.proofs.lemmas.Bool.{cases_Bool}
+use Rattle.std.proofs.lemmas.Option.{none-some, same_Some}
 use Rattle.face_api.specs.Table.{Table}
+use Rattle.style_types.specs.declared.style.Combine.{Combine}
+use Rattle.style_types.specs.declared.style.Combine.TheVariants.{All, Digits, Never}
 use Rattle.style_types.specs.declared.style.Style.{Style}
-use Rattle.cluster_units.specs.Cluster.{cluster_of, is_control, is_space}
+use Rattle.cluster_units.specs.Cluster.{cluster_of, is_control, placed, uncontrolled}
 use Rattle.cluster_units.specs.Laws.{AreApart, AreOfCharacters}
-use Rattle.cluster_units.specs.Plain.{character_unit, character_units, combines_none, with_first}
-use Rattle.cluster_units.specs.Text.{is_combined, with_unit}
-use Rattle.cluster_units.specs.Unit.{combines, is_all, is_vertical, lone_unit, single_unit, unit_of}
+use Rattle.cluster_units.specs.Plain.{character_unit, character_units, combines_none, is_never, with_first}
+use Rattle.cluster_units.specs.Text.{is_combined}
+use Rattle.cluster_units.specs.Unit.{is_vertical, joins, may_join}
 use Rattle.cluster_units.specs.declared.cluster.Cluster.{Cluster}
 use Rattle.cluster_units.specs.declared.unit.Unit.{Unit}
-use Rattle.cluster_units.proofs.JoinLaws.{with_apart}
 use Rattle.cluster_units.proofs.PlainLaws.{pieces, plain_pieces}
-use Rattle.cluster_units.proofs.Walk.{control_more, kind_is, some_same, unit_more, units_from, whole}
+use Rattle.cluster_units.proofs.Walk.{apart_more, gone, kept, never_alone, no_unit, single, some_unit, units_by, whole}
 
-pub never_combines : (style : Style) (cluster : Cluster) → combines_none style ≡ true → combines style cluster ≡ false
-never_combines style cluster h = either (is_vertical style.mode) (is_all style.combine) (is_space cluster) h
+pub never_joins : (style : Style) (cluster : Cluster) → combines_none style ≡ true → joins style cluster ≡ false
+never_joins style cluster h = either (is_vertical style.mode) style.combine h
   where
-    either : (vertical all space : Bool) → not (vertical && all) ≡ true → (vertical && (all && not space)) ≡ false
-    either true true space h = absurd (cc)
-    either true false space h = refl
-    either false all space h = refl
+    either : (vertical : Bool) (combine : Combine) → (not vertical || is_never combine) ≡ true → (vertical && may_join combine cluster) ≡ false
+    either true Never h = refl
+    either true All h = absurd (cc)
+    either true (Digits most) h = absurd (cc)
+    either false combine h = refl
 
-pub lone_other : (style : Style) (table : Table) (cluster : Cluster) → combines_none style ≡ true → is_control cluster.head ≡ false
-    → lone_unit style table cluster ≡ Some (single_unit style table cluster)
-lone_other style table cluster apart other = rw other (rw (never_combines style cluster apart) refl)
+module _ (style : Style) (table : Table) where
+  unit_is : (cluster : Cluster) (unit : Unit) (found : Option Unit) → Some unit ≡ found → (control : Bool) → is_control cluster.head ≡ control
+      → ((is_control cluster.head ≡ true → found ≡ None) × (is_control cluster.head ≡ false → found ≡ Some (single style table cluster))) → unit ≡ single style table cluster
+  unit_is cluster unit found one true e is = absurd (none-some unit (sym (one ∙ is.0 e)))
+  unit_is cluster unit found one false e is = same_Some unit (single style table cluster) (one ∙ is.1 e)
 
-pub lone_control : (style : Style) (table : Table) (cluster : Cluster) → is_control cluster.head ≡ true → lone_unit style table cluster ≡ None
-lone_control style table cluster control = rw control refl
+  -- one more character in front
+  one_more : combines_none style ≡ true → (place c : ℕ) (others : List Cluster) (later : List Unit) → units_by style table (uncontrolled others) ≡ later
+      → units_by style table (uncontrolled (cluster_of place (c ∷ []) ∷ others)) ≡ with_first (character_unit style table place c) later
+  one_more apart place c others later is =
+      let cluster = cluster_of place (c ∷ []) in
+      elim (cases_Bool (is_control c)) [
+        | inl control ↦ ap (units_by style table) (gone cluster others control) ∙ is ∙ ap (λ found. with_first found later) (sym (no_unit style table cluster control))
+        | inr other ↦
+            ap (units_by style table) (kept cluster others other) ∙ apart_more style table cluster (uncontrolled others) (never_joins style cluster apart)
+            ∙ ap (λ units. single style table cluster ∷ units) is ∙ ap (λ found. with_first found later) (sym (some_unit style table cluster other))
+      ]
 
-alone : (unit : Unit) (units : List Unit) → is_combined unit.kind ≡ false → with_unit unit units ≡ unit ∷ units
-alone unit [] h = refl
-alone unit (next ∷ units) h = with_apart unit next units (rw h refl)
-
-module _ (style : Style) (table : Table) (apart : combines_none style ≡ true) where
-  -- no unit is a combined run
-  uncombined : (cluster : Cluster) (unit : Unit) → Some unit ≡ lone_unit style table cluster → is_combined unit.kind ≡ false
-  uncombined cluster unit one = either (is_control cluster.head) refl
-    where
-      either : (control : Bool) → is_control cluster.head ≡ control → is_combined unit.kind ≡ false
-      either true h = absurd (none-some unit (sym (one ∙ lone_control style table cluster h)))
-      either false h =
-          let lone : lone_unit style table cluster ≡ Some (unit_of style table (record { first = cluster; others = [] })) = rw h refl in
-          ap (λ unit. is_combined unit.kind) (some_same (one ∙ lone)) ∙ kind_is style table (record { first = cluster; others = [] }) ∙ never_combines style cluster apart
-
-  places : (cluster : Cluster) (unit : Unit) → Some unit ≡ lone_unit style table cluster → (unit.first ≡ cluster.first) × (unit.end ≡ cluster.end)
-  places cluster unit one = either (is_control cluster.head) refl
-    where
-      either : (control : Bool) → is_control cluster.head ≡ control → (unit.first ≡ cluster.first) × (unit.end ≡ cluster.end)
-      either true h = absurd (none-some unit (sym (one ∙ lone_control style table cluster h)))
-      either false h =
-          let is = some_same (one ∙ lone_other style table cluster apart h) in
-          (ap (λ unit. unit.first) is, ap (λ unit. unit.end) is)
-
-  one_more : (place c : ℕ) (text : List ℕ) (one : Option Unit) → one ≡ character_unit style table place c
-      → units_from style table (place + 1) (pieces text) ≡ character_units style table (place + 1) text
-      → units_from style table place (pieces (c ∷ text)) ≡ with_first one (character_units style table (place + 1) text)
-  one_more place c text None e rest = control_more style table place (c ∷ []) (pieces text) e ∙ rest
-  one_more place c text (Some unit) e rest =
-      unit_more style table place (c ∷ []) (pieces text) unit e
-      ∙ alone unit (units_from style table (place + 1) (pieces text)) (uncombined (cluster_of place (c ∷ [])) unit e)
-      ∙ ap (λ units. unit ∷ units) rest
-
-  from_characters : (place : ℕ) (text : List ℕ) → units_from style table place (pieces text) ≡ character_units style table place text
-  from_characters place [] = refl
-  from_characters place (c ∷ text) = one_more place c text (character_unit style table place c) refl (from_characters (place + 1) text)
+  from_characters : combines_none style ≡ true → (place : ℕ) (text : List ℕ) → units_by style table (uncontrolled (placed place (pieces text))) ≡ character_units style table place text
+  from_characters apart place [] = refl
+  from_characters apart place (c ∷ text) =
+      one_more apart place c (placed (place + 1) (pieces text)) (character_units style table (place + 1) text) (from_characters apart (place + 1) text)
 
 pub of_characters : AreOfCharacters
 of_characters style table text plain apart =
-    whole style table text ∙ ap (units_from style table 0) (sym (plain_pieces text plain)) ∙ from_characters style table apart 0 text
+    whole style table text ∙ ap (λ pieces. units_by style table (uncontrolled (placed 0 pieces))) (sym (plain_pieces text plain)) ∙ from_characters style table apart 0 text
 
 pub apart : AreApart
 apart style table place c unit h one =
     let cluster : Cluster = record { first = place; end = place + 1; head = c } in
-    let at = places style table h cluster unit one in
-    (at.0, at.1, uncombined style table h cluster unit one)
+    let is = unit_is style table cluster unit (character_unit style table place c) one (is_control c) refl (no_unit style table cluster, some_unit style table cluster) in
+    (ap (λ unit. unit.first) is, ap (λ unit. unit.end) is, ap (λ unit. is_combined unit.kind) is ∙ never_alone style c)

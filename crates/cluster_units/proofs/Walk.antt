@@ -1,8 +1,12 @@
--- The units of the pieces that are left, and those that are made.
-use Rattle.std.proofs.Common.{◌≡◌, ℕ, ◌+◌, ◌-◌, ◌*◌, ◌^◌, ◌≤◌, Bool, true, false, ◌&&◌, List, [], ◌∷◌, map, length, Option, Some, None, inl, inr, ap, ap₂, subst, sym, ◌∙◌, refl, arith}
-use Rattle.std.specs.Prelude.{pos, ◌+ℤ◌, if◌then◌else◌}
-use Rattle.std.proofs.lemmas.Bool.{cases_Bool}
+-- The units of the clusters that are left, and those that are made.
+use Rattle.std.proofs.Common.{◌≡◌, ℕ, ◌+◌, ◌-◌, ◌*◌, ◌^◌, ◌≤◌, Bool, true, false, List, [], ◌∷◌, ◌++◌, map, length, take, Option, Some, None, inl, inr, ap, ap₂, subst, sym, ◌∙◌, refl, arith}
+use Rattle.std.specs.Prelude.{ℤ, pos, ◌+ℤ◌, if◌then◌else◌, unwrap_or}
+use Rattle.std.specs.List.{flat_map, last_or, list_all}
+use Rattle.std.proofs.lemmas.Bool.{cases_Bool, and_parts}
 use Rattle.std.proofs.lemmas.Int.{ints}
+use Rattle.std.proofs.lemmas.List.{append-nil, append_assoc, length-append, length-map, map-append}
+use Rattle.std.proofs.lemmas.List.Folds.{list_all-append}
+use Rattle.std.proofs.Math.Seq.{take-append_seam}
 use Rattle.face_api.specs.Table.{Table}
 use Rattle.style_types.specs.declared.style.Style.{Style}
 use Rattle.style_types.specs.declared.style.TextOrientation.{TextOrientation}
@@ -11,21 +15,18 @@ use Rattle.wm_chars.specs.Repertoire.{orientation}
 use Rattle.wm_chars.specs.declared.classes.Orient.{Orient}
 use Rattle.wm_chars.specs.declared.classes.Orient.TheVariants.{R, V}
 use Rattle.fragment_types.specs.declared.unit_kind.UnitKind.TheVariants.{Along}
-use Rattle.std.specs.List.{last_or}
-use Rattle.std.specs.Prelude.{unwrap_or}
-use Rattle.std.proofs.lemmas.Option.{none-some}
-use Rattle.std.proofs.lemmas.Bool.{and_parts}
 use Rattle.cluster_units.specs.Cluster.{clusters, cluster_of, is_control, placed, uncontrolled, unit_clusters}
-use Rattle.cluster_units.specs.Text.{is_combined, merged, with_unit, joined, added, AreWithin}
-use Rattle.cluster_units.specs.Runs.{Run, items, last, with_front, runs_of}
-use Rattle.cluster_units.specs.Unit.{combines, combined_unit, kind_by, kind_of, is_vertical, plain_advance, single_unit, sum_of, vertical_kind, unit_of, lone_unit, units_of}
+use Rattle.cluster_units.specs.Runs.{Run, last, runs_of}
+use Rattle.cluster_units.specs.Text.{is_combined}
+use Rattle.cluster_units.specs.Gathering.{Made, added, apart, closed, joined, run_unit, with_cluster, IsWithin}
+use Rattle.cluster_units.specs.Unit.{cluster_unit, combined_unit, joins, kind_by, kind_of, is_vertical, may_have, plain_advance, run_units, single_unit, sum_of, units_of, vertical_kind}
 use Rattle.cluster_units.specs.declared.cluster.Cluster.{Cluster}
+use Rattle.cluster_units.specs.declared.gathering.OpenRun.{OpenRun}
 use Rattle.cluster_units.specs.declared.unit.Unit.{Unit}
-use Rattle.cluster_units.proofs.JoinLaws.{with_onto, with_apart, joined_more, joined_none}
+use Rattle.cluster_units.proofs.RunLaws.{all_before, all_join, apart_first}
 use Rattle.cluster_units.proofs.Pieces.{total}
-use Rattle.std.proofs.lemmas.List.Elements.{All-nil}
 
--- ---- which units are combined runs
+-- ---- a unit of one cluster is no combined run
 
 by_orientation : (found : Option Orient) → is_combined (kind_by found) ≡ false
 by_orientation None = refl
@@ -37,147 +38,221 @@ in_vertical Mixed c = by_orientation (orientation c)
 in_vertical set_upright c = refl
 in_vertical Sideways c = refl
 
-never_alone : (style : Style) (c : ℕ) → is_combined (kind_of style c) ≡ false
+pub never_alone : (style : Style) (c : ℕ) → is_combined (kind_of style c) ≡ false
 never_alone style c = either (is_vertical style.mode)
   where
     either : (vertical : Bool) → is_combined (if vertical then vertical_kind style.orientation c else Along) ≡ false
     either true = in_vertical style.orientation c
     either false = refl
 
-chosen : (test : Bool) (one other : Unit) → is_combined one.kind ≡ true → is_combined other.kind ≡ false → is_combined (if test then one else other).kind ≡ test
-chosen true one other is not_is = is
-chosen false one other is not_is = not_is
+-- ---- which clusters are units
 
-last_at : (x : Cluster) (xs : List Cluster) (d e : Cluster) → unwrap_or (last_or (Some x) xs) d ≡ unwrap_or (last_or (Some x) xs) e
-last_at x [] d e = refl
-last_at x (y ∷ ys) d e = last_at y ys d e
+pub gone : (cluster : Cluster) (others : List Cluster) → is_control cluster.head ≡ true → uncontrolled (cluster ∷ others) ≡ uncontrolled others
+gone cluster others e = rw e refl
 
-pub some_same : {x y : Unit} → Some x ≡ Some y → x ≡ y
-some_same {x = x} e = ap (λ o. unwrap_or o x) e
+pub kept : (cluster : Cluster) (others : List Cluster) → is_control cluster.head ≡ false → uncontrolled (cluster ∷ others) ≡ cluster ∷ uncontrolled others
+kept cluster others e = rw e refl
+
+last_more : (first : Cluster) (others : List Cluster) (cluster d : Cluster) → unwrap_or (last_or (Some first) (others ++ cluster ∷ [])) d ≡ cluster
+last_more first [] cluster d = refl
+last_more first (next ∷ others) cluster d = last_more next others cluster d
 
 module _ (style : Style) (table : Table) where
-  -- the units of the clusters that are left, of which the first stands at the place
-  abbrev pub units_from : ℕ → List (List ℕ) → List Unit
-  units_from place pieces = map (unit_of style table) (runs_of (combines style) (uncontrolled (placed place pieces)))
+  abbrev pub single : Cluster → Unit
+  single cluster = single_unit style table cluster
 
-  abbrev alone : Cluster → Run Cluster
-  alone cluster = record { first = cluster; others = [] }
+  abbrev pub plain : Cluster → ℤ
+  plain cluster = plain_advance style table cluster
 
-  -- a unit is a combined run exactly where its first cluster combines
-  pub kind_is : (run : Run Cluster) → is_combined (unit_of style table run).kind ≡ combines style run.first
-  kind_is run = chosen (combines style run.first) (combined_unit style table run) (single_unit style table run.first) refl (never_alone style run.first.head)
+  -- the units of clusters of which none is a control
+  abbrev pub units_by : List Cluster → List Unit
+  units_by clusters = flat_map (run_units style table) (runs_of (joins style) clusters)
 
-  combined_more : (cluster : Cluster) (run : Run Cluster) → combined_unit style table (record { first = cluster; others = items run }) ≡ merged (combined_unit style table (alone cluster)) (combined_unit style table run)
-  combined_more cluster run =
-      let plain = plain_advance style table in
-      let rest = sum_of (map plain (items run)) in
-      let sums : plain cluster +ℤ rest ≡ (plain cluster +ℤ pos 0) +ℤ rest = omega (arith, ints) in
-      let ends : (last (record { first = cluster; others = items run })).end ≡ (last run).end = ap (λ cluster. cluster.end) (last_at run.first run.others cluster run.first) in
-      ap₂ (λ end natural. record (combined_unit style table (alone cluster)) { end = end; natural = natural }) ends sums
+  pub no_unit : (cluster : Cluster) → is_control cluster.head ≡ true → cluster_unit style table cluster ≡ None
+  no_unit cluster e = rw e refl
 
-  -- a cluster in front joins the first run, or stands by itself
-  with_cluster : (cluster : Cluster) (runs : List (Run Cluster))
-      → map (unit_of style table) (with_front (combines style) cluster runs) ≡ with_unit (unit_of style table (alone cluster)) (map (unit_of style table) runs)
-  with_cluster cluster [] = refl
-  with_cluster cluster (run ∷ runs) =
-      let kinds : (is_combined (unit_of style table (alone cluster)).kind && is_combined (unit_of style table run).kind) ≡ (combines style cluster && combines style run.first)
-      = ap₂ (λ b c. b && c) (kind_is (alone cluster)) (kind_is run) in
-      elim (cases_Bool (combines style cluster && combines style run.first)) [
-        | inl both ↦
-            let parts = and_parts (combines style cluster) (combines style run.first) both in
-            ap (map (unit_of style table)) (front_true both)
-            ∙ ap (λ unit. unit ∷ map (unit_of style table) runs) (unit_is (record { first = cluster; others = items run }) parts.0 ∙ combined_more cluster run ∙ sym (ap₂ merged (unit_is (alone cluster) parts.0) (unit_is run parts.1)))
-            ∙ sym (with_onto (unit_of style table (alone cluster)) (unit_of style table run) (map (unit_of style table) runs) (kinds ∙ both))
-        | inr apart ↦
-            ap (map (unit_of style table)) (front_false apart)
-            ∙ sym (with_apart (unit_of style table (alone cluster)) (unit_of style table run) (map (unit_of style table) runs) (kinds ∙ apart))
-      ]
+  pub some_unit : (cluster : Cluster) → is_control cluster.head ≡ false → cluster_unit style table cluster ≡ Some (single cluster)
+  some_unit cluster e = rw e refl
+
+  -- ---- a cluster that doesn't join
+
+  alone_is : (cluster : Cluster) → joins style cluster ≡ false → run_units style table (record { first = cluster; others = [] }) ≡ single cluster ∷ []
+  alone_is cluster e = rw e refl
+
+  pub apart_more : (cluster : Cluster) (others : List Cluster) → joins style cluster ≡ false → units_by (cluster ∷ others) ≡ single cluster ∷ units_by others
+  apart_more cluster others e =
+      ap (flat_map (run_units style table)) (apart_first (joins style) cluster others e) ∙ ap (λ units. units ++ units_by others) (alone_is cluster e)
+
+  -- clusters that all join, and one that doesn't behind them
+  pub parted : (pending : List Cluster) (cluster : Cluster) (others : List Cluster) → list_all (joins style) pending ≡ true → joins style cluster ≡ false
+      → units_by (pending ++ cluster ∷ others) ≡ units_by pending ++ single cluster ∷ units_by others
+  parted [] cluster others all e = apart_more cluster others e
+  parted (first ∷ pending) cluster others all e =
+      let run : Run Cluster = record { first = first; others = pending } in
+      ap (flat_map (run_units style table)) (all_before (joins style) first pending cluster others all e)
+      ∙ ap (λ units. run_units style table run ++ units) (apart_more cluster others e)
+      ∙ ap (λ units. units ++ single cluster ∷ units_by others) (sym (ap (flat_map (run_units style table)) (all_join (joins style) first pending all) ∙ append-nil (run_units style table run)))
+
+  -- ---- the run at the end
+
+  -- the open run of these clusters, before which these units stand
+  abbrev run_at : (settled : List Unit) → (pending : List Cluster) → Option OpenRun
+  run_at settled [] = None
+  run_at settled (first ∷ others) =
+      Some (record { start = length settled; first = first.first; end = (last (record { first = first; others = others })).end; natural = sum_of (map (plain_advance style table) (first ∷ others)) })
+
+  abbrev made_at : (settled : List Unit) → (pending : List Cluster) → Made
+  made_at settled pending = record { units = settled ++ map (single_unit style table) pending; run = run_at settled pending }
+
+  sum_more : (pending : List Cluster) (cluster : Cluster) → sum_of (map (plain_advance style table) (pending ++ cluster ∷ [])) ≡ sum_of (map (plain_advance style table) pending) +ℤ plain cluster
+  sum_more [] cluster = omega (arith, ints)
+  sum_more (first ∷ pending) cluster = let so_far = sum_more pending cluster in omega (arith, ints)
+
+  run_more : (settled : List Unit) (pending : List Cluster) (cluster : Cluster)
+      → (joined (made_at settled pending) (single cluster) (plain cluster)).run ≡ run_at settled (pending ++ cluster ∷ [])
+  run_more settled [] cluster =
+      let start : length (settled ++ []) ≡ length settled = ap length (append-nil settled) in
+      let sum : plain cluster ≡ plain cluster +ℤ pos 0 = omega (arith, ints) in
+      ap₂ (λ start natural. Some (record { start = start; first = cluster.first; end = cluster.end; natural = natural })) start sum
+  run_more settled (first ∷ pending) cluster =
+      ap₂ (λ (end : ℕ) natural. Some (record { start = length settled; first = first.first; end = end; natural = natural }))
+      (sym (ap (λ c. c.end) (last_more first pending cluster first))) (sym (sum_more (first ∷ pending) cluster))
+
+  units_more : (settled : List Unit) (pending : List Cluster) (cluster : Cluster)
+      → (settled ++ map (single_unit style table) pending) ++ single cluster ∷ [] ≡ settled ++ map (single_unit style table) (pending ++ cluster ∷ [])
+  units_more settled pending cluster =
+      append_assoc settled (map (single_unit style table) pending) (single cluster ∷ []) ∙ ap (λ units. settled ++ units) (sym (map-append (single_unit style table) pending (cluster ∷ [])))
+
+  joined_at : (settled : List Unit) (pending : List Cluster) (cluster : Cluster) → joined (made_at settled pending) (single cluster) (plain cluster) ≡ made_at settled (pending ++ cluster ∷ [])
+  joined_at settled pending cluster = ap₂ (λ units run. record { units = units; run = run }) (units_more settled pending cluster) (run_more settled pending cluster)
+
+  settled_out : (b : Bool) (settled one all : List Unit) → (if b then settled ++ one else settled ++ all) ≡ settled ++ (if b then one else all)
+  settled_out true settled one all = refl
+  settled_out false settled one all = refl
+
+  whole_run : (run : Run Cluster) → joins style run.first ≡ true
+      → run_units style table run ≡ (if may_have style.combine (length (run.first ∷ run.others)) then combined_unit style table run ∷ [] else map (single_unit style table) (run.first ∷ run.others))
+  whole_run run e = rw e refl
+
+  closed_is : (settled : List Unit) (pending : List Cluster) → list_all (joins style) pending ≡ true → closed style (made_at settled pending).units (made_at settled pending).run ≡ settled ++ units_by pending
+  closed_is settled [] all = refl
+  closed_is settled (first ∷ pending) all =
+      ap (λ n. if may_have style.combine n then take (length settled) units ++ unit ∷ [] else units) count
+      ∙ ap (λ front. if may_have style.combine (length (first ∷ pending)) then front ++ unit ∷ [] else units) (take-append_seam settled (map (single_unit style table) (first ∷ pending)))
+      ∙ settled_out (may_have style.combine (length (first ∷ pending))) settled (unit ∷ []) (map (single_unit style table) (first ∷ pending))
+      ∙ ap (λ units. settled ++ units) (sym (ap (flat_map (run_units style table)) (all_join (joins style) first pending all) ∙ append-nil (run_units style table run) ∙ whole_run run (and_parts (joins style first) (list_all (joins style) pending) all).0))
     where
-      front_true : (combines style cluster && combines style run.first) ≡ true → with_front (combines style) cluster (run ∷ runs) ≡ (record { first = cluster; others = items run }) ∷ runs
-      front_true e = rw e refl
+      run : Run Cluster
+      run = record { first = first; others = pending }
 
-      front_false : (combines style cluster && combines style run.first) ≡ false → with_front (combines style) cluster (run ∷ runs) ≡ alone cluster ∷ run ∷ runs
-      front_false e = rw e refl
+      units : List Unit
+      units = settled ++ map (single_unit style table) (first ∷ pending)
 
-      unit_is : (run : Run Cluster) → combines style run.first ≡ true → unit_of style table run ≡ combined_unit style table run
-      unit_is run e = rw e refl
+      unit : Unit
+      unit = run_unit style (record { start = length settled; first = first.first; end = (last run).end; natural = sum_of (map (plain_advance style table) (first ∷ pending)) })
 
-  pub unit_more : (place : ℕ) (piece : List ℕ) (pieces : List (List ℕ)) (unit : Unit) → Some unit ≡ lone_unit style table (cluster_of place piece)
-      → units_from place (piece ∷ pieces) ≡ with_unit unit (units_from (place + length piece) pieces)
-  unit_more place piece pieces unit one =
-      let cluster = cluster_of place piece in
-      let rest = runs_of (combines style) (uncontrolled (placed (place + length piece) pieces)) in
+      count : length units - length settled ≡ length (first ∷ pending)
+      count = omega (arith, length-append settled (map (single_unit style table) (first ∷ pending)), length-map (first ∷ pending) (single_unit style table))
+
+  -- ---- all clusters that are left
+
+  abbrev pub finished : Made → List Cluster → List Unit
+  finished made [] = closed style made.units made.run
+  finished made (cluster ∷ others) = finished (with_cluster style table made cluster) others
+
+  -- a cluster that joins, and one that doesn't
+  joining : (settled : List Unit) (pending others : List Cluster) (cluster : Cluster)
+      → finished (made_at settled (pending ++ cluster ∷ [])) others ≡ settled ++ units_by ((pending ++ cluster ∷ []) ++ uncontrolled others)
+      → finished (joined (made_at settled pending) (single cluster) (plain cluster)) others ≡ settled ++ units_by (pending ++ cluster ∷ uncontrolled others)
+  joining settled pending others cluster later =
+      ap (λ made. finished made others) (joined_at settled pending cluster) ∙ later ∙ ap (λ clusters. settled ++ units_by clusters) (append_assoc pending (cluster ∷ []) (uncontrolled others))
+
+  abbrev before : (settled : List Unit) (pending : List Cluster) → Cluster → List Unit
+  before settled pending cluster = (settled ++ units_by pending) ++ single cluster ∷ []
+
+  parting : (settled : List Unit) (pending others : List Cluster) (cluster : Cluster) → list_all (joins style) pending ≡ true → joins style cluster ≡ false
+      → finished (made_at (before settled pending cluster) []) others ≡ before settled pending cluster ++ units_by (uncontrolled others)
+      → finished (apart style (made_at settled pending) (single cluster)) others ≡ settled ++ units_by (pending ++ cluster ∷ uncontrolled others)
+  parting settled pending others cluster all e later =
+      let rest = uncontrolled others in
+      ap (λ units. finished (record { units = units; run = None }) others)
+      (ap (λ units. units ++ single cluster ∷ []) (closed_is settled pending all) ∙ sym (append-nil (before settled pending cluster)))
+      ∙ later
+      ∙ append_assoc (settled ++ units_by pending) (single cluster ∷ []) (units_by rest)
+      ∙ append_assoc settled (units_by pending) (single cluster ∷ units_by rest)
+      ∙ ap (λ units. settled ++ units) (sym (parted pending cluster rest all e))
+
+  -- a control, and any other cluster
+  passing : (made : Made) (cluster : Cluster) (others : List Cluster) (total : List Cluster → List Unit) → is_control cluster.head ≡ true
+      → finished made others ≡ total (uncontrolled others) → finished made (cluster ∷ others) ≡ total (uncontrolled (cluster ∷ others))
+  passing made cluster others total control later =
+      ap (λ found. finished (added style made found (joins style cluster) (plain cluster)) others) (no_unit cluster control) ∙ later ∙ ap total (sym (gone cluster others control))
+
+  taking : (made : Made) (cluster : Cluster) (others : List Cluster) (total : List Cluster → List Unit) (joining : Bool) → is_control cluster.head ≡ false → joins style cluster ≡ joining
+      → finished (added style made (Some (single cluster)) joining (plain cluster)) others ≡ total (cluster ∷ uncontrolled others) → finished made (cluster ∷ others) ≡ total (uncontrolled (cluster ∷ others))
+  taking made cluster others total joining other is later =
+      ap₂ (λ found joining. finished (added style made found joining (plain cluster)) others) (some_unit cluster other) is ∙ later ∙ ap total (sym (kept cluster others other))
+
+  pub finished_is : (settled : List Unit) (pending others : List Cluster) → list_all (joins style) pending ≡ true
+      → finished (made_at settled pending) others ≡ settled ++ units_by (pending ++ uncontrolled others)
+  finished_is settled pending [] all = closed_is settled pending all ∙ ap (λ clusters. settled ++ units_by clusters) (sym (append-nil pending))
+  finished_is settled pending (cluster ∷ others) all =
       elim (cases_Bool (is_control cluster.head)) [
-        | inl control ↦ absurd (none-some unit (sym (one ∙ lone_control control)))
-        | inr other ↦ ap (λ clusters. map (unit_of style table) (runs_of (combines style) clusters)) (kept other) ∙ with_cluster cluster rest
-            ∙ ap (λ unit. with_unit unit (map (unit_of style table) rest)) (sym (some_same (one ∙ lone_other other)))
+        | inl control ↦ passing (made_at settled pending) cluster others (λ clusters. settled ++ units_by (pending ++ clusters)) control (finished_is settled pending others all)
+        | inr other ↦ elim (cases_Bool (joins style cluster)) [
+          | inl joins_it ↦
+              taking (made_at settled pending) cluster others (λ clusters. settled ++ units_by (pending ++ clusters)) true other joins_it
+              (joining settled pending others cluster (finished_is settled (pending ++ cluster ∷ []) others (list_all-append (joins style) pending (cluster ∷ []) ∙ rw (all, joins_it) refl)))
+          | inr stays ↦
+              taking (made_at settled pending) cluster others (λ clusters. settled ++ units_by (pending ++ clusters)) false other stays
+              (parting settled pending others cluster all stays (finished_is (before settled pending cluster) [] others refl))
+        ]
       ]
-    where
-      lone_control : is_control (cluster_of place piece).head ≡ true → lone_unit style table (cluster_of place piece) ≡ None
-      lone_control e = rw e refl
 
-      lone_other : is_control (cluster_of place piece).head ≡ false → lone_unit style table (cluster_of place piece) ≡ Some (unit_of style table (alone (cluster_of place piece)))
-      lone_other e = rw e refl
-
-      kept : is_control (cluster_of place piece).head ≡ false → uncontrolled (placed place (piece ∷ pieces)) ≡ cluster_of place piece ∷ uncontrolled (placed (place + length piece) pieces)
-      kept e = rw e refl
-
-  pub control_more : (place : ℕ) (piece : List ℕ) (pieces : List (List ℕ)) → None ≡ lone_unit style table (cluster_of place piece)
-      → units_from place (piece ∷ pieces) ≡ units_from (place + length piece) pieces
-  control_more place piece pieces none =
-      elim (cases_Bool (is_control (cluster_of place piece).head)) [
-        | inl control ↦ ap (λ clusters. map (unit_of style table) (runs_of (combines style) clusters)) (gone control)
-        | inr other ↦ absurd (none-some _ (none ∙ lone_other other))
-      ]
-    where
-      lone_other : is_control (cluster_of place piece).head ≡ false → lone_unit style table (cluster_of place piece) ≡ Some (unit_of style table (alone (cluster_of place piece)))
-      lone_other e = rw e refl
-
-      gone : is_control (cluster_of place piece).head ≡ true → uncontrolled (placed place (piece ∷ pieces)) ≡ uncontrolled (placed (place + length piece) pieces)
-      gone e = rw e refl
-
-  pub whole : (text : List ℕ) → units_of style table text ≡ units_from 0 (clusters text)
+  pub whole : (text : List ℕ) → units_of style table text ≡ units_by (uncontrolled (placed 0 (clusters text)))
   unfolding units_of unit_clusters
   whole text = refl
+
+  pub made_whole : (text : List ℕ) → finished (record { units = []; run = None }) (placed 0 (clusters text)) ≡ units_of style table text
+  made_whole text = finished_is [] [] (placed 0 (clusters text)) refl ∙ sym (whole text)
 
 -- ---- how far the walk over the pieces has come
 
 module _ (style : Style) (table : Table) (text : List ℕ) (all : List Unit) where
-  -- the units made and those of the pieces that are left are those of all pieces, which have the characters of the text
-  pub record IsUnderway (made : List Unit) (place : ℕ) (left : List (List ℕ)) : Type 0 where
-    pub units : joined made (units_from style table place left) ≡ all
+  -- the units made and the pieces that are left give the units of all pieces, which have the characters of the text
+  pub record IsUnderway (made : Made) (place : ℕ) (left : List (List ℕ)) : Type 0 where
+    pub units : finished style table made (placed place left) ≡ all
     pub count : place + total left ≡ length text
-    pub near : AreWithin (655360 * (1048576 - length left)) made
+    pub near : IsWithin (655360 * (1048576 - length left)) made.run
     pub few : length left ≤ 1048576
 
-  pub begins : (left : List (List ℕ)) → units_from style table 0 left ≡ all → total left ≡ length text → length left ≤ 1048576 → IsUnderway [] 0 left
-  begins left are whole few = record {
-    units = are;
+  pub begins : (made : Made) (left : List (List ℕ)) → made ≡ record { units = []; run = None } → finished style table (record { units = []; run = None }) (placed 0 left) ≡ all → total left ≡ length text
+      → length left ≤ 1048576 → IsUnderway made 0 left
+  begins made left none are whole few = record {
+    units = ap (λ made. finished style table made (placed 0 left)) none ∙ are;
     count = omega arith;
-    near = All-nil _;
+    near = subst (λ (made : Made). IsWithin (655360 * (1048576 - length left)) made.run) (sym none) tt;
     few = few;
   }
 
-  added_units : (made : List Unit) (place : ℕ) (piece : List ℕ) (left : List (List ℕ)) (one : Option Unit) → one ≡ lone_unit style table (cluster_of place piece)
-      → joined (added made one) (units_from style table (place + length piece) left) ≡ joined made (units_from style table place (piece ∷ left))
-  added_units made place piece left None one = ap (joined made) (sym (control_more style table place piece left one))
-  added_units made place piece left (Some unit) one =
-      sym (joined_more made unit (units_from style table (place + length piece) left)) ∙ ap (joined made) (sym (unit_more style table place piece left unit one))
-
-  pub goes_on : (made new : List Unit) (place : ℕ) (piece : List ℕ) (left : List (List ℕ)) → new ≡ added made (lone_unit style table (cluster_of place piece))
-      → ((most : ℕ) → AreWithin most made → AreWithin (most + 655360) new) → IsUnderway made place (piece ∷ left) → IsUnderway new (place + length piece) left
+  pub goes_on : (made new : Made) (place : ℕ) (piece : List ℕ) (left : List (List ℕ)) → new ≡ with_cluster style table made (cluster_of place piece)
+      → ((most : ℕ) → IsWithin most made.run → IsWithin (most + 655360) new.run) → IsUnderway made place (piece ∷ left) → IsUnderway new (place + length piece) left
   goes_on made new place piece left is more at = record {
-    units = ap (λ made. joined made (units_from style table (place + length piece) left)) is ∙ added_units made place piece left (lone_unit style table (cluster_of place piece)) refl ∙ at.units;
+    units = ap (λ made. finished style table made (placed (place + length piece) left)) is ∙ at.units;
     count = let count = at.count in omega arith;
-    near = let few = at.few in let sums : 655360 * (1048576 - length (piece ∷ left)) + 655360 ≡ 655360 * (1048576 - length left) = omega arith in subst (λ most. AreWithin most new) sums (more _ at.near);
+    near = let few = at.few in let sums : 655360 * (1048576 - length (piece ∷ left)) + 655360 ≡ 655360 * (1048576 - length left) = omega arith in subst (λ most. IsWithin most new.run) sums (more _ at.near);
     few = let few = at.few in omega arith;
   }
 
-  pub ends : (made : List Unit) (place : ℕ) (left : List (List ℕ)) → left ≡ [] → IsUnderway made place left → made ≡ all
-  ends made place left none at = sym (joined_none made) ∙ ap (λ left. joined made (units_from style table place left)) (sym none) ∙ at.units
+  pub ends : (made : Made) (place : ℕ) (left : List (List ℕ)) → left ≡ [] → IsUnderway made place left → closed style made.units made.run ≡ all
+  ends made place left none at = ap (λ left. finished style table made (placed place left)) (sym none) ∙ at.units
 
-  pub room : (made : List Unit) (place : ℕ) (left : List (List ℕ)) → IsUnderway made place left → AreWithin (2 ^ 50) made
-  room made place left at = λ k d lt. let near = at.near k d lt in omega arith
+  wider : (run : Option OpenRun) (near far : ℕ) → near ≤ far → IsWithin near run → IsWithin far run
+  wider None near far le is = tt
+  wider (Some run) near far le is = omega arith
 
-  pub place_within : (made : List Unit) (place : ℕ) (piece : List ℕ) (left : List (List ℕ)) → length text ≤ 1048576 → IsUnderway made place (piece ∷ left) → place + length piece ≤ 2 ^ 32
+  pub room : (made : Made) (place : ℕ) (left : List (List ℕ)) → IsUnderway made place left → IsWithin (2 ^ 50) made.run
+  room made place left at = wider made.run _ _ (omega arith) at.near
+
+  pub place_within : (made : Made) (place : ℕ) (piece : List ℕ) (left : List (List ℕ)) → length text ≤ 1048576 → IsUnderway made place (piece ∷ left) → place + length piece ≤ 2 ^ 32
   place_within made place piece left few at = let count = at.count in omega arith

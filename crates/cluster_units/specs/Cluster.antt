@@ -1,5 +1,5 @@
 -- The extended grapheme clusters of a text (UAX 29): lists of characters, and where each stands.
-use Rattle.std.specs.Prelude.{ℕ, ◌+◌, Bool, true, false, ◌&&◌, ◌==◌, not, nat_lt, List, [], ◌∷◌, length, filter, slice_index_or, Option, Some}
+use Rattle.std.specs.Prelude.{ℕ, ◌+◌, Bool, true, false, ◌&&◌, ◌==◌, not, nat_le, nat_lt, List, [], ◌∷◌, length, filter, slice_index_or, Option, Some}
 use Rattle.unicode_segmentation.specs.Grapheme.{is_grapheme_break}
 use Rattle.unicode_segmentation.specs.Segments.{cut}
 use Rattle.wm_chars.specs.Repertoire.{break_class}
@@ -43,3 +43,7 @@ is_several cluster = nat_lt (cluster.first + 1) cluster.end
 -- the single character U+0020
 abbrev pub is_space : Cluster → Bool
 is_space cluster = (cluster.head == 0x20) && not (is_several cluster)
+
+-- a single character from U+0030 to U+0039: an ASCII digit
+abbrev pub is_digit : Cluster → Bool
+is_digit cluster = (nat_le 0x30 cluster.head && nat_le cluster.head 0x39) && not (is_several cluster)

@@ -1,4 +1,5 @@
 pub mod Cluster
+pub mod Gathering
 pub mod Laws
 pub mod Plain
 pub mod Runs

@@ -1,9 +1,11 @@
 -- Characters that are clusters by themselves among their like: those of Latin text, letters of Greek, Cyrillic, Hebrew and Arabic,
 -- kana, Han and Hangul syllables, punctuation and bidi controls. None is a mark, and none joins its like.
-use Rattle.std.specs.Prelude.{ℕ, ◌+◌, Bool, ◌&&◌, ◌||◌, ◌==◌, not, nat_le, nat_lt, if◌then◌else◌, List, [], ◌∷◌, Option, Some, None}
+use Rattle.std.specs.Prelude.{ℕ, ◌+◌, Bool, ◌&&◌, ◌||◌, ◌==◌, true, false, not, nat_le, nat_lt, if◌then◌else◌, List, [], ◌∷◌, Option, Some, None}
 use Rattle.face_api.specs.Table.{Table}
+use Rattle.style_types.specs.declared.style.Combine.{Combine}
+use Rattle.style_types.specs.declared.style.Combine.TheVariants.{Never}
 use Rattle.style_types.specs.declared.style.Style.{Style}
-use Rattle.cluster_units.specs.Unit.{is_all, is_vertical, lone_unit}
+use Rattle.cluster_units.specs.Unit.{cluster_unit, is_vertical}
 use Rattle.cluster_units.specs.declared.unit.Unit.{Unit}
 
 -- letters of Greek and Cyrillic, Hebrew, Arabic
@@ -24,13 +26,17 @@ is_wide c =
 abbrev pub is_plain : ℕ → Bool
 is_plain c = if nat_lt c 0x300 then not (c == 0x0D) else (if nat_lt c 0x3000 then is_letter c || is_sign c else is_wide c)
 
+abbrev pub is_never : Combine → Bool
+is_never Never = true
+is_never other = false
+
 -- a style by which no units are combined
 abbrev pub combines_none : Style → Bool
-combines_none style = not (is_vertical style.mode && is_all style.combine)
+combines_none style = not (is_vertical style.mode) || is_never style.combine
 
--- the unit of a character that is a cluster by itself, at this place of its text; none of a bidi control
+-- the unit of a character that is a cluster by itself and isn't combined, at this place of its text; none of a bidi control
 abbrev pub character_unit : Style → Table → (place c : ℕ) → Option Unit
-character_unit style table place c = lone_unit style table (record { first = place; end = place + 1; head = c })
+character_unit style table place c = cluster_unit style table (record { first = place; end = place + 1; head = c })
 
 abbrev pub with_first : Option Unit → List Unit → List Unit
 with_first None units = units

@@ -1,13 +1,14 @@
 -- The units of a text: its clusters, and in vertical text with combining its combined runs (CSS Writing Modes 4,
 -- 5.1 and 9.1).
-use Rattle.std.specs.Prelude.{ℕ, Bool, true, false, ◌&&◌, ◌==◌, not, if◌then◌else◌, List, [], ◌∷◌, map, unwrap_or, Option, Some, None, ℤ, pos, ◌+ℤ◌, ◌*ℤ◌}
+use Rattle.std.specs.Prelude.{ℕ, Bool, true, false, ◌&&◌, ◌==◌, not, if◌then◌else◌, List, [], ◌∷◌, length, map, nat_le, unwrap_or, Option, Some, None, ℤ, pos, ◌+ℤ◌, ◌*ℤ◌}
 use Rattle.std.specs.Int.{int_div_euclid}
+use Rattle.std.specs.List.{flat_map}
 use Rattle.face_api.specs.Table.{Table, advance_of}
 use Rattle.style_types.specs.declared.style.Style.{Style}
 use Rattle.style_types.specs.declared.style.TextOrientation.{TextOrientation}
 use Rattle.style_types.specs.declared.style.TextOrientation.TheVariants.{Mixed, Sideways, Upright as set_upright}
 use Rattle.style_types.specs.declared.style.Combine.{Combine}
-use Rattle.style_types.specs.declared.style.Combine.TheVariants.{All}
+use Rattle.style_types.specs.declared.style.Combine.TheVariants as combinations
 use Rattle.wm_modes.specs.declared.mode.WritingMode.{WritingMode}
 use Rattle.wm_modes.specs.declared.mode.WritingMode.TheVariants.{VerticalRl, VerticalLr}
 use Rattle.wm_chars.specs.Repertoire.{break_class, orientation}
@@ -15,7 +16,7 @@ use Rattle.wm_chars.specs.declared.classes.BreakClass.{BreakClass}
 use Rattle.wm_chars.specs.declared.classes.BreakClass.TheVariants.{Ideographic, Other}
 use Rattle.wm_chars.specs.declared.classes.Orient.{Orient}
 use Rattle.wm_chars.specs.declared.classes.Orient.TheVariants.{V}
-use Rattle.cluster_units.specs.Cluster.{is_control, is_several, is_space, unit_clusters}
+use Rattle.cluster_units.specs.Cluster.{is_control, is_digit, is_several, is_space, unit_clusters}
 use Rattle.cluster_units.specs.declared.cluster.Cluster.{Cluster}
 use Rattle.cluster_units.specs.Runs.{Run, items, last, runs_of}
 use Rattle.cluster_units.specs.declared.unit.Unit.{Unit}
@@ -65,6 +66,10 @@ single_unit style table cluster =
     let advance = scaled style.font_size (advance_of table cluster.head (is_upright kind)) in
     record { first = cluster.first; end = cluster.end; kind = kind; advance = advance; natural = advance; break_class = class_of cluster }
 
+-- the unit of a cluster that stands by itself; none of a bidi control
+abbrev pub cluster_unit : Style → Table → Cluster → Option Unit
+cluster_unit style table cluster = if is_control cluster.head then None else Some (single_unit style table cluster)
+
 abbrev pub sum_of : List ℤ → ℤ
 sum_of [] = pos 0
 sum_of (advance ∷ advances) = advance +ℤ sum_of advances
@@ -81,23 +86,32 @@ combined_unit style table run =
       break_class = Ideographic;
     }
 
-abbrev pub is_all : Combine → Bool
-is_all All = true
-is_all _ = false
+-- ---- which runs are combined. CSS Writing Modes 4, 9.1
 
--- whether the cluster belongs to a combined run
-abbrev pub combines : Style → Cluster → Bool
-combines style cluster = is_vertical style.mode && (is_all style.combine && not (is_space cluster))
+-- the clusters of which runs are made: for `all` those that aren't U+0020, for `digits` the ASCII digits
+abbrev pub may_join : Combine → Cluster → Bool
+may_join combinations.Never cluster = false
+may_join combinations.All cluster = not (is_space cluster)
+may_join (combinations.Digits most) cluster = is_digit cluster
 
-abbrev pub unit_of : Style → Table → Run Cluster → Unit
-unit_of style table run =
-    if combines style run.first then combined_unit style table run else single_unit style table run.first
+-- how many of them a combined run may have
+abbrev pub may_have : Combine → (count : ℕ) → Bool
+may_have combinations.Never count = false
+may_have combinations.All count = true
+may_have (combinations.Digits most) count = nat_le count most
 
--- a cluster by itself: a combined run of one where it combines, and none where it is a bidi control
-abbrev pub lone_unit : Style → Table → Cluster → Option Unit
-lone_unit style table cluster =
-    if is_control cluster.head then None else Some (unit_of style table (record { first = cluster; others = [] }))
+-- text is combined in vertical lines alone
+abbrev pub joins : Style → Cluster → Bool
+joins style cluster = is_vertical style.mode && may_join style.combine cluster
+
+-- a run of clusters that join, as long as it can be, is combined where it has no more of them than it may
+abbrev pub combines : Style → Run Cluster → Bool
+combines style run = joins style run.first && may_have style.combine (length (items run))
+
+-- and else none of it is
+abbrev pub run_units : Style → Table → Run Cluster → List Unit
+run_units style table run = if combines style run then combined_unit style table run ∷ [] else map (single_unit style table) (items run)
 
 -- the units of a text, given by its characters
 unfoldable pub units_of : Style → Table → List ℕ → List Unit
-units_of style table text = map (unit_of style table) (runs_of (combines style) (unit_clusters text))
+units_of style table text = flat_map (run_units style table) (runs_of (joins style) (unit_clusters text))

@@ -28,6 +28,13 @@ impl Cluster {
     {
         self.head == ' ' && !self.is_several()
     }
+
+    // Whether it is a single ASCII digit.
+    pub(crate) fn is_digit(self) -> bool
+        ensures { result ≡ clusters.is_digit self }
+    {
+        matches!(self.head, '0'..='9') && !self.is_several()
+    }
 }
 
 // The cluster that stands at this place and has these characters.

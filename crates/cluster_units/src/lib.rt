@@ -2,6 +2,7 @@
 #![tactic(auto)]
 
 mod cluster;
+mod gathering;
 pub mod laws;
 mod plain;
 mod single;

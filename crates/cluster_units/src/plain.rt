@@ -8,7 +8,7 @@ ghost use Rattle.cluster_units.specs.Unit.{units_of};
 
 use crate::Units;
 use crate::cluster::Cluster;
-use crate::text::add_cluster;
+use crate::gathering::Gathering;
 use face_api::Face;
 use std::alloc::{AllocError, Global};
 use style_types::Style;
@@ -66,7 +66,7 @@ pub(crate) fn plain_units(
     requires high { style.now.font_size ≤ℤ pos 65536 }
     ensures { IfOk result (λ made. IfSome made (λ units. units.items ≡ units_of style.now (table face.now) (chars text.now))) }
 {
-    let mut units = Vec::with_capacity(alloc, text.len())?;
+    let mut gathering = Gathering::new(Vec::with_capacity(alloc, text.len())?);
     let mut place = 0;
     for c in text.chars() {
         if !is_plain_character(c) {
@@ -77,8 +77,9 @@ pub(crate) fn plain_units(
             end: place + 1,
             head: c,
         };
-        add_cluster(&mut units, cluster, style, face)?;
+        gathering.add(cluster, style, face)?;
         place = cluster.end;
     }
+    let units = gathering.finish(style)?;
     Ok(Some(units))
 }

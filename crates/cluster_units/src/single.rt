@@ -1,6 +1,6 @@
 //! The unit of one cluster: its orientation, its advance, its break class (CSS Writing Modes 4, 5.1; UAX 50).
 
-ghost use Rattle.std.specs.Prelude.{◌≡◌, ◌+◌, ◌<◌, ◌≤◌, ◌^◌, pos, ◌≤ℤ◌, ◌&&◌, true, leb, is_some, unsigned_abs, IfSome, []};
+ghost use Rattle.std.specs.Prelude.{◌≡◌, ◌+◌, ◌<◌, ◌≤◌, ◌^◌, pos, ◌≤ℤ◌, ◌&&◌, true, leb, is_some, unsigned_abs, IfSome};
 ghost use Rattle.face_api.specs.Table.{IsTable};
 ghost use Rattle.wm_chars.specs.Repertoire.{break_class, orientation};
 ghost use Rattle.cluster_units.specs.Cluster.{is_control_class};
@@ -50,27 +50,22 @@ pub fn character_unit(c: char, place: usize, style: &Style, face: &dyn Face) -> 
 pub fn combines_none(style: &Style) -> bool
     ensures { result ≡ plain.combines_none style.now }
 {
-    !(is_vertical(style.mode) && style.combine == Combine::All)
+    !is_vertical(style.mode) || style.combine == Combine::Never
 }
 
-// The unit of a cluster by itself, a combined run of one where it combines; None of a bidi control.
+// The unit of a cluster that stands by itself; None of a bidi control.
 #[inline(always)]
-pub(crate) fn unit_of(cluster: Cluster, style: &Style, face: &dyn Face) -> Option<Unit>
+pub(crate) fn cluster_unit(cluster: Cluster, style: &Style, face: &dyn Face) -> Option<Unit>
     requires low { pos 0 ≤ℤ style.now.font_size }
     requires high { style.now.font_size ≤ℤ pos 65536 }
-    ensures unit { result ≡ spec.lone_unit style.now (table face.now) cluster }
-    ensures near { IfSome result (λ unit. unsigned_abs unit.natural ≤ 655360) }
+    ensures { result ≡ spec.cluster_unit style.now (table face.now) cluster }
 {
     let class = break_class(cluster.head);
     if is_control(class) {
         return None;
     }
-    if combines(cluster, style) {
-        Some(combined(cluster, style, face))
-    } else {
-        let kind = kind_of(style, cluster.head, class);
-        Some(single(cluster, kind, class_of(cluster, class), style, face))
-    }
+    let kind = kind_of(style, cluster.head, class);
+    Some(single(cluster, kind, class_of(cluster, class), style, face))
 }
 
 fn is_control(class: Option<BreakClass>) -> bool
@@ -79,11 +74,34 @@ fn is_control(class: Option<BreakClass>) -> bool
     class == Some(BreakClass::Control)
 }
 
-// Whether the cluster belongs to a combined run.
-fn combines(cluster: Cluster, style: &Style) -> bool
-    ensures { result ≡ spec.combines style.now cluster }
+// Whether the cluster belongs to a run that may be combined (CSS Writing Modes 4, 9.1).
+#[inline(always)]
+pub(crate) fn joins(cluster: Cluster, style: &Style) -> bool
+    ensures { result ≡ spec.joins style.now cluster }
 {
-    is_vertical(style.mode) && style.combine == Combine::All && !cluster.is_space()
+    is_vertical(style.mode) && may_join(style.combine, cluster)
+}
+
+#[inline(always)]
+fn may_join(combine: Combine, cluster: Cluster) -> bool
+    ensures { result ≡ spec.may_join combine cluster }
+{
+    match combine {
+        Combine::Never => false,
+        Combine::All => !cluster.is_space(),
+        Combine::Digits(_) => cluster.is_digit(),
+    }
+}
+
+// Whether a combined run may have so many clusters.
+pub(crate) fn may_have(combine: Combine, count: usize) -> bool
+    ensures { result ≡ spec.may_have combine count }
+{
+    match combine {
+        Combine::Never => false,
+        Combine::All => true,
+        Combine::Digits(most) => count <= usize::from(most),
+    }
 }
 
 fn is_vertical(mode: WritingMode) -> bool
@@ -92,21 +110,14 @@ fn is_vertical(mode: WritingMode) -> bool
     matches!(mode, WritingMode::VerticalRl | WritingMode::VerticalLr)
 }
 
-// A combined run of one cluster.
-fn combined(cluster: Cluster, style: &Style, face: &dyn Face) -> Unit
+// The advance of a cluster in text that isn't upright.
+pub(crate) fn plain_advance(cluster: Cluster, style: &Style, face: &dyn Face) -> i64
     requires low { pos 0 ≤ℤ style.now.font_size }
     requires high { style.now.font_size ≤ℤ pos 65536 }
-    ensures unit { result ≡ spec.combined_unit style.now (table face.now) (record { first = cluster; others = [] }) }
-    ensures near { unsigned_abs result.natural ≤ 655360 }
+    ensures advance { result ≡ spec.plain_advance style.now (table face.now) cluster }
+    ensures near { unsigned_abs result ≤ 655360 }
 {
-    Unit {
-        first: cluster.first,
-        end: cluster.end,
-        kind: UnitKind::Combined,
-        advance: style.font_size,
-        natural: scaled(style.font_size, face.advance(cluster.head, false)),
-        break_class: BreakClass::Ideographic,
-    }
+    scaled(style.font_size, face.advance(cluster.head, false))
 }
 
 // A cluster of this class that stands so by itself.

@@ -24,7 +24,7 @@ put_by p q marks lt (inl is) =
 put_by p q marks lt (inr other) =
     get_or-set_other marks p q true false (λ is. other.1 (sym is)) ∙ sym (or-false (get_or marks q false)) ∙ ap (λ (b : Bool). get_or marks q false || b) (sym other.0)
 
-pub marking_goes_on : (winners : Winning) (i : ℕ) (d : Property × Value) (p : ℕ) (marks : List Bool) → i < length winners → p ≡ place_of (get_or winners i d).0 → p < 55
+pub marking_goes_on : (winners : Winning) (i : ℕ) (d : Property × Value) (p : ℕ) (marks : List Bool) → i < length winners → p ≡ place_of (get_or winners i d).0 → p < PROPERTY_COUNT
     → IsMarking winners i marks → IsMarking winners (i + 1) (set marks p true)
 marking_goes_on winners i d p marks lt is below now = (
   length-set marks p true ∙ now.0,

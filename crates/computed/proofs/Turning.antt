@@ -8,8 +8,8 @@ use Rattle.style_types.specs.declared.style.Display.TheVariants.{Block, Inline, 
 use Rattle.style_types.specs.declared.style.Style.{Style}
 use Rattle.style_types.specs.Initial.{initial}
 use Rattle.computed.specs.Laws.{inherited, IsTurned}
-use Rattle.computed.specs.Sides.{margin_at, padding_at, size_at, border_at, margins, paddings, borders}
-use Rattle.computed.specs.Step.{own_font_size, own_mode, own_display, own_direction, own_orientation, own_combine, own_bidi, own_face, own_line_height, own_align, own_shift, sized, same_mode, turned, style_of}
+use Rattle.computed.specs.Sides.{margin_at, padding_at, size_at, border_at, inset_at, margins, paddings, borders, insets}
+use Rattle.computed.specs.Step.{own_font_size, own_mode, own_display, own_direction, own_orientation, own_combine, own_bidi, own_face, own_line_height, own_align, own_shift, own_relative, sized, same_mode, turned, style_of}
 use Rattle.computed.specs.Winners.{Winning, won, said}
 
 -- a mode is the same as itself
@@ -21,7 +21,7 @@ same SidewaysRl = refl
 same SidewaysLr = refl
 
 pub inherits : (parent : Style) → style_of parent [] ≡ inherited parent
-unfolding initial won said margin_at padding_at size_at border_at margins paddings borders own_font_size own_mode own_display own_direction own_orientation own_combine own_bidi own_face own_line_height own_align own_shift sized
+unfolding initial won said margin_at padding_at size_at border_at inset_at margins paddings borders insets own_font_size own_mode own_display own_direction own_orientation own_combine own_bidi own_face own_line_height own_align own_shift own_relative sized
 inherits parent = rw (same parent.mode) refl
 
 -- and as no other

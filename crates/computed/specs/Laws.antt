@@ -29,6 +29,8 @@ inherited parent = record {
   margin = initial.margin;
   padding = initial.padding;
   border = initial.border;
+  relative = initial.relative;
+  insets = initial.insets;
 }
 
 -- where nothing won, an element inherits

@@ -1,8 +1,9 @@
--- Sizes, margins, paddings and borders. CSS 2, 8.3 to 8.5, 10.2 and 10.4.
+-- Sizes, margins, paddings, borders and insets. CSS 2, 8.3 to 8.5, 10.2 and 10.4; CSS Positioned Layout 3, 3.1.
 use Rattle.std.specs.Prelude.{Bool, true, false, ℤ, pos}
 use Rattle.wm_units.specs.Numbers.{fixed}
 use Rattle.css_types.specs.declared.property.Property.{Property}
 use Rattle.css_types.specs.declared.property.Property.TheVariants as properties
+use Rattle.style_types.specs.declared.style.Insets.{Insets}
 use Rattle.style_types.specs.declared.style.SideSizes.{SideSizes}
 use Rattle.style_types.specs.declared.style.SideWidths.{SideWidths}
 use Rattle.style_types.specs.declared.style.Size.{Size}
@@ -22,6 +23,10 @@ margin_at font_size winners property = computed (margin_of font_size) initial.ma
 
 unfoldable pub padding_at : (font_size : ℤ) → Winning → Property → Size
 padding_at font_size winners property = computed (size_of font_size) initial.padding.top initial.padding.top (said winners property)
+
+-- an inset: a length, a percentage or auto, as a margin is
+unfoldable pub inset_at : (font_size : ℤ) → Winning → Property → Size
+inset_at font_size winners property = computed (margin_of font_size) initial.insets.top initial.insets.top (said winners property)
 
 -- the width of a border that says none, three pixels
 abbrev pub medium : ℤ
@@ -59,4 +64,12 @@ borders font_size winners = record {
   right = border_at font_size winners properties.BorderRightStyle properties.BorderRightWidth;
   bottom = border_at font_size winners properties.BorderBottomStyle properties.BorderBottomWidth;
   left = border_at font_size winners properties.BorderLeftStyle properties.BorderLeftWidth;
+}
+
+unfoldable pub insets : (font_size : ℤ) → Winning → Insets
+insets font_size winners = record {
+  top = inset_at font_size winners properties.InsetTop;
+  right = inset_at font_size winners properties.InsetRight;
+  bottom = inset_at font_size winners properties.InsetBottom;
+  left = inset_at font_size winners properties.InsetLeft;
 }

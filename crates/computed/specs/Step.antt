@@ -14,9 +14,9 @@ use Rattle.style_types.specs.declared.style.TextOrientation.{TextOrientation}
 use Rattle.style_types.specs.declared.style.UnicodeBidi.{UnicodeBidi}
 use Rattle.defaulting.specs.Defaulting.{computed, computed_mode, computed_direction, computed_orientation}
 use Rattle.style_types.specs.Initial.{initial}
-use Rattle.defaulting.specs.SimpleValues.{display_of, bidi_of, align_of}
+use Rattle.defaulting.specs.SimpleValues.{display_of, bidi_of, align_of, relative_of}
 use Rattle.computed.specs.Lengths.{font_size_of}
-use Rattle.computed.specs.Sides.{size_at, margins, paddings, borders}
+use Rattle.computed.specs.Sides.{size_at, margins, paddings, borders, insets}
 use Rattle.computed.specs.Values.{combine_of, face_of, line_height_of, shift_of}
 use Rattle.computed.specs.Winners.{Winning, won, said}
 
@@ -72,6 +72,9 @@ own_align parent winners = computed align_of initial.align parent (said winners 
 unfoldable pub own_shift : (font_size : ℤ) → Winning → ℤ
 own_shift font_size winners = computed (shift_of font_size) initial.shift initial.shift (said winners properties.VerticalAlign)
 
+unfoldable pub own_relative : Winning → Bool
+own_relative winners = computed relative_of initial.relative initial.relative (said winners properties.Position)
+
 -- ---- the style
 
 -- with the font size, every other property, one by one
@@ -97,6 +100,8 @@ sized parent font_size winners = let mode = own_mode parent.mode winners in reco
   margin = margins font_size winners;
   padding = paddings font_size winners;
   border = borders font_size winners;
+  relative = own_relative winners;
+  insets = insets font_size winners;
 }
 
 abbrev pub style_of : (parent : Style) → Winning → Style

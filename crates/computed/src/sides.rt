@@ -1,7 +1,7 @@
-//! Sizes, margins, paddings and borders (CSS 2, 8.3 to 8.5, 10.2 and 10.4).
+//! Sizes, margins, paddings, borders and insets (CSS 2, 8.3 to 8.5, 10.2 and 10.4; CSS Positioned Layout 3, 3.1).
 
 ghost use Rattle.std.specs.Prelude.{◌≡◌};
-ghost use Rattle.style_types.specs.Style.{AreBorders, IsExtent, IsMargin, IsPadding, IsSize, OnSides};
+ghost use Rattle.style_types.specs.Style.{AreBorders, AreInsets, IsExtent, IsMargin, IsPadding, IsSize, OnSides};
 ghost use Rattle.computed.specs.Lengths.{IsFontSize};
 ghost use Rattle.computed.specs.Sides as sides;
 
@@ -9,7 +9,7 @@ use crate::lengths::extent_of;
 use crate::values::{is_drawn, margin_of, size_of};
 use crate::winners::{Marked, said};
 use css_types::Property;
-use style_types::{SideSizes, SideWidths, Size};
+use style_types::{Insets, SideSizes, SideWidths, Size};
 
 // The width of a border that says none: `medium`, which is three pixels.
 const MEDIUM: i64 = 192;
@@ -129,5 +129,32 @@ fn border_at(font_size: i64, winners: &Marked, style: Property, width: Property)
     match said(winners, width) {
         None => MEDIUM,
         Some(value) => extent_of(font_size, value).unwrap_or(MEDIUM),
+    }
+}
+
+/// The insets (CSS Positioned Layout 3, 3.1).
+#[tactic(auto, unfolding(crate::specs::Sides::insets))]
+pub fn insets(font_size: i64, winners: &Marked) -> Insets
+    requires font_size { IsFontSize font_size }
+    ensures value { result ≡ sides.insets font_size winners.now.list.now.items }
+    ensures bounded { AreInsets result }
+{
+    Insets {
+        top: inset_at(font_size, winners, Property::InsetTop),
+        right: inset_at(font_size, winners, Property::InsetRight),
+        bottom: inset_at(font_size, winners, Property::InsetBottom),
+        left: inset_at(font_size, winners, Property::InsetLeft),
+    }
+}
+
+#[tactic(auto, unfolding(crate::specs::Sides::inset_at, style_types::specs::Initial::initial))]
+fn inset_at(font_size: i64, winners: &Marked, property: Property) -> Size
+    requires font_size { IsFontSize font_size }
+    ensures value { result ≡ sides.inset_at font_size winners.now.list.now.items property }
+    ensures bounded { IsMargin result }
+{
+    match said(winners, property) {
+        None => Size::Auto,
+        Some(value) => margin_of(font_size, value).unwrap_or(Size::Auto),
     }
 }

@@ -8,8 +8,10 @@ ghost use Rattle.computed.specs.Lengths.{IsFontSize};
 ghost use Rattle.computed.specs.Step as step;
 
 use crate::lengths::font_size_of;
-use crate::sides::{borders, margins, paddings, size_at};
-use crate::values::{align_of, bidi_of, combine_of, display_of, face_of, line_height_of, shift_of};
+use crate::sides::{borders, insets, margins, paddings, size_at};
+use crate::values::{
+    align_of, bidi_of, combine_of, display_of, face_of, line_height_of, relative_of, shift_of,
+};
 use crate::winners::{Marked, said, won};
 use css_types::{Property, Winners};
 use defaulting::{computed_direction, computed_mode, computed_orientation};
@@ -60,6 +62,8 @@ fn sized(parent: &Style, font_size: i64, winners: &Marked) -> Style
         margin: margins(font_size, winners),
         padding: paddings(font_size, winners),
         border: borders(font_size, winners),
+        relative: own_relative(winners),
+        insets: insets(font_size, winners),
     }
 }
 
@@ -187,5 +191,15 @@ fn own_shift(font_size: i64, winners: &Marked) -> i64
     match said(winners, Property::VerticalAlign) {
         None => 0,
         Some(value) => shift_of(font_size, value).unwrap_or(0),
+    }
+}
+
+#[tactic(auto, unfolding(crate::specs::Step::own_relative, style_types::specs::Initial::initial))]
+fn own_relative(winners: &Marked) -> bool
+    ensures { result ≡ step.own_relative winners.now.list.now.items }
+{
+    match said(winners, Property::Position) {
+        None => false,
+        Some(value) => relative_of(value).unwrap_or(false),
     }
 }

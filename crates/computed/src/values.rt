@@ -54,6 +54,17 @@ pub fn bidi_of(value: Value) -> Option<UnicodeBidi>
     }
 }
 
+/// CSS Positioned Layout 3, 2.
+pub fn relative_of(value: Value) -> Option<bool>
+    ensures { result ≡ simple.relative_of value }
+{
+    match value {
+        Value::Keyword(Keyword::Static) => Some(false),
+        Value::Keyword(Keyword::Relative) => Some(true),
+        _ => None,
+    }
+}
+
 /// One of the eight faces.
 pub fn face_of(value: Value) -> Option<u8>
     ensures value { result ≡ values.face_of value }

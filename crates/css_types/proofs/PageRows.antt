@@ -7,7 +7,7 @@ use Rattle.wm_modes.specs.declared.sides.Side.TheVariants.{Top, Right, Bottom, L
 use Rattle.wm_modes.specs.Sides.{side_of}
 use Rattle.css_types.specs.declared.property.Property.{Property}
 use Rattle.css_types.specs.declared.reach.SideFamily.{SideFamily}
-use Rattle.css_types.specs.declared.reach.SideFamily.TheVariants.{Margin, Padding, BorderWidth, BorderStyle}
+use Rattle.css_types.specs.declared.reach.SideFamily.TheVariants.{Margin, Padding, BorderWidth, BorderStyle, Inset}
 use Rattle.css_types.specs.declared.reach.AxisFamily.{AxisFamily}
 use Rattle.css_types.specs.declared.reach.AxisFamily.TheVariants.{Size, MinSize, MaxSize}
 use Rattle.css_types.specs.declared.reach.Axis as axis
@@ -34,6 +34,10 @@ about_side BorderStyle Top = (_, (47, refl, refl), refl)
 about_side BorderStyle Right = (_, (48, refl, refl), refl)
 about_side BorderStyle Bottom = (_, (49, refl, refl), refl)
 about_side BorderStyle Left = (_, (50, refl, refl), refl)
+about_side Inset Top = (_, (56, refl, refl), refl)
+about_side Inset Right = (_, (57, refl, refl), refl)
+about_side Inset Bottom = (_, (58, refl, refl), refl)
+about_side Inset Left = (_, (59, refl, refl), refl)
 
 about_axis : (family : AxisFamily) (a : axis.Axis) → IsAbout (PhysicalAxis family a) (axis_property family a)
 about_axis Size Horizontal = (_, (11, refl, refl), refl)

@@ -10,7 +10,7 @@ use Rattle.wm_modes.specs.declared.sides.Side.TheVariants.{Top, Right, Bottom, L
 use Rattle.wm_modes.specs.declared.sides.FlowSide as flow_side
 use Rattle.wm_modes.specs.declared.sides.FlowSide.TheVariants.{BlockStart, BlockEnd, InlineStart, InlineEnd}
 use Rattle.css_types.specs.declared.reach.SideFamily.{SideFamily}
-use Rattle.css_types.specs.declared.reach.SideFamily.TheVariants.{Margin, Padding, BorderWidth, BorderStyle}
+use Rattle.css_types.specs.declared.reach.SideFamily.TheVariants.{Margin, Padding, BorderWidth, BorderStyle, Inset}
 use Rattle.css_types.specs.declared.reach.AxisFamily.{AxisFamily}
 use Rattle.css_types.specs.declared.reach.AxisFamily.TheVariants.{Size, MinSize, MaxSize}
 use Rattle.css_types.specs.declared.reach.Axis as axis
@@ -38,6 +38,10 @@ one_physical_side BorderStyle Top = (_, refl)
 one_physical_side BorderStyle Right = (_, refl)
 one_physical_side BorderStyle Bottom = (_, refl)
 one_physical_side BorderStyle Left = (_, refl)
+one_physical_side Inset Top = (_, refl)
+one_physical_side Inset Right = (_, refl)
+one_physical_side Inset Bottom = (_, refl)
+one_physical_side Inset Left = (_, refl)
 
 pub one_physical_axis : (family : AxisFamily) (a : axis.Axis) → HasOne (PhysicalAxis family a)
 one_physical_axis Size Horizontal = (_, refl)
@@ -53,24 +57,28 @@ one_block_start Margin = (_, refl)
 one_block_start Padding = (_, refl)
 one_block_start BorderWidth = (_, refl)
 one_block_start BorderStyle = (_, refl)
+one_block_start Inset = (_, refl)
 
 one_block_end : (family : SideFamily) → HasOne (FlowSide family BlockEnd)
 one_block_end Margin = (_, refl)
 one_block_end Padding = (_, refl)
 one_block_end BorderWidth = (_, refl)
 one_block_end BorderStyle = (_, refl)
+one_block_end Inset = (_, refl)
 
 one_inline_start : (family : SideFamily) → HasOne (FlowSide family InlineStart)
 one_inline_start Margin = (_, refl)
 one_inline_start Padding = (_, refl)
 one_inline_start BorderWidth = (_, refl)
 one_inline_start BorderStyle = (_, refl)
+one_inline_start Inset = (_, refl)
 
 one_inline_end : (family : SideFamily) → HasOne (FlowSide family InlineEnd)
 one_inline_end Margin = (_, refl)
 one_inline_end Padding = (_, refl)
 one_inline_end BorderWidth = (_, refl)
 one_inline_end BorderStyle = (_, refl)
+one_inline_end Inset = (_, refl)
 
 pub each_side : (mode : WritingMode) (dir : Direction) (family : SideFamily) (s : side.Side)
     → (f : flow_side.FlowSide) × HasOne (FlowSide family f) × (on_page mode dir (FlowSide family f) ≡ PhysicalSide family s)

@@ -8,7 +8,7 @@ use Rattle.css_types.specs.declared.keyword.Keywords.{Keywords}
 use Rattle.css_types.specs.declared.keyword.Keywords.TheVariants as groups
 use Rattle.css_types.specs.declared.property.Property.{Property}
 use Rattle.css_types.specs.declared.property.Property.TheVariants as properties
-use Rattle.css_types.specs.declared.reach.SideFamily.TheVariants.{Margin, Padding, BorderWidth, BorderStyle}
+use Rattle.css_types.specs.declared.reach.SideFamily.TheVariants.{Margin, Padding, BorderWidth, BorderStyle, Inset}
 use Rattle.css_types.specs.declared.reach.AxisFamily.TheVariants.{Size, MinSize, MaxSize}
 use Rattle.css_types.specs.declared.reach.Axis.TheVariants.{Horizontal, Vertical}
 use Rattle.css_types.specs.declared.reach.FlowAxis.TheVariants.{Inline, Block}
@@ -95,7 +95,7 @@ of_margins_and_paddings : take 16 (drop 23 table) ≡
 of_margins_and_paddings = refl
 
 -- borders
-of_borders : drop 39 table ≡
+of_borders : take 16 (drop 39 table) ≡
     (row (codes "border-top-width") properties.BorderTopWidth groups.Nowhere ranges.NotNegative ranges.Nowhere more.Widths (values.Px (pos 300)) false (PhysicalSide BorderWidth Top)
     ∷ row (codes "border-right-width") properties.BorderRightWidth groups.Nowhere ranges.NotNegative ranges.Nowhere more.Widths (values.Px (pos 300)) false (PhysicalSide BorderWidth Right)
     ∷ row (codes "border-bottom-width") properties.BorderBottomWidth groups.Nowhere ranges.NotNegative ranges.Nowhere more.Widths (values.Px (pos 300)) false (PhysicalSide BorderWidth Bottom)
@@ -114,3 +114,17 @@ of_borders : drop 39 table ≡
     ∷ row (codes "border-inline-end-style") properties.BorderInlineEndStyle groups.Lines ranges.Nowhere ranges.Nowhere more.Nothing (values.Keyword words.None) false (FlowSide BorderStyle InlineEnd)
     ∷ [])
 of_borders = refl
+
+-- position and insets
+of_positions : drop 55 table ≡
+    (row (codes "position") properties.Position groups.Positions ranges.Nowhere ranges.Nowhere more.Nothing (values.Keyword words.Static) false Whole
+    ∷ row (codes "top") properties.InsetTop groups.Auto ranges.Anywhere ranges.Anywhere more.Nothing (values.Keyword words.Auto) false (PhysicalSide Inset Top)
+    ∷ row (codes "right") properties.InsetRight groups.Auto ranges.Anywhere ranges.Anywhere more.Nothing (values.Keyword words.Auto) false (PhysicalSide Inset Right)
+    ∷ row (codes "bottom") properties.InsetBottom groups.Auto ranges.Anywhere ranges.Anywhere more.Nothing (values.Keyword words.Auto) false (PhysicalSide Inset Bottom)
+    ∷ row (codes "left") properties.InsetLeft groups.Auto ranges.Anywhere ranges.Anywhere more.Nothing (values.Keyword words.Auto) false (PhysicalSide Inset Left)
+    ∷ row (codes "inset-block-start") properties.InsetBlockStart groups.Auto ranges.Anywhere ranges.Anywhere more.Nothing (values.Keyword words.Auto) false (FlowSide Inset BlockStart)
+    ∷ row (codes "inset-block-end") properties.InsetBlockEnd groups.Auto ranges.Anywhere ranges.Anywhere more.Nothing (values.Keyword words.Auto) false (FlowSide Inset BlockEnd)
+    ∷ row (codes "inset-inline-start") properties.InsetInlineStart groups.Auto ranges.Anywhere ranges.Anywhere more.Nothing (values.Keyword words.Auto) false (FlowSide Inset InlineStart)
+    ∷ row (codes "inset-inline-end") properties.InsetInlineEnd groups.Auto ranges.Anywhere ranges.Anywhere more.Nothing (values.Keyword words.Auto) false (FlowSide Inset InlineEnd)
+    ∷ [])
+of_positions = refl

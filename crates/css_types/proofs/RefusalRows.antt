@@ -12,7 +12,7 @@ all : map (λ row. (row.0.now, row.1, map (λ name. name.now) row.2.now)) REFUSA
     (row (codes "display") refused.Names (codes "list-item" ∷ codes "contents" ∷ codes "flex" ∷ codes "inline-flex" ∷ codes "grid" ∷ codes "inline-grid" ∷ codes "ruby" ∷ codes "run-in" ∷ codes "table" ∷ codes "inline-table" ∷ [])
     ∷ row (codes "display") refused.Beginning (codes "table-" ∷ [])
     ∷ row (codes "float") refused.Names (codes "left" ∷ codes "right" ∷ codes "inline-start" ∷ codes "inline-end" ∷ [])
-    ∷ row (codes "position") refused.Names (codes "absolute" ∷ codes "fixed" ∷ codes "sticky" ∷ codes "relative" ∷ [])
+    ∷ row (codes "position") refused.Names (codes "absolute" ∷ codes "fixed" ∷ codes "sticky" ∷ [])
     ∷ row (codes "overflow") refused.Names (codes "hidden" ∷ codes "scroll" ∷ codes "auto" ∷ codes "clip" ∷ [])
     ∷ row (codes "overflow-x") refused.Names (codes "hidden" ∷ codes "scroll" ∷ codes "auto" ∷ codes "clip" ∷ [])
     ∷ row (codes "overflow-y") refused.Names (codes "hidden" ∷ codes "scroll" ∷ codes "auto" ∷ codes "clip" ∷ [])
@@ -26,6 +26,5 @@ all : map (λ row. (row.0.now, row.1, map (λ name. name.now) row.2.now)) REFUSA
     ∷ row (codes "break-after") refused.AllBut (codes "auto" ∷ codes "avoid" ∷ [])
     ∷ row (codes "page-break-before") refused.AllBut (codes "auto" ∷ codes "avoid" ∷ [])
     ∷ row (codes "page-break-after") refused.AllBut (codes "auto" ∷ codes "avoid" ∷ [])
-    ∷ row (codes "text-combine-upright") refused.WithNumber (codes "digits" ∷ [])
     ∷ [])
 all = refl

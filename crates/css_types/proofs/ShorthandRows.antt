@@ -16,6 +16,9 @@ use Rattle.css_types.specs.declared.table.Values.{Values}
 abbrev of_margins : Values
 of_margins = record { keywords = groups.Auto; lengths = ranges.Anywhere; percentages = ranges.Anywhere; more = more.Nothing }
 
+abbrev of_insets : Values
+of_insets = record { keywords = groups.Auto; lengths = ranges.Anywhere; percentages = ranges.Anywhere; more = more.Nothing }
+
 abbrev of_paddings : Values
 of_paddings = record { keywords = groups.Nowhere; lengths = ranges.NotNegative; percentages = ranges.NotNegative; more = more.Nothing }
 
@@ -61,5 +64,8 @@ all : map (λ row. (row.0.now, row.1)) SHORTHANDS ≡
     ∷ border (codes "border-inline-end") (longhands.One properties.BorderInlineEndWidth) (longhands.One properties.BorderInlineEndStyle)
     ∷ border (codes "border-block") (ends properties.BorderBlockStartWidth properties.BorderBlockEndWidth) (ends properties.BorderBlockStartStyle properties.BorderBlockEndStyle)
     ∷ border (codes "border-inline") (ends properties.BorderInlineStartWidth properties.BorderInlineEndWidth) (ends properties.BorderInlineStartStyle properties.BorderInlineEndStyle)
+    ∷ round (codes "inset") of_insets (sides properties.InsetTop properties.InsetRight properties.InsetBottom properties.InsetLeft)
+    ∷ round (codes "inset-block") of_insets (ends properties.InsetBlockStart properties.InsetBlockEnd)
+    ∷ round (codes "inset-inline") of_insets (ends properties.InsetInlineStart properties.InsetInlineEnd)
     ∷ [])
 all = refl

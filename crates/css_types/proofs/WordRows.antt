@@ -51,6 +51,8 @@ words : spelled ≡
     ∷ row (codes "ridge") keywords.Ridge
     ∷ row (codes "inset") keywords.Inset
     ∷ row (codes "outset") keywords.Outset
+    ∷ row (codes "static") keywords.Static
+    ∷ row (codes "relative") keywords.Relative
     ∷ [])
 words = refl
 
@@ -92,6 +94,9 @@ of_no_limit = refl
 
 of_lines : words_of groups.Lines ≡ codes "none" ∷ codes "hidden" ∷ codes "dotted" ∷ codes "dashed" ∷ codes "solid" ∷ codes "double" ∷ codes "groove" ∷ codes "ridge" ∷ codes "inset" ∷ codes "outset" ∷ []
 of_lines = refl
+
+of_positions : words_of groups.Positions ≡ codes "static" ∷ codes "relative" ∷ []
+of_positions = refl
 
 abbrev width : List ℕ → ℤ → List ℕ × ℤ
 width name hundredths = (name, hundredths)

@@ -2,7 +2,7 @@
 use Rattle.std.specs.Prelude.{ℕ, List, [], map}
 use Rattle.css_types.specs.declared.keyword.Keywords.{Keywords}
 use Rattle.css_types.specs.declared.keyword.Keywords.TheVariants as groups
-use Rattle.css_types.specs.declared.keyword.TheConstants.{DISPLAYS, MODES, DIRECTIONS, ORIENTATIONS, COMBINES, BIDIS, NORMAL, ALIGNS, BASELINE, AUTO, NO_LIMIT, LINES}
+use Rattle.css_types.specs.declared.keyword.TheConstants.{DISPLAYS, MODES, DIRECTIONS, ORIENTATIONS, COMBINES, BIDIS, NORMAL, ALIGNS, BASELINE, AUTO, NO_LIMIT, LINES, POSITIONS}
 
 abbrev pub words_of : Keywords → List (List ℕ)
 words_of groups.Nowhere = []
@@ -18,3 +18,4 @@ words_of groups.Baseline = map (λ word. word.now) BASELINE
 words_of groups.Auto = map (λ word. word.now) AUTO
 words_of groups.NoLimit = map (λ word. word.now) NO_LIMIT
 words_of groups.Lines = map (λ word. word.now) LINES
+words_of groups.Positions = map (λ word. word.now) POSITIONS

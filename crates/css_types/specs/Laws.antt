@@ -8,7 +8,7 @@ use Rattle.wm_modes.specs.declared.sides.FlowSide as flow_side
 use Rattle.wm_modes.specs.declared.sides.FlowSide.TheVariants.{BlockStart, BlockEnd, InlineStart, InlineEnd, LineOver, LineUnder, LineLeft, LineRight}
 use Rattle.css_types.specs.declared.property.Property.{Property}
 use Rattle.css_types.specs.declared.reach.SideFamily.{SideFamily}
-use Rattle.css_types.specs.declared.reach.SideFamily.TheVariants.{Margin, Padding, BorderWidth, BorderStyle}
+use Rattle.css_types.specs.declared.reach.SideFamily.TheVariants.{Margin, Padding, BorderWidth, BorderStyle, Inset}
 use Rattle.css_types.specs.declared.reach.AxisFamily.{AxisFamily}
 use Rattle.css_types.specs.declared.reach.AxisFamily.TheVariants.{Size, MinSize, MaxSize}
 use Rattle.css_types.specs.declared.reach.Axis as axis
@@ -29,6 +29,7 @@ same_side_family Margin Margin = true
 same_side_family Padding Padding = true
 same_side_family BorderWidth BorderWidth = true
 same_side_family BorderStyle BorderStyle = true
+same_side_family Inset Inset = true
 same_side_family a b = false
 
 abbrev pub same_axis_family : AxisFamily → AxisFamily → Bool

@@ -7,7 +7,7 @@ use Rattle.wm_modes.specs.declared.sides.Side.TheVariants.{Top, Right, Bottom, L
 use Rattle.css_types.specs.declared.property.Property.{Property}
 use Rattle.css_types.specs.declared.property.Property.TheVariants as properties
 use Rattle.css_types.specs.declared.reach.SideFamily.{SideFamily}
-use Rattle.css_types.specs.declared.reach.SideFamily.TheVariants.{Margin, Padding, BorderWidth, BorderStyle}
+use Rattle.css_types.specs.declared.reach.SideFamily.TheVariants.{Margin, Padding, BorderWidth, BorderStyle, Inset}
 use Rattle.css_types.specs.declared.reach.AxisFamily.{AxisFamily}
 use Rattle.css_types.specs.declared.reach.AxisFamily.TheVariants.{Size, MinSize, MaxSize}
 use Rattle.css_types.specs.declared.reach.Axis as axis
@@ -54,6 +54,10 @@ side_property BorderStyle Top = properties.BorderTopStyle
 side_property BorderStyle Right = properties.BorderRightStyle
 side_property BorderStyle Bottom = properties.BorderBottomStyle
 side_property BorderStyle Left = properties.BorderLeftStyle
+side_property Inset Top = properties.InsetTop
+side_property Inset Right = properties.InsetRight
+side_property Inset Bottom = properties.InsetBottom
+side_property Inset Left = properties.InsetLeft
 
 abbrev pub axis_property : AxisFamily → axis.Axis → Property
 axis_property Size Horizontal = properties.Width

@@ -44,6 +44,8 @@ pub enum Keyword {
     Ridge,
     Inset,
     Outset,
+    Static,
+    Relative,
 }
 
 /// Keywords that are values of one property or of several.
@@ -62,6 +64,7 @@ pub enum Keywords {
     Auto,
     NoLimit,
     Lines,
+    Positions,
 }
 
 static DISPLAYS: [&str; 5] = ["block", "inline", "inline-block", "flow-root", "none"];
@@ -103,6 +106,8 @@ static LINES: [&str; 10] = [
     "none", "hidden", "dotted", "dashed", "solid", "double", "groove", "ridge", "inset", "outset",
 ];
 
+static POSITIONS: [&str; 2] = ["static", "relative"];
+
 impl Keywords {
     /// Which keywords these are, in lower case and in the order of the docs.
     pub fn words(self) -> &'static [&'static str]
@@ -122,6 +127,7 @@ impl Keywords {
             Keywords::Auto => &AUTO,
             Keywords::NoLimit => &NO_LIMIT,
             Keywords::Lines => &LINES,
+            Keywords::Positions => &POSITIONS,
         }
     }
 }
@@ -133,7 +139,7 @@ macro_rules! words {
 }
 
 /// Each keyword with its word in lower case.
-pub static WORDS: [(&str, Keyword); 38] = words! {
+pub static WORDS: [(&str, Keyword); 40] = words! {
     "block"             Block;
     "inline"            Inline;
     "inline-block"      InlineBlock;
@@ -172,6 +178,8 @@ pub static WORDS: [(&str, Keyword); 38] = words! {
     "ridge"             Ridge;
     "inset"             Inset;
     "outset"            Outset;
+    "static"            Static;
+    "relative"          Relative;
 };
 
 /// The names of border widths, in lower case, with their lengths in hundredths of a pixel (CSS 2, 8.5.1).

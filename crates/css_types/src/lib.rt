@@ -25,6 +25,7 @@ pub use refusal::{REFUSALS, Refused};
 pub use rule::{Joint, Part, Rule, Selector, Styled};
 pub use shorthand::{Longhands, SHORTHANDS, Shorthand};
 pub use table::{
-    LINES, MARGINS, More, PADDINGS, PROPERTIES, PROPERTY_COUNT, PropertyRow, Range, Values, WIDTHS,
+    INSETS, LINES, MARGINS, More, PADDINGS, PROPERTIES, PROPERTY_COUNT, PropertyRow, Range, Values,
+    WIDTHS,
 };
 pub use value::{Declaration, Value};

@@ -48,6 +48,10 @@ fn side_property(family: SideFamily, side: Side) -> Property
         (SideFamily::BorderStyle, Side::Right) => Property::BorderRightStyle,
         (SideFamily::BorderStyle, Side::Bottom) => Property::BorderBottomStyle,
         (SideFamily::BorderStyle, Side::Left) => Property::BorderLeftStyle,
+        (SideFamily::Inset, Side::Top) => Property::InsetTop,
+        (SideFamily::Inset, Side::Right) => Property::InsetRight,
+        (SideFamily::Inset, Side::Bottom) => Property::InsetBottom,
+        (SideFamily::Inset, Side::Left) => Property::InsetLeft,
     }
 }
 

@@ -65,6 +65,15 @@ pub enum Property {
     BorderBlockEndStyle,
     BorderInlineStartStyle,
     BorderInlineEndStyle,
+    Position,
+    InsetTop,
+    InsetRight,
+    InsetBottom,
+    InsetLeft,
+    InsetBlockStart,
+    InsetBlockEnd,
+    InsetInlineStart,
+    InsetInlineEnd,
 }
 
 impl Property {

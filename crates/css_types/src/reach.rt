@@ -13,6 +13,7 @@ pub enum SideFamily {
     Padding,
     BorderWidth,
     BorderStyle,
+    Inset,
 }
 
 /// Properties that mean the same of different axes of a box.

@@ -8,8 +8,6 @@ pub enum Refused {
     Names,
     /// Those whose first token is a name that begins so.
     Beginning,
-    /// Those that are this name, alone or with a number behind it.
-    WithNumber,
     /// Those that are none of these names.
     AllBut,
 }
@@ -21,11 +19,11 @@ macro_rules! refusals {
 }
 
 /// Each refusal once: the name of a property in lower case, the kind, and the names.
-pub static REFUSALS: [(&str, Refused, &[&str]); 18] = refusals! {
+pub static REFUSALS: [(&str, Refused, &[&str]); 17] = refusals! {
     "display"              Names     "list-item" "contents" "flex" "inline-flex" "grid" "inline-grid" "ruby" "run-in" "table" "inline-table";
     "display"              Beginning "table-";
     "float"                Names     "left" "right" "inline-start" "inline-end";
-    "position"             Names     "absolute" "fixed" "sticky" "relative";
+    "position"             Names     "absolute" "fixed" "sticky";
     "overflow"             Names     "hidden" "scroll" "auto" "clip";
     "overflow-x"           Names     "hidden" "scroll" "auto" "clip";
     "overflow-y"           Names     "hidden" "scroll" "auto" "clip";
@@ -39,5 +37,4 @@ pub static REFUSALS: [(&str, Refused, &[&str]); 18] = refusals! {
     "break-after"          AllBut    "auto" "avoid";
     "page-break-before"    AllBut    "auto" "avoid";
     "page-break-after"     AllBut    "auto" "avoid";
-    "text-combine-upright" WithNumber "digits";
 };

@@ -1,7 +1,7 @@
 //! The table of shorthands (docs/PROFILE/properties.md).
 
 use crate::property::Property;
-use crate::table::{LINES, MARGINS, PADDINGS, Values, WIDTHS};
+use crate::table::{INSETS, LINES, MARGINS, PADDINGS, Values, WIDTHS};
 
 /// Longhands that mean the same of different sides.
 #[derive(Clone, Copy, Debug, PartialEq, Eq)]
@@ -69,7 +69,7 @@ macro_rules! border {
 }
 
 /// Each shorthand once, with its name in lower case.
-pub static SHORTHANDS: [(&str, Shorthand); 23] = [
+pub static SHORTHANDS: [(&str, Shorthand); 26] = [
     (
         "margin",
         round!(MARGINS, Sides MarginTop MarginRight MarginBottom MarginLeft),
@@ -161,5 +161,17 @@ pub static SHORTHANDS: [(&str, Shorthand); 23] = [
     (
         "border-inline",
         border!(Ends BorderInlineStartWidth BorderInlineEndWidth, Ends BorderInlineStartStyle BorderInlineEndStyle),
+    ),
+    (
+        "inset",
+        round!(INSETS, Sides InsetTop InsetRight InsetBottom InsetLeft),
+    ),
+    (
+        "inset-block",
+        round!(INSETS, Ends InsetBlockStart InsetBlockEnd),
+    ),
+    (
+        "inset-inline",
+        round!(INSETS, Ends InsetInlineStart InsetInlineEnd),
     ),
 ];

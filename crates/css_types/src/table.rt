@@ -93,6 +93,10 @@ pub const PADDINGS: Values = values!(Nowhere NotNegative NotNegative Nothing);
 pub const WIDTHS: Values = values!(Nowhere NotNegative Nowhere Widths);
 /// The values of the border style of a side.
 pub const LINES: Values = values!(Lines Nowhere Nowhere Nothing);
+/// The values of the inset of a side.
+pub const INSETS: Values = values!(Auto Anywhere Anywhere Nothing);
+
+const POSITIONS: Values = values!(Positions Nowhere Nowhere Nothing);
 
 macro_rules! rows {
     ($($property:ident $name:literal $values:ident $initial:expr, $inherited:literal $reach:expr;)*) => {
@@ -110,7 +114,7 @@ macro_rules! rows {
 }
 
 /// How many longhands there are.
-pub const PROPERTY_COUNT: usize = 55;
+pub const PROPERTY_COUNT: usize = 64;
 
 /// Each longhand with its name in lower case, in the order of the table of the docs.
 ///
@@ -172,4 +176,13 @@ pub static PROPERTIES: [(&str, PropertyRow); PROPERTY_COUNT] = rows! {
     BorderBlockEndStyle    "border-block-end-style"    LINES        Value::Keyword(Keyword::None),         false Reach::FlowSide(SideFamily::BorderStyle, FlowSide::BlockEnd);
     BorderInlineStartStyle "border-inline-start-style" LINES        Value::Keyword(Keyword::None),         false Reach::FlowSide(SideFamily::BorderStyle, FlowSide::InlineStart);
     BorderInlineEndStyle   "border-inline-end-style"   LINES        Value::Keyword(Keyword::None),         false Reach::FlowSide(SideFamily::BorderStyle, FlowSide::InlineEnd);
+    Position               "position"                  POSITIONS    Value::Keyword(Keyword::Static),       false Reach::Whole;
+    InsetTop               "top"                       INSETS       Value::Keyword(Keyword::Auto),         false Reach::PhysicalSide(SideFamily::Inset, Side::Top);
+    InsetRight             "right"                     INSETS       Value::Keyword(Keyword::Auto),         false Reach::PhysicalSide(SideFamily::Inset, Side::Right);
+    InsetBottom            "bottom"                    INSETS       Value::Keyword(Keyword::Auto),         false Reach::PhysicalSide(SideFamily::Inset, Side::Bottom);
+    InsetLeft              "left"                      INSETS       Value::Keyword(Keyword::Auto),         false Reach::PhysicalSide(SideFamily::Inset, Side::Left);
+    InsetBlockStart        "inset-block-start"         INSETS       Value::Keyword(Keyword::Auto),         false Reach::FlowSide(SideFamily::Inset, FlowSide::BlockStart);
+    InsetBlockEnd          "inset-block-end"           INSETS       Value::Keyword(Keyword::Auto),         false Reach::FlowSide(SideFamily::Inset, FlowSide::BlockEnd);
+    InsetInlineStart       "inset-inline-start"        INSETS       Value::Keyword(Keyword::Auto),         false Reach::FlowSide(SideFamily::Inset, FlowSide::InlineStart);
+    InsetInlineEnd         "inset-inline-end"          INSETS       Value::Keyword(Keyword::Auto),         false Reach::FlowSide(SideFamily::Inset, FlowSide::InlineEnd);
 };

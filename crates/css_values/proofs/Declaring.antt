@@ -13,7 +13,7 @@ use Rattle.css_types.specs.declared.shorthand.Longhands.TheVariants.{One, Ends, 
 use Rattle.css_types.specs.declared.shorthand.Shorthand.{Shorthand}
 use Rattle.css_types.specs.declared.shorthand.Shorthand.TheVariants.{Round, Border}
 use Rattle.css_types.specs.declared.table.PropertyRow.{PropertyRow}
-use Rattle.css_types.specs.declared.table.TheConstants.{LINES, MARGINS, PADDINGS, WIDTHS}
+use Rattle.css_types.specs.declared.table.TheConstants.{INSETS, LINES, MARGINS, PADDINGS, WIDTHS}
 use Rattle.css_types.specs.declared.table.Values.{Values}
 use Rattle.css_types.specs.declared.value.Value.{Value}
 use Rattle.css_types.specs.declared.value.Value.TheVariants as values
@@ -160,7 +160,19 @@ shorthands_fit = All-from_recursion (λ (row : List ℕ × Shorthand). IsFitting
                                               (
                                                 (two WIDTHS (fit WIDTHS longhands.BorderBlockStartWidth 43 (refl, refl)) (fit WIDTHS longhands.BorderBlockEndWidth 44 (refl, refl)), two LINES (fit LINES longhands.BorderBlockStartStyle 51 (refl, refl)) (fit LINES longhands.BorderBlockEndStyle 52 (refl, refl))),
                                                 -- border-inline
-                                                ((two WIDTHS (fit WIDTHS longhands.BorderInlineStartWidth 45 (refl, refl)) (fit WIDTHS longhands.BorderInlineEndWidth 46 (refl, refl)), two LINES (fit LINES longhands.BorderInlineStartStyle 53 (refl, refl)) (fit LINES longhands.BorderInlineEndStyle 54 (refl, refl))), tt),
+                                                (
+                                                  (two WIDTHS (fit WIDTHS longhands.BorderInlineStartWidth 45 (refl, refl)) (fit WIDTHS longhands.BorderInlineEndWidth 46 (refl, refl)), two LINES (fit LINES longhands.BorderInlineStartStyle 53 (refl, refl)) (fit LINES longhands.BorderInlineEndStyle 54 (refl, refl))),
+                                                  -- inset
+                                                  (
+                                                    four INSETS (fit INSETS longhands.InsetTop 56 (refl, refl)) (fit INSETS longhands.InsetRight 57 (refl, refl)) (fit INSETS longhands.InsetBottom 58 (refl, refl)) (fit INSETS longhands.InsetLeft 59 (refl, refl)),
+                                                    -- inset-block
+                                                    (
+                                                      two INSETS (fit INSETS longhands.InsetBlockStart 60 (refl, refl)) (fit INSETS longhands.InsetBlockEnd 61 (refl, refl)),
+                                                      -- inset-inline
+                                                      (two INSETS (fit INSETS longhands.InsetInlineStart 62 (refl, refl)) (fit INSETS longhands.InsetInlineEnd 63 (refl, refl)), tt),
+                                                    ),
+                                                  ),
+                                                ),
                                               ),
                                             ),
                                           ),

@@ -1,5 +1,5 @@
 -- Some texts of style attributes, read by computation. The first number is the place of their end.
-use Rattle.std.specs.Prelude.{◌≡◌, true, false, pos, [], ◌∷◌, codes, Ok, Err, refl}
+use Rattle.std.specs.Prelude.{◌≡◌, true, false, negsuc, pos, [], ◌∷◌, codes, Ok, Err, refl}
 use Rattle.reading.specs.Readers.{strip, starts, one_of, run_of, skip, until, up_to, after, joined, turns, repeat, many, strip_either_case}
 use Rattle.reading.specs.White.{white, spaces}
 use Rattle.css_tokens.specs.Lexing.{comment, gap, name_ahead, name, hash_ahead, hash, string_piece, string, numeric, named, sign_token, token}
@@ -80,3 +80,47 @@ all_tables = refl
 not_inherited : declarations within_.Attribute 13 (codes "width:inherit") ≡ Err (kinds.Unsupported, codes "width:inherit")
 unfolding strip starts one_of run_of skip until up_to after joined turns repeat many comment gap name_ahead name hash_ahead hash string_piece string numeric named sign_token token sign point number_ahead decimals number is_refused is_unsupported meaning expanded properties shorthands keywords widths refusals colours resets single face_number entries first_face family longhand pieces each shorthand value ends_important property_name stated declaration declarations white spaces strip_either_case
 not_inherited = refl
+
+insets : declarations within_.Attribute 17 (codes "inset:1px 2px 3px") ≡ Ok (record { property = longhands.InsetTop; value = values.Px (pos 100); important = false; place = 0 } ∷ record { property = longhands.InsetRight; value = values.Px (pos 200); important = false; place = 0 } ∷ record { property = longhands.InsetBottom; value = values.Px (pos 300); important = false; place = 0 } ∷ record { property = longhands.InsetLeft; value = values.Px (pos 200); important = false; place = 0 } ∷ [], [])
+unfolding strip starts one_of run_of skip until up_to after joined turns repeat many comment gap name_ahead name hash_ahead hash string_piece string numeric named sign_token token sign point number_ahead decimals number is_refused is_unsupported meaning expanded properties shorthands keywords widths refusals colours resets single face_number entries first_face family longhand pieces each shorthand value ends_important property_name stated declaration declarations white spaces strip_either_case
+insets = refl
+
+insets_of_the_flow : declarations within_.Attribute 21 (codes "inset-inline:auto -5%") ≡ Ok (record { property = longhands.InsetInlineStart; value = values.Keyword words.Auto; important = false; place = 0 } ∷ record { property = longhands.InsetInlineEnd; value = values.Percent (negsuc 499); important = false; place = 0 } ∷ [], [])
+unfolding strip starts one_of run_of skip until up_to after joined turns repeat many comment gap name_ahead name hash_ahead hash string_piece string numeric named sign_token token sign point number_ahead decimals number is_refused is_unsupported meaning expanded properties shorthands keywords widths refusals colours resets single face_number entries first_face family longhand pieces each shorthand value ends_important property_name stated declaration declarations white spaces strip_either_case
+insets_of_the_flow = refl
+
+an_inset_is_not_inherited : declarations within_.Attribute 11 (codes "top:inherit") ≡ Err (kinds.Unsupported, codes "top:inherit")
+unfolding strip starts one_of run_of skip until up_to after joined turns repeat many comment gap name_ahead name hash_ahead hash string_piece string numeric named sign_token token sign point number_ahead decimals number is_refused is_unsupported meaning expanded properties shorthands keywords widths refusals colours resets single face_number entries first_face family longhand pieces each shorthand value ends_important property_name stated declaration declarations white spaces strip_either_case
+an_inset_is_not_inherited = refl
+
+positions : declarations within_.Attribute 33 (codes "position:relative;position:center") ≡ Ok (record { property = longhands.Position; value = values.Keyword words.Relative; important = false; place = 0 } ∷ [], [])
+unfolding strip starts one_of run_of skip until up_to after joined turns repeat many comment gap name_ahead name hash_ahead hash string_piece string numeric named sign_token token sign point number_ahead decimals number is_refused is_unsupported meaning expanded properties shorthands keywords widths refusals colours resets single face_number entries first_face family longhand pieces each shorthand value ends_important property_name stated declaration declarations white spaces strip_either_case
+positions = refl
+
+a_position_that_is_refused : declarations within_.Attribute 17 (codes "position:absolute") ≡ Err (kinds.Unsupported, codes "position:absolute")
+unfolding strip starts one_of run_of skip until up_to after joined turns repeat many comment gap name_ahead name hash_ahead hash string_piece string numeric named sign_token token sign point number_ahead decimals number is_refused is_unsupported meaning expanded properties shorthands keywords widths refusals colours resets single face_number entries first_face family longhand pieces each shorthand value ends_important property_name stated declaration declarations white spaces strip_either_case
+a_position_that_is_refused = refl
+
+digits : declarations within_.Attribute 58 (codes "text-combine-upright:digits;text-combine-upright:DIGITS +4") ≡ Ok (record { property = longhands.TextCombineUpright; value = values.Digits 2; important = false; place = 0 } ∷ record { property = longhands.TextCombineUpright; value = values.Digits 4; important = false; place = 28 } ∷ [], [])
+unfolding strip starts one_of run_of skip until up_to after joined turns repeat many comment gap name_ahead name hash_ahead hash string_piece string numeric named sign_token token sign point number_ahead decimals number is_refused is_unsupported meaning expanded properties shorthands keywords widths refusals colours resets single face_number entries first_face family longhand pieces each shorthand value ends_important property_name stated declaration declarations white spaces strip_either_case
+digits = refl
+
+too_many_digits : declarations within_.Attribute 29 (codes "text-combine-upright:digits 5") ≡ Ok ([], [])
+unfolding strip starts one_of run_of skip until up_to after joined turns repeat many comment gap name_ahead name hash_ahead hash string_piece string numeric named sign_token token sign point number_ahead decimals number is_refused is_unsupported meaning expanded properties shorthands keywords widths refusals colours resets single face_number entries first_face family longhand pieces each shorthand value ends_important property_name stated declaration declarations white spaces strip_either_case
+too_many_digits = refl
+
+too_few_digits : declarations within_.Attribute 29 (codes "text-combine-upright:digits 0") ≡ Ok ([], [])
+unfolding strip starts one_of run_of skip until up_to after joined turns repeat many comment gap name_ahead name hash_ahead hash string_piece string numeric named sign_token token sign point number_ahead decimals number is_refused is_unsupported meaning expanded properties shorthands keywords widths refusals colours resets single face_number entries first_face family longhand pieces each shorthand value ends_important property_name stated declaration declarations white spaces strip_either_case
+too_few_digits = refl
+
+a_half_digit : declarations within_.Attribute 31 (codes "text-combine-upright:digits 2.5") ≡ Ok ([], [])
+unfolding strip starts one_of run_of skip until up_to after joined turns repeat many comment gap name_ahead name hash_ahead hash string_piece string numeric named sign_token token sign point number_ahead decimals number is_refused is_unsupported meaning expanded properties shorthands keywords widths refusals colours resets single face_number entries first_face family longhand pieces each shorthand value ends_important property_name stated declaration declarations white spaces strip_either_case
+a_half_digit = refl
+
+digits_below_zero : declarations within_.Attribute 30 (codes "text-combine-upright:digits -2") ≡ Ok ([], [])
+unfolding strip starts one_of run_of skip until up_to after joined turns repeat many comment gap name_ahead name hash_ahead hash string_piece string numeric named sign_token token sign point number_ahead decimals number is_refused is_unsupported meaning expanded properties shorthands keywords widths refusals colours resets single face_number entries first_face family longhand pieces each shorthand value ends_important property_name stated declaration declarations white spaces strip_either_case
+digits_below_zero = refl
+
+digits_twice : declarations within_.Attribute 31 (codes "text-combine-upright:digits 2 3") ≡ Ok ([], [])
+unfolding strip starts one_of run_of skip until up_to after joined turns repeat many comment gap name_ahead name hash_ahead hash string_piece string numeric named sign_token token sign point number_ahead decimals number is_refused is_unsupported meaning expanded properties shorthands keywords widths refusals colours resets single face_number entries first_face family longhand pieces each shorthand value ends_important property_name stated declaration declarations white spaces strip_either_case
+digits_twice = refl

@@ -1,6 +1,6 @@
 -- Values: what is read for a property is a value of it.
-use Rattle.std.proofs.Common.{◌≡◌, inl, inr, ℕ, ◌≤◌, ◌-◌, Bool, true, false, cond, ℤ, pos, List, [], ◌∷◌, codes, Some, None, refl, sym, ap, subst, ◌∙◌, arith}
-use Rattle.std.specs.Prelude.{⊤, T, ◌&&◌, ◌||◌, ◌≤ℤ◌, int_le, nat_le, find, bytes_eq, Option, option_map, Ok, Err}
+use Rattle.std.proofs.Common.{◌≡◌, inl, inr, ℕ, ◌≤◌, ◌-◌, Bool, true, false, cond, ℤ, pos, negsuc, List, [], ◌∷◌, codes, Some, None, refl, sym, ap, subst, ◌∙◌, arith}
+use Rattle.std.specs.Prelude.{⊤, T, ◌&&◌, ◌||◌, ◌==◌, ◌≤ℤ◌, int_le, nat_le, find, bytes_eq, Option, option_map, Ok, Err}
 use Rattle.std.specs.Int.Signed.{le_z_yes}
 use Rattle.std.specs.List.{All, Contains, list_all}
 use Rattle.std.proofs.lemmas.Bool.{and_parts}
@@ -10,7 +10,7 @@ use Rattle.basic_laws.proofs.Lists.{contains_first, contains_other}
 use Rattle.reading.specs.Readers.{Read, strip_either_case}
 use Rattle.reading.specs.Names.{lowered, named}
 use Rattle.css_types.specs.Keywords.{words_of}
-use Rattle.css_types.specs.Value.{HasSayable, IsAmong, IsFace, IsIn, IsNamedWidth, IsNumber, IsOfGroup, IsValueBy, spelled}
+use Rattle.css_types.specs.Value.{HasSayable, IsAmong, IsDigits, IsFace, IsIn, IsNamedWidth, IsNumber, IsOfGroup, IsValueBy, spelled}
 use Rattle.wm_units.specs.Numbers.{IsSayable}
 use Rattle.css_types.specs.declared.keyword.Keyword as keyword
 use Rattle.css_types.specs.declared.keyword.Keywords.{Keywords}
@@ -25,7 +25,7 @@ use Rattle.css_types.specs.declared.value.Value.{Value}
 use Rattle.css_types.specs.declared.value.Value.TheVariants as values
 use Rattle.css_tokens.specs.Tokens as tokens
 use Rattle.css_tokens.specs.Tokens.{Lexeme}
-use Rattle.css_values.specs.Longhand.{digit_behind, entries, face_digit, face_number, family, first_face, in_range, is_name, is_one_of, is_word, is_zero, keyword_of, length_in, longhand, number_or, number_value, one_token, or_else, single, value_by, width_named}
+use Rattle.css_values.specs.Longhand.{digit_behind, digits, entries, face_digit, face_number, family, first_face, in_range, is_name, is_one_of, is_word, is_zero, keyword_of, length_in, longhand, most_digits, number_or, number_value, one_token, or_else, single, value_by, width_named}
 use Rattle.css_values.specs.Tables.{keywords, widths}
 use Rattle.css_values.proofs.Sayable.{AreSaid, IsSaid}
 
@@ -121,6 +121,7 @@ groups_are_small groups.Baseline = refl
 groups_are_small groups.Auto = refl
 groups_are_small groups.NoLimit = refl
 groups_are_small groups.Lines = refl
+groups_are_small groups.Positions = refl
 
 keywords_are_small : list_all (λ (row : List ℕ × keyword.Keyword). is_small row.0) keywords ≡ true
 unfolding is_small keywords
@@ -284,6 +285,56 @@ family_is_taken : (v : Values) (lexemes : List Lexeme) (value : Value) → v.mor
 unfolding family
 family_is_taken v lexemes value m e = family_by v value (entries lexemes) m e
 
+-- ---- digits
+
+most_by : (v : Values) (value : Value) (two three four : Bool) → v.more ≡ more.Digits
+    → cond two (Some (values.Digits 2)) (cond three (Some (values.Digits 3)) (cond four (Some (values.Digits 4)) None)) ≡ Some value → IsTaken v value
+most_by v value true three four m e =
+    let same : values.Digits 2 ≡ value = cc in
+    subst (λ (z : Value). IsTaken v z) same (subst (λ (k : More). IsDigits k 2) (sym m) (omega arith, omega arith), tt)
+most_by v value false true four m e =
+    let same : values.Digits 3 ≡ value = cc in
+    subst (λ (z : Value). IsTaken v z) same (subst (λ (k : More). IsDigits k 3) (sym m) (omega arith, omega arith), tt)
+most_by v value false false true m e =
+    let same : values.Digits 4 ≡ value = cc in
+    subst (λ (z : Value). IsTaken v z) same (subst (λ (k : More). IsDigits k 4) (sym m) (omega arith, omega arith), tt)
+most_by v value false false false m e = absurd cc
+
+most_is : (v : Values) (hundredths : ℤ) (value : Value) → v.more ≡ more.Digits → most_digits hundredths ≡ Some value → IsTaken v value
+most_is v (pos n) value m e = most_by v value (n == 200) (n == 300) (n == 400) m e
+most_is v (negsuc n) value m e = absurd cc
+
+counted_by : (v : Values) (hundredths : ℤ) (value : Value) (t : Bool) → v.more ≡ more.Digits → cond t (most_digits hundredths) None ≡ Some value → IsTaken v value
+counted_by v hundredths value true m e = most_is v hundredths value m e
+counted_by v hundredths value false m e = absurd cc
+
+two_by : (v : Values) (value : Value) (t : Bool) → v.more ≡ more.Digits → cond t (Some (values.Digits 2)) None ≡ Some value → IsTaken v value
+two_by v value t m e = most_by v value t false false m e
+
+digits_are : (v : Values) (lexemes : List Lexeme) (value : Value) → v.more ≡ more.Digits → digits lexemes ≡ Some value → IsTaken v value
+digits_are v (tokens.name n ∷ []) value m e = two_by v value (is_word (codes "digits") n) m e
+digits_are v (tokens.name n ∷ tokens.number count ∷ []) value m e = counted_by v count value (is_word (codes "digits") n) m e
+digits_are v [] value m e = absurd cc
+digits_are v (tokens.number a ∷ rest) value m e = absurd cc
+digits_are v (tokens.dimension a unit ∷ rest) value m e = absurd cc
+digits_are v (tokens.percentage a ∷ rest) value m e = absurd cc
+digits_are v (tokens.function a ∷ rest) value m e = absurd cc
+digits_are v (tokens.quoted inside ∷ rest) value m e = absurd cc
+digits_are v (tokens.hash word ∷ rest) value m e = absurd cc
+digits_are v (tokens.round ∷ rest) value m e = absurd cc
+digits_are v (tokens.square ∷ rest) value m e = absurd cc
+digits_are v (tokens.sign byte ∷ rest) value m e = absurd cc
+digits_are v (tokens.name n ∷ tokens.name a ∷ rest) value m e = absurd cc
+digits_are v (tokens.name n ∷ tokens.dimension a unit ∷ rest) value m e = absurd cc
+digits_are v (tokens.name n ∷ tokens.percentage a ∷ rest) value m e = absurd cc
+digits_are v (tokens.name n ∷ tokens.function a ∷ rest) value m e = absurd cc
+digits_are v (tokens.name n ∷ tokens.quoted inside ∷ rest) value m e = absurd cc
+digits_are v (tokens.name n ∷ tokens.hash word ∷ rest) value m e = absurd cc
+digits_are v (tokens.name n ∷ tokens.round ∷ rest) value m e = absurd cc
+digits_are v (tokens.name n ∷ tokens.square ∷ rest) value m e = absurd cc
+digits_are v (tokens.name n ∷ tokens.sign byte ∷ rest) value m e = absurd cc
+digits_are v (tokens.name n ∷ tokens.number count ∷ another ∷ rest) value m e = absurd cc
+
 -- ---- the whole value
 
 one_is : (v : Values) (lexemes : List Lexeme) (value : Value) → AreSaid lexemes → one_token v lexemes ≡ Some value → IsTaken v value
@@ -291,11 +342,16 @@ one_is v [] value said e = absurd cc
 one_is v (lexeme ∷ []) value said e = single_is_taken v lexeme value (All-head IsSaid lexeme [] said) e
 one_is v (lexeme ∷ other ∷ others) value said e = absurd cc
 
+or_digits_is : (v : Values) (lexemes : List Lexeme) (value : Value) (found : Option Value) → v.more ≡ more.Digits → AreSaid lexemes → one_token v lexemes ≡ found
+    → or_else found (digits lexemes) ≡ Some value → IsTaken v value
+or_digits_is v lexemes value (Some one) m said is e = one_is v lexemes value said (is ∙ e)
+or_digits_is v lexemes value None m said is e = digits_are v lexemes value m e
+
 value_is : (v : Values) (lexemes : List Lexeme) (value : Value) (m : More) → v.more ≡ m → AreSaid lexemes → value_by m v lexemes ≡ Some value → IsTaken v value
 value_is v lexemes value more.Faces m said e = family_is_taken v lexemes value m e
 value_is v lexemes value more.Nothing m said e = one_is v lexemes value said e
 value_is v lexemes value more.Numbers m said e = one_is v lexemes value said e
-value_is v lexemes value more.Digits m said e = one_is v lexemes value said e
+value_is v lexemes value more.Digits m said e = or_digits_is v lexemes value (one_token v lexemes) m said refl e
 value_is v lexemes value more.Widths m said e = one_is v lexemes value said e
 
 pub among_is : (row : PropertyRow) (value : Value) → IsAmong row.values value → IsValueBy row value

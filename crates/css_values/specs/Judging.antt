@@ -43,16 +43,10 @@ begins_with fronts (tokens.name n ∷ others) = begins_so fronts n
 begins_with fronts (tokens.function n ∷ others) = begins_so fronts n
 begins_with fronts lexemes = false
 
--- one of the names, alone or with a number behind it
-abbrev pub is_counted : List (List ℕ) → List Lexeme → Bool
-is_counted names (tokens.name n ∷ tokens.number count ∷ []) = is_one_of names n
-is_counted names lexemes = is_name (is_one_of names) lexemes
-
 abbrev pub refuses : Refused → (names : List (List ℕ)) → List Lexeme → Bool
 refuses kinds.Names names lexemes = is_name (is_one_of names) lexemes
 refuses kinds.AllBut names lexemes = not (is_name (is_one_of names) lexemes)
 refuses kinds.Beginning names lexemes = begins_with names lexemes
-refuses kinds.WithNumber names lexemes = is_counted names lexemes
 
 abbrev pub are_refused : List Refusing → (name : List ℕ) → List Lexeme → Bool
 are_refused rows name lexemes = list_any (λ row. is_word row.property name && refuses row.which row.names lexemes) rows

@@ -111,6 +111,19 @@ first_face (text ∷ texts) = number_or (face_number text) (first_face texts)
 unfoldable pub family : List Lexeme → Option Value
 family lexemes = option_map (λ texts. values.Face (first_face texts)) (entries lexemes)
 
+-- ---- digits (CSS Writing Modes 4, 9.1)
+
+-- the greatest count of digits that are combined, in hundredths: 2, 3 or 4
+abbrev pub most_digits : (hundredths : ℤ) → Option Value
+most_digits (pos n) = if n == 200 then Some (values.Digits 2) else if n == 300 then Some (values.Digits 3) else if n == 400 then Some (values.Digits 4) else None
+most_digits n = None
+
+-- `digits`, alone for two or with a number behind it
+abbrev pub digits : List Lexeme → Option Value
+digits (tokens.name n ∷ []) = if is_word (codes "digits") n then Some (values.Digits 2) else None
+digits (tokens.name n ∷ tokens.number count ∷ []) = if is_word (codes "digits") n then most_digits count else None
+digits lexemes = None
+
 -- ---- the whole value
 
 abbrev pub one_token : Values → List Lexeme → Option Value
@@ -119,6 +132,7 @@ one_token v lexemes = None
 
 abbrev pub value_by : More → Values → List Lexeme → Option Value
 value_by more.Faces v lexemes = family lexemes
+value_by more.Digits v lexemes = or_else (one_token v lexemes) (digits lexemes)
 value_by other v lexemes = one_token v lexemes
 
 unfoldable pub longhand : PropertyRow → List Lexeme → Option Value

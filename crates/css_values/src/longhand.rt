@@ -28,9 +28,52 @@ pub(crate) fn longhand(row: PropertyRow, tokens: &[Token<'_>]) -> Option<Value>
 fn value_of(values: Values, tokens: &[Token<'_>]) -> Option<Value>
     ensures { result ≡ definitions.value_by values.more values (lexemes_of tokens.now) }
 {
-    match (values.more, tokens) {
-        (More::Faces, _) => family(tokens),
-        (_, [token]) => single(values, *token),
+    match values.more {
+        More::Faces => family(tokens),
+        More::Digits => or_digits(one_token(values, tokens), tokens),
+        More::Nothing | More::Numbers | More::Widths => one_token(values, tokens),
+    }
+}
+
+fn one_token(values: Values, tokens: &[Token<'_>]) -> Option<Value>
+    ensures { result ≡ definitions.one_token values (lexemes_of tokens.now) }
+{
+    match tokens {
+        [token] => single(values, *token),
+        _ => None,
+    }
+}
+
+fn or_digits(value: Option<Value>, tokens: &[Token<'_>]) -> Option<Value>
+    ensures { result ≡ definitions.or_else value (definitions.digits (lexemes_of tokens.now)) }
+{
+    match value {
+        Some(value) => Some(value),
+        None => digits(tokens),
+    }
+}
+
+// `digits`, alone for two or with a number behind it.
+fn digits(tokens: &[Token<'_>]) -> Option<Value>
+    ensures { result ≡ definitions.digits (lexemes_of tokens.now) }
+{
+    match tokens {
+        [Token::Name(name)] if same_name("digits", name) => Some(Value::Digits(2)),
+        [Token::Name(name), Token::Number(count)] if same_name("digits", name) => most_digits(
+            *count,
+        ),
+        _ => None,
+    }
+}
+
+// The greatest count of digits that are combined: 2, 3 or 4.
+fn most_digits(hundredths: i64) -> Option<Value>
+    ensures { result ≡ definitions.most_digits hundredths }
+{
+    match hundredths {
+        200 => Some(Value::Digits(2)),
+        300 => Some(Value::Digits(3)),
+        400 => Some(Value::Digits(4)),
         _ => None,
     }
 }

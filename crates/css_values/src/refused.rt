@@ -6,7 +6,7 @@ ghost use Rattle.css_values.specs.Views.{lexemes_of, refusings_of, texts_of};
 
 use crate::judging::Meaning;
 use crate::names::RESETS;
-use crate::words::{begins_so, is_one_alone, is_one_of, is_word_alone};
+use crate::words::{begins_so, is_one_alone, is_word_alone};
 use css_tokens::Token;
 use css_types::{REFUSALS, Refused};
 use reading::{same_name, starts};
@@ -62,7 +62,6 @@ fn refuses(which: Refused, names: &[&str], tokens: &[Token<'_>]) -> bool
         Refused::Names => is_one_alone(names, tokens),
         Refused::AllBut => !is_one_alone(names, tokens),
         Refused::Beginning => begins_with(names, tokens),
-        Refused::WithNumber => is_counted(names, tokens),
     }
 }
 
@@ -72,16 +71,6 @@ fn begins_with(fronts: &[&str], tokens: &[Token<'_>]) -> bool
 {
     match tokens {
         [Token::Name(name) | Token::Function(name), ..] => begins_so(fronts, *name),
-        _ => false,
-    }
-}
-
-// One of the names, alone or with a number behind it.
-fn is_counted(names: &[&str], tokens: &[Token<'_>]) -> bool
-    ensures { result ≡ definitions.is_counted (texts_of names.now) (lexemes_of tokens.now) }
-{
-    match tokens {
-        [Token::Name(name)] | [Token::Name(name), Token::Number(_)] => is_one_of(names, *name),
         _ => false,
     }
 }

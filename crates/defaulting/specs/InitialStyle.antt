@@ -6,7 +6,7 @@ use Rattle.css_types.specs.declared.value.Value.{Value}
 use Rattle.css_types.specs.declared.value.Value.TheVariants.{Face}
 use Rattle.style_types.specs.declared.style.Style.{Style}
 use Rattle.css_types.specs.Table.{HasInitial}
-use Rattle.defaulting.specs.SimpleValues.{align_of, bidi_of, border_of, combine_of, direction_of, display_of, length_of, line_height_of, mode_of, orientation_of, size_of}
+use Rattle.defaulting.specs.SimpleValues.{align_of, bidi_of, border_of, combine_of, direction_of, display_of, length_of, line_height_of, mode_of, orientation_of, relative_of, size_of}
 
 -- x is computed so from the initial value of the property
 abbrev pub FromInitial : {T : Type 0} → Property → (Value → Option T) → T → Type 0
@@ -46,3 +46,8 @@ pub record IsInitial (style : Style) : Type 0 where
   pub border_right : BorderFromInitial properties.BorderRightStyle properties.BorderRightWidth style.border.right
   pub border_bottom : BorderFromInitial properties.BorderBottomStyle properties.BorderBottomWidth style.border.bottom
   pub border_left : BorderFromInitial properties.BorderLeftStyle properties.BorderLeftWidth style.border.left
+  pub relative : FromInitial properties.Position relative_of style.relative
+  pub inset_top : FromInitial properties.InsetTop size_of style.insets.top
+  pub inset_right : FromInitial properties.InsetRight size_of style.insets.right
+  pub inset_bottom : FromInitial properties.InsetBottom size_of style.insets.bottom
+  pub inset_left : FromInitial properties.InsetLeft size_of style.insets.left

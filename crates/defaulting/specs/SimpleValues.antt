@@ -1,5 +1,5 @@
 -- What values that need no other one compute to, where they are values of the property. Lengths in units.
-use Rattle.std.specs.Prelude.{ℤ, pos, Option, Some, None}
+use Rattle.std.specs.Prelude.{Bool, true, false, ℤ, pos, Option, Some, None}
 use Rattle.wm_units.specs.Numbers.{fixed}
 use Rattle.wm_modes.specs.declared.mode.WritingMode.{WritingMode}
 use Rattle.wm_modes.specs.declared.mode.WritingMode.TheVariants as modes
@@ -90,7 +90,14 @@ length_of (Px hundredths) = Some (fixed hundredths)
 length_of (Keyword keywords.Baseline) = Some (pos 0)
 length_of value = None
 
--- a size, margin or padding; a maximum of none is Auto (CSS 2, 8.3, 8.4, 10.2 and 10.4)
+-- whether a box is relatively positioned (CSS Positioned Layout 3, 2)
+abbrev pub relative_of : Value → Option Bool
+relative_of (Keyword keywords.Static) = Some false
+relative_of (Keyword keywords.Relative) = Some true
+relative_of value = None
+
+-- a size, margin, padding or inset; a maximum of none is Auto (CSS 2, 8.3, 8.4, 10.2 and 10.4; CSS Positioned Layout 3,
+-- 3.1)
 abbrev pub size_of : Value → Option Size
 size_of (Keyword keywords.Auto) = Some sizes.Auto
 size_of (Keyword keywords.None) = Some sizes.Auto

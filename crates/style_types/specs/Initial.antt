@@ -1,5 +1,5 @@
 -- The initial style. CSS 2, 6.1.1.
-use Rattle.std.specs.Prelude.{pos}
+use Rattle.std.specs.Prelude.{false, pos}
 use Rattle.wm_modes.specs.declared.mode.WritingMode.TheVariants as modes
 use Rattle.wm_modes.specs.declared.mode.Direction.TheVariants as directions
 use Rattle.style_types.specs.declared.style.SideSizes.{SideSizes}
@@ -39,4 +39,6 @@ initial = record {
   margin = on_sides (sizes.Length (pos 0));
   padding = on_sides (sizes.Length (pos 0));
   border = record { top = pos 0; right = pos 0; bottom = pos 0; left = pos 0 };
+  relative = false;
+  insets = record { top = sizes.Auto; right = sizes.Auto; bottom = sizes.Auto; left = sizes.Auto };
 }

@@ -7,6 +7,7 @@ use Rattle.style_types.specs.declared.style.Baseline.{Baseline}
 use Rattle.style_types.specs.declared.style.Baseline.TheVariants.{Alphabetic, Central}
 use Rattle.style_types.specs.declared.style.Combine.{Combine}
 use Rattle.style_types.specs.declared.style.Combine.TheVariants as combines
+use Rattle.style_types.specs.declared.style.Insets.{Insets}
 use Rattle.style_types.specs.declared.style.LineHeight.{LineHeight}
 use Rattle.style_types.specs.declared.style.LineHeight.TheVariants as line_heights
 use Rattle.style_types.specs.declared.style.SideSizes.{SideSizes}
@@ -79,6 +80,13 @@ pub record OnSides (P : Size → Type 0) (sides : SideSizes) : Type 0 where
   pub bottom : P sides.bottom
   pub left : P sides.left
 
+-- insets reach as far as margins do
+pub record AreInsets (insets : Insets) : Type 0 where
+  pub top : IsMargin insets.top
+  pub right : IsMargin insets.right
+  pub bottom : IsMargin insets.bottom
+  pub left : IsMargin insets.left
+
 pub record AreBorders (border : SideWidths) : Type 0 where
   pub top : IsExtent border.top
   pub right : IsExtent border.right
@@ -102,3 +110,4 @@ pub record IsBounded (style : Style) : Type 0 where
   pub margin : OnSides IsMargin style.margin
   pub padding : OnSides IsPadding style.padding
   pub border : AreBorders style.border
+  pub insets : AreInsets style.insets

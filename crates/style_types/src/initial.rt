@@ -5,8 +5,8 @@ ghost use Rattle.style_types.specs.Initial.{initial};
 ghost use Rattle.style_types.specs.Style.{IsBounded};
 
 use crate::style::{
-    Align, Combine, Display, LineHeight, SideSizes, SideWidths, Size, Style, TextOrientation,
-    UnicodeBidi,
+    Align, Combine, Display, Insets, LineHeight, SideSizes, SideWidths, Size, Style,
+    TextOrientation, UnicodeBidi,
 };
 use wm_modes::{Direction, WritingMode};
 
@@ -49,6 +49,13 @@ impl Style {
                 right: 0,
                 bottom: 0,
                 left: 0,
+            },
+            relative: false,
+            insets: Insets {
+                top: Size::Auto,
+                right: Size::Auto,
+                bottom: Size::Auto,
+                left: Size::Auto,
             },
         }
     }

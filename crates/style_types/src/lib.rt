@@ -10,7 +10,7 @@ mod tree;
 pub use lists::StyledNodes;
 pub use shared_style::SharedStyle;
 pub use style::{
-    Align, Baseline, Combine, Display, LineHeight, SideSizes, SideWidths, Size, Style,
+    Align, Baseline, Combine, Display, Insets, LineHeight, SideSizes, SideWidths, Size, Style,
     TextOrientation, UnicodeBidi,
 };
 pub use tree::{StyledKind, StyledNode};

@@ -24,7 +24,8 @@ pub enum TextOrientation {
     Sideways,
 }
 
-/// `text-combine-upright` (CSS Writing Modes 4, 9.1). `Never` is `none`.
+/// `text-combine-upright` (CSS Writing Modes 4, 9.1). `Never` is `none`; `Digits` has the greatest count of digits that are
+/// combined: 2, 3 or 4.
 #[derive(Clone, Copy, Debug, PartialEq, Eq)]
 pub enum Combine {
     Never,
@@ -68,7 +69,7 @@ pub enum Baseline {
     Central,
 }
 
-/// A size, margin or padding: a length in units of 1/64 px, or hundredths of a percent. A maximum of none is
+/// A size, margin, padding or inset: a length in units of 1/64 px, or hundredths of a percent. A maximum of none is
 /// `Auto`.
 #[derive(Clone, Copy, Debug, PartialEq, Eq)]
 pub enum Size {
@@ -80,6 +81,15 @@ pub enum Size {
 /// A size for each side of the page.
 #[derive(Clone, Copy, Debug, PartialEq, Eq)]
 pub struct SideSizes {
+    pub top: Size,
+    pub right: Size,
+    pub bottom: Size,
+    pub left: Size,
+}
+
+/// The insets of a relatively positioned element, one for each side of the page (CSS Positioned Layout 3, 3.1).
+#[derive(Clone, Copy, Debug, PartialEq, Eq)]
+pub struct Insets {
     pub top: Size,
     pub right: Size,
     pub bottom: Size,
@@ -119,6 +129,9 @@ pub struct Style {
     pub margin: SideSizes,
     pub padding: SideSizes,
     pub border: SideWidths,
+    /// `position: relative`; else `static` (CSS Positioned Layout 3, 2).
+    pub relative: bool,
+    pub insets: Insets,
 }
 
 impl Style {

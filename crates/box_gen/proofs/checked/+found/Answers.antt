@@ -18,5 +18,5 @@ found_in-returns t c = found_all c.args.site c.args.nodes.now c.loop-node.node-i
 
 pub found_at-returns : goal.found_at-returns
 found_at-returns t c =
-    found_here c.args.site c.args.node.now _ _ _ _ _ _ _ _ _ c.role_of-role.ensures (ap (λ (s : Style). s.mode) c.deref.ensures) c.is_past.ensures c.is_caught.ensures c.at-own.ensures
+    found_here c.args.site c.args.node.now _ _ _ _ _ _ _ _ c.role_of-role.ensures (ap (λ (s : Style). s.mode) c.deref.ensures) c.is_past.ensures c.at-own.ensures
     c.in_node.ensures c.deref-2.ensures.value c.found_in.ensures c.and.ensures

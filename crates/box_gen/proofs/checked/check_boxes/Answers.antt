@@ -6,5 +6,5 @@ use Rattle.box_gen.proofs.checked.check_boxes.Goals as goal
 
 pub returns : goal.returns
 returns c =
-    let found = found_in_root c.args.root.now _ _ _ c.found_in.result (ap (λ (s : Style). s.mode) c.deref-2.ensures) c.deref.ensures.value c.in_root.ensures c.found_in.ensures in
-    c.judged.ensures (nodes_of c.args.root.now) found.0 found.1
+    c.judged.ensures (nodes_of c.args.root.now)
+    (found_in_root c.args.root.now _ _ _ c.found_in.result (ap (λ (s : Style). s.mode) c.deref-2.ensures) c.deref.ensures.value c.in_root.ensures c.found_in.ensures)

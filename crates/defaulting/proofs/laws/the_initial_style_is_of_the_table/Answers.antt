@@ -34,4 +34,9 @@ returns c = record {
   border_right = (_, _, (_, (48, refl, refl), refl), (_, (40, refl, refl), refl), refl);
   border_bottom = (_, _, (_, (49, refl, refl), refl), (_, (41, refl, refl), refl), refl);
   border_left = (_, _, (_, (50, refl, refl), refl), (_, (42, refl, refl), refl), refl);
+  relative = (_, (_, (55, refl, refl), refl), refl);
+  inset_top = (_, (_, (56, refl, refl), refl), refl);
+  inset_right = (_, (_, (57, refl, refl), refl), refl);
+  inset_bottom = (_, (_, (58, refl, refl), refl), refl);
+  inset_left = (_, (_, (59, refl, refl), refl), refl);
 }

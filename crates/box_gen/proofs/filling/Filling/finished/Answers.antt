@@ -1,21 +1,30 @@
-use Rattle.std.proofs.Common.{◌≡◌, ◌∙◌, ap, rules, ◌<◌, length}
-use Rattle.box_gen.specs.declared.tree.Content.TheVariants.{Blocks}
-use Rattle.box_gen.proofs.BoxLines.{rolled}
-use Rattle.box_gen.specs.Tree.{box, none, blocks, inline, all_boxes_of}
-use Rattle.box_gen.specs.Building.{filling_of, run_of}
+use Rattle.std.proofs.Common.{◌≡◌, ◌∙◌, refl, ap, rules, ◌<◌, length}
+use Rattle.style_types.specs.declared.style.Style.{Style}
 use Rattle.fragment_types.specs.declared.item.BoxName.{BoxName}
-use Rattle.box_gen.proofs.Fillings.{paragraph_is, blocks_are, empty_is}
+use Rattle.box_gen.specs.declared.tree.Content.TheVariants.{Blocks}
+use Rattle.box_gen.specs.Tree.{box, none, blocks, inline, all_boxes_of}
+use Rattle.box_gen.specs.Boxes.{own_name}
+use Rattle.box_gen.specs.Building.{filling_of, run_of}
+use Rattle.box_gen.proofs.BoxLines.{rolled}
+use Rattle.box_gen.proofs.Fillings.{empty_is}
+use Rattle.box_gen.proofs.Puts.{paragraph_is, blocks_are}
 use Rattle.box_gen.proofs.filling.Filling.finished.Goals as goal
 
 pub returns-then-is_empty : goal.returns-then-is_empty
 returns-then-is_empty c =
-    let none_yet : length c.args.self.boxes.items ≡ 0 = search rules in
-    c.paragraph.ensures ∙ ap (λ (n : BoxName). box n c.args.style.now (inline (run_of c.args.self.run).items) (run_of c.args.self.run).atoms none) c.own_name-name.ensures ∙ paragraph_is c.args.self.boxes.items c.args.number c.args.self.anonymous c.args.style.now (run_of c.args.self.run) (empty_is _ none_yet)
+    let f = c.args.self in
+    let none_yet : length f.boxes.items ≡ 0 = search rules in
+    c.paragraph.ensures
+    ∙ ap (λ (name : BoxName). box name c.deref.result.now (inline (run_of f.run).items) (run_of f.run).atoms none) c.own_name-name.ensures
+    ∙ ap (λ (style : Style). box (own_name f.node) style (inline (run_of f.run).items) (run_of f.run).atoms none) c.deref.ensures
+    ∙ paragraph_is f.boxes.items (filling_of f) refl (empty_is _ none_yet)
 
 pub returns : goal.returns
 returns c =
-    let some : 0 < length c.args.self.boxes.items = search rules in
-    let all = c.in_ok-filling.filling in
-    rolled (record { node = record { name = c.own_name-name.result; style = c.args.style.now; content = Blocks }; children = all.boxes })
-    ∙ ap (λ (n : BoxName). box n c.args.style.now blocks (all_boxes_of all.boxes.items) none) c.own_name-name.ensures
-    ∙ blocks_are c.args.self.boxes.items (filling_of all) c.args.number c.args.self.anonymous c.args.style.now (run_of c.args.self.run) some c.in_ok-filling.ensures.made
+    let f = c.args.self in
+    let some : 0 < length f.boxes.items = search rules in
+    let all = c.end_run.new.self in
+    rolled (record { node = record { name = c.own_name-name.result; style = c.deref-2.result.now; content = Blocks }; children = all.boxes })
+    ∙ ap (λ (name : BoxName). box name c.deref-2.result.now blocks (all_boxes_of all.boxes.items) none) c.own_name-name.ensures
+    ∙ ap (λ (style : Style). box (own_name f.node) style blocks (all_boxes_of all.boxes.items) none) c.deref-2.ensures
+    ∙ blocks_are f.boxes.items (filling_of f) (filling_of all) refl some c.in_ok-end_run.ensures
