@@ -171,6 +171,7 @@ bounded = record {
   margin = record { top = omega (arith, ints); right = omega (arith, ints); bottom = omega (arith, ints); left = omega (arith, ints) };
   padding = record { top = (omega (arith, ints), omega (arith, ints)); right = (omega (arith, ints), omega (arith, ints)); bottom = (omega (arith, ints), omega (arith, ints)); left = (omega (arith, ints), omega (arith, ints)) };
   border = record { top = (omega (arith, ints), omega (arith, ints)); right = (omega (arith, ints), omega (arith, ints)); bottom = (omega (arith, ints), omega (arith, ints)); left = (omega (arith, ints), omega (arith, ints)) };
+  insets = record { top = tt; right = tt; bottom = tt; left = tt };
 }
 
 high : AreLinesInside (pos 1024) (paragraph faces (record { node = 0; ordinal = 0 }) plain (pos 12800) text [])
