@@ -1,9 +1,9 @@
 -- Where units stand in their text, and how long they are.
-use Rattle.std.specs.Prelude.{ℕ, ◌≡◌, ◌+◌, ◌-◌, ◌*◌, ◌<◌, ◌≤◌, ⊤, true, false, List, [], ◌∷◌, length, Some, pos, ◌≤ℤ◌}
+use Rattle.std.specs.Prelude.{ℕ, ◌≡◌, ◌+◌, ◌-◌, ◌*◌, ◌<◌, ◌≤◌, ⊤, true, false, not, List, [], ◌∷◌, length, Some, pos, ◌≤ℤ◌}
 use Rattle.std.specs.List.{list_all}
 use Rattle.face_api.specs.Table.{Table, IsTable}
 use Rattle.style_types.specs.declared.style.Style.{Style}
-use Rattle.cluster_units.specs.Plain.{character_unit, character_units, combines_none, is_plain}
+use Rattle.cluster_units.specs.Plain.{character_joins, character_unit, character_units, is_plain}
 use Rattle.cluster_units.specs.Text.{is_combined}
 use Rattle.cluster_units.specs.Unit.{units_of}
 use Rattle.cluster_units.specs.declared.unit.Unit.{Unit}
@@ -29,11 +29,13 @@ abbrev pub StandInOrder : Type 0
 StandInOrder = (style : Style) (table : Table) (text : List ℕ) → IsTable table → pos 0 ≤ℤ style.font_size → style.font_size ≤ℤ pos 65536
     → AreInOrder 0 (length text) (units_of style table text)
 
--- the units of plain text, where none are combined, are those of its characters
+-- the units of plain text, where no character joins a run, are those of its characters
 abbrev pub AreOfCharacters : Type 0
-AreOfCharacters = (style : Style) (table : Table) (text : List ℕ) → list_all is_plain text ≡ true → combines_none style ≡ true → units_of style table text ≡ character_units style table 0 text
+AreOfCharacters =
+    (style : Style) (table : Table) (text : List ℕ) → list_all is_plain text ≡ true → list_all (λ c. not (character_joins style c)) text ≡ true
+    → units_of style table text ≡ character_units style table 0 text
 
 -- such a unit is of its character alone, and no combined run
 abbrev pub AreApart : Type 0
-AreApart = (style : Style) (table : Table) (place c : ℕ) (unit : Unit) → combines_none style ≡ true → Some unit ≡ character_unit style table place c
+AreApart = (style : Style) (table : Table) (place c : ℕ) (unit : Unit) → Some unit ≡ character_unit style table place c
     → (unit.first ≡ place) × (unit.end ≡ place + 1) × (is_combined unit.kind ≡ false)

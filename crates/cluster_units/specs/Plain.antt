@@ -5,7 +5,7 @@ use Rattle.face_api.specs.Table.{Table}
 use Rattle.style_types.specs.declared.style.Combine.{Combine}
 use Rattle.style_types.specs.declared.style.Combine.TheVariants.{Never}
 use Rattle.style_types.specs.declared.style.Style.{Style}
-use Rattle.cluster_units.specs.Unit.{cluster_unit, is_vertical}
+use Rattle.cluster_units.specs.Unit.{cluster_unit, is_vertical, joins}
 use Rattle.cluster_units.specs.declared.unit.Unit.{Unit}
 
 -- letters of Greek and Cyrillic, Hebrew, Arabic
@@ -33,6 +33,10 @@ is_never other = false
 -- a style by which no units are combined
 abbrev pub combines_none : Style → Bool
 combines_none style = not (is_vertical style.mode) || is_never style.combine
+
+-- whether a character that is a cluster by itself belongs to a run that may be combined
+abbrev pub character_joins : Style → ℕ → Bool
+character_joins style c = joins style (record { first = 0; end = 1; head = c })
 
 -- the unit of a character that is a cluster by itself and isn't combined, at this place of its text; none of a bidi control
 abbrev pub character_unit : Style → Table → (place c : ℕ) → Option Unit

@@ -7,7 +7,8 @@ pub fn units_stand_in_order()
     ensures { StandInOrder }
 {}
 
-/// The units of a text of plain characters, in a style by which none are combined, are those of its characters.
+/// The units of a text of plain characters of which none joins a run are those of its characters, and none of them is a
+/// combined run.
 pub fn plain_units_are_of_characters()
     ensures units { AreOfCharacters }
     ensures apart { AreApart }

@@ -10,6 +10,6 @@ mod text;
 mod unit;
 
 pub use plain::is_plain_character;
-pub use single::{character_unit, combines_none};
+pub use single::{character_joins, character_unit, combines_none};
 pub use text::units;
 pub use unit::{Unit, Units};

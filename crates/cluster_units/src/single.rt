@@ -17,12 +17,11 @@ use wm_chars::laws::upright_from_u_3000;
 use wm_chars::{BreakClass, break_class};
 use wm_modes::WritingMode;
 
-/// The unit of a plain character at this place of its text, by this face; None of a bidi control. No units are combined in
-/// its style, whose font size is from 0 to 65,536.
+/// The unit of a plain character that joins no run, at this place of its text and by this face; None of a bidi control. The
+/// font size of its style is from 0 to 65,536.
 #[inline(always)]
 pub fn character_unit(c: char, place: usize, style: &Style, face: &dyn Face) -> Option<Unit>
     requires place { place < 2 ^ 32 }
-    requires apart { plain.combines_none style.now ≡ true }
     requires low { pos 0 ≤ℤ style.now.font_size }
     requires high { style.now.font_size ≤ℤ pos 65536 }
     ensures unit { result ≡ plain.character_unit style.now (table face.now) place c }
@@ -51,6 +50,19 @@ pub fn combines_none(style: &Style) -> bool
     ensures { result ≡ plain.combines_none style.now }
 {
     !is_vertical(style.mode) || style.combine == Combine::Never
+}
+
+/// Whether a plain character belongs to a run that may be combined in text of this style (CSS Writing Modes 4, 9.1).
+#[inline(always)]
+pub fn character_joins(c: char, style: &Style) -> bool
+    ensures { result ≡ plain.character_joins style.now c }
+{
+    let cluster = Cluster {
+        first: 0,
+        end: 1,
+        head: c,
+    };
+    joins(cluster, style)
 }
 
 // The unit of a cluster that stands by itself; None of a bidi control.

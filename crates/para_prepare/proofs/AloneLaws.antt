@@ -1,23 +1,24 @@
 -- The parts of a text in which each character is a unit by itself, and what is made of them at level 0.
-use Rattle.std.proofs.Common.{◌≡◌, refl, sym, ap, ap₂, ◌∙◌, ℕ, suc, ◌+◌, ◌-◌, ◌<◌, ◌≤◌, Bool, true, false, ◌&&◌, List, [], ◌∷◌, ◌++◌, length, map, take, drop, slice_index_or, arith}
-use Rattle.std.specs.Prelude.{⊤, Option, Some, None, encode_utf8_all}
+use Rattle.std.proofs.Common.{◌≡◌, refl, sym, ap, ap₂, ◌∙◌, ℕ, suc, ◌+◌, ◌-◌, ◌<◌, ◌≤◌, Bool, true, false, ◌&&◌, not, inl, inr, List, [], ◌∷◌, ◌++◌, length, map, take, drop, slice_index_or, arith}
+use Rattle.std.specs.Prelude.{⊤, ◌||◌, Option, Some, None, encode_utf8_all}
 use Rattle.std.specs.List.{list_all, slice_range}
-use Rattle.std.proofs.lemmas.Bool.{and_parts}
+use Rattle.std.proofs.lemmas.Bool.{and_parts, cases_Bool, true≢false}
 use Rattle.std.proofs.lemmas.List.{append-nil, drop-drop, drop_more, length-append, length-map}
 use Rattle.std.proofs.lemmas.Str.{length-le-encodes}
 use Rattle.face_api.specs.Living.{used_table}
 use Rattle.face_api.specs.Table.{Table}
 use Rattle.style_types.specs.declared.style.Style.{Style}
 use Rattle.cluster_units.specs.Laws.{AreApart, AreOfCharacters}
-use Rattle.cluster_units.specs.Plain.{character_unit, character_units, combines_none, is_plain, with_first}
+use Rattle.cluster_units.specs.Plain.{character_joins, character_unit, character_units, combines_none, is_plain, with_first}
 use Rattle.cluster_units.specs.Text.{is_combined}
 use Rattle.cluster_units.specs.declared.unit.Unit.{Unit}
+use Rattle.cluster_units.proofs.PlainUnits.{never_joins}
 use Rattle.para_prepare.specs.declared.letter.Letter.{Letter}
 use Rattle.para_prepare.specs.Content.{raw_of, text_parts}
 use Rattle.para_prepare.specs.Flat.{Flat, flat_item, grown}
 use Rattle.para_prepare.specs.Kept.{chars_of}
 use Rattle.para_prepare.specs.Parts.{Raw, control_of, item, of_unit, parts_by, sets_upright}
-use Rattle.para_prepare.specs.Text.{are_plain, letter_part, letter_parts, stand_alone}
+use Rattle.para_prepare.specs.Text.{are_plain, join_none, letter_part, letter_parts, stand_alone}
 use Rattle.para_prepare.proofs.FlatLaws.{grown_append}
 
 -- ---- stretches of a list
@@ -48,7 +49,7 @@ earlier : (place : ℕ) (units : List Unit) → StandFrom (place + 1) units → 
 earlier place [] from = tt
 earlier place (unit ∷ units) from = omega arith
 
-module _ (apart : AreApart) (table : Table) (source node : ℕ) (style : Style) (alone : combines_none style ≡ true) (raw : Unit → List Letter → Raw)
+module _ (apart : AreApart) (table : Table) (source node : ℕ) (style : Style) (raw : Unit → List Letter → Raw)
     (raw_is : (unit : Unit) (own : List Letter) → is_combined unit.kind ≡ false → raw unit own ≡ of_unit source node (sets_upright style) unit own) (letters : List Letter)
   where
     stand_from : (place : ℕ) (cs : List ℕ) → StandFrom place (character_units style table place cs)
@@ -58,7 +59,7 @@ module _ (apart : AreApart) (table : Table) (source node : ℕ) (style : Style) 
         either : (one : Option Unit) → one ≡ character_unit style table place c → StandFrom (place + 1) (character_units style table (place + 1) cs)
             → StandFrom place (with_first one (character_units style table (place + 1) cs))
         either None e rest = earlier place (character_units style table (place + 1) cs) rest
-        either (Some unit) e rest = let at = (apart style table place c unit alone e).0 in omega arith
+        either (Some unit) e rest = let at = (apart style table place c unit e).0 in omega arith
 
     control_first : (at : ℕ) (l : Letter) (left : List Letter) (units : List Unit) → drop at letters ≡ l ∷ left → StandFrom (at + 1) units
         → parts_by (sets_upright style) raw letters at units ≡ control_of (sets_upright style) l ∷ parts_by (sets_upright style) raw letters (at + 1) units
@@ -89,13 +90,32 @@ module _ (apart : AreApart) (table : Table) (source node : ℕ) (style : Style) 
             control_first at l left (character_units style table (at + 1) (chars_of left)) is (stand_from (at + 1) (chars_of left))
             ∙ ap (λ parts. control_of (sets_upright style) l ∷ parts) rest
         either (Some unit) e rest =
-            let own = apart style table at l.char unit alone e in
+            let own = apart style table at l.char unit e in
             unit_first at l left unit (character_units style table (at + 1) (chars_of left)) is own.0 own.1
             ∙ ap₂ (λ raw parts. item raw ∷ parts) (raw_is unit (l ∷ []) own.2) rest
 
 plain_chars : (letters : List Letter) → list_all is_plain (chars_of letters) ≡ are_plain letters
 plain_chars [] = refl
 plain_chars (l ∷ letters) = ap (λ b. is_plain l.char && b) (plain_chars letters)
+
+apart_chars : (style : Style) (letters : List Letter) → list_all (λ c. not (character_joins style c)) (chars_of letters) ≡ list_all (λ l. not (character_joins style l.char)) letters
+apart_chars style [] = refl
+apart_chars style (l ∷ letters) = ap (λ b. not (character_joins style l.char) && b) (apart_chars style letters)
+
+-- in a style by which none are combined no character joins
+all_apart : (style : Style) (cs : List ℕ) → combines_none style ≡ true → list_all (λ c. not (character_joins style c)) cs ≡ true
+all_apart style [] none = refl
+all_apart style (c ∷ cs) none = rw (never_joins style (record { first = 0; end = 1; head = c }) none) (all_apart style cs none)
+
+one_of_two : (a b : Bool) → (a || b) ≡ true → a ≡ false → b ≡ true
+one_of_two true b either none = absurd (true≢false none)
+one_of_two false b either none = either
+
+none_joins : (style : Style) (letters : List Letter) → join_none style letters ≡ true → list_all (λ c. not (character_joins style c)) (chars_of letters) ≡ true
+none_joins style letters h = elim (cases_Bool (combines_none style)) [
+  | inl none ↦ all_apart style (chars_of letters) none
+  | inr some ↦ apart_chars style letters ∙ one_of_two (combines_none style) (list_all (λ l. not (character_joins style l.char)) letters) h some
+]
 
 uncombined : (faces : List (Option Table)) (source node : ℕ) (style : Style) (unit : Unit) (own : List Letter) → is_combined unit.kind ≡ false
     → raw_of faces source node style unit own ≡ of_unit source node (sets_upright style) unit own
@@ -104,10 +124,10 @@ uncombined faces source node style unit own h = rw h refl
 pub alone_parts : AreOfCharacters → AreApart → (faces : List (Option Table)) (source node : ℕ) (style : Style) (letters : List Letter) → stand_alone style letters ≡ true
     → text_parts faces source node style letters ≡ letter_parts (used_table faces style.face) source node style 0 letters
 alone_parts of_characters apart faces source node style letters h =
-    let both = and_parts (combines_none style) (are_plain letters) h in
+    let both = and_parts (join_none style letters) (are_plain letters) h in
     let table = used_table faces style.face in
-    ap (parts_by (sets_upright style) (raw_of faces source node style) letters 0) (of_characters style table (chars_of letters) (plain_chars letters ∙ both.1) both.0)
-    ∙ from_letters apart table source node style both.0 (raw_of faces source node style) (uncombined faces source node style) letters 0 letters refl
+    ap (parts_by (sets_upright style) (raw_of faces source node style) letters 0) (of_characters style table (chars_of letters) (plain_chars letters ∙ both.1) (none_joins style letters both.0))
+    ∙ from_letters apart table source node style (raw_of faces source node style) (uncombined faces source node style) letters 0 letters refl
 
 -- ---- what is made of them at level 0, one by one
 

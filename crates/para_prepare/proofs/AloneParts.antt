@@ -7,7 +7,7 @@ use Rattle.std.proofs.lemmas.List.Elements.{All-append, All-cons}
 use Rattle.face_api.specs.Table.{Table}
 use Rattle.style_types.specs.declared.style.Style.{Style}
 use Rattle.cluster_units.specs.Laws.{AreApart, IsUnitIn}
-use Rattle.cluster_units.specs.Plain.{character_unit, combines_none}
+use Rattle.cluster_units.specs.Plain.{character_unit}
 use Rattle.cluster_units.specs.declared.unit.Unit.{Unit}
 use Rattle.para_prepare.specs.declared.letter.Letter.{Letter}
 use Rattle.para_prepare.specs.declared.parts.Part as code
@@ -18,22 +18,22 @@ use Rattle.para_prepare.proofs.AloneLaws.{slice_one}
 use Rattle.para_prepare.proofs.PartsLaws.{stretch, stretch_length}
 
 -- what is stored of a character stands for its part
-same_part : AreApart → (table : Table) (source node : ℕ) (style : Style) → combines_none style ≡ true → (letters : List Letter) (from place : ℕ) (l : Letter)
+same_part : AreApart → (table : Table) (source node : ℕ) (style : Style) (letters : List Letter) (from place : ℕ) (l : Letter)
     → slice_range letters (from + place) (from + (place + 1)) ≡ l ∷ [] → (one : Option Unit) → one ≡ character_unit style table place l.char
     → part_of letters (stored_letter source node (sets_upright style) from l one) ≡ letter_part (sets_upright style) source node l one
-same_part apart table source node style alone letters from place l is None e = refl
-same_part apart table source node style alone letters from place l is (Some unit) e =
-    let own = apart style table place l.char unit alone e in
+same_part apart table source node style letters from place l is None e = refl
+same_part apart table source node style letters from place l is (Some unit) e =
+    let own = apart style table place l.char unit e in
     ap (λ own. item (of_unit source node (sets_upright style) unit own))
     (ap₂ (λ first end_. slice_range letters (from + first) (from + end_)) own.0 own.1 ∙ is)
 
-pub letters_more : AreApart → (table : Table) (source node : ℕ) (style : Style) → combines_none style ≡ true → (letters : List Letter) (from to i : ℕ) (none : Letter)
+pub letters_more : AreApart → (table : Table) (source node : ℕ) (style : Style) (letters : List Letter) (from to i : ℕ) (none : Letter)
     (parts more : List code.Part) (whole : List Part)
     → parts_of letters parts ++ letter_parts table source node style i (drop i (slice_range letters from to)) ≡ whole
     → i < to - from → to ≤ length letters
     → more ≡ parts ++ stored_letter source node (sets_upright style) from (slice_index_or (slice_range letters from to) i none) (character_unit style table i (slice_index_or (slice_range letters from to) i none).char) ∷ []
     → parts_of letters more ++ letter_parts table source node style (i + 1) (drop (i + 1) (slice_range letters from to)) ≡ whole
-letters_more apart table source node style alone letters from to i none parts more whole before lt within m =
+letters_more apart table source node style letters from to i none parts more whole before lt within m =
     let own = slice_range letters from to in
     let long = stretch_length letters from to within in
     let l = slice_index_or own i none in
@@ -42,7 +42,7 @@ letters_more apart table source node style alone letters from to i none parts mo
     let rest = letter_parts table source node style (i + 1) (drop (i + 1) own) in
     let there : drop i own ≡ l ∷ drop (i + 1) own = drop_more own i none (omega arith) in
     let stretched = stretch letters from to i (i + 1) (omega arith) (omega arith) in
-    let same = same_part apart table source node style alone letters from i l (stretched ∙ slice_one own i l (drop (i + 1) own) there) one refl in
+    let same = same_part apart table source node style letters from i l (stretched ∙ slice_one own i l (drop (i + 1) own) there) one refl in
     ap (λ more. parts_of letters more ++ rest) m
     ∙ ap (λ front. front ++ rest) (map-append (part_of letters) parts (part ∷ []))
     ∙ append_assoc (parts_of letters parts) (part_of letters part ∷ []) rest

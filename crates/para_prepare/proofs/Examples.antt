@@ -101,3 +101,23 @@ a_control_before_a_combined_run = refl
 the_inside_of_a_combined_run : preparation faces (Some 1) (record initial { mode = modes.VerticalRl; direction = directions.Rtl; bidi = bidis.Isolate; combine = combines.All }) (begins 3 (record initial { mode = modes.VerticalRl; direction = directions.Rtl; combine = combines.All }) true ∷ ends 3 true ∷ begins 4 (record initial { mode = modes.VerticalRl; direction = directions.Rtl; combine = combines.All }) true ∷ item.text 5 (105 ∷ []) (record initial { mode = modes.VerticalRl; direction = directions.Rtl; combine = combines.All }) ∷ ends 4 true ∷ item.line_break 6 ∷ item.text 7 (40 ∷ 97 ∷ 120 ∷ 204 ∷ 129 ∷ []) (record initial { mode = modes.VerticalRl; direction = directions.Rtl; bidi = bidis.Isolate; combine = combines.All }) ∷ []) ≡ record { items = (record { source = 3; apart = None; what = Combined 5 0 1 (pos 1024) (pos 512) ((105 ∷ []) ∷ []) } ∷ record { source = 5; apart = None; what = Break 6 } ∷ record { source = 6; apart = None; what = Combined 7 0 4 (pos 1024) (pos 1536) ((97 ∷ []) ∷ (120 ∷ 769 ∷ []) ∷ (41 ∷ []) ∷ []) } ∷ []); levels = (2 ∷ 1 ∷ 2 ∷ []); classes = (classes.L ∷ classes.B ∷ classes.L ∷ []); bases = (1 ∷ 1 ∷ 1 ∷ []); breaks = (No ∷ Must ∷ No ∷ []) }
 unfolding preparation parts marks taking_part bidi_texts inside visual_order reset order paragraph_levels explicit_levels explicit_classes isolating_runs weak resolved sequence_classes sequence_levels units_of unit_clusters advance_of used_table row_of bidi_class break_class orientation mirror bracket initial unicode_segmentation
 the_inside_of_a_combined_run = refl
+
+-- of digits 2 two are combined, of three none
+two_digits_and_three : preparation faces (Some 0) (record initial { mode = modes.VerticalRl; combine = combines.Digits 2 }) (item.text 3 (97 ∷ 49 ∷ 50 ∷ 98 ∷ 51 ∷ 52 ∷ 53 ∷ []) (record initial { mode = modes.VerticalRl; combine = combines.Digits 2 }) ∷ []) ≡ record { items = (record { source = 0; apart = None; what = Unit kinds.Turned false 3 0 1 (pos 512) ((97 ∷ []) ∷ []) } ∷ record { source = 0; apart = None; what = Combined 3 1 3 (pos 1024) (pos 1024) ((49 ∷ []) ∷ (50 ∷ []) ∷ []) } ∷ record { source = 0; apart = None; what = Unit kinds.Turned false 3 3 4 (pos 512) ((98 ∷ []) ∷ []) } ∷ record { source = 0; apart = None; what = Unit kinds.Turned false 3 4 5 (pos 512) ((51 ∷ []) ∷ []) } ∷ record { source = 0; apart = None; what = Unit kinds.Turned false 3 5 6 (pos 512) ((52 ∷ []) ∷ []) } ∷ record { source = 0; apart = None; what = Unit kinds.Turned false 3 6 7 (pos 512) ((53 ∷ []) ∷ []) } ∷ []); levels = (0 ∷ 0 ∷ 0 ∷ 0 ∷ 0 ∷ 0 ∷ []); classes = (classes.L ∷ classes.L ∷ classes.L ∷ classes.EN ∷ classes.EN ∷ classes.EN ∷ []); bases = (0 ∷ 0 ∷ 0 ∷ 0 ∷ 0 ∷ 0 ∷ []); breaks = (May ∷ May ∷ No ∷ No ∷ No ∷ No ∷ []) }
+unfolding preparation parts marks taking_part bidi_texts inside visual_order reset order paragraph_levels explicit_levels explicit_classes isolating_runs weak resolved sequence_classes sequence_levels units_of unit_clusters advance_of used_table row_of bidi_class break_class orientation mirror bracket initial unicode_segmentation
+two_digits_and_three = refl
+
+-- digits of two nodes make no run together
+digits_of_two_nodes : preparation faces (Some 0) (record initial { mode = modes.VerticalRl; combine = combines.Digits 2 }) (item.text 3 (49 ∷ []) (record initial { mode = modes.VerticalRl; combine = combines.Digits 2 }) ∷ begins 4 (record initial { mode = modes.VerticalRl; combine = combines.Digits 2 }) true ∷ item.text 5 (50 ∷ []) (record initial { mode = modes.VerticalRl; combine = combines.Digits 2 }) ∷ ends 4 true ∷ item.text 6 (51 ∷ []) (record initial { mode = modes.VerticalRl; combine = combines.Digits 2 }) ∷ []) ≡ record { items = (record { source = 0; apart = None; what = Combined 3 0 1 (pos 1024) (pos 512) ((49 ∷ []) ∷ []) } ∷ record { source = 2; apart = None; what = Combined 5 0 1 (pos 1024) (pos 512) ((50 ∷ []) ∷ []) } ∷ record { source = 4; apart = None; what = Combined 6 0 1 (pos 1024) (pos 512) ((51 ∷ []) ∷ []) } ∷ []); levels = (0 ∷ 0 ∷ 0 ∷ []); classes = (classes.L ∷ classes.L ∷ classes.L ∷ []); bases = (0 ∷ 0 ∷ 0 ∷ []); breaks = (May ∷ May ∷ No ∷ []) }
+unfolding preparation parts marks taking_part bidi_texts inside visual_order reset order paragraph_levels explicit_levels explicit_classes isolating_runs weak resolved sequence_classes sequence_levels units_of unit_clusters advance_of used_table row_of bidi_class break_class orientation mirror bracket initial unicode_segmentation
+digits_of_two_nodes = refl
+
+-- a number that is combined stands among letters from right to left as one character; another one as its digits
+digits_among_letters_from_right_to_left : preparation faces (Some 1) (record initial { mode = modes.VerticalRl; direction = directions.Rtl; combine = combines.Digits 2 }) (item.text 3 (215 ∷ 144 ∷ 49 ∷ 50 ∷ 215 ∷ 145 ∷ 51 ∷ 52 ∷ 53 ∷ []) (record initial { mode = modes.VerticalRl; direction = directions.Rtl; combine = combines.Digits 2 }) ∷ []) ≡ record { items = (record { source = 0; apart = None; what = Unit kinds.Turned false 3 0 1 (pos 512) ((1488 ∷ []) ∷ []) } ∷ record { source = 0; apart = None; what = Combined 3 1 3 (pos 1024) (pos 1024) ((49 ∷ []) ∷ (50 ∷ []) ∷ []) } ∷ record { source = 0; apart = None; what = Unit kinds.Turned false 3 3 4 (pos 512) ((1489 ∷ []) ∷ []) } ∷ record { source = 0; apart = None; what = Unit kinds.Turned false 3 4 5 (pos 512) ((51 ∷ []) ∷ []) } ∷ record { source = 0; apart = None; what = Unit kinds.Turned false 3 5 6 (pos 512) ((52 ∷ []) ∷ []) } ∷ record { source = 0; apart = None; what = Unit kinds.Turned false 3 6 7 (pos 512) ((53 ∷ []) ∷ []) } ∷ []); levels = (1 ∷ 2 ∷ 1 ∷ 2 ∷ 2 ∷ 2 ∷ []); classes = (classes.R ∷ classes.L ∷ classes.R ∷ classes.EN ∷ classes.EN ∷ classes.EN ∷ []); bases = (1 ∷ 1 ∷ 1 ∷ 1 ∷ 1 ∷ 1 ∷ []); breaks = (May ∷ May ∷ No ∷ No ∷ No ∷ No ∷ []) }
+unfolding preparation parts marks taking_part bidi_texts inside visual_order reset order paragraph_levels explicit_levels explicit_classes isolating_runs weak resolved sequence_classes sequence_levels units_of unit_clusters advance_of used_table row_of bidi_class break_class orientation mirror bracket initial unicode_segmentation
+digits_among_letters_from_right_to_left = refl
+
+-- text in a sideways mode has no combined runs
+digits_in_a_sideways_mode : preparation faces (Some 0) (record initial { mode = modes.SidewaysRl; combine = combines.Digits 2 }) (item.text 3 (97 ∷ 49 ∷ 50 ∷ []) (record initial { mode = modes.SidewaysRl; combine = combines.Digits 2 }) ∷ []) ≡ record { items = (record { source = 0; apart = None; what = Unit kinds.Along false 3 0 1 (pos 512) ((97 ∷ []) ∷ []) } ∷ record { source = 0; apart = None; what = Unit kinds.Along false 3 1 2 (pos 512) ((49 ∷ []) ∷ []) } ∷ record { source = 0; apart = None; what = Unit kinds.Along false 3 2 3 (pos 512) ((50 ∷ []) ∷ []) } ∷ []); levels = (0 ∷ 0 ∷ 0 ∷ []); classes = (classes.L ∷ classes.EN ∷ classes.EN ∷ []); bases = (0 ∷ 0 ∷ 0 ∷ []); breaks = (No ∷ No ∷ No ∷ []) }
+unfolding preparation parts marks taking_part bidi_texts inside visual_order reset order paragraph_levels explicit_levels explicit_classes isolating_runs weak resolved sequence_classes sequence_levels units_of unit_clusters advance_of used_table row_of bidi_class break_class orientation mirror bracket initial unicode_segmentation
+digits_in_a_sideways_mode = refl

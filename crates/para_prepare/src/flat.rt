@@ -7,7 +7,6 @@ ghost use Rattle.bidi_resolve.specs.Paragraph as paragraph;
 ghost use Rattle.face_api.specs.Faces.{faces_of};
 ghost use Rattle.fragment_types.specs.Item.{entry_of, entries_of};
 ghost use Rattle.cluster_units.specs.Laws.{AreInOrder};
-ghost use Rattle.cluster_units.specs.Plain.{combines_none};
 ghost use Rattle.para_prepare.specs.Content as content;
 ghost use Rattle.para_prepare.specs.Content.{raw_of, text_parts};
 ghost use Rattle.para_prepare.specs.Flat as spec;
@@ -254,7 +253,6 @@ impl FlatLists<'_> {
 
     // Adds the units of a text in which each character is a unit by itself, but for the bidi controls.
     fn add_letters(&mut self, text: Text, face: &dyn Face) -> Result<(), AllocError>
-        requires { combines_none text.style.now ≡ true }
         ensures grown { OnOk result (flat_of self.new ≡ grown (flat_of self.old) (letter_parts (table face.now) text.entry.place.source text.entry.node text.entry.style.now 0 (letters_at text.entry.place.letters.now text.entry.place.span))) }
         ensures count { OnOk result (length self.new.items.items ≤ length self.old.items.items + length (letters_at text.entry.place.letters.now text.entry.place.span)) }
     {
@@ -275,7 +273,6 @@ impl FlatLists<'_> {
         face: &dyn Face,
     ) -> Result<(), AllocError>
         requires place { place < 2 ^ 32 }
-        requires alone { combines_none text.style.now ≡ true }
         requires placed { IsPlaced letter }
         ensures { OnOk result (flat_of self.new ≡ grown (flat_of self.old) (letter_parts (table face.now) text.entry.place.source text.entry.node text.entry.style.now place (letter ∷ []))) }
     {

@@ -1,10 +1,10 @@
 //! The parts of one text of a paragraph: its units, its combined runs, and the bidi controls between them (CSS Writing
 //! Modes 4, 5.1 and 9.1).
 
-ghost use Rattle.std.specs.Prelude.{◌≡◌, ◌≤◌, ◌<◌, ◌+◌, ◌-◌, ◌^◌, ◌++◌, [], ◌∷◌, true, length, map, All, IfOk, IfSome, OnOk};
+ghost use Rattle.std.specs.Prelude.{◌≡◌, ◌≤◌, ◌<◌, ◌+◌, ◌-◌, ◌^◌, ◌++◌, [], ◌∷◌, true, not, length, map, All, IfOk, IfSome, OnOk};
 ghost use Rattle.face_api.specs.Faces.{faces_of};
 ghost use Rattle.cluster_units.specs.Laws.{AreInOrder, IsUnitIn};
-ghost use Rattle.cluster_units.specs.Plain.{character_unit, combines_none, is_plain};
+ghost use Rattle.cluster_units.specs.Plain.{character_joins, character_unit, is_plain};
 ghost use Rattle.cluster_units.specs.Unit.{is_vertical};
 ghost use Rattle.style_types.specs.Style.{is_upright};
 ghost use Rattle.para_prepare.specs.Content.{text_parts};
@@ -22,7 +22,9 @@ use crate::parts::{Part, Parts, Span, class_in};
 use crate::place::Place;
 use crate::resources::Resources;
 use cluster_units::laws::plain_units_are_of_characters;
-use cluster_units::{Unit, character_unit, combines_none, is_plain_character, units};
+use cluster_units::{
+    Unit, character_joins, character_unit, combines_none, is_plain_character, units,
+};
 use face_api::Face;
 use fragment_types::UnitKind;
 use std::alloc::{AllocError, Global};
@@ -65,7 +67,6 @@ pub(crate) fn add_text(
 
 // Adds the parts of a text in which each character is a unit by itself, but for the bidi controls.
 fn add_letters(parts: &mut Parts, text: Text, face: &dyn Face) -> Result<(), AllocError>
-    requires alone { combines_none text.style.now ≡ true }
     requires sound { All (IsSound (length text.place.letters.now)) parts.old.items }
     ensures parts { OnOk result (parts_of text.entry.place.letters.now parts.new.items ≡ parts_of text.entry.place.letters.now parts.old.items ++ letter_parts (table face.now) text.entry.place.source text.entry.node text.entry.style.now 0 (letters_at text.entry.place.letters.now text.entry.place.span)) }
     ensures sound { OnOk result (All (IsSound (length text.entry.place.letters.now)) parts.new.items) }
@@ -90,7 +91,6 @@ fn add_letter(
 ) -> Result<(), AllocError>
     requires place { text.place.span.from + place < 2 ^ 62 }
     requires few { place ≤ 1048576 }
-    requires alone { combines_none text.style.now ≡ true }
     ensures part { OnOk result (parts.new.items ≡ parts.old.items ++ stored_letter text.entry.place.source text.entry.node (spec.sets_upright text.entry.style.now) text.entry.place.span.from letter (character_unit text.entry.style.now (table face.now) place letter.char) ∷ []) }
     ensures unit { IfSome (character_unit text.entry.style.now (table face.now) place letter.char) (IsUnitIn place (place + 1)) }
 {
@@ -218,7 +218,25 @@ fn add_controls(parts: &mut Parts, letters: &[Letter], upright: bool) -> Result<
 pub(crate) fn stand_alone(style: &Style, letters: &[Letter]) -> bool
     ensures { result ≡ texts.stand_alone style.now letters.now }
 {
-    combines_none(style) && are_plain(letters)
+    join_none(style, letters) && are_plain(letters)
+}
+
+// Whether in this style none of these characters belongs to a run that may be combined, which most styles say of any text.
+fn join_none(style: &Style, letters: &[Letter]) -> bool
+    ensures { result ≡ texts.join_none style.now letters.now }
+{
+    combines_none(style) || are_apart(style, letters)
+}
+
+// Whether no character is one that joins a run: with `digits` an ASCII digit.
+fn are_apart(style: &Style, letters: &[Letter]) -> bool
+    ensures { result ≡ texts.are_apart style.now letters.now }
+{
+    letters.iter().all(
+        |letter| -> bool
+            ensures { result ≡ not (character_joins style.entry.now letter.now.char) }
+        { !character_joins(letter.char, style) },
+    )
 }
 
 fn are_plain(letters: &[Letter]) -> bool

@@ -23,7 +23,7 @@ loop-i-preserved g c =
     let before = c.loop-i.invariant.2 in
     let within = c.args.text.place.within in
     let order = c.args.text.place.order in (
-      letters_more c.plain_units_are_of_characters.ensures.apart table source node style c.requires.alone letters from to c.loop-i.i _ _ _ _ c.loop-i.invariant.0 (omega arith) within more,
+      letters_more c.plain_units_are_of_characters.ensures.apart table source node style letters from to c.loop-i.i _ _ _ _ c.loop-i.invariant.0 (omega arith) within more,
       sound_more (length letters) table source node style from c.loop-i.i l _ c.add_letter.new.parts.items c.loop-i.invariant.1 c.in_ok-add_letter.ensures.unit (omega arith) more,
       omega arith,
     )
