@@ -1,7 +1,7 @@
 //! The parts of one text of a paragraph: its units, its combined runs, and the bidi controls between them (CSS Writing
 //! Modes 4, 5.1 and 9.1).
 
-ghost use Rattle.std.specs.Prelude.{◌≡◌, ◌≤◌, ◌<◌, ◌+◌, ◌-◌, ◌^◌, ◌++◌, [], ◌∷◌, true, not, length, map, All, IfOk, IfSome, OnOk};
+ghost use Rattle.std.specs.Prelude.{◌≡◌, ◌≤◌, ◌<◌, ◌+◌, ◌-◌, ◌^◌, ◌++◌, [], ◌∷◌, not, length, map, All, IfOk, IfSome, OnOk};
 ghost use Rattle.face_api.specs.Faces.{faces_of};
 ghost use Rattle.cluster_units.specs.Laws.{AreInOrder, IsUnitIn};
 ghost use Rattle.cluster_units.specs.Plain.{character_joins, character_unit, is_plain};
