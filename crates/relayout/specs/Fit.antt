@@ -37,10 +37,14 @@ abbrev pub room_in : Content → ℕ
 room_in blocks = 0
 room_in (inline entries) = length entries * (3 * 2 ^ 40) + atoms_of entries * (3 * 2 ^ 41) + text_bytes entries * 2 ^ 36
 
--- how far boxes reach together at most
+-- how far boxes that stand side by side reach together at most: a box moves those that follow it by no more than one extent, and what stands
+-- in its paragraph moves no other box, so only the heaviest counts with what stands in it
+abbrev pub heaviest : Boxes → ℕ
+heaviest none = 0
+heaviest (box name style content inner next) = max (room_in content + (siblings inner * 2 ^ 39 + heaviest inner)) (heaviest next)
+
 abbrev pub weight : Boxes → ℕ
-weight none = 0
-weight (box name style content inner next) = 2 ^ 39 + room_in content + weight inner + weight next
+weight boxes = siblings boxes * 2 ^ 39 + heaviest boxes
 
 -- how far what stands in a box reaches from its content area at most
 abbrev pub reach_of : Content → (inner : Boxes) → ℕ

@@ -1,4 +1,4 @@
--- How much a container holds, by its nodes.
+-- How much a container holds: its items, their bytes, its boxes, how far they reach, and that they can be laid out.
 use Rattle.std.proofs.Common.{◌≡◌, ℕ, suc, ◌+◌, ◌*◌, ◌≤◌, ◌^◌, Bool, true, false, List, [], ◌∷◌, ◌++◌, length, All, arith}
 use Rattle.std.specs.Prelude.{⊤}
 use Rattle.std.proofs.lemmas.List.Elements.{All-append, All-cons}
@@ -8,26 +8,26 @@ use Rattle.fragment_types.specs.Item as item
 use Rattle.fragment_types.specs.Item.{Entry}
 use Rattle.style_types.specs.Style.{IsBounded}
 use Rattle.style_types.specs.Tree as styled
-use Rattle.style_types.specs.Tree.{NodeKind, Nodes}
-use Rattle.style_tree.specs.Styling.{AreBounded}
+use Rattle.style_types.specs.Tree.{NodeKind}
 use Rattle.para_lines.specs.Boxes.{HasBounds}
 use Rattle.para_prepare.specs.Limits.{HasFontSize, IsFontSize, text_bytes}
 use Rattle.style_types.specs.Initial.{initial}
 use Rattle.style_types.specs.declared.style.Display.{Display}
 use Rattle.para_prepare.specs.Preparation.{atoms_of}
-use Rattle.box_gen.specs.Boxes.{Blocks, Held, Role, Run, anonymous, atom, block_level, container, element_role, held, inline_before, inline_box, is_blank, join, line_break, made, no_more, nothing, own_name, placed, role_by, role_of, root_boxes, stacked, then, words, wrapped}
-use Rattle.box_gen.specs.Tree.{Boxes, box, none}
-use Rattle.relayout.specs.Fit.{AreFit, count, height, siblings}
-use Rattle.session.specs.Limits.{IsWithin, bytes_in, bytes_of, depth, nodes_in}
+use Rattle.box_gen.specs.declared.opened.Opened.{Opened}
+use Rattle.box_gen.specs.Boxes.{Blocks, Held, Role, Run, anonymous, atom, before_run, block_level, closed, container, element_role, inline_box, join, line_break, no_more, no_run, nothing, opened_again, role_by, role_of, stacked, then, words, wrapped}
+use Rattle.box_gen.specs.Tree.{Boxes, box, inline, none}
+use Rattle.relayout.specs.Fit.{AreFit, count, heaviest, height, room_in, siblings}
+use Rattle.session.specs.Limits.{bytes_of}
 
 -- ---- boxes side by side
 
-count_join : (a b : Boxes) → count (join a b) ≡ count a + count b
+pub count_join : (a b : Boxes) → count (join a b) ≡ count a + count b
 unfolding join
 count_join none b = omega arith
 count_join (box name style content inner next) b = let more = count_join next b in omega (arith, more)
 
-siblings_join : (a b : Boxes) → siblings (join a b) ≡ siblings a + siblings b
+pub siblings_join : (a b : Boxes) → siblings (join a b) ≡ siblings a + siblings b
 unfolding join
 siblings_join none b = omega arith
 siblings_join (box name style content inner next) b = let more = siblings_join next b in omega (arith, more)
@@ -37,6 +37,11 @@ unfolding join
 height_join none b most low also = also
 height_join (box name style content inner next) b most low also = let more = height_join next b most (omega (arith, low)) also in omega (arith, low, more)
 
+heaviest_join : (a b : Boxes) (most : ℕ) → heaviest a ≤ most → heaviest b ≤ most → heaviest (join a b) ≤ most
+unfolding join
+heaviest_join none b most light also = also
+heaviest_join (box name style content inner next) b most light also = let more = heaviest_join next b most (omega (arith, light)) also in omega (arith, light, more)
+
 fit_join : (a b : Boxes) → AreFit a → AreFit b → AreFit (join a b)
 unfolding join
 fit_join none b fit also = also
@@ -44,11 +49,11 @@ fit_join (box name style content inner next) b (here, inside, more) also = (here
 
 -- ---- items one after the other
 
-pub bytes_on : (one other : List Entry) → text_bytes (one ++ other) ≡ text_bytes one + text_bytes other
+bytes_on : (one other : List Entry) → text_bytes (one ++ other) ≡ text_bytes one + text_bytes other
 bytes_on [] other = omega arith
 bytes_on (entry ∷ one) other = let more = bytes_on one other in omega (arith, more)
 
-pub atoms_on : (one other : List Entry) → atoms_of (one ++ other) ≡ atoms_of one + atoms_of other
+atoms_on : (one other : List Entry) → atoms_of (one ++ other) ≡ atoms_of one + atoms_of other
 atoms_on [] other = omega arith
 atoms_on (item.text node letters style ∷ one) other = atoms_on one other
 atoms_on (item.begins node style edges ∷ one) other = atoms_on one other
@@ -56,71 +61,218 @@ atoms_on (item.ends node edges ∷ one) other = atoms_on one other
 atoms_on (item.atom name ∷ one) other = let more = atoms_on one other in omega (arith, more)
 atoms_on (item.line_break node ∷ one) other = atoms_on one other
 
-pub length_on : (one other : List Entry) → length (one ++ other) ≡ length one + length other
+length_on : (one other : List Entry) → length (one ++ other) ≡ length one + length other
 length_on [] other = omega arith
 length_on (entry ∷ one) other = let more = length_on one other in omega (arith, more)
 
 none_all : (P : Entry → Type 0) → All P []
 none_all P k d lt = absurd (omega (arith, lt))
 
-one_all : (P : Entry → Type 0) (entry : Entry) → P entry → All P (entry ∷ [])
+pub one_all : (P : Entry → Type 0) (entry : Entry) → P entry → All P (entry ∷ [])
 one_all P entry is = All-cons P entry [] is (none_all P)
 
--- ---- how much stands in what a container holds
+-- ---- a run
 
-abbrev pub items_behind : Blocks → ℕ
-items_behind no_more = 0
-items_behind (then block run others) = length run.items + items_behind others
+-- what a run has at most: items, bytes of text, how far its items take its lines and the boxes of its inline-blocks each other, how many of
+-- these boxes stand one inside the other, and how far what stands in one of them reaches
+pub record Most : Type 0 where
+  pub items : ℕ
+  pub bytes : ℕ
+  pub room : ℕ
+  pub tall : ℕ
+  pub heavy : ℕ
 
-abbrev pub bytes_behind : Blocks → ℕ
-bytes_behind no_more = 0
-bytes_behind (then block run others) = text_bytes run.items + bytes_behind others
+pub record IsNoMore (most more : Most) : Type 0 where
+  pub items : most.items ≤ more.items
+  pub bytes : most.bytes ≤ more.bytes
+  pub room : most.room ≤ more.room
+  pub tall : most.tall ≤ more.tall
+  pub heavy : most.heavy ≤ more.heavy
+
+-- a run that has no more, whose items can be prepared, with the boxes of its inline-blocks
+pub record IsRun (most : Most) (run : Run) : Type 0 where
+  pub some : length run.items ≤ most.items
+  pub letters : text_bytes run.items ≤ most.bytes
+  pub room : room_in (inline run.items) + siblings run.atoms * 2 ^ 39 ≤ most.room
+  pub low : height run.atoms ≤ most.tall
+  pub light : heaviest run.atoms ≤ most.heavy
+  pub sizes : All HasFontSize run.items
+  pub bounds : All HasBounds run.items
+  pub atoms : atoms_of run.items ≤ siblings run.atoms
+  pub fit : AreFit run.atoms
+
+pub run_more : (most more : Most) (run : Run) → IsNoMore most more → IsRun most run → IsRun more run
+run_more most more run up is = record {
+  some = omega (arith, is.some, up.items);
+  letters = omega (arith, is.letters, up.bytes);
+  room = omega (arith, is.room, up.room);
+  low = omega (arith, is.low, up.tall);
+  light = omega (arith, is.light, up.heavy);
+  sizes = is.sizes;
+  bounds = is.bounds;
+  atoms = is.atoms;
+  fit = is.fit;
+}
+
+-- a run that has nothing has no more than anything
+pub none_run : (most : Most) → IsRun most no_run
+none_run most = record {
+  some = omega arith;
+  letters = omega arith;
+  room = omega arith;
+  low = omega arith;
+  light = omega arith;
+  sizes = none_all HasFontSize;
+  bounds = none_all HasBounds;
+  atoms = omega arith;
+  fit = tt;
+}
+
+-- items and boxes can stand before a run, which then has no more than this
+pub record IsFront (items' : List Entry) (atoms' : Boxes) (most more : Most) : Type 0 where
+  pub some : length items' + most.items ≤ more.items
+  pub letters : text_bytes items' + most.bytes ≤ more.bytes
+  pub room : room_in (inline items') + siblings atoms' * 2 ^ 39 + most.room ≤ more.room
+  pub low : height atoms' ≤ more.tall
+  pub tall : most.tall ≤ more.tall
+  pub light : heaviest atoms' ≤ more.heavy
+  pub heavy : most.heavy ≤ more.heavy
+  pub sizes : All HasFontSize items'
+  pub bounds : All HasBounds items'
+  pub atoms : atoms_of items' ≤ siblings atoms'
+  pub fit : AreFit atoms'
+
+pub run_before : (items' : List Entry) (atoms' : Boxes) (blank : Bool) (run : Run) (most more : Most) → IsFront items' atoms' most more → IsRun most run
+    → IsRun more (before_run items' atoms' blank run)
+run_before items' atoms' blank run most more front is =
+    let long = length_on items' run.items in
+    let letters = bytes_on items' run.items in
+    let names = atoms_on items' run.items in
+    let side = siblings_join atoms' run.atoms in
+    record {
+      some = omega (arith, long, is.some, front.some);
+      letters = omega (arith, letters, is.letters, front.letters);
+      room = omega (arith, long, letters, names, side, is.room, front.room);
+      low = height_join atoms' run.atoms more.tall front.low (omega (arith, is.low, front.tall));
+      light = heaviest_join atoms' run.atoms more.heavy front.light (omega (arith, is.light, front.heavy));
+      sizes = All-append HasFontSize items' run.items front.sizes is.sizes;
+      bounds = All-append HasBounds items' run.items front.bounds is.bounds;
+      atoms = omega (arith, names, side, front.atoms, is.atoms);
+      fit = fit_join atoms' run.atoms front.fit is.fit;
+    }
+
+-- ---- the runs and blocks behind a run
 
 -- each run may have an anonymous block
 abbrev pub boxes_behind : Blocks → ℕ
 boxes_behind no_more = 0
 boxes_behind (then block run others) = count block + (suc (count run.atoms) + boxes_behind others)
 
--- this is at least the height of each of them
-abbrev pub IsBelow : (most : ℕ) → Blocks → Type 0
-IsBelow most no_more = ⊤
-IsBelow most (then block run others) = (height block ≤ most) × (height run.atoms ≤ most) × IsBelow most others
+abbrev pub row_behind : Blocks → ℕ
+row_behind no_more = 0
+row_behind (then block run others) = siblings block + (suc (row_behind others))
 
--- a run whose items can be prepared, with the boxes of its atoms
-pub record IsGoodRun (run : Run) : Type 0 where
-  pub sizes : All HasFontSize run.items
-  pub bounds : All HasBounds run.items
-  pub atoms : atoms_of run.items ≤ siblings run.atoms
-  pub fit : AreFit run.atoms
+pub record IsBlock (most : Most) (block : Boxes) : Type 0 where
+  pub low : height block ≤ most.tall
+  pub light : heaviest block ≤ most.heavy
+  pub fit : AreFit block
 
-abbrev pub AreGood : Blocks → Type 0
-AreGood no_more = ⊤
-AreGood (then block run others) = AreFit block × IsGoodRun run × AreGood others
+abbrev pub AreRuns : (most : Most) → Blocks → Type 0
+AreRuns most no_more = ⊤
+AreRuns most (then block run others) = IsBlock most block × IsRun most run × AreRuns most others
 
--- what a container holds, within such bounds
-pub record IsHeld (items bytes boxes most : ℕ) (h : Held) : Type 0 where
-  pub some : length h.first.items + items_behind h.others ≤ items
-  pub letters : text_bytes h.first.items + bytes_behind h.others ≤ bytes
+pub runs_more : (most more : Most) (bs : Blocks) → IsNoMore most more → AreRuns most bs → AreRuns more bs
+runs_more most more no_more up are = tt
+runs_more most more (then block run others) up (own, is, rest) = (
+  record { low = omega (arith, own.low, up.tall); light = omega (arith, own.light, up.heavy); fit = own.fit },
+  run_more most more run up is,
+  runs_more most more others up rest,
+)
+
+-- ---- what a container holds
+
+-- how far a piece of an inline box takes its line at most, with its edges or without
+abbrev pub of_piece : ℕ
+of_piece = 3 * 2 ^ 40
+
+-- a run opens at most 64 inline boxes again, and closes at most 64 that stay open
+abbrev pub pieces : ℕ
+pieces = 64
+
+abbrev pub of_pieces : ℕ
+of_pieces = 2 * pieces * of_piece
+
+-- of a run with so many pieces of inline boxes that it doesn't open or doesn't close; all other items and bytes of its container may stand in
+-- it. Its inline-blocks stand in nodes so deep: each may be one inside an anonymous block, and its paragraph may have such pieces again
+abbrev pub most_of : (foreign items bytes room below deep : ℕ) → Most
+most_of foreign items bytes room below deep =
+    record { items = foreign + items; bytes = bytes; room = foreign * of_piece + room; tall = 2 * deep; heavy = below + deep * of_pieces }
+
+-- what a container holds, within such bounds: how many boxes stand in it, how far those that stand side by side move each other, how far the
+-- items do, and what stands inside the boxes, come to a total; pieces of inline boxes that are cut come on top of it
+pub record IsHeld (items bytes boxes total deep : ℕ) (h : Held) : Type 0 where
+  pub row : ℕ
+  pub room : ℕ
+  pub below : ℕ
+  pub sum : row + room + below ≤ total
   pub many : count h.first.atoms + boxes_behind h.others ≤ boxes
-  pub low : height h.first.atoms ≤ most
-  pub below : IsBelow most h.others
-  pub good : IsGoodRun h.first
-  pub others : AreGood h.others
+  pub in_row : row_behind h.others * 2 ^ 39 ≤ row
+  pub first : IsRun (most_of pieces items bytes room below deep) h.first
+  pub others : AreRuns (most_of (2 * pieces) items bytes room below deep) h.others
 
-below_more : (most more : ℕ) (bs : Blocks) → most ≤ more → IsBelow most bs → IsBelow more bs
-below_more most more no_more up below = tt
-below_more most more (then block run others) up (one, two, rest) = (omega (arith, up, one), omega (arith, up, two), below_more most more others up rest)
-
-weaker : (i b x m i' b' x' m' : ℕ) (h : Held) → i ≤ i' → b ≤ b' → x ≤ x' → m ≤ m' → IsHeld i b x m h → IsHeld i' b' x' m' h
-weaker i b x m i' b' x' m' h ii bb xx mm is = record {
-  some = omega (arith, is.some, ii);
-  letters = omega (arith, is.letters, bb);
+pub weaker : (i b x t i' b' x' t' m : ℕ) (h : Held) → i ≤ i' → b ≤ b' → x ≤ x' → t ≤ t' → IsHeld i b x t m h → IsHeld i' b' x' t' m h
+weaker i b x t i' b' x' t' m h ii bb xx tt' is = record {
+  row = is.row;
+  room = is.room;
+  below = is.below;
+  sum = omega (arith, is.sum, tt');
   many = omega (arith, is.many, xx);
-  low = omega (arith, is.low, mm);
-  below = below_more m m' h.others mm is.below;
-  good = is.good;
-  others = is.others;
+  in_row = is.in_row;
+  first = run_more _ _ h.first (record { items = omega (arith, ii); bytes = omega (arith, bb); room = omega arith; tall = omega arith; heavy = omega arith }) is.first;
+  others = runs_more _ _ h.others (record { items = omega (arith, ii); bytes = omega (arith, bb); room = omega arith; tall = omega arith; heavy = omega arith }) is.others;
 }
+
+-- ---- pieces of inline boxes that are cut
+
+unfoldable pub AreOpenBounded : List Opened → Type 0
+AreOpenBounded [] = ⊤
+AreOpenBounded (innermost ∷ opened) = IsBounded innermost.style × AreOpenBounded opened
+
+pub record ArePieces (some : ℕ) (items : List Entry) : Type 0 where
+  pub many : length items ≡ some
+  pub letters : text_bytes items ≡ 0
+  pub names : atoms_of items ≡ 0
+  pub sizes : All HasFontSize items
+  pub bounds : All HasBounds items
+
+pub closed_pieces : (opened : List Opened) → ArePieces (length opened) (closed opened)
+unfolding closed
+closed_pieces [] = record { many = omega arith; letters = omega arith; names = omega arith; sizes = none_all HasFontSize; bounds = none_all HasBounds }
+closed_pieces (innermost ∷ opened) =
+    let more = closed_pieces opened in record {
+      many = omega (arith, more.many);
+      letters = omega (arith, more.letters);
+      names = omega (arith, more.names);
+      sizes = All-cons HasFontSize _ _ tt more.sizes;
+      bounds = All-cons HasBounds _ _ tt more.bounds;
+    }
+
+pub again_pieces : (opened : List Opened) → AreOpenBounded opened → ArePieces (length opened) (opened_again opened)
+unfolding opened_again AreOpenBounded
+again_pieces [] bounded = record { many = omega arith; letters = omega arith; names = omega arith; sizes = none_all HasFontSize; bounds = none_all HasBounds }
+again_pieces (innermost ∷ opened) bounded =
+    let more = again_pieces opened bounded.1 in
+    let last = item.begins innermost.node innermost.style false ∷ [] in
+    let long = length_on (opened_again opened) last in
+    let letters = bytes_on (opened_again opened) last in
+    let names = atoms_on (opened_again opened) last in
+    record {
+      many = omega (arith, long, more.many);
+      letters = omega (arith, letters, more.letters);
+      names = omega (arith, names, more.names);
+      sizes = All-append HasFontSize (opened_again opened) last more.sizes (one_all HasFontSize _ tt);
+      bounds = All-append HasBounds (opened_again opened) last more.bounds (one_all HasBounds _ bounded.0);
+    }
 
 -- ---- anonymous blocks
 
@@ -142,7 +294,16 @@ anonymous_bounded style is = record {
   margin = record { top = omega arith; right = omega arith; bottom = omega arith; left = omega arith };
   padding = record { top = (omega arith, omega arith); right = (omega arith, omega arith); bottom = (omega arith, omega arith); left = (omega arith, omega arith) };
   border = record { top = (omega arith, omega arith); right = (omega arith, omega arith); bottom = (omega arith, omega arith); left = (omega arith, omega arith) };
+  insets = record { top = omega arith; right = omega arith; bottom = omega arith; left = omega arith };
 }
+
+-- the box of a container, in which nodes so deep stand
+pub record IsOwn (boxes total deep : ℕ) (own : Boxes) : Type 0 where
+  pub many : count own ≤ boxes + 2
+  pub one : siblings own ≡ 1
+  pub low : height own ≤ 2 * deep + 2
+  pub light : heaviest own ≤ total + 2 ^ 39 + suc deep * of_pieces
+  pub fit : AreFit own
 
 module _ (number : ℕ) (style : Style) where
   wrapped_count : (blank : Bool) (ordinal : ℕ) (run : Run) (others : ℕ → Boxes) (bound : ℕ) → ((k : ℕ) → count (others k) ≤ bound)
@@ -150,17 +311,31 @@ module _ (number : ℕ) (style : Style) where
   wrapped_count true ordinal run others bound few = let f = few ordinal in omega (arith, f)
   wrapped_count false ordinal run others bound few = let f = few (suc ordinal) in omega (arith, f)
 
-  wrapped_height : (blank : Bool) (ordinal : ℕ) (run : Run) (others : ℕ → Boxes) (most : ℕ) → height run.atoms ≤ most → ((k : ℕ) → height (others k) ≤ suc most)
-      → height (wrapped blank number ordinal style run others) ≤ suc most
-  wrapped_height true ordinal run others most low lower = lower ordinal
-  wrapped_height false ordinal run others most low lower = let f = lower (suc ordinal) in omega (arith, f, low)
+  wrapped_siblings : (blank : Bool) (ordinal : ℕ) (run : Run) (others : ℕ → Boxes) (bound : ℕ) → ((k : ℕ) → siblings (others k) ≤ bound)
+      → siblings (wrapped blank number ordinal style run others) ≤ suc bound
+  wrapped_siblings true ordinal run others bound few = let f = few ordinal in omega (arith, f)
+  wrapped_siblings false ordinal run others bound few = let f = few (suc ordinal) in omega (arith, f)
 
-  wrapped_fit : (blank : Bool) (ordinal : ℕ) (run : Run) (others : ℕ → Boxes) → IsBounded style → IsGoodRun run → length run.items ≤ 2 ^ 20 → text_bytes run.items ≤ 1048576 → ((k : ℕ) → AreFit (others k))
-      → AreFit (wrapped blank number ordinal style run others)
-  wrapped_fit true ordinal run others bounded good few short fit = fit ordinal
-  wrapped_fit false ordinal run others bounded good few short fit = (
-    record { bounded = anonymous_bounded style bounded; paragraph = record { count = few; bytes = short; sizes = good.sizes; bounds = good.bounds }; atoms = good.atoms },
-    good.fit,
+  wrapped_height : (blank : Bool) (ordinal : ℕ) (run : Run) (others : ℕ → Boxes) (most : Most) → IsRun most run → ((k : ℕ) → height (others k) ≤ suc most.tall)
+      → height (wrapped blank number ordinal style run others) ≤ suc most.tall
+  wrapped_height true ordinal run others most is lower = lower ordinal
+  wrapped_height false ordinal run others most is lower = let f = lower (suc ordinal) in omega (arith, f, is.low)
+
+  wrapped_heaviest : (blank : Bool) (ordinal : ℕ) (run : Run) (others : ℕ → Boxes) (most : Most) → IsRun most run → ((k : ℕ) → heaviest (others k) ≤ most.room + most.heavy)
+      → heaviest (wrapped blank number ordinal style run others) ≤ most.room + most.heavy
+  wrapped_heaviest true ordinal run others most is lighter = lighter ordinal
+  wrapped_heaviest false ordinal run others most is lighter = let f = lighter (suc ordinal) in omega (arith, f, is.room, is.light)
+
+  wrapped_fit : (blank : Bool) (ordinal : ℕ) (run : Run) (others : ℕ → Boxes) (most : Most) → IsBounded style → IsRun most run → most.items ≤ 2 ^ 20 → most.bytes ≤ 1048576
+      → ((k : ℕ) → AreFit (others k)) → AreFit (wrapped blank number ordinal style run others)
+  wrapped_fit true ordinal run others most bounded is few short fit = fit ordinal
+  wrapped_fit false ordinal run others most bounded is few short fit = (
+    record {
+      bounded = anonymous_bounded style bounded;
+      paragraph = record { count = omega (arith, is.some, few); bytes = omega (arith, is.letters, short); sizes = is.sizes; bounds = is.bounds };
+      atoms = is.atoms;
+    },
+    is.fit,
     fit (suc ordinal),
   )
 
@@ -174,20 +349,34 @@ module _ (number : ℕ) (style : Style) where
       let all = count_join block (wrapped run.blank number ordinal style run (stacked number style others)) in
       omega (arith, after, all)
 
-  stacked_height : (bs : Blocks) (most ordinal : ℕ) → IsBelow most bs → height (stacked number style bs ordinal) ≤ suc most
+  stacked_siblings : (bs : Blocks) (ordinal : ℕ) → siblings (stacked number style bs ordinal) ≤ row_behind bs
   unfolding stacked
-  stacked_height no_more most ordinal below = omega arith
-  stacked_height (then block run others) most ordinal (one, two, rest) =
-      height_join block (wrapped run.blank number ordinal style run (stacked number style others)) (suc most) (omega (arith, one))
-      (wrapped_height run.blank ordinal run (stacked number style others) most two (λ k. stacked_height others most k rest))
+  stacked_siblings no_more ordinal = omega arith
+  stacked_siblings (then block run others) ordinal =
+      let after = wrapped_siblings run.blank ordinal run (stacked number style others) (row_behind others) (stacked_siblings others) in
+      let all = siblings_join block (wrapped run.blank number ordinal style run (stacked number style others)) in
+      omega (arith, after, all)
 
-  stacked_fit : (bs : Blocks) (ordinal : ℕ) → IsBounded style → AreGood bs → items_behind bs ≤ 2 ^ 20 → bytes_behind bs ≤ 1048576 → AreFit (stacked number style bs ordinal)
+  stacked_height : (bs : Blocks) (most : Most) (ordinal : ℕ) → AreRuns most bs → height (stacked number style bs ordinal) ≤ suc most.tall
   unfolding stacked
-  stacked_fit no_more ordinal bounded good few short = tt
-  stacked_fit (then block run others) ordinal bounded (fit, good, rest) few short =
-      fit_join block (wrapped run.blank number ordinal style run (stacked number style others)) fit
-      (wrapped_fit run.blank ordinal run (stacked number style others) bounded good (omega (arith, few)) (omega (arith, short))
-      (λ k. stacked_fit others k bounded rest (omega (arith, few)) (omega (arith, short))))
+  stacked_height no_more most ordinal are = omega arith
+  stacked_height (then block run others) most ordinal (own, is, rest) =
+      height_join block (wrapped run.blank number ordinal style run (stacked number style others)) (suc most.tall) (omega (arith, own.low))
+      (wrapped_height run.blank ordinal run (stacked number style others) most is (λ k. stacked_height others most k rest))
+
+  stacked_heaviest : (bs : Blocks) (most : Most) (ordinal : ℕ) → AreRuns most bs → heaviest (stacked number style bs ordinal) ≤ most.room + most.heavy
+  unfolding stacked
+  stacked_heaviest no_more most ordinal are = omega arith
+  stacked_heaviest (then block run others) most ordinal (own, is, rest) =
+      heaviest_join block (wrapped run.blank number ordinal style run (stacked number style others)) (most.room + most.heavy) (omega (arith, own.light))
+      (wrapped_heaviest run.blank ordinal run (stacked number style others) most is (λ k. stacked_heaviest others most k rest))
+
+  stacked_fit : (bs : Blocks) (most : Most) (ordinal : ℕ) → IsBounded style → AreRuns most bs → most.items ≤ 2 ^ 20 → most.bytes ≤ 1048576 → AreFit (stacked number style bs ordinal)
+  unfolding stacked
+  stacked_fit no_more most ordinal bounded are few short = tt
+  stacked_fit (then block run others) most ordinal bounded (own, is, rest) few short =
+      fit_join block (wrapped run.blank number ordinal style run (stacked number style others)) own.fit
+      (wrapped_fit run.blank ordinal run (stacked number style others) most bounded is few short (λ k. stacked_fit others most k bounded rest few short))
 
   -- ---- a container
 
@@ -197,56 +386,58 @@ module _ (number : ℕ) (style : Style) where
       let after = wrapped_count first.blank 0 first (stacked number style (then block run others)) (boxes_behind (then block run others)) (stacked_count (then block run others)) in
       omega (arith, after, few)
 
-  container_height : (first : Run) (bs : Blocks) (most : ℕ) → height first.atoms ≤ most → IsBelow most bs → height (container number style first bs) ≤ most + 2
-  container_height first no_more most low below = omega (arith, low)
-  container_height first (then block run others) most low below =
-      let after = wrapped_height first.blank 0 first (stacked number style (then block run others)) most low (λ k. stacked_height (then block run others) most k below) in
-      omega (arith, after)
-
   container_siblings : (first : Run) (bs : Blocks) → siblings (container number style first bs) ≡ 1
   container_siblings first no_more = omega arith
   container_siblings first (then block run others) = omega arith
 
-  container_fit : (first : Run) (bs : Blocks) → IsBounded style → IsGoodRun first → AreGood bs → length first.items + items_behind bs ≤ 2 ^ 20 → text_bytes first.items + bytes_behind bs ≤ 1048576
+  container_height : (first : Run) (bs : Blocks) (most : Most) → IsRun most first → AreRuns most bs → height (container number style first bs) ≤ most.tall + 2
+  container_height first no_more most is are = omega (arith, is.low)
+  container_height first (then block run others) most is are =
+      let after = wrapped_height first.blank 0 first (stacked number style (then block run others)) most is (λ k. stacked_height (then block run others) most k are) in
+      omega (arith, after)
+
+  container_heaviest : (first : Run) (bs : Blocks) (most : Most) → IsRun most first → AreRuns most bs
+      → heaviest (container number style first bs) ≤ suc (row_behind bs) * 2 ^ 39 + most.room + most.heavy
+  container_heaviest first no_more most is are = omega (arith, is.room, is.light)
+  container_heaviest first (then block run others) most is are =
+      let after = wrapped_heaviest first.blank 0 first (stacked number style (then block run others)) most is (λ k. stacked_heaviest (then block run others) most k are) in
+      let side = wrapped_siblings first.blank 0 first (stacked number style (then block run others)) (row_behind (then block run others)) (stacked_siblings (then block run others)) in
+      omega (arith, after, side)
+
+  container_fit : (first : Run) (bs : Blocks) (most : Most) → IsBounded style → IsRun most first → AreRuns most bs → most.items ≤ 2 ^ 20 → most.bytes ≤ 1048576
       → AreFit (container number style first bs)
-  container_fit first no_more bounded good rest few short = (
-    record { bounded = bounded; paragraph = record { count = omega (arith, few); bytes = omega (arith, short); sizes = good.sizes; bounds = good.bounds }; atoms = good.atoms },
-    good.fit,
-    tt,
-  )
-  container_fit first (then block run others) bounded good rest few short = (
-    record { bounded = bounded; paragraph = tt; atoms = tt },
-    wrapped_fit first.blank 0 first (stacked number style (then block run others)) bounded good (omega (arith, few)) (omega (arith, short))
-        (λ k. stacked_fit (then block run others) k bounded rest (omega (arith, few)) (omega (arith, short))),
-    tt,
-  )
-
--- ---- one node more
-
-before_held : (items' : List Entry) (atoms' : Boxes) (blank : Bool) (h : Held) (i b x m : ℕ) → All HasFontSize items' → All HasBounds items' → atoms_of items' ≤ siblings atoms' → AreFit atoms'
-    → height atoms' ≤ m → IsHeld i b x m h → IsHeld (length items' + i) (text_bytes items' + b) (count atoms' + x) m (inline_before items' atoms' blank h)
-before_held items' atoms' blank h i b x m sizes bounds named fit low is =
-    let long = length_on items' h.first.items in
-    let letters = bytes_on items' h.first.items in
-    let boxes = count_join atoms' h.first.atoms in
-    let names = atoms_on items' h.first.items in
-    let side = siblings_join atoms' h.first.atoms in
+  container_fit first no_more most bounded is are few short = (
     record {
-      some = omega (arith, long, is.some);
-      letters = omega (arith, letters, is.letters);
-      many = omega (arith, boxes, is.many);
-      low = height_join atoms' h.first.atoms m low is.low;
-      below = is.below;
-      good = record {
-        sizes = All-append HasFontSize items' h.first.items sizes is.good.sizes;
-        bounds = All-append HasBounds items' h.first.items bounds is.good.bounds;
-        atoms = omega (arith, names, side, named, is.good.atoms);
-        fit = fit_join atoms' h.first.atoms fit is.good.fit;
-      };
-      others = is.others;
-    }
+      bounded = bounded;
+      paragraph = record { count = omega (arith, is.some, few); bytes = omega (arith, is.letters, short); sizes = is.sizes; bounds = is.bounds };
+      atoms = is.atoms;
+    },
+    is.fit,
+    tt,
+  )
+  container_fit first (then block run others) most bounded is are few short = (
+    record { bounded = bounded; paragraph = tt; atoms = tt },
+    wrapped_fit first.blank 0 first (stacked number style (then block run others)) most bounded is few short
+        (λ k. stacked_fit (then block run others) most k bounded are few short),
+    tt,
+  )
 
-font_size : (style : Style) → IsBounded style → IsFontSize style
+  pub container_own : (h : Held) (i b x t m : ℕ) → IsBounded style → i + 2 * pieces ≤ 2 ^ 20 → b ≤ 1048576 → IsHeld i b x t m h → IsOwn x t m (container number style h.first h.others)
+  container_own h i b x t m bounded few short is =
+      let most = most_of (2 * pieces) i b is.room is.below m in
+      let first = run_more _ most h.first (record { items = omega arith; bytes = omega arith; room = omega arith; tall = omega arith; heavy = omega arith }) is.first in
+      let light = container_heaviest h.first h.others most first is.others in
+      record {
+        many = container_count h.first h.others x is.many;
+        one = container_siblings h.first h.others;
+        low = container_height h.first h.others most first is.others;
+        light = omega (arith, light, is.in_row, is.sum);
+        fit = container_fit h.first h.others most bounded first is.others (omega (arith, few)) short;
+      }
+
+-- ---- a node's numbers
+
+pub font_size : (style : Style) → IsBounded style → IsFontSize style
 font_size style is = record { low = is.font_size_low; high = is.font_size_high }
 
 abbrev pub bytes_in_role : Role → ℕ
@@ -275,70 +466,3 @@ role_bytes styled.line_break style = by_display style.display
     by_display FlowRoot = omega arith
     by_display Hidden = omega arith
 role_bytes (styled.text letters) style = omega arith
-
-placed_held : (role : Role) (number : ℕ) (style : Style) (inner next : Held) (i b x m i' b' x' m' most : ℕ) → IsBounded style → i ≤ 2 ^ 20 → b ≤ 1048576 → m + 2 ≤ most → m' ≤ most
-    → IsHeld i b x m inner → IsHeld i' b' x' m' next → IsHeld (i + i' + 2) (bytes_in_role role + (b + b')) (x + x' + 3) most (placed role number style inner next)
-placed_held nothing number style inner next i b x m i' b' x' m' most bounded few short low low' is is' =
-    weaker i' b' x' m' _ _ _ most next (omega arith) (omega arith) (omega arith) low' is'
-placed_held (words letters) number style inner next i b x m i' b' x' m' most bounded few short low low' is is' =
-    let here = before_held (item.text number letters style ∷ []) none (is_blank letters) next i' b' x' m' (one_all HasFontSize _ (font_size style bounded)) (one_all HasBounds _ tt) (omega arith) tt (omega arith) is' in
-    weaker _ _ _ m' _ _ _ most (inline_before (item.text number letters style ∷ []) none (is_blank letters) next) (omega arith) (omega arith) (omega arith) low' here
-placed_held line_break number style inner next i b x m i' b' x' m' most bounded few short low low' is is' =
-    let here = before_held (item.line_break number ∷ []) none false next i' b' x' m' (one_all HasFontSize _ tt) (one_all HasBounds _ tt) (omega arith) tt (omega arith) is' in
-    weaker _ _ _ m' _ _ _ most (inline_before (item.line_break number ∷ []) none false next) (omega arith) (omega arith) (omega arith) low' here
-placed_held inline_box number style inner next i b x m i' b' x' m' most bounded few short low low' is is' =
-    let items' : List Entry = item.begins number style true ∷ inner.first.items ++ item.ends number true ∷ [] in
-    let more = weaker i' b' x' m' i' b' x' most next (omega arith) (omega arith) (omega arith) low' is' in
-    let names = atoms_on inner.first.items (item.ends number true ∷ []) in
-    let long = length_on inner.first.items (item.ends number true ∷ []) in
-    let letters = bytes_on inner.first.items (item.ends number true ∷ []) in
-    let here = before_held items' inner.first.atoms false next i' b' x' most
-    (All-cons HasFontSize _ _ tt (All-append HasFontSize inner.first.items (item.ends number true ∷ []) is.good.sizes (one_all HasFontSize _ tt)))
-    (All-cons HasBounds _ _ bounded (All-append HasBounds inner.first.items (item.ends number true ∷ []) is.good.bounds (one_all HasBounds _ tt)))
-    (omega (arith, names, is.good.atoms)) is.good.fit (omega (arith, is.low, low)) more in
-    weaker _ _ _ most _ _ _ most (inline_before items' inner.first.atoms false next) (omega (arith, long, is.some)) (omega (arith, letters, is.letters)) (omega (arith, is.many)) (omega arith) here
-placed_held atom number style inner next i b x m i' b' x' m' most bounded few short low low' is is' =
-    let own = made number style inner in
-    let more = weaker i' b' x' m' i' b' x' most next (omega arith) (omega arith) (omega arith) low' is' in
-    let size = container_count number style inner.first inner.others x is.many in
-    let tall = container_height number style inner.first inner.others m is.low is.below in
-    let one = container_siblings number style inner.first inner.others in
-    let fit = container_fit number style inner.first inner.others bounded is.good is.others (omega (arith, is.some, few)) (omega (arith, is.letters, short)) in
-    let here = before_held (item.atom (own_name number) ∷ []) own false next i' b' x' most (one_all HasFontSize _ tt) (one_all HasBounds _ tt) (omega (arith, one)) fit (omega (arith, tall, low)) more in
-    weaker _ _ _ most _ _ _ most (inline_before (item.atom (own_name number) ∷ []) own false next) (omega arith) (omega arith) (omega (arith, size)) (omega arith) here
-placed_held block_level number style inner next i b x m i' b' x' m' most bounded few short low low' is is' =
-    let size = container_count number style inner.first inner.others x is.many in
-    let tall = container_height number style inner.first inner.others m is.low is.below in
-    record {
-      some = omega (arith, is'.some);
-      letters = omega (arith, is'.letters);
-      many = omega (arith, is'.many, size);
-      low = omega arith;
-      below = (omega (arith, tall, low), omega (arith, is'.low, low'), below_more m' most next.others low' is'.below);
-      good = record { sizes = none_all HasFontSize; bounds = none_all HasBounds; atoms = omega arith; fit = tt };
-      others = (container_fit number style inner.first inner.others bounded is.good is.others (omega (arith, is.some, few)) (omega (arith, is.letters, short)), is'.good, is'.others);
-    }
-
-held_within : (nodes : Nodes) → AreBounded nodes → nodes_in nodes ≤ 65536 → bytes_in nodes ≤ 1048576 → IsHeld (2 * nodes_in nodes) (bytes_in nodes) (3 * nodes_in nodes) (2 * depth nodes) (held nodes)
-unfolding held AreBounded
-held_within styled.none bounded few short =
-    record { some = omega arith; letters = omega arith; many = omega arith; low = omega arith; below = tt; good = record { sizes = none_all HasFontSize; bounds = none_all HasBounds; atoms = omega arith; fit = tt }; others = tt }
-held_within (styled.node number kind style inner next) (own, inside, behind) few short =
-    let low = held_within inner inside (omega (arith, few)) (omega (arith, short)) in
-    let more = held_within next behind (omega (arith, few)) (omega (arith, short)) in
-    let role = role_bytes kind style in
-    let all = placed_held (role_of kind style) number style (held inner) (held next) _ _ _ _ _ _ _ _ (2 * depth (styled.node number kind style inner next)) own (omega (arith, few)) (omega (arith, short)) (omega arith) (omega arith) low more in
-    weaker _ _ _ _ _ _ _ _ _ (omega arith) (omega (arith, role)) (omega arith) (omega arith) all
-
-pub boxes_held : (nodes : Nodes) → IsWithin nodes → (height (root_boxes nodes) ≤ 130) × (count (root_boxes nodes) ≤ 2 ^ 18) × AreFit (root_boxes nodes)
-unfolding AreBounded
-boxes_held styled.none within = (omega arith, omega arith, tt)
-boxes_held (styled.node number kind style inner next) within =
-    let few = within.few in
-    let short = within.short in
-    let low = within.low in
-    let is = held_within inner within.bounded.1 (omega (arith, few)) (omega (arith, short)) in
-    let h = held inner in
-    let size = container_count number style h.first h.others (3 * nodes_in inner) is.many in
-    let tall = container_height number style h.first h.others (2 * depth inner) is.low is.below in
-    (omega (arith, tall, low), omega (arith, size, few), container_fit number style h.first h.others within.bounded.0 is.good is.others (omega (arith, is.some, few)) (omega (arith, is.letters, short)))

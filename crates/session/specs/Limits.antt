@@ -45,7 +45,7 @@ pub record IsWithin (nodes : Nodes) : Type 0 where
 pub record CanBeLaidOut (boxes : Boxes) : Type 0 where
   pub low : height boxes ≤ 130
   pub few : count boxes ≤ 2 ^ 18
-  pub light : weight boxes ≤ 2 ^ 60 - 2 ^ 38
+  pub light : weight boxes ≤ 2 ^ 60 - 2 ^ 50
   pub fit : AreFit boxes
 
 abbrev pub BoxesFit : Type 0
