@@ -16,5 +16,6 @@ pub mod Props
 pub mod Reach
 pub mod Relayout
 pub mod Row
+pub mod Sized
 pub mod Sizes
 pub mod Step
