@@ -27,7 +27,7 @@ use Rattle.relayout.specs.declared.sizing.InlineSize.TheVariants.{MinMax, Used}
 use Rattle.relayout.specs.declared.sizing.Sizing.{Sizing}
 use Rattle.relayout.specs.Boxed.{block_size, border_across, border_along, border_box, boxed, handed_on, measured, turned}
 use Rattle.relayout.specs.Content.{Filled}
-use Rattle.relayout.specs.Fit.{AreFit, count, height, reach_of, room_in, siblings, weight}
+use Rattle.relayout.specs.Fit.{AreFit, count, heaviest, height, reach_of, room_in, siblings, weight}
 use Rattle.relayout.specs.Flow.{flow_step, laid_under, members}
 use Rattle.relayout.specs.Flowed.{AreLaid, Flowed, Laid, Member, Part, at, part_of}
 use Rattle.relayout.specs.Flowing.{CanFlow, CanFlowBox, IsBegun, IsSeen, IsSized}
@@ -41,7 +41,7 @@ use Rattle.relayout.specs.Row.{AreFlowed, HasBox, HasRow, IsBoxAt, IsFlowed, IsF
 use Rattle.relayout.specs.Sizes.{containing_of, is_parallel}
 use Rattle.relayout.specs.Step.{AreInside, AreUnder, HasChildren, IsInlineSize, box_by, contributing, inline_size_of, laid_inside, sizing_of, under, used_in}
 use Rattle.relayout.proofs.KeptLaws.{same_containing}
-use Rattle.relayout.proofs.RowLaws.{Arena, few_siblings, inside_first, inside_next, inside_on, lead_count, lead_laid, lead_more, lead_near, lead_reach, lead_under, some_of, stands_on, steady_itself, steady_kept, steady_text, steady_then, stood_from, weighty_siblings}
+use Rattle.relayout.proofs.RowLaws.{Arena, few_siblings, inside_first, inside_next, inside_on, lead_count, lead_laid, lead_more, lead_near, lead_reach, lead_under, some_of, stands_on, steady_itself, steady_kept, steady_text, steady_then, stood_from}
 use Rattle.relayout.proofs.StepLaws.{step_is}
 
 -- ---- the text of a paragraph
@@ -402,11 +402,10 @@ done_reach : (outside : Outside) (own : Containing) (c : Constraint) (laid : Lis
     → Reaches r content laid → r ≤ reach_of content inner
 done_reach outside own c [] list content inner r lead are reaches = none_reach content inner r reaches
 done_reach outside own c (b ∷ laid) list content inner r lead are reaches =
-    let n : ℕ = weight inner + 2 ^ 38 - length (b ∷ laid) * 2 ^ 39 in
+    let n : ℕ = heaviest inner + 2 ^ 38 in
     let many = lead_count outside own c (b ∷ laid) inner no_boxes lead in
-    let heavy = weighty_siblings inner in
     let near = reaches list n are (lead_reach outside own c (b ∷ laid) inner n lead (omega arith)) in
-    omega arith
+    omega (arith, many, near)
 
 -- the children of a box that is sized
 sized_flowed : (outside : Outside) (slots : Slots Preparation) (own : RowBox) (sized : SizedBox) (laid : List LaidBox) (is : IsSized outside slots own sized)

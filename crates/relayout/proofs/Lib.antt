@@ -8,7 +8,9 @@ pub mod FlowingLaws
 pub mod InlineLaws
 pub mod KeptLaws
 pub mod LaidLaws
+pub mod LinePieces
 pub mod RowLaws
+pub mod SizedLaws
 pub mod StepLaws
 pub mod TextLaws
 pub mod WholeLaws

@@ -1,6 +1,6 @@
 -- Boxes in an arena that stand side by side, one by one.
 use Rattle.std.proofs.Common.{◌≡◌, ◌∙◌, refl, sym, ap, subst, arith, ℕ, suc, ◌+◌, ◌-◌, ◌*◌, ◌≤◌, ◌^◌, List, [], ◌∷◌, ◌++◌, length, map, Option, Some, None, ℤ, inl, inr}
-use Rattle.std.specs.Prelude.{All, IsSome, option_and_then, option_map, slice_index_or}
+use Rattle.std.specs.Prelude.{All, IsSome, max, option_and_then, option_map, slice_index_or}
 use Rattle.std.proofs.lemmas.List.Elements.{All-cons, All-nil}
 use Rattle.std.proofs.lemmas.Bool.{cases_eq}
 use Rattle.std.proofs.lemmas.Option.{none-some, same_Some}
@@ -22,7 +22,7 @@ use Rattle.box_gen.specs.Tree.{Boxes, Content, blocks, box, inline, none as no_b
 use Rattle.para_prepare.specs.Preparation.{Preparation}
 use Rattle.relayout.specs.declared.flowed.LaidBox.{LaidBox}
 use Rattle.relayout.specs.declared.sizes.Containing.{Containing}
-use Rattle.relayout.specs.Fit.{AreFit, count, reach_of, room_in, siblings, weight}
+use Rattle.relayout.specs.Fit.{AreFit, count, heaviest, reach_of, room_in, siblings, weight}
 use Rattle.relayout.specs.Flow.{flow_step, laid_under, members}
 use Rattle.relayout.specs.Flowed.{AreLaid, Member, Part, at, part_of}
 use Rattle.relayout.specs.Inline.{Outside}
@@ -171,10 +171,6 @@ pub few_siblings : (tree : Boxes) → siblings tree ≤ count tree
 few_siblings no_boxes = omega arith
 few_siblings (box name style content inner next) = let few = few_siblings next in omega arith
 
-pub weighty_siblings : (tree : Boxes) → siblings tree * 2 ^ 39 ≤ weight tree
-weighty_siblings no_boxes = omega arith
-weighty_siblings (box name style content inner next) = let many = weighty_siblings next in omega arith
-
 -- ---- what has been laid out
 
 abbrev member_first : Outside → Containing → BoxName → Style → Content → (inner : Boxes) → Member
@@ -204,21 +200,19 @@ module _ (outside : Outside) (containing : Containing) (c : Constraint) where
   lead_under (own ∷ laid) (box name style content inner next) lead = (record { style = lead.0.same; part = lead.0.part }, lead_under laid next lead.1)
 
   -- how far what stands in them reaches
-  pub lead_reach : (laid : List LaidBox) (tree : Boxes) (n : ℕ) → Lead outside containing c laid tree no_boxes → weight tree + 2 ^ 38 ≤ n + length laid * 2 ^ 39 → All (HasReach n) laid
+  pub lead_reach : (laid : List LaidBox) (tree : Boxes) (n : ℕ) → Lead outside containing c laid tree no_boxes → heaviest tree + 2 ^ 38 ≤ n → All (HasReach n) laid
   lead_reach [] tree n lead light = All-nil (HasReach n)
   lead_reach (own ∷ laid) no_boxes n lead light = absurd lead
   lead_reach (own ∷ laid) (box name style content inner next) n lead light =
-      let many = lead_count laid next no_boxes lead.1 in
-      let heavy = weighty_siblings next in
       let near = lead.0.reach in
-      let lighter : 2 ^ 39 + room_in content + weight inner + weight next + 2 ^ 38 ≤ n + suc (length laid) * 2 ^ 39 = light in
-      All-cons (HasReach n) own laid (omega arith) (lead_reach laid next n lead.1 (omega arith))
+      let lighter : max (room_in content + weight inner) (heaviest next) + 2 ^ 38 ≤ n = light in
+      All-cons (HasReach n) own laid (omega (arith, near, lighter)) (lead_reach laid next n lead.1 (omega (arith, lighter)))
 
   pub lead_near : (laid : List LaidBox) (tree : Boxes) → Lead outside containing c laid tree no_boxes → AreFit tree → weight tree ≤ 2 ^ 60 - 2 ^ 38 → All IsNearLaid laid
   lead_near [] tree lead fit light = All-nil IsNearLaid
   lead_near (own ∷ laid) no_boxes lead fit light = absurd lead
   lead_near (own ∷ laid) (box name style content inner next) lead fit light = All-cons IsNearLaid own laid near (lead_near laid next lead.1 fit.2 (omega (arith, lighter))) where
-    lighter : 2 ^ 39 + room_in content + weight inner + weight next ≤ 2 ^ 60 - 2 ^ 38
+    lighter : suc (siblings next) * 2 ^ 39 + max (room_in content + weight inner) (heaviest next) ≤ 2 ^ 60 - 2 ^ 38
     lighter = light
 
     members_near : All IsNearMember (members outside containing (box name style content inner next))

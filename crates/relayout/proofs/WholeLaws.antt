@@ -1,6 +1,6 @@
 -- The whole layout from that of the root's row.
-use Rattle.std.proofs.Common.{◌≡◌, ◌∙◌, ◌+◌, ◌-◌, ◌*◌, ◌≤◌, ◌^◌, refl, sym, ap, subst, arith, unsigned_abs, ℕ, Bool, true, false, List, [], ◌∷◌, length, get_or, Option, Some, None}
-use Rattle.std.specs.Prelude.{All, option_and_then}
+use Rattle.std.proofs.Common.{◌≡◌, ◌∙◌, ◌+◌, ◌-◌, ◌*◌, ◌≤◌, ◌^◌, suc, refl, sym, ap, subst, arith, unsigned_abs, ℕ, Bool, true, false, List, [], ◌∷◌, length, get_or, Option, Some, None}
+use Rattle.std.specs.Prelude.{All, max, option_and_then}
 use Rattle.std.proofs.lemmas.Option.{same_Some}
 use Rattle.face_api.specs.Table.{Table}
 use Rattle.wm_modes.specs.declared.mode.WritingMode.{WritingMode}
@@ -20,7 +20,7 @@ use Rattle.relayout.specs.declared.flowed.LaidBox.{LaidBox}
 use Rattle.relayout.specs.declared.inline.PageView.{PageView}
 use Rattle.relayout.specs.declared.row.Row.{Row}
 use Rattle.relayout.specs.Edges.{margin_or_zero}
-use Rattle.relayout.specs.Fit.{reach_of, room_in, siblings, weight}
+use Rattle.relayout.specs.Fit.{heaviest, reach_of, room_in, siblings, weight}
 use Rattle.relayout.specs.Flow.{layout, on_page}
 use Rattle.relayout.specs.Flowed.{Part, at, part_of}
 use Rattle.relayout.specs.Flowing.{CanFlow}
@@ -79,7 +79,7 @@ module _ (faces : List (Option Table)) (view : View) (page : PageView) (slots : 
   root_can near sizes free alone has right = record {
     view = near;
     sizes = record { inline = sizes.along; block = sizes.across };
-    boxes = record { tree = has.tree; stand = stands_alone slots root has.tree alone has.stands; low = has.low; few = has.few; light = has.light; fit = has.fit };
+    boxes = record { tree = has.tree; stand = stands_alone slots root has.tree alone has.stands; low = has.low; few = has.few; light = let light = has.light in omega (arith, light); fit = has.fit };
     inside = λ node at. ap (λ (p : Option ℕ). containing_by (option_and_then (node_at slots) p) node.style) free ∙ ap (λ (n : Node). containing_of n.style) (same_Some node own (sym at ∙ there));
     right = let P : Outside → Type 0 = λ o. AreRight o slots in subst P (sym is) (right own there);
   }
@@ -93,7 +93,7 @@ module _ (faces : List (Option Table)) (view : View) (page : PageView) (slots : 
   pub root_alone : (row : Row) (laid : List LaidBox) → row ≡ root_row root own.style view → AreFlowed (from_outside faces page) slots row.from row.containing row.c laid → next_at slots root ≡ None → HasTree slots root
       → (length laid ≡ 1) × All IsNearLaid laid
   root_alone row laid same flowed alone has = by has.tree has.stands (lead_near (from_outside faces page) (containing_of own.style) (under (Some view.inline) (Some view.block)) laid has.tree
-      (root_flowed row laid same flowed has.tree (stands_alone slots root has.tree alone has.stands)) has.fit has.light) (root_flowed row laid same flowed has.tree (stands_alone slots root has.tree alone has.stands)) where
+      (root_flowed row laid same flowed has.tree (stands_alone slots root has.tree alone has.stands)) has.fit (let light = has.light in omega (arith, light))) (root_flowed row laid same flowed has.tree (stands_alone slots root has.tree alone has.stands)) where
         by : (tree : Boxes) → Stands slots root tree → All IsNearLaid laid → Lead (from_outside faces page) (containing_of own.style) (under (Some view.inline) (Some view.block)) laid tree no_boxes
             → (length laid ≡ 1) × All IsNearLaid laid
         by no_boxes stands near lead = absurd stands
@@ -123,17 +123,17 @@ module _ (faces : List (Option Table)) (view : View) (page : PageView) (slots : 
             ∙ ap (λ (s : Style). in_view s view (part_of b.fragment)) here.0.same ∙ ap (in_view style view) here.0.part
 
   pub root_near : (row : Row) (laid : List LaidBox) (first : LaidBox) (made : Pieces) → IsView view → row ≡ root_row root own.style view → AreFlowed (from_outside faces page) slots row.from row.containing row.c laid
-      → next_at slots root ≡ None → HasTree slots root → first ≡ get_or laid 0 first → made ≡ in_view first.style view (part_of first.fragment) → spread made ≤ 2 ^ 60 - 2 ^ 37
+      → next_at slots root ≡ None → HasTree slots root → first ≡ get_or laid 0 first → made ≡ in_view first.style view (part_of first.fragment) → spread made ≤ 2 ^ 60 - 2 ^ 50 + 2 ^ 37
   root_near row laid first made sizes same flowed alone has at shown =
       by has.tree laid has.stands has.light at (root_flowed row laid same flowed has.tree (stands_alone slots root has.tree alone has.stands)) (root_alone row laid same flowed alone has).1 where
-        by : (tree : Boxes) (boxes : List LaidBox) → Stands slots root tree → weight tree ≤ 2 ^ 60 - 2 ^ 38 → first ≡ get_or boxes 0 first
-            → Lead (from_outside faces page) (containing_of own.style) (under (Some view.inline) (Some view.block)) boxes tree no_boxes → All IsNearLaid boxes → spread made ≤ 2 ^ 60 - 2 ^ 37
+        by : (tree : Boxes) (boxes : List LaidBox) → Stands slots root tree → weight tree ≤ 2 ^ 60 - 2 ^ 50 → first ≡ get_or boxes 0 first
+            → Lead (from_outside faces page) (containing_of own.style) (under (Some view.inline) (Some view.block)) boxes tree no_boxes → All IsNearLaid boxes → spread made ≤ 2 ^ 60 - 2 ^ 50 + 2 ^ 37
         by no_boxes boxes stands light at lead near = absurd stands
         by (box name style content inner next) [] stands light at lead near = absurd (cc)
         by (box name style content inner next) (b ∷ boxes) stands light at lead near =
             let n : IsNearLaid b = near 0 b (omega arith) in
             let deep : HasReach (reach_of content inner) b = lead.0.reach in
             let whole = root_spread b.style view (part_of b.fragment) (reach_of content inner) sizes n.style n.part deep in
-            let lighter : 2 ^ 39 + room_in content + weight inner + weight next ≤ 2 ^ 60 - 2 ^ 38 = light in
-            let P : Pieces → Type 0 = λ ps. spread ps ≤ 2 ^ 60 - 2 ^ 37 in
+            let lighter : suc (siblings next) * 2 ^ 39 + max (room_in content + weight inner) (heaviest next) ≤ 2 ^ 60 - 2 ^ 50 = light in
+            let P : Pieces → Type 0 = λ ps. spread ps ≤ 2 ^ 60 - 2 ^ 50 + 2 ^ 37 in
             subst P (sym (shown ∙ ap (λ (x : LaidBox). in_view x.style view (part_of x.fragment)) at)) (omega (arith, whole, lighter))

@@ -39,7 +39,7 @@ pub record HasTree (slots : Slots Preparation) (root : ℕ) : Type 0 where
   pub stands : Stands slots root tree
   pub low : height tree ≤ most_deep
   pub few : count tree ≤ 2 ^ 18
-  pub light : weight tree ≤ 2 ^ 60 - 2 ^ 38
+  pub light : weight tree ≤ 2 ^ 60 - 2 ^ 50
   pub fit : AreFit tree
 
 -- the row of the root, which stands alone in the view

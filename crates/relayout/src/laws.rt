@@ -1,6 +1,7 @@
 //! Laws of what is kept in an arena of boxes. These functions do nothing: their contracts are the laws.
 
 ghost use Rattle.relayout.specs.Laws.{AttachedIsRight, BareIsRight, DetachedIsRight, DroppedIsRight, ForgottenIsRight, KeptIsRight, KeptTextIsRight, MarkedIsRight, RestyledAlikeIsRight, RestyledIsRight};
+ghost use Rattle.relayout.specs.Sized.{LayoutsAreSized};
 
 /// Where nothing is kept, all that is kept is right; so it is where all is forgotten.
 pub fn what_is_not_kept_is_right()
@@ -34,4 +35,10 @@ pub fn what_is_kept_is_right_after_an_attach()
 /// A box is detached: what is kept is right but for that box itself, where the mode or the direction around it changes.
 pub fn what_is_kept_is_right_after_a_detach()
     ensures { DetachedIsRight }
+{}
+
+/// In a view whose block size is from 0 to 2^32 units of 1/64 px, so are the sizes of all content areas, and each block size that is
+/// definite.
+pub fn contents_have_sizes()
+    ensures { LayoutsAreSized }
 {}

@@ -1,6 +1,6 @@
 //! The layout of a document whose boxes lie in an arena (CSS 2, 9.4 and 10.1).
 
-ghost use Rattle.std.specs.Prelude.{◌≡◌, ◌≤◌, ◌-◌, ◌^◌, List, IfOk, None, Option, Some};
+ghost use Rattle.std.specs.Prelude.{◌≡◌, ◌+◌, ◌≤◌, ◌-◌, ◌^◌, List, IfOk, None, Option, Some};
 ghost use Rattle.face_api.specs.Faces.{faces_of};
 ghost use Rattle.face_api.specs.Table.{Table};
 ghost use Rattle.fragment_types.specs.Fragment.{piece_of};
@@ -94,7 +94,7 @@ fn root_row(root: BoxKey, style: &Style, view: View) -> Row
 
 /// The layout of the tree of boxes under a root, in a view of these sizes, which are told in the root's mode. What is kept in the arena
 /// is used, and all that is laid out is kept, also where memory runs out before the end. The fragment reaches, with all that stands
-/// inside it and whichever edges that is measured from, at most 2^60 - 2^37 units of 1/64 px.
+/// inside it and whichever edges that is measured from, at most 2^60 - 2^50 + 2^37 units of 1/64 px.
 pub fn relayout<L: Ledger, M: Ledger>(
     alloc: Global,
     arena: &mut BoxArena<Prepared>,
@@ -109,7 +109,7 @@ pub fn relayout<L: Ledger, M: Ledger>(
     requires view { IsView view }
     requires right { AreRightUnder (faces_of ⟦<dyn Face as Face>⟧ faces.now) view arena.old.slots root }
     ensures steady { IsSteadyUnder (faces_of ⟦<dyn Face as Face>⟧ faces.now) view arena.old arena.new root }
-    ensures near { IfOk result (λ made. spread (piece_of made) ≤ 2 ^ 60 - 2 ^ 37) }
+    ensures near { IfOk result (λ made. spread (piece_of made) ≤ 2 ^ 60 - 2 ^ 50 + 2 ^ 37) }
     ensures layout { IfOk result (λ made. IsLayout (faces_of ⟦<dyn Face as Face>⟧ faces.now) view arena.old.slots root (piece_of made)) }
 {
     let style = arena.node(root).style;

@@ -15,6 +15,8 @@ use Rattle.wm_units.specs.View.{IsView}
 use Rattle.wm_units.specs.declared.view.View.{View}
 use Rattle.place_map.specs.Frame.{line_mode, of_view, page_by, page_of, root_direction, root_mode}
 use Rattle.place_map.specs.Near.{AreNear, IsNearKind, IsNearPart}
+use Rattle.place_map.specs.Placing.{place_parts, placed}
+use Rattle.rel_shift.specs.Laws.{ArePlacesWithin}
 use Rattle.session.specs.Spread.{SpreadIsNear, reach_of}
 use Rattle.line_place.specs.Spread.{spread, stretch}
 
@@ -115,12 +117,60 @@ spread_is_near mode dir area (piece name rect (measure least most) inner next) f
   spread_is_near mode dir area next (omega (arith, few)),
 )
 
+-- ---- places on the page
+
+-- no fragment stands further out than it reaches
+placed_within : (mode : WritingMode) (dir : Direction) (area : Rect) (pieces : Pieces) (most : ℕ) → reach_of area + spread pieces ≤ most → ArePlacesWithin most (placed (record { mode = mode; dir = dir; area = area }) pieces)
+placed_within mode dir area none most few = tt
+placed_within mode dir area (piece name rect (block mode_ dir_ content definite start end_ through) inner next) most few =
+    let page = mapped mode dir area rect in
+    let content_area = mapped mode dir (map_of mode dir area rect) content in (
+      omega (arith, few, page),
+      omega (arith, few, page),
+      placed_within mode_ dir_ (map_of mode dir (map_of mode dir area rect) content) inner most (omega (arith, few, page, content_area)),
+      placed_within mode dir area next most (omega (arith, few)),
+    )
+placed_within mode dir area (piece name rect (line index base mode_ baseline) inner next) most few =
+    let page = mapped mode dir area rect in (
+      omega (arith, few, page),
+      omega (arith, few, page),
+      placed_within (line_mode mode_) Ltr (map_of mode dir area rect) inner most (omega (arith, few, page)),
+      placed_within mode dir area next most (omega (arith, few)),
+    )
+placed_within mode dir area (piece name rect span inner next) most few =
+    let page = mapped mode dir area rect in (
+      omega (arith, few, page),
+      omega (arith, few, page),
+      placed_within mode dir area inner most (omega (arith, few)),
+      placed_within mode dir area next most (omega (arith, few)),
+    )
+placed_within mode dir area (piece name rect (run form level natural units) inner next) most few =
+    let page = mapped mode dir area rect in (
+      omega (arith, few, page),
+      omega (arith, few, page),
+      placed_within mode dir area inner most (omega (arith, few)),
+      placed_within mode dir area next most (omega (arith, few)),
+    )
+placed_within mode dir area (piece name rect (measure least most_) inner next) most few =
+    let page = mapped mode dir area rect in (
+      omega (arith, few, page),
+      omega (arith, few, page),
+      placed_within mode dir area inner most (omega (arith, few)),
+      placed_within mode dir area next most (omega (arith, few)),
+    )
+
 -- ---- a page
 
 page_reach : (horizontal : Bool) (view : View) → IsView view → reach_of (page_by horizontal view) ≤ 2 ^ 32
 page_reach true view is = let a = is.inline_low in let b = is.inline_high in let c = is.block_low in let d = is.block_high in omega (arith, ints)
 page_reach false view is = let a = is.inline_low in let b = is.inline_high in let c = is.block_low in let d = is.block_high in omega (arith, ints)
 
-pub view_near : SpreadIsNear → (view : View) (kind : Kind) (pieces : Pieces) → IsView view → spread pieces ≤ 2 ^ 60 - 2 ^ 37 → AreNear (of_view view kind) pieces
+pub view_near : SpreadIsNear → (view : View) (kind : Kind) (pieces : Pieces) → IsView view → spread pieces ≤ 2 ^ 60 - 2 ^ 50 + 2 ^ 37 → AreNear (of_view view kind) pieces
 view_near law view kind pieces is few =
     let page = page_reach (is_horizontal (root_mode kind)) view is in law (root_mode kind) (root_direction kind) (page_of view (root_mode kind)) pieces (omega (arith, page, few))
+
+pub page_within : (view : View) (pieces : Pieces) → IsView view → spread pieces ≤ 2 ^ 60 - 2 ^ 50 + 2 ^ 37 → ArePlacesWithin (2 ^ 60 - 2 ^ 49) (place_parts view pieces)
+page_within view none is few = tt
+page_within view (piece name rect kind inner next) is few =
+    let page = page_reach (is_horizontal (root_mode kind)) view is in
+    placed_within (root_mode kind) (root_direction kind) (page_of view (root_mode kind)) (piece name rect kind inner next) (2 ^ 60 - 2 ^ 49) (omega (arith, page, few))
