@@ -1,6 +1,6 @@
 //! A document that is open: its nodes and styles, its faces, and its boxes with what is kept of them.
 
-ghost use Rattle.std.specs.Prelude.{◌≡◌, ◌≤◌, IfErr, IfOk, None, length, map};
+ghost use Rattle.std.specs.Prelude.{◌≡◌, ◌-◌, ◌≤◌, ◌^◌, IfErr, IfOk, None, length, map};
 ghost use Rattle.std.specs.List.{All};
 ghost use Rattle.face_api.specs.Faces.{faces_of};
 ghost use Rattle.css_types.specs.Rule.{rulings_of};
@@ -12,6 +12,7 @@ ghost use Rattle.tree_laws.specs.Weight.{bytes, total};
 ghost use Rattle.cascade.specs.Winners.{AreSaidRules};
 ghost use Rattle.place_map.specs.Near.{AreNearParts};
 ghost use Rattle.place_map.specs.Placed.{placed_of};
+ghost use Rattle.rel_shift.specs.Laws.{ArePlacesWithin};
 ghost use Rattle.session.specs.State.{AreReady, IsSound, Opens, boxes_of, page_in};
 
 use crate::boxes::{boxes_in, made_boxes};
@@ -95,8 +96,9 @@ impl Session {
     }
 
     /// The page: the flow of the document as it is now, carried to the page. Boxes are made where there are none; what is kept of
-    /// them is used, and all that is laid out is kept. No coordinate of the page is further than 2^60 from 0. Where memory runs
-    /// out they are dropped, and the page can be asked for again.
+    /// them is used, and all that is laid out is kept. No coordinate of the page is further than 2^60 from 0, and no fragment stands
+    /// further than 2^60 - 2^49 from the page's left and top edges. Where memory runs out the boxes are dropped, and the page can be
+    /// asked for again.
     pub fn show<L: Ledger, M: Ledger>(
         &mut self,
         prepared: &mut Steps<L>,
@@ -105,6 +107,7 @@ impl Session {
         requires sound { IsSound (faces_of ⟦<dyn Face as Face>⟧ self.old.faces) self.old }
         ensures page { IfOk result (λ placed. placed_of placed ≡ page_in (faces_of ⟦<dyn Face as Face>⟧ self.old.faces) self.old) }
         ensures near { IfOk result (λ placed. AreNearParts (placed_of placed).parts) }
+        ensures within { IfOk result (λ placed. ArePlacesWithin (2 ^ 60 - 2 ^ 49) (placed_of placed).parts) }
         ensures rest { self.new ≡ record self.old { boxes = self.new.boxes } }
         ensures sound { IsSound (faces_of ⟦<dyn Face as Face>⟧ self.new.faces) self.new }
         ensures dropped { IfErr result (λ _. self.new.boxes ≡ None) }
