@@ -31,10 +31,9 @@ class Intake:
         root = intake_tree.Builder(self.characters, self.losses, self.words.markers).build(source.tree)
         kept = self.styled(root, source.tree, source.beside, self.judge) if self.judge else self.unstyled(root)
         looks = intake_sheets.looks_of(root)
-        boxes = intake_boxes.Boxes(self.rules(looks + kept, looks), self.judge, self.losses)
-        boxes.mend(root)
-        if boxes.most_turned > intake_document.MOST_TURNED:
-            raise listing.InputError(f"{boxes.most_turned} boxes turn within each other, where the engine takes 6")
+        most_turned = intake_boxes.Boxes(self.rules(looks + kept, looks), self.judge).most_turned(root)
+        if most_turned > intake_document.MOST_TURNED:
+            raise listing.InputError(f"{most_turned} boxes turn within each other, where the engine takes 6")
         return intake_document.Document(intake_tree.title_of(source.tree), looks + kept, root)
 
     def styled(

@@ -1,13 +1,12 @@
-"""What boxes a document's elements make, as far as the engine may refuse them (docs/PROFILE/boxes.md), for tools/take-in.
+"""How many boxes of a document turn within each other, of which the engine takes six (docs/PROFILE/boxes.md), for tools/take-in.
 
 It needs `display` and `writing-mode` alone, so it finds these two for each element, from what the engine's own reader said of
-the sheets: an inline element round a block becomes a block, and boxes that turn within each other are counted.
+the sheets.
 """
 import dataclasses
 import re
 from collections.abc import Iterable, Iterator
 
-import intake_losses
 import intake_sheets
 import intake_tree
 
@@ -15,10 +14,8 @@ import intake_tree
 Declared = tuple[str, str, bool]
 PROPERTIES = {"Display": "display", "WritingMode": "mode"}
 INITIAL = {"display": "inline", "mode": "horizontal-tb"}
-BLOCK_LEVEL = ("block", "flow-root")
 RULE = re.compile(r"([^{}]+) \{([^{}]*)\}")
 DECLARATION = re.compile(r"(\w+) (?:Keyword\((\w+)\)|(\w+))( important)? at ")
-MADE_BLOCK = "display: block !important"
 
 
 @dataclasses.dataclass
@@ -127,45 +124,30 @@ def rules_of(answer: str) -> list[Rule]:
 class Boxes:
     """The boxes of a document's elements."""
 
-    def __init__(self, rules: list[Rule], judge: "intake_sheets.Judge | None", losses: intake_losses.Losses) -> None:
+    def __init__(self, rules: list[Rule], judge: "intake_sheets.Judge | None") -> None:
         # By weight, and by place where two weigh the same: the last one wins.
         ordered = sorted(rules, key=Rule.weight)
         self.rules = {name: [rule for rule in ordered if rule.says(name)] for name in INITIAL}
         self.judge = judge
-        self.losses = losses
-        self.most_turned = 0
 
-    def mend(self, root: intake_tree.Element) -> None:
-        """Makes blocks of inline elements round blocks, and counts the boxes that turn within each other."""
+    def most_turned(self, root: intake_tree.Element) -> int:
+        """How many boxes turn within each other at most."""
         above, body = known(root), known(root.elements()[0])
         # The mode of `html` is that of `body`.
         mode = self.value([above, body], "mode", self.value([above], "mode", INITIAL["mode"]))
-        self.holds_block([above], mode, 0)
+        return self.most_inside([above], mode)
 
-    def holds_block(self, line: list[Known], mode: str, turned: int) -> bool:
-        """Whether block-level boxes stand in an element, after what is in it was mended."""
-        found = [self.is_block([*line, known(child)], mode, turned) for child in line[-1].element.elements()]
-        return any(found)
+    def most_inside(self, line: list[Known], mode: str) -> int:
+        """How many do inside the last element of a line, which has this mode."""
+        return max((self.most_of([*line, known(child)], mode) for child in line[-1].element.elements()), default=0)
 
-    def is_block(self, line: list[Known], mode: str, turned: int) -> bool:
-        """Whether an element makes a block-level box. An inline one round such a box is made one."""
-        element = line[-1].element
-        display = self.value(line, "display", "block" if element.tag in intake_tree.BLOCK_TAGS else "inline")
-        if element.tag == "br" or display == "none":
-            return False
+    def most_of(self, line: list[Known], mode: str) -> int:
+        """How many do with the last element of a line, which stands in one of this mode."""
+        if line[-1].element.tag == "br" or self.value(line, "display", INITIAL["display"]) == "none":
+            return 0
+        # An inline element that turns is an atom.
         own = self.value(line, "mode", mode)
-        turned += is_vertical(own) != is_vertical(mode)
-        self.most_turned = max(self.most_turned, turned)
-        # An inline element that turns is an atom, which may hold blocks.
-        if self.holds_block(line, own, turned) and display == "inline" and own == mode:
-            self.make_block(element)
-            return True
-        return display in BLOCK_LEVEL
-
-    def make_block(self, element: intake_tree.Element) -> None:
-        self.losses.add("inline elements made blocks", element.was)
-        before = element.attributes.get("style")
-        element.attributes["style"] = f"{before}; {MADE_BLOCK}" if before else MADE_BLOCK
+        return (is_vertical(own) != is_vertical(mode)) + self.most_inside(line, own)
 
     def value(self, line: list[Known], prop: str, otherwise: str) -> str:
         """The value that wins for the last element of a line: an important one before others, its attribute before sheets.

@@ -219,17 +219,17 @@ class Sheets:
         return "".join(filter(None, (self.kept_rule(rule, names) for rule in rules)))
 
     def without_pulling(self, rule: WrittenRule, floated: set[str]) -> list[WrittenRule]:
-        """The rule, in which the selectors that a rule floats or positions have no negative margins."""
+        """The rule, in which the selectors that a rule takes out of the flow have no negative margins and no insets."""
         pulled, others = ([each for each in rule.selectors if (each in floated) is side] for side in (True, False))
-        if pulled and (less := self.without_negative_margins(rule.declarations)) != rule.declarations:
+        if pulled and (less := self.without_pull(rule.declarations)) != rule.declarations:
             return [WrittenRule(part, declarations) for part, declarations in ((others, rule.declarations), (pulled, less)) if part]
         return [rule]
 
-    def without_negative_margins(self, declarations: list[str]) -> list[str]:
-        found = [(each, intake_floats.without_negative_margin(each)) for each in declarations]
+    def without_pull(self, declarations: list[str]) -> list[str]:
+        found = [(each, intake_floats.without_pull(each)) for each in declarations]
         for before, after in found:
             if after != before:
-                self.losses.add("negative margins of floats and positions left out", before.partition(":")[0].lower())
+                self.losses.add("negative margins and insets of floats and positions left out", before.partition(":")[0].lower())
         return [after for _, after in found if after is not None]
 
     def ask_all(self, rules: list[WrittenRule]) -> None:
@@ -268,8 +268,8 @@ class Sheets:
     # Style attributes.
 
     def in_flow(self, declarations: list[str]) -> list[str]:
-        """The declarations of an attribute, without negative margins where they float or position the box."""
-        return self.without_negative_margins(declarations) if intake_floats.is_taken_out(declarations) else declarations
+        """The declarations of an attribute, without negative margins and insets where they take the box out of the flow."""
+        return self.without_pull(declarations) if intake_floats.is_taken_out(declarations) else declarations
 
     def mend_attributes(self, root: intake_tree.Element) -> None:
         """Leaves in each style attribute what the engine's reader keeps."""

@@ -16,7 +16,7 @@ from tools.tests.support import TOOLS, TOP, built, held, tried
 # A page, a part of the document that becomes of it, and words for the tool.
 PAGES = (
     ("<P>a &amp; b<BR>c", "<p>a &amp; b<br>c</p>", ()),
-    ("<b>x<p>y</p></b>", '<b style="display: block !important">x<p>y</p></b>', ()),
+    ("<b>x<p>y</p></b>", "<b>x<p>y</p></b>", ()),
     ("<i><b><span>x</span></b></i>", "<i><b><span>x</span></b></i>", ()),
     ("<span>x<div hidden>y</div></span>", '<span>x<div class="was-hidden">y</div></span>', ()),
     ("<pre>a\n\tb</pre>", f'<div class="was-pre">a<br>{"&nbsp;" * 8}b</div>', ()),
@@ -35,8 +35,7 @@ PAGES = (
 )
 # The same with the sheets judged.
 SHEET_PAGES = (
-    ("<style>span{display:block}</style><b><span>x</span></b>", '<b style="display: block !important"><span>x</span></b>'),
-    ("<style>p{display:inline}</style><b><p>x</p></b>", "<b><p>x</p></b>"),
+    ("<style>span{display:block}</style><b><span>x</span></b>", "<b><span>x</span></b>"),
     ("<style>a:hover,p,q{float:left;margin:1pt;color:red}</style><p>x", "\np { margin: 1.33px }\n"),
     ("<style>pre b{padding:0}@media print{p{}}</style><pre><b>x</b></pre>", ".was-pre b { padding: 0 }"),
     ("<style>p{-epub-writing-mode:vertical-rl}</style><p>x", "p { writing-mode: vertical-rl }"),
@@ -44,9 +43,11 @@ SHEET_PAGES = (
     ("<style>p{float:left;margin-left:-100%;padding:1px}</style><p>x", "\np { padding: 1px }\n"),
     ("<style>p{float:none;margin-left:-9%}</style><p>x", "\np { margin-left: -9% }\n"),
     ("<style>p{float:left}p,b{margin:-1px 2px}</style><p>x<b>y", "\nb { margin: -1px 2px }\np { margin: 0 2px }\n"),
-    ("<style>p{position:relative;margin-top:-1em}</style><p>x", "\np { margin-top: -1em }\n"),
-    ("<style>b{position:relative;top:1px;margin-top:-1em;padding:0}</style><b>x", "\nb { padding: 0 }\n"),
-    ("<p style='position:absolute;margin-block-start:-1em;padding:0'>x", '<p style="padding: 0">x</p>'),
+    ("<style>p{position:relative;margin-top:-1em}</style><p>x", "\np { position: relative; margin-top: -1em }\n"),
+    ("<style>b{position:relative;top:1px;inset-inline:-1em 0}</style><b>x", "\nb { position: relative; top: 1px; inset-inline: -1em 0 }\n"),
+    ("<p style='position:absolute;margin-block-start:-1em;top:1px;padding:0'>x", '<p style="padding: 0">x</p>'),
+    ("<style>p{position:sticky}p,b{left:1px;padding:0}</style><p>x<b>y", "\nb { left: 1px; padding: 0 }\np { padding: 0 }\n"),
+    ("<style>p{text-combine-upright:digits 3}</style><p>x", "\np { text-combine-upright: digits 3 }\n"),
 )
 # What isn't taken in, with a word of what is said.
 NO_PAGES = (
@@ -139,9 +140,9 @@ class TakeIn(support.ToolCase):
         self.hold("take-in: marks of list items left out: 3 (bullets 2, numbers 1)\n" in said, f"take-in counts marks: {said}")
         self.hold("marks" not in tried("take-in", "--no-sheets", "--markers", given=page).said, "take-in --markers loses none")
         self.needs_built("check_css")
-        said = tried("take-in", given="<style>p{float:left;margin:-1px -2px;margin-left:-3px}</style><p>x").said
-        due = "take-in: negative margins of floats and positions left out: 2 (margin 1, margin-left 1)\n"
-        self.hold(due in said, f"take-in counts negative margins: {said}")
+        said = tried("take-in", given="<style>p{float:left;margin:-1px -2px;margin-left:-3px;top:1px}</style><p>x").said
+        due = "take-in: negative margins and insets of floats and positions left out: 3 (margin 1, margin-left 1, top 1)\n"
+        self.hold(due in said, f"take-in counts negative margins and insets: {said}")
 
     def test_unpacked_book(self) -> None:
         self.needs_packages()
