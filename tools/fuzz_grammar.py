@@ -12,6 +12,8 @@ KEPT = re.compile(r"\| (`.*?) \| (.*?) \| [^|]* \| (yes|no) \| .*\|")
 SHORTHAND = re.compile(r"\| `([a-z-]+)` \| (one to four|one or two|width, style, colour) \| (.*) \|")
 CHARACTERS = re.compile(r"^\| U\+([0-9A-F]{4})(?: to U\+([0-9A-F]{4}))? \| (?!U\+)", re.MULTILINE)
 UNITS = {"length": ["#px", "#em"], "percentage": ["#%"], "number": ["#"]}
+# A word that a number may follow, with its numbers.
+NUMBERED = {"digits": ("", " 2", " 3", " 4")}
 COUNTS = {"one to four": 4, "one or two": 2}
 # For each of the values that may follow one another its choices: words, or `#` and the unit of a number.
 Choices = tuple[list[str], ...]
@@ -35,7 +37,9 @@ def read_properties() -> dict[str, Choices]:
         if row := KEPT.fullmatch(line):
             values = row[2].split(";")[0]
             numbers = [unit for word, units in UNITS.items() if word in values for unit in units]
-            words = ticked(values if numbers or "`" in values else row[2]) + ["initial"] + ["inherit"] * (row[3] == "yes")
+            words = ticked(values if numbers or "`" in values else row[2])
+            numbered = [word + behind for word, ends in NUMBERED.items() if f"`{word}`" in row[2] for behind in ends]
+            words += numbered + ["initial"] + ["inherit"] * (row[3] == "yes")
             found |= {name: (words + numbers,) for name in ticked(row[1])}
         elif row := SHORTHAND.fullmatch(line):
             first, last = (found[ticked(row[3])[at]][0] for at in (0, -1))
@@ -102,7 +106,7 @@ class Maker:
     def node(self, levels: int, inline: bool, behind_text: bool) -> Node:
         if self.is_so(0.4) and not behind_text:
             return Node(text=self.text())
-        inline = (inline or self.is_so(0.4)) ^ self.is_so(0.01)
+        inline = (inline or self.is_so(0.4)) ^ self.is_so(0.1)
         tag = "br" if self.is_so(0.1) else self.choice(INLINE if inline else BLOCK)
         return Node(tag, attributes=self.attributes(), children=[] if tag == "br" else self.content(levels - 1, inline, 0.8))
 

@@ -47,9 +47,10 @@ class Fuzz(support.ToolCase):
 
     def test_tables(self) -> None:
         properties, characters = fuzz_grammar.PROPERTIES, fuzz_grammar.REPERTOIRE
-        self.same((len(properties), sum(map(len, characters))), (55 + 23, 33048), "properties with shorthands, and characters")
+        self.same((len(properties), sum(map(len, characters))), (64 + 26, 33048), "properties with shorthands, and characters")
         self.same(properties["margin-block"], (properties["margin-top"][0],) * 2, "the values of a shorthand")
-        self.same(properties["text-combine-upright"], (["none", "all", "initial", "inherit"],), "the values of a property")
+        combined = ["none", "all", "digits", "digits 2", "digits 3", "digits 4", "initial", "inherit"]
+        self.same(properties["text-combine-upright"], (combined,), "the values of a property")
 
     def test_jobs_are_made_again(self) -> None:
         for number in range(40):
