@@ -8,7 +8,7 @@ use Rattle.style_types.specs.declared.style.Size.{Size}
 use Rattle.style_types.specs.declared.style.Size.TheVariants.{Auto, Length, Percent}
 use Rattle.rel_shift.specs.Own.{own_shift}
 use Rattle.rel_shift.specs.declared.containing.Containing.{Containing}
-use Rattle.rel_shift.specs.declared.insets.Insets.{Insets}
+use Rattle.style_types.specs.declared.style.Insets.{Insets}
 use Rattle.rel_shift.specs.declared.insets.Shift.{Shift}
 
 abbrev insets : (top right bottom left : Size) → Insets

@@ -1,6 +1,8 @@
 mod Axes
+mod Bounded
 mod Examples
 mod FoundBoxes
+mod Listed
 mod Pages
 mod ShiftLaws
 mod Sums

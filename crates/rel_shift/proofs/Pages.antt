@@ -13,8 +13,8 @@ use Rattle.fragment_types.specs.declared.item.BoxName.{BoxName}
 use Rattle.fragment_types.specs.declared.unit_kind.UnitKind.TheVariants.{Along}
 use Rattle.place_map.specs.Placed.{Page, Parts, none, part}
 use Rattle.rel_shift.specs.Shifting.{shift}
-use Rattle.rel_shift.specs.declared.insets.Insets.{Insets}
-use Rattle.rel_shift.specs.declared.positions.Position.{Position}
+use Rattle.style_types.specs.declared.style.Insets.{Insets}
+use Rattle.rel_shift.specs.declared.position.Position.{Position}
 
 abbrev insets : (top right bottom left : Size) → Insets
 insets top right bottom left = record { top = top; right = right; bottom = bottom; left = left }

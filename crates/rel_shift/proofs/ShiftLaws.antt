@@ -1,20 +1,22 @@
 -- The laws of shifts.
-use Rattle.std.proofs.Common.{◌≡◌, refl, sym, ap, ◌∙◌, ℕ, ◌+◌, ◌≤◌, ◌==◌, Bool, true, false, ◌||◌, List, [], ◌∷◌, ◌++◌, reverse, Option, Some, None, ℤ, ◌+ℤ◌, unsigned_abs, arith, true≢false}
+use Rattle.std.proofs.Common.{◌≡◌, refl, sym, ap, ◌∙◌, ℕ, ◌+◌, ◌≤◌, ◌==◌, Bool, true, false, ◌||◌, List, [], ◌∷◌, ◌++◌, reverse, Option, Some, None, is_some, ℤ, ◌+ℤ◌, unsigned_abs, arith, true≢false}
 use Rattle.std.proofs.Math.IntN.{+ℤ_idr}
 use Rattle.std.proofs.lemmas.Bool.{eq-eqb}
 use Rattle.std.proofs.lemmas.Int.{ints}
 use Rattle.std.proofs.lemmas.List.{append_assoc, reverse-append}
 use Rattle.std.proofs.lemmas.List.Folds.{list_any-append}
-use Rattle.std.specs.List.{AllByRecursion, list_any}
+use Rattle.std.specs.List.{list_any}
 use Rattle.wm_modes.specs.declared.rects.Rect.{Rect}
 use Rattle.place_map.specs.Placed.{Page, Parts, none, part}
 use Rattle.rel_shift.specs.Bounds.{IsWithin}
-use Rattle.rel_shift.specs.Laws.{AddUp, ArePlacesWithin, GoNoFurther, HasNoInsets, OnlyPlacesChange, StandsAfterParent, StayWithoutInsets, has_number, total_around, without_places}
+use Rattle.rel_shift.specs.Laws.{AddUp, ArePlacesWithin, GoNoFurther, OnlyPlacesChange, StandsAfterParent, StayWithoutInsets, has_number, total_around, without_places}
 use Rattle.rel_shift.specs.Own.{no_shift, plus}
+use Rattle.rel_shift.specs.Positions.{has_insets}
 use Rattle.rel_shift.specs.Shifting.{moved, shifted}
 use Rattle.rel_shift.specs.Totals.{own, total, total_back}
 use Rattle.rel_shift.specs.declared.insets.Shift.{Shift}
-use Rattle.rel_shift.specs.declared.positions.Position.{Position}
+use Rattle.style_types.specs.declared.style.Insets.{Insets}
+use Rattle.rel_shift.specs.declared.position.Position.{Position}
 
 -- ---- what stays
 
@@ -35,14 +37,6 @@ parts_stay total is (part name rect kind inner next) =
 
 -- ---- positions from the last one back
 
-all_behind : (xs ys : List Position) → AllByRecursion HasNoInsets xs → AllByRecursion HasNoInsets ys → AllByRecursion HasNoInsets (xs ++ ys)
-all_behind [] ys all others = others
-all_behind (x ∷ xs) ys all others = (all.0, all_behind xs ys all.1 others)
-
-all_reversed : (xs : List Position) → AllByRecursion HasNoInsets xs → AllByRecursion HasNoInsets (reverse xs)
-all_reversed [] all = tt
-all_reversed (x ∷ xs) all = rw (reverse-append (x ∷ []) xs) (all_behind (reverse xs) (x ∷ []) (all_reversed xs all.1) (all.0, tt))
-
 both_false : (a b : Bool) → (a || b) ≡ false → (a ≡ false) × (b ≡ false)
 both_false true b is = absurd (true≢false is)
 both_false false b is = (refl, is)
@@ -53,16 +47,22 @@ none_reversed test (x ∷ xs) is =
     let each = both_false (test x) (list_any test xs) is in
     ap (list_any test) (reverse-append (x ∷ []) xs) ∙ list_any-append test (reverse xs) (x ∷ []) ∙ rw (none_reversed test xs each.1, each.0) refl
 
+no_insets : (insets : Option Insets) → is_some insets ≡ false → insets ≡ None
+no_insets None is = refl
+no_insets (Some insets) is = absurd (true≢false is)
+
 module _ (page : Page) where
   none_by : (node : ℕ) (p : Position) (back : List Position) (is_it : Bool) → p.node == node ≡ is_it → p.insets ≡ None
       → ((sought : Option ℕ) → total_back page sought back ≡ no_shift) → total_back page (Some node) (p ∷ back) ≡ no_shift
   none_by node p back true is plain others = rw (is, plain, others p.parent) refl
   none_by node p back false is plain others = rw is (others (Some node))
 
-  none_back : (back : List Position) → AllByRecursion HasNoInsets back → (sought : Option ℕ) → total_back page sought back ≡ no_shift
-  none_back back all None = refl
-  none_back [] all (Some node) = refl
-  none_back (p ∷ back) all (Some node) = none_by node p back (p.node == node) refl all.0 (none_back back all.1)
+  none_back : (back : List Position) → list_any has_insets back ≡ false → (sought : Option ℕ) → total_back page sought back ≡ no_shift
+  none_back back none_has None = refl
+  none_back [] none_has (Some node) = refl
+  none_back (p ∷ back) none_has (Some node) =
+      let each = both_false (has_insets p) (list_any has_insets back) none_has in
+      none_by node p back (p.node == node) refl (no_insets p.insets each.0) (none_back back each.1)
 
   passed_by : (node : ℕ) (p : Position) (back : List Position) (is_it : Bool) → p.node == node ≡ is_it → is_it ≡ false
       → total_back page (Some node) (p ∷ back) ≡ total_back page (Some node) back
@@ -98,8 +98,8 @@ module _ (page : Page) where
         ∙ sym (ap (λ (s : Shift). plus s (own page p)) (around p.parent refl))
 
 pub stay : StayWithoutInsets
-stay page positions all =
-    λ i. record { view = page.view; parts = parts_stay (total page positions) (λ node. none_back page (reverse positions) (all_reversed positions all) (Some node)) page.parts i }
+stay page positions none_has =
+    λ i. record { view = page.view; parts = parts_stay (total page positions) (λ node. none_back page (reverse positions) (none_reversed has_insets positions none_has) (Some node)) page.parts i }
 
 pub add_up : AddUp
 add_up page front after p stands = adds_up page front after p stands

@@ -1,22 +1,23 @@
 -- Insets, containing blocks and shifts whose numbers no sum takes past 64 bits.
-use Rattle.std.specs.Prelude.{ℕ, ◌≤◌, unsigned_abs, Option, IfSome}
-use Rattle.style_types.specs.Style.{IsExtent, IsMargin}
-use Rattle.place_map.specs.Placed.{Page}
+use Rattle.std.specs.Prelude.{ℕ, ◌≤◌, unsigned_abs, Option, IfSome, ⊤}
+use Rattle.style_types.specs.Style.{AreInsets, IsExtent}
+use Rattle.style_types.specs.Tree as styled
+use Rattle.style_types.specs.Tree.{Nodes}
+use Rattle.fragment_types.specs.Fragment.{Kind, block, line, span, run, measure}
+use Rattle.place_map.specs.Placed.{Page, Parts, none, part}
 use Rattle.rel_shift.specs.Totals.{containing}
 use Rattle.rel_shift.specs.declared.containing.Containing.{Containing}
-use Rattle.rel_shift.specs.declared.insets.Insets.{Insets}
 use Rattle.rel_shift.specs.declared.insets.Shift.{Shift}
-use Rattle.rel_shift.specs.declared.positions.Position.{Position}
+use Rattle.rel_shift.specs.declared.position.Position.{Position}
 
 -- insets reach as far as margins do
-pub record AreBounded (insets : Insets) : Type 0 where
-  pub top : IsMargin insets.top
-  pub right : IsMargin insets.right
-  pub bottom : IsMargin insets.bottom
-  pub left : IsMargin insets.left
-
 abbrev pub HasBounds : Position → Type 0
-HasBounds p = IfSome p.insets AreBounded
+HasBounds p = IfSome p.insets AreInsets
+
+-- those of these nodes and of all inside them
+abbrev pub HaveBounds : Nodes → Type 0
+HaveBounds styled.none = ⊤
+HaveBounds (styled.node number kind style inner next) = AreInsets style.insets × HaveBounds inner × HaveBounds next
 
 -- sizes from 0 to 2^32
 pub record IsSized (c : Containing) : Type 0 where
@@ -26,6 +27,19 @@ pub record IsSized (c : Containing) : Type 0 where
 -- each containing block of a page, the view among them
 abbrev pub AreSized : Page → Type 0
 AreSized page = (holder : Option ℕ) → IfSome (containing page holder) IsSized
+
+-- the content area of a box, and its definite block size
+abbrev pub IsSizedKind : Kind → Type 0
+IsSizedKind (block mode dir content definite start end_ through) = IsExtent content.inline × IsExtent content.block × IfSome definite IsExtent
+IsSizedKind (line index base mode baseline) = ⊤
+IsSizedKind span = ⊤
+IsSizedKind (run form level natural units) = ⊤
+IsSizedKind (measure min max) = ⊤
+
+-- those of these fragments and of all inside them
+abbrev pub AreSizedParts : Parts → Type 0
+AreSizedParts none = ⊤
+AreSizedParts (part name rect kind inner next) = IsSizedKind kind × AreSizedParts inner × AreSizedParts next
 
 -- no further than this on either axis
 pub record IsWithin (most : ℕ) (by : Shift) : Type 0 where

@@ -1,14 +1,18 @@
 -- What holds of shifts.
-use Rattle.std.specs.Prelude.{◌≡◌, ℕ, ◌+◌, ◌≤◌, ◌==◌, Bool, false, List, ◌∷◌, ◌++◌, pos, unsigned_abs, Option, Some, None, ⊤}
-use Rattle.std.specs.List.{AllByRecursion, list_any}
+use Rattle.std.specs.Prelude.{◌≡◌, ℕ, suc, ◌+◌, ◌≤◌, ◌==◌, Bool, false, List, ◌∷◌, ◌++◌, length, pos, unsigned_abs, Option, Some, None, ⊤}
+use Rattle.std.specs.List.{All, list_any}
+use Rattle.wm_units.specs.View.{IsView}
 use Rattle.wm_modes.specs.declared.rects.Rect.{Rect}
+use Rattle.style_types.specs.Tree as styled
+use Rattle.style_types.specs.Tree.{Nodes}
 use Rattle.place_map.specs.Placed.{Page, Parts, none, part}
-use Rattle.rel_shift.specs.Bounds.{IsWithin}
+use Rattle.rel_shift.specs.Bounds.{AreSized, AreSizedParts, HasBounds, HaveBounds, IsWithin}
 use Rattle.rel_shift.specs.Own.{no_shift, plus}
+use Rattle.rel_shift.specs.Positions.{has_insets, positions_of}
 use Rattle.rel_shift.specs.Shifting.{shift}
 use Rattle.rel_shift.specs.Totals.{own, total}
 use Rattle.rel_shift.specs.declared.insets.Shift.{Shift}
-use Rattle.rel_shift.specs.declared.positions.Position.{Position}
+use Rattle.rel_shift.specs.declared.position.Position.{Position}
 
 -- ---- what stays
 
@@ -24,12 +28,9 @@ pub record OnlyPlacesChange : Type 0 where
   pub view : (page : Page) (positions : List Position) → (shift page positions).view ≡ page.view
   pub parts : (page : Page) (positions : List Position) → without_places (shift page positions).parts ≡ without_places page.parts
 
-abbrev pub HasNoInsets : Position → Type 0
-HasNoInsets p = p.insets ≡ None
-
 -- where no element is relatively positioned, the page stays as it is
 abbrev pub StayWithoutInsets : Type 0
-StayWithoutInsets = (page : Page) (positions : List Position) → AllByRecursion HasNoInsets positions → shift page positions ≡ page
+StayWithoutInsets = (page : Page) (positions : List Position) → list_any has_insets positions ≡ false → shift page positions ≡ page
 
 -- ---- shifts add up
 
@@ -62,3 +63,18 @@ ArePlacesWithin most (part name rect kind inner next) =
 abbrev pub GoNoFurther : Type 0
 GoNoFurther = (page : Page) (positions : List Position) (most more : ℕ) → ((node : ℕ) → IsWithin more (total page positions node))
     → ArePlacesWithin most page.parts → ArePlacesWithin (most + more) (shift page positions).parts
+
+-- ---- what `shift` asks for
+
+abbrev pub nodes_in : Nodes → ℕ
+nodes_in styled.none = 0
+nodes_in (styled.node number kind style inner next) = suc (nodes_in inner + nodes_in next)
+
+-- a styled tree has no more positions than nodes, and these are bounded where its insets are
+pub record PositionsAreBounded : Type 0 where
+  pub few : (nodes : Nodes) → length (positions_of nodes) ≤ nodes_in nodes
+  pub bounded : (nodes : Nodes) → HaveBounds nodes → All HasBounds (positions_of nodes)
+
+-- where the view and the boxes of a page have sizes from 0 to 2^32, each containing block has
+abbrev pub SizesSuffice : Type 0
+SizesSuffice = (page : Page) → IsView page.view → AreSizedParts page.parts → AreSized page

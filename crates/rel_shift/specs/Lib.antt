@@ -2,5 +2,6 @@ pub mod Bounds
 pub mod Boxes
 pub mod Laws
 pub mod Own
+pub mod Positions
 pub mod Shifting
 pub mod Totals

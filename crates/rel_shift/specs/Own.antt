@@ -9,7 +9,7 @@ use Rattle.wm_modes.specs.declared.sides.Side.TheVariants.{Top, Right, Bottom, L
 use Rattle.style_types.specs.declared.style.Size.{Size}
 use Rattle.size_rules.specs.Resolving.{resolved}
 use Rattle.rel_shift.specs.declared.containing.Containing.{Containing}
-use Rattle.rel_shift.specs.declared.insets.Insets.{Insets}
+use Rattle.style_types.specs.declared.style.Insets.{Insets}
 use Rattle.rel_shift.specs.declared.insets.Shift.{Shift}
 
 abbrev pub no_shift : Shift

@@ -6,9 +6,9 @@ use Rattle.place_map.specs.Placed.{Page}
 use Rattle.rel_shift.specs.Boxes.{box_of, view_block}
 use Rattle.rel_shift.specs.Own.{no_shift, own_shift, plus}
 use Rattle.rel_shift.specs.declared.containing.Containing.{Containing}
-use Rattle.rel_shift.specs.declared.insets.Insets.{Insets}
+use Rattle.style_types.specs.declared.style.Insets.{Insets}
 use Rattle.rel_shift.specs.declared.insets.Shift.{Shift}
-use Rattle.rel_shift.specs.declared.positions.Position.{Position}
+use Rattle.rel_shift.specs.declared.position.Position.{Position}
 use Rattle.rel_shift.specs.declared.totals.Totals.{Totals}
 
 -- the own box of the holder, or the view

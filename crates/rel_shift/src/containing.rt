@@ -1,12 +1,13 @@
 //! Containing blocks of relatively positioned elements, and the shift in one (CSS Positioned Layout 3, 3.2 to 3.4).
 
 ghost use Rattle.std.specs.Prelude.{◌≡◌, ◌≤◌, ◌^◌, unsigned_abs, IfSome};
-ghost use Rattle.rel_shift.specs.Bounds.{AreBounded, IsSized, IsWithin};
+ghost use Rattle.rel_shift.specs.Bounds.{IsSized, IsWithin};
 ghost use Rattle.rel_shift.specs.Own as rule;
-ghost use Rattle.style_types.specs.Style.{IsExtent, IsLength};
+ghost use Rattle.style_types.specs.Style.{AreInsets, IsExtent, IsLength};
 
-use crate::insets::{Insets, Shift};
+use crate::insets::{Shift, inset_on};
 use size_rules::resolved;
+use style_types::Insets;
 use wm_modes::{Direction, FlowSide, Side, WritingMode, side_of};
 
 /// A containing block: its mode and its used direction, its inline size and its definite block size, or none, in units of
@@ -23,7 +24,7 @@ impl Containing {
     /// The shift of a box with these insets.
     pub(crate) fn shift(self, insets: &Insets) -> Shift
         requires sized { IsSized self }
-        requires bounded { AreBounded insets.now }
+        requires bounded { AreInsets insets.now }
         ensures value { result ≡ rule.own_shift insets.now self }
         ensures within { IsWithin (2 ^ 32) result }
     {
@@ -35,7 +36,7 @@ impl Containing {
     // The shift on the axis between two sides.
     fn on_axis(self, insets: &Insets, start: FlowSide, end: FlowSide) -> Shift
         requires sized { IsSized self }
-        requires bounded { AreBounded insets.now }
+        requires bounded { AreInsets insets.now }
         ensures value { result ≡ rule.on_axis insets.now self start end }
         ensures within { IsWithin (2 ^ 32) result }
     {
@@ -50,11 +51,11 @@ impl Containing {
     // The inset of a side; None is auto.
     fn inset(self, insets: &Insets, side: Side) -> Option<i64>
         requires sized { IsSized self }
-        requires bounded { AreBounded insets.now }
+        requires bounded { AreInsets insets.now }
         ensures value { result ≡ rule.inset insets.now self side }
         ensures length { IfSome result IsLength }
     {
-        resolved(insets.on(side), self.base(side))
+        resolved(inset_on(insets, side), self.base(side))
     }
 
     // What a percentage of the inset of a side refers to.

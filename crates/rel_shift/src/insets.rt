@@ -4,29 +4,18 @@ ghost use Rattle.std.specs.Prelude.{◌≡◌, ◌≤◌, ◌^◌, unsigned_abs}
 ghost use Rattle.rel_shift.specs.Bounds.{IsWithin};
 ghost use Rattle.rel_shift.specs.Own as rule;
 
-use style_types::Size;
+use style_types::{Insets, Size};
 use wm_modes::Side;
 
-/// The insets of a relatively positioned element, one for each side of the page (CSS Positioned Layout 3, 3.1).
-#[derive(Clone, Copy, Debug, PartialEq, Eq)]
-pub struct Insets {
-    pub top: Size,
-    pub right: Size,
-    pub bottom: Size,
-    pub left: Size,
-}
-
-impl Insets {
-    /// The inset of a side.
-    pub(crate) fn on(&self, side: Side) -> Size
-        ensures { result ≡ rule.inset_on self.now side }
-    {
-        match side {
-            Side::Top => self.top,
-            Side::Right => self.right,
-            Side::Bottom => self.bottom,
-            Side::Left => self.left,
-        }
+/// The inset of a side.
+pub(crate) fn inset_on(insets: &Insets, side: Side) -> Size
+    ensures { result ≡ rule.inset_on insets.now side }
+{
+    match side {
+        Side::Top => insets.top,
+        Side::Right => insets.right,
+        Side::Bottom => insets.bottom,
+        Side::Left => insets.left,
     }
 }
 

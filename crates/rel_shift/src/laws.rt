@@ -1,6 +1,6 @@
 //! Laws of shifts. These functions do nothing: their contracts are the laws.
 
-ghost use Rattle.rel_shift.specs.Laws.{AddUp, GoNoFurther, OnlyPlacesChange, StayWithoutInsets};
+ghost use Rattle.rel_shift.specs.Laws.{AddUp, GoNoFurther, OnlyPlacesChange, PositionsAreBounded, SizesSuffice, StayWithoutInsets};
 
 /// Nothing but the places of fragments changes: names, kinds, sizes and order stay, and so does the view.
 pub fn only_places_change()
@@ -20,4 +20,14 @@ pub fn shifts_add_up()
 /// Fragments go no further than the shifts of their nodes.
 pub fn fragments_go_no_further()
     ensures { GoNoFurther }
+{}
+
+/// A styled tree has no more positions than nodes, and their insets are bounded where those of the nodes are.
+pub fn positions_are_bounded()
+    ensures { PositionsAreBounded }
+{}
+
+/// Where the view and the boxes of a page have sizes from 0 to 2^32 units, each containing block has.
+pub fn sizes_of_boxes_suffice()
+    ensures { SizesSuffice }
 {}

@@ -1,12 +1,13 @@
 //! How far its insets shift a relatively positioned element (CSS Positioned Layout 3, 3.4; CSS 2, 9.4.3).
 
 ghost use Rattle.std.specs.Prelude.{◌≡◌, ◌^◌, IfSome};
-ghost use Rattle.rel_shift.specs.Bounds.{AreBounded, IsWithin};
+ghost use Rattle.rel_shift.specs.Bounds.{IsWithin};
 ghost use Rattle.rel_shift.specs.Own as rule;
-ghost use Rattle.style_types.specs.Style.{IsExtent};
+ghost use Rattle.style_types.specs.Style.{AreInsets, IsExtent};
 
 use crate::containing::Containing;
-use crate::insets::{Insets, Shift};
+use crate::insets::Shift;
+use style_types::Insets;
 use wm_modes::{Direction, WritingMode};
 
 /// The shift of an element with these insets, by the mode and the used direction of its containing block, its inline size
@@ -23,7 +24,7 @@ pub fn own_shift(
 ) -> Shift
     requires inline { IsExtent inline }
     requires block { IfSome block IsExtent }
-    requires insets { AreBounded insets.now }
+    requires insets { AreInsets insets.now }
     ensures value { result ≡ rule.own_shift insets.now (record { mode = mode; dir = dir; inline = inline; block = block }) }
     ensures within { IsWithin (2 ^ 32) result }
 {

@@ -1,17 +1,18 @@
 //! A page whose fragments are shifted (CSS Positioned Layout 3, 3.4; CSS 2, 9.4.3).
 
 ghost use Rattle.std.specs.List.{All};
-ghost use Rattle.std.specs.Prelude.{◌≡◌, ℕ, ◌≤◌, ◌^◌, length, ◌+ℤ◌, unsigned_abs, IfOk};
+ghost use Rattle.std.specs.Prelude.{◌≡◌, ℕ, ◌-◌, ◌≤◌, ◌^◌, length, ◌+ℤ◌, unsigned_abs, IfOk};
 ghost use Rattle.place_map.specs.Near.{AreNearParts};
 ghost use Rattle.place_map.specs.Placed.{Parts, before, none, parts_of, placed_of};
 ghost use Rattle.rel_shift.specs.Bounds.{AreSized, HasBounds, IsWithin};
+ghost use Rattle.rel_shift.specs.Laws.{ArePlacesWithin};
 ghost use Rattle.rel_shift.specs.Shifting as rule;
 ghost use Rattle.rel_shift.specs.Totals.{total, total_in};
 ghost use Rattle.wm_modes.specs.Near.{IsNear};
 
 use crate::insets::Shift;
 use crate::kinds::copied;
-use crate::positions::Position;
+use crate::position::Position;
 use crate::totals::Totals;
 use place_map::{Placed, PlacedPart, PlacedParts};
 use std::alloc::{AllocError, Global};
@@ -19,7 +20,8 @@ use wm_modes::Rect;
 
 /// A page with each box, line, inline box and run shifted as its node is: by the node's own shift and those of the elements
 /// that it stands in. Nothing else changes. The positions are those of the document that was placed. Takes memory for the
-/// page, for the containing block that each box is, and for the shift of each node.
+/// page, for the containing block that each box is, and for the shift of each node. No node is shifted further than 2^48 units
+/// on either axis, so what is shifted lies within 2^60 units of 0 where the page lies within 2^60 - 2^48.
 ///
 /// All rectangles of the page and their content areas lie within 2^60 units of 0; the sizes of each containing block, the
 /// view among them, are from 0 to 2^32 units; lengths among the insets are within 2^32 of 0, percentages within
@@ -31,6 +33,7 @@ pub fn shift(alloc: Global, placed: &Placed, positions: &[Position]) -> Result<P
     requires few { length positions.now ≤ 65536 }
     ensures page { IfOk result (λ made. placed_of made ≡ rule.shift (placed_of placed.now) positions.now) }
     ensures within { IfOk result (λ _. (node : ℕ) → IsWithin (2 ^ 48) (total (placed_of placed.now) positions.now node)) }
+    ensures near { IfOk result (λ made. ArePlacesWithin (2 ^ 60 - 2 ^ 48) (placed_of placed.now).parts → AreNearParts (placed_of made).parts) }
 {
     let totals = Totals::of_page(alloc, placed, positions)?;
     let root = shifted_part(alloc, &totals, &placed.root)?;
