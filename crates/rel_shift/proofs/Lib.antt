@@ -4,6 +4,7 @@ mod Examples
 mod FoundBoxes
 mod Listed
 mod Pages
+mod PositionLists
 mod ShiftLaws
 mod Sums
 mod Trees
