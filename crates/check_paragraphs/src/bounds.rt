@@ -1,10 +1,10 @@
 //! Whether the numbers of a style are those of a computed one (CSS 2, 4.3.2).
 
 ghost use Rattle.std.specs.Prelude.{◌≡◌, ◌<◌, ◌≤ℤ◌, pos, true};
-ghost use Rattle.style_types.specs.Style.{AreBorders, IsBounded, IsCombine, IsExtent, IsLength, IsLineHeight, IsMargin, IsPadding, IsShare, IsSize, OnSides};
+ghost use Rattle.style_types.specs.Style.{AreBorders, AreInsets, IsBounded, IsCombine, IsExtent, IsLength, IsLineHeight, IsMargin, IsPadding, IsShare, IsSize, OnSides};
 ghost use Rattle.wm_units.specs.Numbers.{IsSayable};
 
-use style_types::{Combine, LineHeight, SideSizes, SideWidths, Size, Style};
+use style_types::{Combine, Insets, LineHeight, SideSizes, SideWidths, Size, Style};
 
 const GREATEST_LENGTH: i64 = 1 << 32;
 
@@ -23,6 +23,7 @@ pub(crate) fn is_bounded(style: &Style) -> bool
         && are_margins(&style.margin)
         && are_paddings(&style.padding)
         && are_borders(&style.border)
+        && are_insets(&style.insets)
 }
 
 fn is_within(number: i64, greatest: i64) -> bool
@@ -142,4 +143,13 @@ fn are_borders(border: &SideWidths) -> bool
         && is_extent(border.right)
         && is_extent(border.bottom)
         && is_extent(border.left)
+}
+
+fn are_insets(insets: &Insets) -> bool
+    ensures { result ≡ true → AreInsets insets.now }
+{
+    is_margin(insets.top)
+        && is_margin(insets.right)
+        && is_margin(insets.bottom)
+        && is_margin(insets.left)
 }
