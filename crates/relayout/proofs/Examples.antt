@@ -1,6 +1,6 @@
 -- Trees of boxes with their layout, by computation: rules of sizes and margins at numbers worked out by hand, border boxes in the order
 -- of the tree; then whole trees of fragments. An independent implementation gives the same. Lengths are in units of 1/64 px.
-use Rattle.std.specs.Prelude.{◌≡◌, ℕ, refl, true, false, [], ◌∷◌, ◌++◌, ◌*◌, List, Option, Some, None, pos, neg_ℤ}
+use Rattle.std.specs.Prelude.{◌≡◌, ℕ, refl, true, false, [], ◌∷◌, ◌++◌, ◌+◌, ◌*◌, ◌^◌, List, Option, Some, None, pos, neg_ℤ}
 use Rattle.fragment_types.specs.declared.item.BoxName.{BoxName}
 use Rattle.fragment_types.specs.Fragment.{Kind, Pieces, none, piece, block, line, span, run, measure}
 use Rattle.style_types.specs.declared.style.Display.TheVariants as displays
@@ -14,6 +14,7 @@ use Rattle.para_lines.specs.Lines.{paragraph_lines}
 use Rattle.para_lines.specs.Filling.{paragraph_sizes}
 use Rattle.relayout.specs.Content.{filled, paragraph, stack}
 use Rattle.relayout.specs.Boxed.{block_box, border_box, boxed, content_area, handed_on, measured}
+use Rattle.relayout.specs.Fit.{weight}
 use Rattle.relayout.specs.Flow.{asked, flow_step, laid_out, layout}
 use Rattle.relayout.specs.Inline.{equation_of, inline_place, inline_size, known_size, shrunk}
 use Rattle.relayout.specs.Intrinsic.{contribution, inner}
@@ -369,6 +370,20 @@ percentages_are_of_the_held_block_size : border_boxes 6400 3200
     ∷ []
 unfolding border_boxes
 percentages_are_of_the_held_block_size = refl
+
+-- ---- how far boxes reach together at most
+
+-- of paragraphs side by side the heaviest counts alone, which is the second of three here
+abbrev three_paragraphs : Boxes
+three_paragraphs =
+    box (name 1) plain blocks
+    (box (name 2) plain (inline (item.line_break 3 ∷ [])) no_boxes
+    (box (name 4) plain (inline (item.text 5 (97 ∷ 98 ∷ []) plain ∷ item.line_break 6 ∷ [])) no_boxes
+    (box (name 7) plain (inline (item.line_break 8 ∷ [])) no_boxes no_boxes)))
+    no_boxes
+
+the_heaviest_counts_alone : weight three_paragraphs ≡ 2 ^ 39 + (3 * 2 ^ 39 + (2 * (3 * 2 ^ 40) + 2 * 2 ^ 36))
+the_heaviest_counts_alone = refl
 
 -- ---- whole trees of fragments
 
