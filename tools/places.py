@@ -264,9 +264,7 @@ def named(node: source.Node) -> str:
 
 
 def place_of_node(given: Input, number: int, rows: Facts) -> Place:
-    node = given.node(number)
-    around = (told_node(given, node.parent),) if rows[0].kind == "BlockInInline" and node.parent is not None else ()
-    return Place(given.begin(number), tuple(rows), (f"node {number} is {named(node)}", *around))
+    return Place(given.begin(number), tuple(rows), (f"node {number} is {named(given.node(number))}",))
 
 
 def place_of_edit(given: Input, number: int, rows: Facts) -> Place:

@@ -96,7 +96,7 @@ class Where(support.ToolCase):
         rows = re.findall(r"^\| `refused [^|]*\| .*$", held(os.path.join(TOP, "docs", "PROFILE", "commands.md")), re.MULTILINE)
         named = set(re.findall(r"`(?:refused )?([A-Z][A-Za-z0-9]+)(?: [0-9A-Z]+)?`", " ".join(rows))) - {"KIND", "PLACE", "LINE"}
         self.same({fact.kind for fact in facts}, named, "the kinds of docs/REFUSALS.md")
-        self.same(len(facts), 29, "the count of rows of docs/REFUSALS.md")
+        self.same(len(facts), 27, "the count of rows of docs/REFUSALS.md")
         for fact in facts:
             self.same(fact.answer.split()[1], fact.kind, f"docs/REFUSALS.md: the example of {fact.kind}")
 
