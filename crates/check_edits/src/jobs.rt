@@ -22,20 +22,24 @@ const VIEW: View = View {
 /// The greatest length of an input, in bytes.
 const LONGEST_INPUT: usize = 1_048_576;
 
-/// A document with a script that shows a page, and that is refused twice.
+/// A document with a script that puts a block into an inline box, is refused twice, and shows a page.
 const INPUT: &[u8] =
-    b"<html><body><span>a</span></body></html>\ntext 3 b\ntext 2 x\ninsert 2 0 <p>c</p>\nshow\n";
+    b"<html><body><span>a</span></body></html>\ntext 3 b\ntext 2 x\ninsert 2 1 <p>c</p>\nremove 1\nshow\n";
 
 /// The listing and the refusals that are due for it.
 const DUE: &str = "\
 refused NotText 2
-refused BlockInInline 3
+refused IsRoot 4
 page 51200 38400 horizontal-tb ltr
-box 0 0 0 0 51200 2048
-box 1 0 512 512 50176 1024
-line 1 0 0 512 512 50176 1024 768
+box 0 0 0 0 51200 4608
+box 1 0 512 512 50176 3072
+box 1 1 512 512 50176 1024
+line 1 1 0 512 512 50176 1024 768
 span 2 0 512 512 512 1024
 run 3 0 1 512 512 512 1024 h 0 0062
+box 4 0 512 2560 50176 1024
+line 4 0 0 512 2560 50176 1024 768
+run 5 0 1 512 2560 512 1024 h 0 0063
 end
 ";
 

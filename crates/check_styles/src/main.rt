@@ -8,9 +8,10 @@
 //!   `2 in 1: element font-size=640 margin-top=Length(512)`. Values have the names of their variants. Numbers are in
 //!   units, those of `Percent` and `Number` in hundredths.
 //! - Each box before those inside it: its name, that of the box that it stands in, and what it holds, `blocks` or a
-//!   `paragraph` with its items, as in `box 2.1 in 2.0: paragraph text 3, open 4, close 4, break 5, atom 6.0`.
+//!   `paragraph` with its items, as in `box 2.1 in 2.0: paragraph text 3, open 4, close 4, break 5, atom 6.0`. A piece of an
+//!   inline box that begins or ends without the box's edges there is `resume 4` or `pause 4`.
 //! - What is refused has its cause and its place or node, as in `refused CssSyntax 34` or `refused TooDeep 64`. For
-//!   `TooManyOrthogonal` and `BlockInInline` the nodes stand before it, for all else nothing.
+//!   `TooManyOrthogonal` the nodes stand before it, for all else nothing.
 //! - For a line that is no such number: `not a case`.
 #![tactic(auto)]
 

@@ -25,7 +25,7 @@ pub(crate) fn print_refusal<W: Write>(output: &mut W, error: StyleError) -> io::
     }
 }
 
-/// Prints which limit the boxes of a document pass.
+/// Prints that the boxes of a document pass their limit, and which is the first that does.
 pub(crate) fn print_limit<W: Write>(output: &mut W, limit: BoxLimit) -> io::Result<()> {
     writeln!(output, "refused {limit}")
 }

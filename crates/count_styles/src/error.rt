@@ -23,7 +23,7 @@ pub(crate) enum CountError {
     /// Its nodes can't be stored.
     #[error("{0}")]
     Edit(EditError),
-    /// Its boxes pass a limit.
+    /// Its boxes pass their limit.
     #[error("{0}")]
     Limit(BoxLimit),
     /// No memory was left.
