@@ -1,4 +1,3 @@
-pub mod AloneLaws
 pub mod Chaining
 pub mod Examples
 pub mod FillLaws

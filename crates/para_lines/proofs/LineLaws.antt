@@ -18,7 +18,7 @@ use Rattle.para_prepare.specs.declared.item.PreparedContent.{PreparedContent}
 use Rattle.para_prepare.specs.declared.item.PreparedContent.TheVariants.{Unit, Combined, Atom, Break}
 use Rattle.para_lines.specs.declared.boxes.Round.{Round}
 use Rattle.para_lines.specs.declared.paragraph.Container.{Container}
-use Rattle.para_lines.specs.declared.standing.Standing as code
+use Rattle.para_lines.specs.Standing as code
 use Rattle.para_lines.specs.Edges.{shifts}
 use Rattle.para_lines.specs.Filling.{is_space}
 use Rattle.para_lines.specs.Lines as rule
@@ -40,10 +40,10 @@ pub none_alone : (entries : List Entry) (standings : List code.Standing) → len
 none_alone entries [] one able = refl
 none_alone entries (standing ∷ standings) one able =
     let source : IsAble (length entries) standing = able 0 standing (omega arith) in
-    let none : chain_at entries standing.item.now.source ≡ [] = chain_alone entries standing.item.now.source one (first_of source.source) in
+    let none : chain_at entries standing.item.source ≡ [] = chain_alone entries standing.item.source one (first_of source.source) in
     none_alone entries standings one (λ k d less. able (suc k) d (omega arith))
     ∙ ap (λ (chain : List ℕ). fresh chain [] ++ rule.boxes_on chain (map (standing_of entries) standings)) (sym none) where
-      first_of : standing.item.now.source < length entries → standing.item.now.source < 1
+      first_of : standing.item.source < length entries → standing.item.source < 1
       first_of less = omega arith
 
 -- the boxes from one on are seated
@@ -93,14 +93,14 @@ content_by entries chain (Atom name) atom = refl
 content_by entries chain (Break node) atom = refl
 
 pub line_item_is : (entries : List Entry) (boxes : List ℕ) (standing : code.Standing) (round : Round) (extent : ℤ) (inside : Option ℕ) (space : Bool) (what : place.Content)
-    → round ≡ round_of entries (chain_at entries standing.item.now.source) → extent ≡ standing.extent → inside ≡ option_map (place_in boxes) round.inside → space ≡ is_space standing.item.now.what
-    → what ≡ content_in round.shifts standing.item.now.what (first_atom standing.atoms.now)
-    → item_with standing.level standing.class extent inside space standing.item.now.apart what ≡ rule.line_item entries boxes (standing_of entries standing)
+    → round ≡ round_of entries (chain_at entries standing.item.source) → extent ≡ standing.extent → inside ≡ option_map (place_in boxes) round.inside → space ≡ is_space standing.item.what
+    → what ≡ content_in round.shifts standing.item.what (first_atom standing.atoms)
+    → item_with standing.level standing.class extent inside space standing.item.apart what ≡ rule.line_item entries boxes (standing_of entries standing)
 line_item_is entries boxes standing round extent inside space what is e f g h =
-    let chain : List ℕ = chain_at entries standing.item.now.source in
+    let chain : List ℕ = chain_at entries standing.item.source in
     let i : inside ≡ innermost_in boxes chain = f ∙ ap (λ (r : Round). option_map (place_in boxes) r.inside) is ∙ sym (innermost_is boxes chain) in
-    let w : what ≡ rule.content_of entries chain (first_atom standing.atoms.now) standing.item.now.what =
-    h ∙ ap (λ (r : Round). content_in r.shifts standing.item.now.what (first_atom standing.atoms.now)) is ∙ content_by entries chain standing.item.now.what (first_atom standing.atoms.now) in
+    let w : what ≡ rule.content_of entries chain (first_atom standing.atoms) standing.item.what =
+    h ∙ ap (λ (r : Round). content_in r.shifts standing.item.what (first_atom standing.atoms)) is ∙ content_by entries chain standing.item.what (first_atom standing.atoms) in
     rw (e, i, g, w) refl
 
 content_alike : (entries : List Entry) (chain chain2 : List ℕ) (atom atom2 : rule.Atom) (one other : PreparedContent)
@@ -114,19 +114,19 @@ content_alike entries chain chain2 atom atom2 (Atom name) other = refl
 content_alike entries chain chain2 atom atom2 (Break node) other = refl
 
 -- whether two items may stand in one run is told by what is prepared of them and by their places among the boxes
-pub alike_is : (entries : List Entry) (places : List ℕ) (one other : code.Standing) (units together : Bool) → units ≡ units_alike one.item.now.what other.item.now.what
-    → together ≡ is_place (innermost_in places (chain_at entries one.item.now.source)) (innermost_in places (chain_at entries other.item.now.source))
+pub alike_is : (entries : List Entry) (places : List ℕ) (one other : code.Standing) (units together : Bool) → units ≡ units_alike one.item.what other.item.what
+    → together ≡ is_place (innermost_in places (chain_at entries one.item.source)) (innermost_in places (chain_at entries other.item.source))
     → (units && together) ≡ stand_alike (rule.line_item entries places (standing_of entries one)) (rule.line_item entries places (standing_of entries other))
 alike_is entries places one other units together alike is =
-    let chain : List ℕ = chain_at entries one.item.now.source in
-    let chain2 : List ℕ = chain_at entries other.item.now.source in
+    let chain : List ℕ = chain_at entries one.item.source in
+    let chain2 : List ℕ = chain_at entries other.item.source in
     ap (λ b. units && b) is
     ∙ ap (λ b. b && is_place (innermost_in places chain) (innermost_in places chain2))
-    (alike ∙ sym (content_alike entries chain chain2 (first_atom one.atoms.now) (first_atom other.atoms.now) one.item.now.what other.item.now.what))
+    (alike ∙ sym (content_alike entries chain chain2 (first_atom one.atoms) (first_atom other.atoms) one.item.what other.item.what))
 
 -- whether the items at two places of a line may stand in one run
 pub alike_at : (own : ItemsOn) (at_one other : ℕ) (one next : code.Standing) (units together : Bool) (d : place.Item) → at_one < length (items_on own) → other < length (items_on own)
-    → one ≡ get_or own.standings at_one one → next ≡ get_or own.standings other one → units ≡ units_alike one.item.now.what next.item.now.what
+    → one ≡ get_or own.standings at_one one → next ≡ get_or own.standings other one → units ≡ units_alike one.item.what next.item.what
     → together ≡ is_place (seat_in own (get_or own.standings at_one one)) (seat_in own (get_or own.standings other one))
     → (units && together) ≡ stand_alike (get_or (items_on own) at_one d) (get_or (items_on own) other d)
 alike_at own at_one other one next units together d lt lt2 at_ at2 alike is =
@@ -136,7 +136,7 @@ alike_at own at_one other one next units together d lt lt2 at_ at2 alike is =
     let x : code.Standing = get_or own.standings at_one one in
     let y : code.Standing = get_or own.standings other one in
     alike_is entries own.seated.places.now x y units together
-    (alike ∙ ap (λ (s : code.Standing). units_alike s.item.now.what next.item.now.what) at_ ∙ ap (λ (s : code.Standing). units_alike x.item.now.what s.item.now.what) at2) is
+    (alike ∙ ap (λ (s : code.Standing). units_alike s.item.what next.item.what) at_ ∙ ap (λ (s : code.Standing). units_alike x.item.what s.item.what) at2) is
     ∙ sym (ap (λ (i : place.Item). stand_alike i (get_or (items_on own) other d)) (get_or-map made own.standings at_one one d (omega (arith, many, lt)))
     ∙ ap (stand_alike (made x)) (get_or-map made own.standings other one d (omega (arith, many, lt2))))
 

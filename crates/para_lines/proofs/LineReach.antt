@@ -18,7 +18,7 @@ use Rattle.line_place.specs.Reach.{AreNear, box_reach, content_reach, extents_re
 use Rattle.para_prepare.specs.declared.item.PreparedContent.{PreparedContent}
 use Rattle.para_prepare.specs.declared.item.PreparedContent.TheVariants.{Unit, Combined, Atom, Break}
 use Rattle.para_lines.specs.declared.paragraph.Container.{Container}
-use Rattle.para_lines.specs.declared.standing.Standing as code
+use Rattle.para_lines.specs.Standing as code
 use Rattle.para_lines.specs.Around.{box_at, fresh}
 use Rattle.para_lines.specs.Boxes.{HasBounds, apart, chain_at}
 use Rattle.para_lines.specs.Edges.{raised_in, shifts}
@@ -35,7 +35,7 @@ count_from : (entries : List Entry) (from : ℕ) (standings : List code.Standing
     → length (on_line entries (at 0 [] entries from) standings) ≤ length entries - from
 count_from entries from [] le able rise = omega arith
 count_from entries from (s ∷ standings) le able rise =
-    let source : ℕ = s.item.now.source in
+    let source : ℕ = s.item.source in
     let lt : source < length entries = (able 0 s (omega arith)).source in
     let first : from ≤ source = rise.0 in
     let before : List ℕ = at 0 [] entries from in

@@ -10,7 +10,7 @@ use Rattle.line_place.specs.declared.line.LineBox.{LineBox}
 use Rattle.line_place.specs.Line.{Item, Line, no_box}
 use Rattle.line_place.specs.Reach.{AreNested, IsBefore}
 use Rattle.para_lines.specs.declared.paragraph.Container.{Container}
-use Rattle.para_lines.specs.declared.standing.Standing as code
+use Rattle.para_lines.specs.Standing as code
 use Rattle.para_lines.specs.Around.{fresh, has}
 use Rattle.para_lines.specs.Boxes.{apart, chain_at, innermost}
 use Rattle.para_lines.specs.Line.{IsAble, on_line, standing_of}
@@ -89,7 +89,7 @@ all_behind : (entries : List Entry) (before seen : List ℕ) (standings : List c
     → AreBehind entries seen (on_line entries before standings)
 all_behind entries before seen [] able within = tt
 all_behind entries before seen (s ∷ standings) able within =
-    let source : ℕ = s.item.now.source in
+    let source : ℕ = s.item.source in
     let lt : source < length entries = (able 0 s (omega arith)).source in
     let chain : List ℕ = chain_at entries source in
     let P : List ℕ → Type 0 = λ c. AreLinked entries source c in
@@ -170,6 +170,6 @@ line_inside tables container entries before after standings line is =
     let P : Item → Type 0 = λ item. IsBefore count item.inside in
     subst L (sym is) (All-map P (rule.line_item entries places) (map (standing_of entries) standings)
     (All-map (λ s. P (rule.line_item entries places s)) (standing_of entries) standings (λ k d lt.
-    let chain : List ℕ = chain_at entries (get_or standings k d).item.now.source in
+    let chain : List ℕ = chain_at entries (get_or standings k d).item.source in
     before_if places chain count
     (if_some (innermost chain) (λ x. has places x ≡ true) (λ x. place_in places x < count) (λ x i. let l = place_within places x i in omega arith) (item_on_line entries standings k d lt)))))

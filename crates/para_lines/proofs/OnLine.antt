@@ -4,7 +4,7 @@ use Rattle.std.specs.Prelude.{All, IfSome, ◌==◌}
 use Rattle.std.proofs.lemmas.List.{reverse-append}
 use Rattle.std.proofs.lemmas.Bool.{cases_Bool, cases_eq, eq-eqb, ne_eqb}
 use Rattle.fragment_types.specs.Item.{Entry}
-use Rattle.para_lines.specs.declared.standing.Standing as code
+use Rattle.para_lines.specs.Standing as code
 use Rattle.para_lines.specs.Around.{fresh, has, no_entry}
 use Rattle.para_lines.specs.Boxes.{Begins, apart, chain_at, innermost}
 use Rattle.para_lines.specs.Line.{IsAble, on_line}
@@ -94,10 +94,10 @@ Origin entries before standings box =
 origin : (entries : List Entry) (before : List ℕ) (standings : List code.Standing) (box : ℕ) → All (IsAble (length entries)) standings → has (on_line entries before standings) box ≡ true → Origin entries before standings box
 origin entries before [] box within h = cc
 origin entries before (s ∷ standings) box within h =
-    let chain : List ℕ = chain_at entries s.item.now.source in
+    let chain : List ℕ = chain_at entries s.item.source in
     let rest : List ℕ = on_line entries chain standings in
     elim (or_cases (has (fresh chain before) box) (has rest box) (sym (has_append (fresh chain before) rest box) ∙ h)) [
-      | inl e ↦ (s.item.now.source, (within 0 s (omega arith)).source, apart_in chain before box (sym (has_reverse (apart chain before) box) ∙ e), λ x i. fresh_or chain before rest x i)
+      | inl e ↦ (s.item.source, (within 0 s (omega arith)).source, apart_in chain before box (sym (has_reverse (apart chain before) box) ∙ e), λ x i. fresh_or chain before rest x i)
       | inr e ↦
           let o = origin entries chain standings box (λ k d lt. within (suc k) d (omega arith)) e in
           (o.0, o.1, o.2, λ x i. later chain before rest x (o.3 x i))
@@ -139,17 +139,17 @@ all_on_line entries standings within = λ box i.
     }
 
 -- the boxes round each item of a line are on it
-covers : (entries : List Entry) (before : List ℕ) (standings : List code.Standing) (k : ℕ) (d : code.Standing) (x : ℕ) → k < length standings → has (chain_at entries (get_or standings k d).item.now.source) x ≡ true
+covers : (entries : List Entry) (before : List ℕ) (standings : List code.Standing) (k : ℕ) (d : code.Standing) (x : ℕ) → k < length standings → has (chain_at entries (get_or standings k d).item.source) x ≡ true
     → (has before x ≡ true) ⊎ (has (on_line entries before standings) x ≡ true)
 covers entries before [] k d x lt h = absurd (omega arith)
-covers entries before (s ∷ standings) zero d x lt h = fresh_or (chain_at entries s.item.now.source) before (on_line entries (chain_at entries s.item.now.source) standings) x h
+covers entries before (s ∷ standings) zero d x lt h = fresh_or (chain_at entries s.item.source) before (on_line entries (chain_at entries s.item.source) standings) x h
 covers entries before (s ∷ standings) (suc k) d x lt h =
-    later (chain_at entries s.item.now.source) before (on_line entries (chain_at entries s.item.now.source) standings) x (covers entries (chain_at entries s.item.now.source) standings k d x (omega arith) h)
+    later (chain_at entries s.item.source) before (on_line entries (chain_at entries s.item.source) standings) x (covers entries (chain_at entries s.item.source) standings k d x (omega arith) h)
 
 pub item_on_line : (entries : List Entry) (standings : List code.Standing) (k : ℕ) (d : code.Standing) → k < length standings
-    → IfSome (innermost (chain_at entries (get_or standings k d).item.now.source)) (λ box. has (on_line entries [] standings) box ≡ true)
+    → IfSome (innermost (chain_at entries (get_or standings k d).item.source)) (λ box. has (on_line entries [] standings) box ≡ true)
 item_on_line entries standings k d lt =
-    first_of (chain_at entries (get_or standings k d).item.now.source) (λ x. has (on_line entries [] standings) x ≡ true) (λ x h.
+    first_of (chain_at entries (get_or standings k d).item.source) (λ x. has (on_line entries [] standings) x ≡ true) (λ x h.
     no_before x (has (on_line entries [] standings) x) (covers entries [] standings k d x lt h))
 
 -- a place in a list is a box of it

@@ -18,7 +18,7 @@ use Rattle.para_prepare.specs.declared.item.PreparedItem.{PreparedItem}
 use Rattle.para_prepare.specs.declared.item.PreparedContent.{PreparedContent}
 use Rattle.para_prepare.specs.declared.item.PreparedContent.TheVariants.{Unit, Combined, Atom, Break}
 use Rattle.para_prepare.specs.Preparation.{AreFrom, HasBounds as prepared_bounds, Preparation}
-use Rattle.para_lines.specs.declared.standing.Standing as code
+use Rattle.para_lines.specs.Standing as code
 use Rattle.para_lines.specs.declared.paragraph.Atom as code_atom
 use Rattle.para_lines.specs.declared.paragraph.Container.{Container}
 use Rattle.para_lines.specs.declared.filled.ParagraphInput as code_input
@@ -35,6 +35,7 @@ use Rattle.para_lines.specs.Prepared.{AreSources, preparation_of}
 use Rattle.para_lines.specs.Reach.{AreNear, HasAdvance, Rise, atom_part, atom_reach, lengths_of, standing_reach}
 use Rattle.para_lines.proofs.PreparedLaws.{prepared_near, sources_there}
 use Rattle.para_lines.proofs.Spreading.{AdvanceAll, all_advance}
+use Rattle.para_lines.proofs.StandLaws.{AreWhole, advances}
 
 -- ---- as many as there are items
 
@@ -77,7 +78,7 @@ rises_by entries from (item ∷ items) (level ∷ levels) (class ∷ classes) (b
 
 rises_in : (entries : List Entry) (from : ℕ) (standings : List code.Standing) → Rises from (map (standing_of entries) standings) → RiseIn from standings
 rises_in entries from [] h = tt
-rises_in entries from (s ∷ standings) h = (h.0, rises_in entries s.item.now.source standings h.1)
+rises_in entries from (s ∷ standings) h = (h.0, rises_in entries s.item.source standings h.1)
 
 pub standings_rise : (entries : List Entry) (standings : List code.Standing) (items : List PreparedItem) (levels : List ℕ) (classes : List BidiClass) (bases : List ℕ) (extents : List ℤ) (atoms : List rule.Atom)
     → map (standing_of entries) standings ≡ standings_by items levels classes bases extents (item_chains entries items) atoms → Rise 0 items → RiseIn 0 standings
@@ -150,13 +151,6 @@ fills_are size s entries prepared atoms given extents k made is same g e past_ =
     ∙ ap (λ (z : ℤ). fill_items (Some z) entries prepared given) same
     ∙ ap (fill_items (Some size) entries prepared) (g ∙ e ∙ ap (map (λ (atom : code_atom.Atom). atom.extent)) (take_all k atoms past_) ∙ extents_are atoms)
 
--- lists with one entry for each item
-pub record AreWhole (prepared : Preparation) : Type 0 where
-  pub levels : length prepared.levels ≡ length prepared.items
-  pub classes : length prepared.classes ≡ length prepared.items
-  pub bases : length prepared.bases ≡ length prepared.items
-  pub breaks : length prepared.breaks ≡ length prepared.items
-
 pub count_of : (entries : List Entry) (prepared : Preparation) (atoms : List rule.Atom) (inline : Option ℤ) (advances : List ℤ) (fills : List FillItem) (made : List code.Standing) → AreWhole prepared
     → fills ≡ fill_items inline entries prepared advances → map (standing_of entries) made ≡ rule.standings entries prepared atoms (map (λ (item : FillItem). item.advance) fills) → length made ≡ length prepared.items
 count_of entries prepared atoms inline advances fills made whole is are =
@@ -167,13 +161,7 @@ count_of entries prepared atoms inline advances fills made whole is are =
     let s = standings_count entries prepared.items prepared.levels prepared.classes prepared.bases (map (λ (item : FillItem). item.advance) fills) atoms whole.levels whole.classes whole.bases (omega arith) in
     omega arith
 
-pub whole_lists : (lists : code_lists.PreparedLists) → AreWhole (preparation_of lists)
-whole_lists lists = record { levels = lists.each_level; classes = lists.each_class; bases = lists.each_base; breaks = lists.each_break }
-
 -- ---- from a prepared paragraph to its lines
-
-abbrev advances : List FillItem → List ℤ
-advances fills = map (λ (item : FillItem). item.advance) fills
 
 pub bounded_of : (boxes : List Entry) (items : List Item) → boxes ≡ entries_of items → length items ≤ 2 ^ 20 → All HasBounds (entries_of items) → AreBounded boxes
 bounded_of boxes items are few bounds = let many = length-map items entry_of in subst AreBounded (sym are) (record { few = omega arith; bounds = bounds })
@@ -191,36 +179,31 @@ sources_of lists prepared boxes items are same from =
     let Q : ℕ → Type 0 = λ n. AreSources n prepared.items in
     subst P (sym (ap (λ (p : Preparation). p.items) are)) (subst Q (sym (ap length same ∙ length-map items entry_of)) (sources_there 0 (length items) prepared.items from))
 
-pub filled_with : (input : code_input.ParagraphInput) (fills : List FillItem) (s : ℤ) (made : List code.Standing) (ends : List ℕ) → fills ≡ fills_in input
-    → map (standing_of input.boxes.now) made ≡ rule.standings input.boxes.now (preparation_of input.lists) (map atom_of input.atoms.now) (advances fills)
-    → All (IsAble (length input.boxes.now)) made → ends ≡ lines s fills → s ≡ input.container.now.size → Divide 0 (length made) ends → IsFilled input made ends
-filled_with input fills s made ends is are able at same divide = record {
-  are = are ∙ ap (λ (fs : List FillItem). rule.standings input.boxes.now (preparation_of input.lists) (map atom_of input.atoms.now) (advances fs)) is;
-  able = able;
-  ends_are = at ∙ ap (λ z. lines z fills) same ∙ ap (lines input.container.now.size) is;
-  divide = divide;
-}
+pub filled_with : (input : code_input.ParagraphInput) (fills : List FillItem) (s : ℤ) (ends : List ℕ) → fills ≡ fills_in input → ends ≡ lines s fills → s ≡ input.container.now.size
+    → Divide 0 (length fills) ends → IsFilled input ends
+filled_with input fills s ends is at same divide =
+    let P : ℕ → Type 0 = λ n. Divide 0 n ends in
+    record {
+      ends_are = at ∙ ap (λ z. lines z fills) same ∙ ap (lines input.container.now.size) is;
+      divide = subst P (ap length is ∙ fills_count (Some input.container.now.size) input.boxes.now (preparation_of input.lists) (atom_extents (map atom_of input.atoms.now)) input.lists.each_break) divide;
+    }
 
-pub setting_ready : (entries : List Entry) (container : Container) (standings : List code.Standing) (prepared : Preparation) (atoms : List code_atom.Atom) (inline : Option ℤ) (made : List code.Standing)
-    → AreBounded entries → IsContainer container → standings ≡ made
-    → map (standing_of entries) made ≡ rule.standings entries prepared (map atom_of atoms) (advances (fill_items inline entries prepared (atom_extents (map atom_of atoms))))
-    → All (IsAble (length entries)) made → AreWhole prepared → AreNear prepared.items → length prepared.items ≤ 2 ^ 21 → total atom_reach (map atom_of atoms) ≤ 2 ^ 57
+pub setting_ready : (entries : List Entry) (container : Container) (standings : List code.Standing) (prepared : Preparation) (atoms : List code_atom.Atom) (inline : Option ℤ)
+    → AreBounded entries → IsContainer container
+    → map (standing_of entries) standings ≡ rule.standings entries prepared (map atom_of atoms) (advances (fill_items inline entries prepared (atom_extents (map atom_of atoms))))
+    → All (IsAble (length entries)) standings → AreWhole prepared → AreNear prepared.items → length prepared.items ≤ 2 ^ 21 → total atom_reach (map atom_of atoms) ≤ 2 ^ 57
     → IsSetting entries container standings
-setting_ready entries container standings prepared atoms inline made bounded container_is same are able whole near few most =
+setting_ready entries container standings prepared atoms inline bounded container_is are able whole near few most =
     let fills : List FillItem = fill_items inline entries prepared (atom_extents (map atom_of atoms)) in
-    let P : List code.Standing → Type 0 = λ ss. All (IsAble (length entries)) ss in
-    let Q : List code.Standing → Type 0 = λ ss. RiseIn 0 ss in
-    let R : List code.Standing → Type 0 = λ ss. length ss ≤ 2 ^ 21 in
-    let S : List code.Standing → Type 0 = λ ss. total standing_reach (map (standing_of entries) ss) ≤ 2 ^ 58 in
     let T : List Standing → Type 0 = λ ss. total standing_reach ss ≤ 2 ^ 58 in
-    let count = count_of entries prepared (map atom_of atoms) inline (atom_extents (map atom_of atoms)) fills made whole refl are in
+    let count = count_of entries prepared (map atom_of atoms) inline (atom_extents (map atom_of atoms)) fills standings whole refl are in
     record {
       bounded = bounded;
       container_is = container_is;
-      able = subst P (sym same) able;
-      rise = subst Q (sym same) (standings_rise entries made prepared.items prepared.levels prepared.classes prepared.bases (advances fills) (map atom_of atoms) are near.rise);
-      few = subst R (sym same) (omega arith);
-      reach = subst S (sym same) (subst T (sym are) (standings_reach inline entries prepared (map atom_of atoms) near.advances few most));
+      able = able;
+      rise = standings_rise entries standings prepared.items prepared.levels prepared.classes prepared.bases (advances fills) (map atom_of atoms) are near.rise;
+      few = omega arith;
+      reach = subst T (sym are) (standings_reach inline entries prepared (map atom_of atoms) near.advances few most);
     }
 
 pub lines_all : (tables : List (Option Table)) (container : Container) (entries given : List Entry) (prepared asked : Preparation) (atoms : List rule.Atom) (standings : List Standing) (ends : List ℕ) (made : Pieces)

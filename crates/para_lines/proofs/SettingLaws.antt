@@ -14,10 +14,11 @@ use Rattle.line_place.proofs.SumLaws.{total_rest}
 use Rattle.para_prepare.specs.declared.item.PreparedContent.{PreparedContent}
 use Rattle.para_prepare.specs.declared.item.PreparedContent.TheVariants.{Unit, Combined, Atom, Break}
 use Rattle.para_lines.specs.declared.paragraph.Container.{Container}
-use Rattle.para_lines.specs.declared.standing.Standing as code
+use Rattle.para_lines.specs.Standing as code
+use Rattle.para_lines.specs.declared.seated.Seated as code_seated
 use Rattle.para_lines.specs.Boxes.{chain_at, chain_behind}
 use Rattle.para_lines.specs.Edges.{raised_in, shifts}
-use Rattle.para_lines.specs.Line.{RiseIn, standing_of}
+use Rattle.para_lines.specs.Line.{ItemsOn, RiseIn, line_on, standing_of}
 use Rattle.para_lines.specs.Lines as rule
 use Rattle.para_lines.specs.Lines.{Standing, chain_of_first, chain_of_last, line, line_item}
 use Rattle.para_lines.specs.Reach.{atom_part, standing_reach}
@@ -27,13 +28,13 @@ use Rattle.para_lines.proofs.StackLaws.{range_map, total_part}
 -- ---- both sides of a line
 
 pub last_chain : (entries : List Entry) (standings : List code.Standing) (before : List ℕ) (k : ℕ) (d : code.Standing) → k < length standings
-    → chain_at entries (get_or standings k d).item.now.source ≡ chain_of_last before (take (suc k) (map (standing_of entries) standings))
+    → chain_at entries (get_or standings k d).item.source ≡ chain_of_last before (take (suc k) (map (standing_of entries) standings))
 last_chain entries [] before k d lt = absurd (omega arith)
 last_chain entries (s ∷ standings) before zero d lt = refl
-last_chain entries (s ∷ standings) before (suc k) d lt = last_chain entries standings (chain_at entries s.item.now.source) k d (omega arith)
+last_chain entries (s ∷ standings) before (suc k) d lt = last_chain entries standings (chain_at entries s.item.source) k d (omega arith)
 
 pub first_chain : (entries : List Entry) (standings : List code.Standing) (k : ℕ) (d : code.Standing) → k < length standings
-    → chain_at entries (get_or standings k d).item.now.source ≡ chain_of_first (drop k (map (standing_of entries) standings))
+    → chain_at entries (get_or standings k d).item.source ≡ chain_of_first (drop k (map (standing_of entries) standings))
 first_chain entries [] k d lt = absurd (omega arith)
 first_chain entries (s ∷ standings) zero d lt = refl
 first_chain entries (s ∷ standings) (suc k) d lt = first_chain entries standings k d (omega arith)
@@ -60,12 +61,12 @@ rise_less low high (x ∷ xs) le h = let a = h.0 in (omega arith, h.1)
 rise_rest : (low : ℕ) (xs : List code.Standing) (k : ℕ) → RiseIn low xs → RiseIn low (drop k xs)
 rise_rest low xs zero h = h
 rise_rest low [] (suc k) h = tt
-rise_rest low (x ∷ xs) (suc k) h = rise_less low x.item.now.source (drop k xs) h.0 (rise_rest x.item.now.source xs k h.1)
+rise_rest low (x ∷ xs) (suc k) h = rise_less low x.item.source (drop k xs) h.0 (rise_rest x.item.source xs k h.1)
 
 rise_part : (low : ℕ) (xs : List code.Standing) (k : ℕ) → RiseIn low xs → RiseIn low (take k xs)
 rise_part low xs zero h = tt
 rise_part low [] (suc k) h = tt
-rise_part low (x ∷ xs) (suc k) h = (h.0, rise_part x.item.now.source xs k h.1)
+rise_part low (x ∷ xs) (suc k) h = (h.0, rise_part x.item.source xs k h.1)
 
 pub rise_range : (xs : List code.Standing) (from end_ : ℕ) → RiseIn 0 xs → RiseIn 0 (slice_range xs from end_)
 rise_range xs from end_ h = rise_part 0 (drop from xs) (end_ - from) (rise_rest 0 xs from h)
@@ -125,6 +126,14 @@ pub between_is : (tables : List (Option Table)) (container : Container) (entries
 between_is tables container entries standings from end_ =
     ap (line tables container entries (chain_of_last [] (take from (map (standing_of entries) standings))) (chain_of_first (drop end_ (map (standing_of entries) standings))))
     (sym (range_map (standing_of entries) standings from end_))
+
+abbrev pub items_with : code_seated.Seated → List code.Standing → ItemsOn
+items_with seated standings = record { seated = seated; standings = standings }
+
+-- the line of the same items
+pub on_same : (tables : List (Option Table)) (made : Line) (own : ItemsOn) (seated : code_seated.Seated) (one other : List code.Standing) → made ≡ line_on tables own
+    → own ≡ items_with seated one → one ≡ other → made ≡ line_on tables (items_with seated other)
+on_same tables made own seated one other is own_is same = is ∙ ap (line_on tables) (own_is ∙ ap (items_with seated) same)
 
 pub line_is : (tables : List (Option Table)) (container : Container) (entries : List Entry) (standings : List code.Standing) (before after : Option ℕ) (from end_ : ℕ) (made : Line)
     → made ≡ line tables container entries (chain_behind entries before) (chain_behind entries after) (map (standing_of entries) (slice_range standings from end_))

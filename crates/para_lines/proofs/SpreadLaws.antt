@@ -27,7 +27,7 @@ use Rattle.para_prepare.specs.declared.item.PreparedItem.{PreparedItem}
 use Rattle.para_prepare.specs.declared.item.PreparedContent.{PreparedContent}
 use Rattle.para_prepare.specs.declared.item.PreparedContent.TheVariants.{Unit, Combined, Atom, Break}
 use Rattle.para_lines.specs.declared.paragraph.Container.{Container}
-use Rattle.para_lines.specs.declared.standing.Standing as code
+use Rattle.para_lines.specs.Standing as code
 use Rattle.para_lines.specs.Boxes.{chain_at}
 use Rattle.para_lines.specs.Edges.{raised_in}
 use Rattle.para_lines.specs.Filling.{advance_of, fill_items, fill_items_from, item_chains, past}
@@ -38,7 +38,8 @@ use Rattle.para_lines.specs.Reach.{HasAdvance, HoldsWithin, IsAtomWithin, IsBoxe
 use Rattle.para_lines.specs.Setting.{line_between, lines_reach, room_between}
 use Rattle.para_lines.proofs.LineReach.{size_near}
 use Rattle.para_lines.proofs.Nesting.{line_inside}
-use Rattle.para_lines.proofs.RoomLaws.{AreWhole, fills_count, past_extents, standings_count}
+use Rattle.para_lines.proofs.RoomLaws.{fills_count, past_extents, standings_count}
+use Rattle.para_lines.proofs.StandLaws.{AreWhole}
 use Rattle.para_lines.proofs.SettingLaws.{all_range, between_is}
 use Rattle.para_lines.proofs.Spreading.{AdvanceAll, all_advance}
 use Rattle.para_lines.proofs.StackLaws.{room_on, total_part}

@@ -1,7 +1,10 @@
 -- A line of a paragraph that is one run of text outside all inline boxes, item by item.
-use Rattle.std.proofs.Common.{◌≡◌, ◌∙◌, refl, sym, ap, arith, true, ℕ, suc, ◌-◌, ◌<◌, ◌≤◌, List, [], ◌∷◌, length, map, get_or, take, drop, None, pos, ◌+ℤ◌}
+use Rattle.std.proofs.Common.{◌≡◌, ◌∙◌, refl, sym, ap, arith, true, ℕ, suc, ◌+◌, ◌-◌, ◌<◌, ◌≤◌, List, [], ◌∷◌, ◌++◌, length, map, get_or, take, drop, None, pos, ◌+ℤ◌}
 use Rattle.std.specs.Prelude.{All}
-use Rattle.std.proofs.lemmas.List.{length-map, take-map}
+use Rattle.std.proofs.Math.Seq.{take-suc}
+use Rattle.std.specs.List.{slice_range}
+use Rattle.std.proofs.lemmas.List.{length-map, map_push, take-map}
+use Rattle.fragment_types.specs.RunUnit.{RunUnit}
 use Rattle.std.proofs.lemmas.List.Elements.{All-map, All-weaker}
 use Rattle.fragment_types.specs.Item.{Entry}
 use Rattle.line_place.specs.Leaves.{are_spaces}
@@ -12,7 +15,7 @@ use Rattle.line_place.specs.LineText.{IsTextItem, extent_in, unit_in}
 use Rattle.line_place.proofs.SumLaws.{back_of}
 use Rattle.para_prepare.specs.declared.item.PreparedContent.{PreparedContent}
 use Rattle.para_prepare.specs.declared.item.PreparedContent.TheVariants.{Unit, Combined, Atom, Break}
-use Rattle.para_lines.specs.declared.standing.Standing as code
+use Rattle.para_lines.specs.Standing as code
 use Rattle.para_lines.specs.declared.text.Text as code_text
 use Rattle.para_lines.specs.declared.text.TextName.{TextName}
 use Rattle.para_lines.specs.Boxes.{chain_at, innermost}
@@ -29,16 +32,16 @@ no_chain (box ∷ chain) is = cc
 
 -- ---- the Spaces at the end
 
-pub one_space : (standings : List code.Standing) (n : ℕ) (x : code.Standing) → 0 < n → n ≤ length standings → x ≡ get_or standings (n - 1) x → is_space x.item.now.what ≡ true
+pub one_space : (standings : List code.Standing) (n : ℕ) (x : code.Standing) → 0 < n → n ≤ length standings → x ≡ get_or standings (n - 1) x → is_space x.item.what ≡ true
     → are_spaces (drop n (map bare standings)) ≡ true → are_spaces (drop (n - 1) (map bare standings)) ≡ true
 one_space standings n x some le read space after = ap are_spaces (back_of bare standings n x some le read) ∙ rw (space, after) refl
 
 -- ---- the items
 
 pub units_found : (entries : List Entry) (source : ℕ) (name : TextName) (standings : List code.Standing) → chain_at entries source ≡ [] → All (IsUnitFrom source name) standings
-    → All (λ standing. chain_at entries standing.item.now.source ≡ []) standings × All (IsTextItem name.node name.form) (map bare standings)
+    → All (λ standing. chain_at entries standing.item.source ≡ []) standings × All (IsTextItem name.node name.form) (map bare standings)
 units_found entries source name standings none are = (
-  All-weaker (IsUnitFrom source name) (λ standing. chain_at entries standing.item.now.source ≡ []) (λ s own. ap (chain_at entries) own.from ∙ none) standings are,
+  All-weaker (IsUnitFrom source name) (λ standing. chain_at entries standing.item.source ≡ []) (λ s own. ap (chain_at entries) own.from ∙ none) standings are,
   All-map (IsTextItem name.node name.form) bare standings (All-weaker (IsUnitFrom source name) (λ standing. IsTextItem name.node name.form (bare standing)) (λ s own. own.item) standings are),
 )
 
@@ -48,8 +51,8 @@ content_bare entries (Combined node first end_ advance natural glyphs) atom = re
 content_bare entries (Atom name) atom = refl
 content_bare entries (Break node) atom = refl
 
-item_bare : (entries : List Entry) (boxes : List ℕ) (s : code.Standing) → chain_at entries s.item.now.source ≡ [] → line_item entries boxes (standing_of entries s) ≡ bare s
-item_bare entries boxes s none = rw (none, content_bare entries s.item.now.what (first_atom s.atoms.now)) refl
+item_bare : (entries : List Entry) (boxes : List ℕ) (s : code.Standing) → chain_at entries s.item.source ≡ [] → line_item entries boxes (standing_of entries s) ≡ bare s
+item_bare entries boxes s none = rw (none, content_bare entries s.item.what (first_atom s.atoms)) refl
 
 -- ---- the text
 
@@ -69,6 +72,28 @@ text_is standings entries t own is node form extent units =
       units = units ∙ ap (map unit_in) (sym front);
     }
 
+-- ---- some of them
+
+pub from_first : (standings : List code.Standing) (n : ℕ) → slice_range standings 0 n ≡ take n standings
+from_first standings n = ap (λ m. take m standings) (whole n) where
+  whole : (n : ℕ) → n - 0 ≡ n
+  whole n = omega arith
+
+-- what some of them show, with one more
+pub units_more : (standings : List code.Standing) (k : ℕ) (own : code.Standing) (made more : List RunUnit) (unit : RunUnit) → k < length standings → own ≡ get_or standings k own
+    → made ≡ map unit_in (map bare (take k standings)) → unit ≡ unit_in (bare own) → more ≡ made ++ unit ∷ [] → more ≡ map unit_in (map bare (take (k + 1) standings))
+units_more standings k own made more unit lt read are is pushed =
+    pushed
+    ∙ ap (λ (us : List RunUnit). us ++ unit ∷ []) are
+    ∙ ap (λ (u : RunUnit). map unit_in (map bare (take k standings)) ++ u ∷ []) is
+    ∙ sym (map_push unit_in (map bare (take k standings)) (bare own))
+    ∙ ap (map unit_in) (sym (map_push bare (take k standings) own))
+    ∙ ap (λ (s : code.Standing). map unit_in (map bare (take k standings ++ s ∷ []))) read
+    ∙ ap (λ (ss : List code.Standing). map unit_in (map bare ss)) (sym (take-suc standings k own lt))
+    ∙ ap (λ n. map unit_in (map bare (take n standings))) (up k) where
+      up : (k : ℕ) → suc k ≡ k + 1
+      up k = omega arith
+
 -- ---- lengths
 
 pub take_reach : (standings : List code.Standing) (n : ℕ) → total item_reach (map bare (take n standings)) ≤ total item_reach (map bare standings)
@@ -81,9 +106,9 @@ pub extent_back : (standings : List code.Standing) (from : ℕ) (x : code.Standi
 extent_back standings from x some le is = ap extent_in (back_of bare standings from x some le is)
 
 -- the items of a line outside all inline boxes
-pub items_are_bare : (own : ItemsOn) → All (λ standing. chain_at own.seated.boxes.now standing.item.now.source ≡ []) own.standings → items_on own ≡ map bare own.standings
+pub items_are_bare : (own : ItemsOn) → All (λ standing. chain_at own.seated.boxes.now standing.item.source ≡ []) own.standings → items_on own ≡ map bare own.standings
 items_are_bare own none = one_by_one own.seated.boxes.now own.seated.places.now own.standings none where
-  one_by_one : (entries : List Entry) (boxes : List ℕ) (standings : List code.Standing) → All (λ standing. chain_at entries standing.item.now.source ≡ []) standings
+  one_by_one : (entries : List Entry) (boxes : List ℕ) (standings : List code.Standing) → All (λ standing. chain_at entries standing.item.source ≡ []) standings
       → map (λ standing. line_item entries boxes (standing_of entries standing)) standings ≡ map bare standings
   one_by_one entries boxes [] none = refl
   one_by_one entries boxes (s ∷ standings) none =
@@ -91,8 +116,8 @@ items_are_bare own none = one_by_one own.seated.boxes.now own.seated.places.now 
 
 -- what an item shows as a unit of a run hangs on no box
 pub unit_bare : (entries : List Entry) (boxes : List ℕ) (s : code.Standing) → unit_in (line_item entries boxes (standing_of entries s)) ≡ unit_in (bare s)
-unit_bare entries boxes s = by_what s.item.now.what where
-  by_what : (what : PreparedContent) → unit_with (rule.content_of entries (chain_at entries s.item.now.source) (first_atom s.atoms.now) what) s.extent ≡ unit_with (content_in (pos 0) what (first_atom s.atoms.now)) s.extent
+unit_bare entries boxes s = by_what s.item.what where
+  by_what : (what : PreparedContent) → unit_with (rule.content_of entries (chain_at entries s.item.source) (first_atom s.atoms) what) s.extent ≡ unit_with (content_in (pos 0) what (first_atom s.atoms)) s.extent
   by_what (Unit form space node first end_ advance glyphs) = refl
   by_what (Combined node first end_ advance natural glyphs) = refl
   by_what (Atom name) = refl

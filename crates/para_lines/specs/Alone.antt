@@ -1,7 +1,7 @@
 -- The items of a paragraph that is one item, round which no inline box stands.
 use Rattle.std.specs.Prelude.{pos}
 use Rattle.line_fill.specs.declared.item.FillItem.{FillItem}
-use Rattle.para_lines.specs.declared.standing.Standing as code
+use Rattle.para_lines.specs.Standing as code
 use Rattle.para_lines.specs.Filling.{is_space}
 
 -- such an item as lines are filled with it: it has no edges of boxes
@@ -10,6 +10,6 @@ fill_alone standing = record {
   advance = standing.extent;
   before = pos 0;
   after = pos 0;
-  space = is_space standing.item.now.what;
+  space = is_space standing.item.what;
   end = standing.end;
 }

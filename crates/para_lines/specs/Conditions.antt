@@ -9,7 +9,7 @@ use Rattle.para_prepare.specs.declared.item.PreparedContent.{PreparedContent}
 use Rattle.para_prepare.specs.declared.item.PreparedContent.TheVariants.{Unit, Combined, Atom as atoms_of, Break}
 use Rattle.para_lines.specs.declared.paragraph.Atom as code_atom
 use Rattle.para_lines.specs.declared.paragraph.Container.{Container}
-use Rattle.para_lines.specs.declared.standing.Standing as code
+use Rattle.para_lines.specs.Standing as code
 use Rattle.para_lines.specs.Bounded.{IsBounded-prop}
 use Rattle.para_lines.specs.Boxes.{AreBounded, HasBounds}
 use Rattle.para_lines.specs.Line.{HasAtom, IsAble, RiseIn, standing_of}
@@ -68,7 +68,7 @@ HasAtom-prop (Break node) atoms = hlevel props
 
 RiseIn-prop : (from : ℕ) (standings : List code.Standing) → IsProp (RiseIn from standings)
 RiseIn-prop from [] = Unit-prop
-RiseIn-prop from (standing ∷ standings) = ×_prop le_prop (RiseIn-prop standing.item.now.source standings)
+RiseIn-prop from (standing ∷ standings) = ×_prop le_prop (RiseIn-prop standing.item.source standings)
 
 pub IsInput-prop : (entries : List Entry) (items : List PreparedItem) (container : Container) (atoms : List code_atom.Atom) → IsProp (IsInput entries items container atoms)
 IsInput-prop entries items container atoms = hlevel (props, IsBounded-prop, HasBounds-prop, Rise-prop, HasAdvance-prop)

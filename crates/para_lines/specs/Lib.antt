@@ -13,4 +13,5 @@ pub mod Prepared
 pub mod Reach
 pub mod Seats
 pub mod Setting
+pub mod Standing
 pub mod Text

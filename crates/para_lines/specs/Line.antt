@@ -7,7 +7,7 @@ use Rattle.line_place.specs.Line as place
 use Rattle.line_place.specs.Runs.{is_form}
 use Rattle.para_prepare.specs.declared.item.PreparedContent.{PreparedContent}
 use Rattle.para_prepare.specs.declared.item.PreparedContent.TheVariants.{Unit, Combined, Atom as atoms_of, Break}
-use Rattle.para_lines.specs.declared.standing.Standing as code
+use Rattle.para_lines.specs.Standing as code
 use Rattle.para_lines.specs.declared.paragraph.Atom as code_atom
 use Rattle.para_lines.specs.declared.seated.Seated as code_seated
 use Rattle.para_lines.specs.Paragraph.{atom_of}
@@ -25,13 +25,13 @@ first_atom (atom ∷ atoms) = atom_of atom
 -- an item as the code holds it: the atoms from it on stand for its own
 abbrev pub standing_of : List Entry → code.Standing → rule.Standing
 standing_of entries standing = record {
-  item = standing.item.now;
+  item = standing.item;
   level = standing.level;
   class = standing.class;
   base = standing.base;
   extent = standing.extent;
-  chain = chain_at entries standing.item.now.source;
-  atom = first_atom standing.atoms.now;
+  chain = chain_at entries standing.item.source;
+  atom = first_atom standing.atoms;
 }
 
 -- there is an atom for an item that is one
@@ -79,14 +79,14 @@ box_on seated tables =
 
 -- an item that can stand on a line: it comes from an entry that there is, and has its atom
 pub record IsAble (count : ℕ) (standing : code.Standing) : Type 0 where
-  pub source : standing.item.now.source < count
-  pub atom : HasAtom standing.item.now.what standing.atoms.now
-  pub near : All IsNearAtom standing.atoms.now
+  pub source : standing.item.source < count
+  pub atom : HasAtom standing.item.what standing.atoms
+  pub near : All IsNearAtom standing.atoms
 
 -- items come in the order of what they come from
 abbrev pub RiseIn : (from : ℕ) → List code.Standing → Type 0
 RiseIn from [] = ⊤
-RiseIn from (standing ∷ standings) = (from ≤ standing.item.now.source) × RiseIn standing.item.now.source standings
+RiseIn from (standing ∷ standings) = (from ≤ standing.item.source) × RiseIn standing.item.source standings
 
 -- the items of a line, with what they are made from
 pub record ItemsOn : Type 0 where
@@ -110,4 +110,4 @@ line_on tables own =
 
 -- where among the boxes of the line an item stands
 abbrev pub seat_in : ItemsOn → code.Standing → Option ℕ
-seat_in own standing = innermost_in own.seated.places.now (chain_at own.seated.boxes.now standing.item.now.source)
+seat_in own standing = innermost_in own.seated.places.now (chain_at own.seated.boxes.now standing.item.source)

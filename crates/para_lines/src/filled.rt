@@ -1,14 +1,14 @@
-//! The items of a paragraph on their way to its lines, and where these end (CSS 2, 9.4.2).
+//! Where the lines of a paragraph end (CSS 2, 9.4.2).
 
 ghost use Rattle.std.specs.Prelude.{◌≡◌, ◌+◌, ◌≤◌, Some, IfOk, OnOk, length, map};
 ghost use Rattle.para_lines.specs.Conditions.{IsInput, IsInput-prop};
 
-use crate::alone::{Alone, standings_alone};
+use crate::alone::Alone;
 use crate::boxes::Boxes;
 use crate::filling::{FillInput, FillItems};
 use crate::paragraph::{Atom, Container};
 use crate::prepared::PreparedLists;
-use crate::standing::{Standings, standings};
+use crate::standing::Standings;
 use line_fill::{Lines, fill, fill_from};
 use std::alloc::{AllocError, Global};
 use std::sync::ledger::Ledger;
@@ -26,28 +26,23 @@ pub(crate) struct ParagraphInput<'a> {
     ghost is_input: { IsInput boxes.now lists.items.now container.now atoms.now } by { IsInput-prop boxes.now lists.items.now container.now atoms.now },
 }
 
-/// All items of a paragraph on their way to its lines, and where these end.
-#[derive(Drop)]
-pub(crate) struct Filled<'a> {
-    pub(crate) standings: Standings<'a>,
-    pub(crate) lines: Lines,
-}
+impl ParagraphInput<'_> {
+    ghost use Rattle.para_lines.specs.Filled.{IsFilled, IsReadAlone, fills_in};
 
-impl<'a> ParagraphInput<'a> {
-    ghost use Rattle.para_lines.specs.Filled.{IsFilled, fills_in};
-
-    /// Fills the lines, and counts one step.
+    /// Where the lines of these items end, which are those that it is made from on their way to lines. Counts one step.
     pub(crate) fn filled<L: Ledger>(
         &self,
         alloc: Global,
+        standings: &Standings,
         arranged: &mut Steps<L>,
-    ) -> Result<Filled<'a>, AllocError>
+    ) -> Result<Lines, AllocError>
+        requires { IsReadAlone self.now standings.now }
         ensures ticks { OnOk result (arranged.new ≡ arranged.old + 1) }
         ensures most { (arranged.old ≤ arranged.new) × (arranged.new ≤ arranged.old + 1) }
-        ensures filled { IfOk result (λ made. IsFilled self.now made.standings.items made.lines) }
+        ensures filled { IfOk result (λ made. IsFilled self.now made) }
     {
         if self.boxes.count() == 1 {
-            let made = self.filled_alone(alloc, arranged)?;
+            let made = self.filled_alone(alloc, standings, arranged)?;
             Ok(made)
         } else {
             let made = self.filled_in_boxes(alloc, arranged)?;
@@ -59,19 +54,18 @@ impl<'a> ParagraphInput<'a> {
     fn filled_alone<L: Ledger>(
         &self,
         alloc: Global,
+        standings: &Standings,
         arranged: &mut Steps<L>,
-    ) -> Result<Filled<'a>, AllocError>
-        requires { length self.now.boxes.now ≡ 1 }
+    ) -> Result<Lines, AllocError>
+        requires one { length self.now.boxes.now ≡ 1 }
+        requires read { IsReadAlone self.now standings.now }
         ensures ticks { OnOk result (arranged.new ≡ arranged.old + 1) }
         ensures most { (arranged.old ≤ arranged.new) × (arranged.new ≤ arranged.old + 1) }
-        ensures filled { IfOk result (λ made. IsFilled self.now made.standings.items made.lines) }
+        ensures filled { IfOk result (λ made. IsFilled self.now made) }
     {
-        let standings = standings_alone(alloc, &self.lists, self.atoms)?;
-        let source = Alone {
-            standings: &standings,
-        };
+        let source = Alone { standings };
         let lines = fill_from(alloc, &source, self.container.size, arranged)?;
-        Ok(Filled { standings, lines })
+        Ok(lines)
     }
 
     // The lines of a paragraph of any number of items: they are filled from a list of these with the edges of the inline
@@ -80,15 +74,14 @@ impl<'a> ParagraphInput<'a> {
         &self,
         alloc: Global,
         arranged: &mut Steps<L>,
-    ) -> Result<Filled<'a>, AllocError>
+    ) -> Result<Lines, AllocError>
         ensures ticks { OnOk result (arranged.new ≡ arranged.old + 1) }
         ensures most { (arranged.old ≤ arranged.new) × (arranged.new ≤ arranged.old + 1) }
-        ensures filled { IfOk result (λ made. IsFilled self.now made.standings.items made.lines) }
+        ensures filled { IfOk result (λ made. IsFilled self.now made) }
     {
         let fills = self.fill_items(alloc)?;
         let lines = fill(alloc, &fills, self.container.size, arranged)?;
-        let standings = standings(alloc, &self.lists, &fills, self.atoms)?;
-        Ok(Filled { standings, lines })
+        Ok(lines)
     }
 
     // The items as lines are filled with them.

@@ -12,7 +12,7 @@ ghost use Rattle.para_lines.specs.Seats.{AreSeats};
 
 use crate::boxes::{Boxes, Places};
 use crate::edges::LineEdges;
-use crate::standing::Standing;
+use crate::standing::Standings;
 use face_api::{Face, Faces};
 use line_place::{Extents, extents};
 use std::alloc::{AllocError, Global};
@@ -24,7 +24,7 @@ use wm_units::cap;
 pub(crate) fn boxes_on(
     alloc: Global,
     boxes: &Boxes,
-    standings: &[Standing],
+    standings: &Standings,
 ) -> Result<Places, AllocError>
     requires { All (IsAble (length boxes.now)) standings.now }
     ensures { IfOk result (λ made. made.items ≡ on_line boxes.now [] standings.now) }
@@ -34,8 +34,8 @@ pub(crate) fn boxes_on(
         return Ok(places);
     }
     let mut before = None;
-    for k in 0..standings.len() {
-        let source = standings[k].item.source as usize;
+    for k in 0..standings.count() {
+        let source = standings.at(k).item.source as usize;
         add_fresh(alloc, &mut places, boxes, source, before)?;
         before = Some(source);
     }

@@ -23,6 +23,7 @@ use crate::filled::ParagraphInput;
 use crate::paragraph::{Atom, Container};
 use crate::prepared::PreparedLists;
 use crate::setting::Setting;
+use crate::standing::{Standings, skipped_atoms};
 use face_api::{Face, Faces};
 use fragment_types::{Fragment, FragmentKind, Fragments, Item, LineFragment};
 use para_prepare::Prepared;
@@ -64,19 +65,21 @@ pub fn paragraph_lines<L: Ledger>(
 {
     let boxes = inline_boxes(alloc, items)?;
     let lists = PreparedLists::of(prepared);
+    let skipped = skipped_atoms(alloc, lists.items, atoms)?;
+    let standings = Standings::of(&lists, atoms, &skipped);
     let input = ParagraphInput {
         boxes: &boxes,
         lists,
         container,
         atoms,
     };
-    let filled = input.filled(alloc, arranged)?;
+    let lines = input.filled(alloc, &standings, arranged)?;
     let setting = Setting {
         boxes: &boxes,
         container,
-        standings: &filled.standings,
+        standings: &standings,
     };
-    let made = stacked(alloc, &setting, faces, filled.lines.ends())?;
+    let made = stacked(alloc, &setting, faces, lines.ends())?;
     Ok(made)
 }
 

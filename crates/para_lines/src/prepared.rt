@@ -23,7 +23,8 @@ pub(crate) struct PreparedLists<'a> {
 }
 
 impl<'a> PreparedLists<'a> {
-    ghost use Rattle.std.specs.Prelude.{ℕ, IfSome};
+    ghost use Rattle.std.specs.List.{slice_range};
+    ghost use Rattle.std.specs.Prelude.{◌≤◌, ℕ, IfSome};
     ghost use Rattle.para_lines.specs.Prepared.{AreSources, preparation_of, source_before, source_behind};
 
     /// The lists of a prepared paragraph.
@@ -36,6 +37,32 @@ impl<'a> PreparedLists<'a> {
             classes: prepared.classes(),
             bases: prepared.bases(),
             breaks: prepared.breaks(),
+        }
+    }
+
+    /// Those of the items from one place up to another.
+    pub(crate) fn between(&self, from: usize, end: usize) -> PreparedLists<'a>
+        requires order { from ≤ end }
+        requires within { end ≤ length self.now.items.now }
+        ensures items { result.items.now ≡ slice_range self.now.items.now from end }
+        ensures levels { result.levels.now ≡ slice_range self.now.levels.now from end }
+        ensures classes { result.classes.now ≡ slice_range self.now.classes.now from end }
+        ensures bases { result.bases.now ≡ slice_range self.now.bases.now from end }
+        ensures breaks { result.breaks.now ≡ slice_range self.now.breaks.now from end }
+    {
+        let PreparedLists {
+            items,
+            levels,
+            classes,
+            bases,
+            breaks,
+        } = *self;
+        PreparedLists {
+            items: &items[from..end],
+            levels: &levels[from..end],
+            classes: &classes[from..end],
+            bases: &bases[from..end],
+            breaks: &breaks[from..end],
         }
     }
 

@@ -6,14 +6,15 @@ ghost use Rattle.fragment_types.specs.Item.{Entry};
 ghost use Rattle.line_place.specs.Line.{line_in};
 ghost use Rattle.line_place.specs.Reach.{AreNear};
 ghost use Rattle.line_place.specs.Runs.{is_form, is_place};
-ghost use Rattle.para_lines.specs.declared.standing.Standing.{Standing};
 ghost use Rattle.para_lines.specs.Line.{AreSeated, box_on, items_on, line_on, seat_in, standing_of, units_alike};
 ghost use Rattle.para_lines.specs.Lines as rule;
+ghost use Rattle.para_lines.specs.Standing as definitions;
+ghost use Rattle.para_lines.specs.Standing.{plain};
 
 use crate::edges::LineEdges;
 use crate::line::extents_in;
 use crate::seated::Seated;
-use crate::standing::Standing;
+use crate::standing::{Standing, Standings};
 use crate::text::{line_text, text_in, unit_of};
 use face_api::{Face, Faces};
 use fragment_types::{RunUnit, UnitKind};
@@ -26,7 +27,7 @@ use std::marker::Model;
 #[derive(Drop)]
 pub(crate) struct SeatedItems<'a> {
     seated: Seated<'a>,
-    standings: &'a [Standing<'a>],
+    standings: Standings<'a>,
 }
 
 impl<'a> Model for SeatedItems<'a> {
@@ -39,9 +40,9 @@ impl<'a> Model for SeatedItems<'a> {
 
     ghost coded = { Prim.hlevel (codes, fragment.the_row.coded, IsSeated-coded) };
 
-    ghost view = { λ own. record { seated = own.seated; standings = own.standings.now } };
+    ghost view = { λ own. record { seated = own.seated; standings = own.standings } };
 
-    ghost invariant = { λ own. AreSeated own.seated own.standings.now };
+    ghost invariant = { λ own. AreSeated own.seated own.standings };
 }
 
 impl LineSource for SeatedItems<'_> {
@@ -49,12 +50,12 @@ impl LineSource for SeatedItems<'_> {
 
     #[inline(always)]
     fn count(&self) -> usize {
-        self.standings.len()
+        self.standings.count()
     }
 
     #[inline(always)]
     fn item(&self, place: usize) -> LineItem<'_> {
-        self.seated.line_item(&self.standings[place])
+        self.seated.line_item(&self.standings.at(place))
     }
 
     #[inline(always)]
@@ -66,13 +67,13 @@ impl LineSource for SeatedItems<'_> {
 
     #[inline(always)]
     fn unit(&self, alloc: Global, place: usize) -> Result<RunUnit, AllocError> {
-        let made = unit_of(alloc, self.standing(place))?;
+        let made = unit_of(alloc, &self.standing(place))?;
         Ok(made)
     }
 
     fn is_level_zero(&self) -> bool {
-        for standing in self.standings {
-            if standing.level != 0 {
+        for place in 0..self.standings.count() {
+            if self.standings.at(place).level != 0 {
                 return false;
             }
         }
@@ -80,10 +81,9 @@ impl LineSource for SeatedItems<'_> {
     }
 
     fn text(&self, alloc: Global) -> Result<Option<LineText>, AllocError> {
-        let standings = self.standings;
-        match text_in(self.seated.boxes, standings) {
+        match text_in(self.seated.boxes, &self.standings) {
             Some(text) => {
-                let made = line_text(alloc, standings, text)?;
+                let made = line_text(alloc, &self.standings, text)?;
                 Ok(Some(made))
             }
             None => Ok(None),
@@ -93,9 +93,9 @@ impl LineSource for SeatedItems<'_> {
 
 impl<'a> SeatedItems<'a> {
     /// These items, with what they are made from.
-    pub(crate) fn new(seated: Seated<'a>, standings: &'a [Standing<'a>]) -> Self
-        requires { AreSeated seated standings.now }
-        ensures { result ≡ record { seated = seated.entry; standings = standings.now } }
+    pub(crate) fn new(seated: Seated<'a>, standings: Standings<'a>) -> Self
+        requires { AreSeated seated standings }
+        ensures { result ≡ record { seated = seated.entry; standings = standings.entry } }
     {
         SeatedItems { seated, standings }
     }
@@ -113,7 +113,7 @@ impl<'a> SeatedItems<'a> {
             style: &container.style,
         };
         LineFrame {
-            base: first_base(self.standings),
+            base: first_base(&self.standings),
             align: container.style.align,
             available: container.size,
             strut: extents_in(faces, &edges, 0),
@@ -127,7 +127,7 @@ impl<'a> SeatedItems<'a> {
     fn stand_together(&self, place: usize, other: usize) -> bool
         requires place { place < length self.now.standings }
         requires other { other < length self.now.standings }
-        ensures { (d : Standing) → result ≡ is_place (seat_in self.now (slice_index_or self.now.standings place d)) (seat_in self.now (slice_index_or self.now.standings other d)) }
+        ensures { (d : definitions.Standing) → result ≡ is_place (seat_in self.now (slice_index_or self.now.standings place d)) (seat_in self.now (slice_index_or self.now.standings other d)) }
     {
         if self.standing(place).item.source == self.standing(other).item.source {
             true
@@ -140,7 +140,7 @@ impl<'a> SeatedItems<'a> {
     #[inline(never)]
     fn seat_at(&self, place: usize) -> Option<usize>
         requires { place < length self.now.standings }
-        ensures { (d : Standing) → result ≡ seat_in self.now (slice_index_or self.now.standings place d) }
+        ensures { (d : definitions.Standing) → result ≡ seat_in self.now (slice_index_or self.now.standings place d) }
     {
         let own = self.standing(place);
         let round = self.seated.boxes.round(own.item.source as usize);
@@ -149,12 +149,11 @@ impl<'a> SeatedItems<'a> {
 
     // An item as it is on its way to the line.
     #[inline(always)]
-    fn standing(&self, place: usize) -> &Standing<'a>
+    fn standing(&self, place: usize) -> Standing<'a>
         requires { place < length self.now.standings }
-        ensures { (d : Standing) → result.now ≡ slice_index_or self.now.standings place d }
+        ensures { (d : definitions.Standing) → plain result ≡ slice_index_or self.now.standings place d }
     {
-        let standings = self.standings;
-        &standings[place]
+        self.standings.at(place)
     }
 }
 
@@ -189,11 +188,13 @@ fn is_form(one: UnitKind, other: UnitKind) -> bool
 }
 
 // The base level of the bidi paragraph of the first of these items.
-fn first_base(standings: &[Standing]) -> u8
+#[tactic(auto, using(crate::proofs::StandLaws::base_first, crate::proofs::StandLaws::no_base))]
+fn first_base(standings: &Standings) -> u8
     ensures { (entries : List Entry) → result ≡ rule.first_base (map (standing_of entries) standings.now) }
 {
-    match standings.first() {
-        Some(standing) => standing.base,
-        None => 0,
+    if standings.count() == 0 {
+        0
+    } else {
+        standings.at(0).base
     }
 }

@@ -14,7 +14,7 @@ use crate::line::{boxes_on, seat};
 use crate::paragraph::Container;
 use crate::seated::{Seated, Sides};
 use crate::seated_items::SeatedItems;
-use crate::standing::Standing;
+use crate::standing::Standings;
 use face_api::{Face, Faces};
 use fragment_types::LineFragment;
 use line_place::place_line_from;
@@ -25,7 +25,7 @@ use std::alloc::{AllocError, Global};
 pub(crate) struct Setting<'a> {
     pub(crate) boxes: &'a Boxes<'a>,
     pub(crate) container: &'a Container,
-    pub(crate) standings: &'a [Standing<'a>],
+    pub(crate) standings: &'a Standings<'a>,
 
     ghost is_setting: { IsSetting boxes.now container.now standings.now } by { IsSetting-prop boxes.now container.now standings.now },
 }
@@ -47,8 +47,8 @@ impl Setting<'_> {
         ensures same { length seats.new.items ≡ length seats.old.items }
         ensures placed { IfOk result (λ made. IsPlaced self.now (faces_of ⟦<dyn Face as Face>⟧ faces.now) from end made.over made.under (pieces_of made.parts.items)) }
     {
-        let standings = &self.standings[from..end];
-        let places = boxes_on(alloc, self.boxes, standings)?;
+        let standings = self.standings.between(from, end);
+        let places = boxes_on(alloc, self.boxes, &standings)?;
         seat(seats, &places);
         let seated = Seated {
             boxes: self.boxes,
@@ -70,7 +70,7 @@ impl Setting<'_> {
 
 // What the item before a place comes from.
 #[tactic(auto, using(crate::proofs::SettingLaws::last_chain))]
-fn source_before(standings: &[Standing], place: usize) -> Option<usize>
+fn source_before(standings: &Standings, place: usize) -> Option<usize>
     requires { place ≤ length standings.now }
     ensures chain { (entries : List Entry) → chain_behind entries result ≡ chain_of_last [] (take place (map (standing_of entries) standings.now)) }
     ensures there { (count : ℕ) → All (IsAble count) standings.now → IfSome result (λ source. source < count) }
@@ -78,19 +78,19 @@ fn source_before(standings: &[Standing], place: usize) -> Option<usize>
     if place == 0 {
         None
     } else {
-        Some(standings[place - 1].item.source as usize)
+        Some(standings.at(place - 1).item.source as usize)
     }
 }
 
 // What the item at a place comes from.
 #[tactic(auto, using(crate::proofs::SettingLaws::first_chain, crate::proofs::SettingLaws::none_behind))]
-fn source_at(standings: &[Standing], place: usize) -> Option<usize>
+fn source_at(standings: &Standings, place: usize) -> Option<usize>
     requires { place ≤ length standings.now }
     ensures chain { (entries : List Entry) → chain_behind entries result ≡ chain_of_first (drop place (map (standing_of entries) standings.now)) }
     ensures there { (count : ℕ) → All (IsAble count) standings.now → IfSome result (λ source. source < count) }
 {
-    if place < standings.len() {
-        Some(standings[place].item.source as usize)
+    if place < standings.count() {
+        Some(standings.at(place).item.source as usize)
     } else {
         None
     }

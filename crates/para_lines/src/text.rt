@@ -8,11 +8,12 @@ ghost use Rattle.para_lines.specs.Boxes.{chain_at};
 ghost use Rattle.para_lines.specs.Filling.{is_space};
 ghost use Rattle.para_lines.specs.Line.{IsAble, content_in};
 ghost use Rattle.para_lines.specs.Lines as rule;
+ghost use Rattle.para_lines.specs.Standing.{plain};
 ghost use Rattle.para_lines.specs.Text.{AreSpacesFrom, IsText, IsUnitFrom, bare};
 
 use crate::boxes::Boxes;
 use crate::filling::is_space;
-use crate::standing::Standing;
+use crate::standing::{Standing, Standings};
 use fragment_types::{Glyphs, RunUnit, RunUnits, UnitKind};
 use line_place::LineText;
 use para_prepare::PreparedContent;
@@ -33,7 +34,7 @@ pub(crate) struct Text {
 }
 
 /// The text that these items are, where they are one run outside all inline boxes, from left to right, before Spaces.
-pub(crate) fn text_in(boxes: &Boxes, standings: &[Standing]) -> Option<Text>
+pub(crate) fn text_in(boxes: &Boxes, standings: &Standings) -> Option<Text>
     requires { All (IsAble (length boxes.now)) standings.now }
     ensures { IfSome result (λ text. IsText boxes.now standings.now text) }
 {
@@ -41,9 +42,9 @@ pub(crate) fn text_in(boxes: &Boxes, standings: &[Standing]) -> Option<Text>
     if count == 0 {
         return None;
     }
-    let first = &standings[0];
+    let first = standings.at(0);
     let name = name_of(&first.item.what)?;
-    if stands_outside(boxes, first) && are_of(standings, first.item.source, name) {
+    if stands_outside(boxes, &first) && are_of(standings, first.item.source, name) {
         Some(Text { name, count })
     } else {
         None
@@ -61,11 +62,11 @@ fn stands_outside(boxes: &Boxes, standing: &Standing) -> bool
 }
 
 // How many items stand before the Spaces at the end.
-fn without_spaces(standings: &[Standing]) -> usize
+fn without_spaces(standings: &Standings) -> usize
     ensures { AreSpacesFrom standings.now result }
 {
-    let mut count = standings.len();
-    while count > 0 && is_space_here(&standings[count - 1]) {
+    let mut count = standings.count();
+    while count > 0 && is_space_here(&standings.at(count - 1)) {
         count -= 1;
     }
     count
@@ -94,11 +95,11 @@ fn name_of(what: &PreparedContent) -> Option<TextName>
 
 // Whether these are units of this node and form at level 0, which come from this item of the paragraph.
 #[inline(never)]
-fn are_of(standings: &[Standing], source: u32, name: TextName) -> bool
+fn are_of(standings: &Standings, source: u32, name: TextName) -> bool
     ensures { result ≡ true → All (IsUnitFrom source name) standings.now }
 {
-    for standing in standings {
-        if !is_of(standing, source, name) {
+    for place in 0..standings.count() {
+        if !is_of(&standings.at(place), source, name) {
             return false;
         }
     }
@@ -106,7 +107,7 @@ fn are_of(standings: &[Standing], source: u32, name: TextName) -> bool
 }
 
 fn is_of(standing: &Standing, source: u32, name: TextName) -> bool
-    ensures { result ≡ true → IsUnitFrom source name standing.now }
+    ensures { result ≡ true → IsUnitFrom source name (plain standing.now) }
 {
     standing.level == 0 && standing.item.source == source && is_unit(&standing.item.what, name)
 }
@@ -125,16 +126,16 @@ fn is_unit(what: &PreparedContent, name: TextName) -> bool
 /// These items, which are this text, as one run.
 pub(crate) fn line_text(
     alloc: Global,
-    standings: &[Standing],
+    standings: &Standings,
     text: Text,
 ) -> Result<LineText, AllocError>
     requires count { text.count ≤ length standings.now }
     requires reach { total item_reach (map bare standings.now) ≤ 2 ^ 60 }
     ensures { IfOk result (λ made. (entries : List Entry) → IsText entries standings.now text → IsLineText (text_of made) (map bare standings.now)) }
 {
-    let solid = &standings[..text.count];
-    let extent = extent_of(solid);
-    let units = units_of(alloc, solid)?;
+    let solid = standings.between(0, text.count);
+    let extent = extent_of(&solid);
+    let units = units_of(alloc, &solid)?;
     Ok(LineText {
         node: text.name.node,
         form: text.name.form,
@@ -144,28 +145,28 @@ pub(crate) fn line_text(
 }
 
 // The extent of these items together.
-fn extent_of(standings: &[Standing]) -> i64
+fn extent_of(standings: &Standings) -> i64
     requires { total item_reach (map bare standings.now) ≤ 2 ^ 60 }
     ensures is { result ≡ extent_in (map bare standings.now) }
     ensures near { unsigned_abs result ≤ total item_reach (map bare standings.now) }
 {
     let mut extent = 0;
-    let mut from = standings.len();
+    let mut from = standings.count();
     while from > 0 {
         from -= 1;
-        extent += standings[from].extent;
+        extent += standings.at(from).extent;
     }
     extent
 }
 
 // What they show as units of a run.
 #[inline(never)]
-fn units_of(alloc: Global, standings: &[Standing]) -> Result<RunUnits, AllocError>
+fn units_of(alloc: Global, standings: &Standings) -> Result<RunUnits, AllocError>
     ensures { IfOk result (λ made. made.items ≡ map unit_in (map bare standings.now)) }
 {
-    let mut made = Vec::with_capacity(alloc, standings.len())?;
-    for k in 0..standings.len() {
-        made.push_reserved(unit_of(alloc, &standings[k])?);
+    let mut made = Vec::with_capacity(alloc, standings.count())?;
+    for k in 0..standings.count() {
+        made.push_reserved(unit_of(alloc, &standings.at(k))?);
     }
     Ok(made)
 }
@@ -173,7 +174,7 @@ fn units_of(alloc: Global, standings: &[Standing]) -> Result<RunUnits, AllocErro
 /// An item as a unit of its run, straight from what is prepared of it. Most are units, and most of these are one character.
 #[inline(always)]
 pub(crate) fn unit_of(alloc: Global, standing: &Standing) -> Result<RunUnit, AllocError>
-    ensures { IfOk result (λ made. made ≡ unit_in (bare standing.now)) }
+    ensures { IfOk result (λ made. made ≡ unit_in (bare (plain standing.now))) }
 {
     match &standing.item.what {
         PreparedContent::Unit {

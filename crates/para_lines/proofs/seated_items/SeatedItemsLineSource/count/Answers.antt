@@ -8,6 +8,6 @@ pub returns : goal.returns
 returns c =
     omega (
       arith,
-      length-map c.self.inside.standings.now (λ s. rule.line_item c.self.inside.seated.boxes.now c.self.inside.seated.places.now (standing_of c.self.inside.seated.boxes.now s)),
+      length-map c.self.inside.standings (λ s. rule.line_item c.self.inside.seated.boxes.now c.self.inside.seated.places.now (standing_of c.self.inside.seated.boxes.now s)),
       ap (λ (o : ItemsOn). length (items_on o)) c.self.view_is,
     )

@@ -4,7 +4,7 @@ use Rattle.std.proofs.lemmas.List.{get_or-map, length-map}
 use Rattle.fragment_types.specs.Item.{Entry}
 use Rattle.line_place.specs.Line.{Item}
 use Rattle.line_place.specs.LineText.{unit_in}
-use Rattle.para_lines.specs.declared.standing.Standing.{Standing}
+use Rattle.para_lines.specs.Standing.{Standing, plain}
 use Rattle.para_lines.specs.Line.{ItemsOn, standing_of}
 use Rattle.para_lines.specs.Lines as rule
 use Rattle.para_lines.proofs.TextLines.{unit_bare}
@@ -19,7 +19,7 @@ pub returns : goal.returns
 returns c d =
     let entries : List Entry = c.args.self.now.seated.boxes.now in
     let own : Standing → Item = λ s. rule.line_item entries c.args.self.now.seated.places.now (standing_of entries s) in
-    let one : Standing = c.standing.result.now in
+    let one : Standing = plain c.standing.result in
     let lt : c.args.place < length c.args.self.now.standings = omega (arith, length-map c.args.self.now.standings own, c.requires) in
     c.in_ok-made.ensures
     ∙ sym (unit_bare entries c.args.self.now.seated.places.now one)
