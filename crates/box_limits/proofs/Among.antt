@@ -2,7 +2,7 @@
 use Rattle.std.proofs.Common.{◌≡◌, ◌∙◌, ◌⊎◌, ℕ, zero, suc, ◌≤◌, Bool, true, false, List, [], ◌∷◌, ◌++◌, refl, ap, sym, subst, arith, if◌then◌else◌, inl, inr}
 use Rattle.std.specs.Prelude.{flat_map, filter}
 use Rattle.std.specs.List.{Contains}
-use Rattle.box_gen.specs.Boxes.{put_if}
+use Rattle.box_gen.specs.Orthogonal.{put_if}
 use Rattle.tree_laws.specs.Wholeness.{times}
 use Rattle.tree_laws.proofs.Times.{hit, hit_same}
 
@@ -19,6 +19,10 @@ pub found : (number : ℕ) (numbers : List ℕ) → Contains numbers number → 
 found number [] (k, within, is) = absurd (omega (arith, within))
 found number (other ∷ others) (zero, within, is) = inl is
 found number (other ∷ others) (suc k, within, is) = inr (found number others (k, omega (arith, within), is))
+
+pub only : (one number : ℕ) → IsIn number (one ∷ []) → number ≡ one
+only one number (inl same) = sym same
+only one number (inr later) = absurd later
 
 -- ---- lists one after the other
 

@@ -1,5 +1,5 @@
 -- What an edit leaves to be judged.
-use Rattle.std.proofs.Common.{◌≡◌, ◌∙◌, ℕ, zero, suc, ◌+◌, ◌-◌, ◌<◌, ◌≤◌, Bool, true, false, List, [], ◌∷◌, ◌++◌, length, take, drop, get_or, refl, ap, sym, subst, arith, Option, Some, None, option_map, inl, inr}
+use Rattle.std.proofs.Common.{◌≡◌, ◌∙◌, ℕ, zero, suc, ◌+◌, ◌-◌, ◌<◌, ◌≤◌, Bool, true, false, List, [], ◌∷◌, ◌++◌, length, take, drop, get_or, refl, ap, sym, subst, arith, Option, Some, None, option_map, inl}
 use Rattle.std.specs.Prelude.{flat_map, nat_eq, nat_lt, is_none, is_some, option_and_then, unwrap_or, if◌then◌else◌}
 use Rattle.std.specs.List.{Contains}
 use Rattle.std.proofs.lemmas.Bool.{eq-eqb, eqb-false, lt-ltb, ltb-false}
@@ -25,14 +25,12 @@ use Rattle.tree_laws.specs.Reached.{EditsKeepReached, IsAtLevel}
 use Rattle.tree_laws.proofs.Parents.{children_have_parents}
 use Rattle.tree_laws.proofs.Refusing.{insert_passes, lives_below}
 use Rattle.box_gen.specs.declared.found.Found.{Found}
-use Rattle.box_gen.specs.Found.{caught_from, nothing_found, past_from}
-use Rattle.box_gen.specs.Site as sites
-use Rattle.box_gen.proofs.Sites.{caught_ends, caught_steps, past_ends, past_steps, tests_caught}
-use Rattle.box_limits.specs.Limits.{EditsAreJudgedByTheirParts, IsEditedFrom, all_below, touched}
-use Rattle.box_limits.specs.Lines.{is_caught, is_past}
-use Rattle.box_limits.specs.Judging.{AreCovered, AreInside, FindsAll, FindsBelow, IsTree, count_of_tops, one_unless}
-use Rattle.box_limits.proofs.Among.{IsIn, contained, found, in_first, in_second, of_one}
-use Rattle.box_limits.proofs.Judged.{body_caught, body_past, caught_below, html_children, past_below, placed_below, says_caught, says_past}
+use Rattle.box_gen.specs.Found.{nothing_found}
+use Rattle.box_limits.specs.Limits.{AreCovered, EditsAreJudgedByTheirParts, IsEditedFrom, all_below, breaks, touched}
+use Rattle.box_limits.specs.Lines.{is_past}
+use Rattle.box_limits.specs.Judging.{AreInside, FindsAll, FindsBelow, IsTree, count_of_tops, one_unless}
+use Rattle.box_limits.proofs.Among.{IsIn, contained, found, in_first, in_second, of_one, only}
+use Rattle.box_limits.proofs.Judged.{html_children, placed_below}
 use Rattle.box_limits.proofs.Leasts.{finds_all}
 use Rattle.box_limits.proofs.Levels.{below_is, parent_is}
 
@@ -87,26 +85,18 @@ module _ (rules : List Ruling) (state : State) (tree : IsTree state) where
 
   pub all_from_body : (numbers : List ℕ) → numbers ≡ children_at state 1 → (result : Found) → FindsBelow rules state numbers result → FindsAll rules state result
   all_from_body numbers are result finds =
-      let all = subst (λ (l : List ℕ). FindsBelow rules state l result) are finds in
       finds_all rules state tree (all_below state (children_at state 1)) result
-      (λ number living good. contained number (all_below state (children_at state 1))
-      (placed_below rules state tree.rooted tree.whole tree.reached past_from sites.is_past (is_past rules) past_steps past_ends (says_past rules) body_past (past_below rules) number living good))
-      (λ number living good. contained number (all_below state (children_at state 1))
-      (placed_below rules state tree.rooted tree.whole tree.reached caught_from tests_caught (is_caught rules) caught_steps caught_ends (says_caught rules) body_caught (caught_below rules) number living good))
-      all.past all.caught
+      (λ number living good. contained number (all_below state (children_at state 1)) (placed_below rules state tree.rooted tree.whole tree.reached number living good))
+      (subst (λ (l : List ℕ). FindsBelow rules state l result) are finds)
 
   pub all_from : (numbers : List ℕ) (result : Found) → FindsBelow rules state numbers result → AreCovered rules state (all_below state numbers) → FindsAll rules state result
-  all_from numbers result finds covered = finds_all rules state tree (all_below state numbers) result covered.past covered.caught finds.past finds.caught
-
-  only_one : (number : ℕ) → IsIn number (1 ∷ []) → number ≡ 1
-  only_one number (inl same) = sym same
-  only_one number (inr later) = absurd later
+  all_from numbers result finds covered = finds_all rules state tree (all_below state numbers) result covered finds
 
   -- a node that isn't `html` or `body` stands in `body` or below it
   above_it : (level number : ℕ) → 1 < number → IsAtLevel state level number → (parent : ℕ) × (parent_at state number ≡ Some parent) × ((upper : ℕ) × IsAtLevel state (upper + 1) parent) × Contains (children_at state parent) number
   above_it zero number more at = absurd (omega (arith, more, at))
   above_it (suc zero) number more (parent, at, there) =
-      let one : number ≡ 1 = only_one number (subst (IsIn number) (html_children rules state tree.rooted) (subst (λ (n : ℕ). IsIn number (children_at state n)) at (found number (children_at state parent) there))) in
+      let one : number ≡ 1 = only 1 number (subst (IsIn number) (html_children rules state tree.rooted) (subst (λ (n : ℕ). IsIn number (children_at state n)) at (found number (children_at state parent) there))) in
       absurd (omega (arith, more, one))
   above_it (suc (suc level)) number more (parent, at, there) =
       let same : suc level ≡ level + 1 = omega arith in
@@ -126,12 +116,8 @@ module _ (rules : List Ruling) (state : State) (tree : IsTree state) where
       let same : upper ≡ parent = same_number upper parent (sym its ∙ is) in
       record {
         below = subst (λ (p : ℕ). (upper : ℕ) × IsAtLevel state (upper + 1) p) same below;
-        children = λ other among. subst (λ (n : ℕ). Contains (children_at state parent) n) (the_one other (found other (number ∷ []) among)) (subst (λ (p : ℕ). Contains (children_at state p) number) same there);
+        children = λ other among. subst (λ (n : ℕ). Contains (children_at state parent) n) (sym (only number other (found other (number ∷ []) among))) (subst (λ (p : ℕ). Contains (children_at state p) number) same there);
       }
-    where
-      the_one : (other : ℕ) → IsIn other (number ∷ []) → number ≡ other
-      the_one other (inl same) = same
-      the_one other (inr later) = absurd later
 
   -- a number under which no node lives
   nobody : (number : ℕ) → 1 < number → parent_at state number ≡ None → (o : Option Entry) → state.node_at number ≡ o → o ≡ None
@@ -146,35 +132,22 @@ module _ (rules : List Ruling) (state : State) (tree : IsTree state) where
       let (first, among, at) = of_one (below_levels 0 64 state) other (number ∷ []) there in
       let none : children_at state number ≡ [] = ap (λ (o : Option Entry). unwrap_or (option_map (λ entry. entry.children) o) []) is in
       let alone : below_levels 0 64 state number ≡ number ∷ [] = below_is state 63 number ∙ ap (λ (l : List ℕ). number ∷ flat_map (below_levels 0 63 state) l) none in
-      one_of (subst (IsIn other) alone (subst (λ (n : ℕ). IsIn other (below_levels 0 64 state n)) (first_is first among) at))
-    where
-      one_of : IsIn other (number ∷ []) → other ≡ number
-      one_of (inl same) = sym same
-      one_of (inr later) = absurd later
+      only number other (subst (IsIn other) alone (subst (λ (n : ℕ). IsIn other (below_levels 0 64 state n)) (only number first among) at))
 
-      first_is : (first : ℕ) → IsIn first (number ∷ []) → first ≡ number
-      first_is first (inl same) = sym same
-      first_is first (inr later) = absurd later
-
-  silent : (number : ℕ) (says : List What → Bool) → says [] ≡ false → state.node_at number ≡ None → (other : ℕ) → Contains (all_below state (number ∷ [])) other → says (line state other) ≡ false
+  silent : (number : ℕ) → state.node_at number ≡ None → (other : ℕ) → Contains (all_below state (number ∷ [])) other → breaks rules state other ≡ false
   unfolding line_to
-  silent number says nowhere dead other there =
+  silent number dead other there =
       let same : other ≡ number = below_nobody number other dead (found other (all_below state (number ∷ [])) there) in
       let none : line state number ≡ [] = ap (line_with (line_to 63 state)) dead in
-      ap (λ (n : ℕ). says (line state n)) same ∙ ap says none ∙ nowhere
+      ap (breaks rules state) same ∙ ap (is_past rules) none
 
   pub nobody_found : (number : ℕ) → 1 < number → parent_at state number ≡ None → (result : Found) → result ≡ nothing_found → FindsBelow rules state (number ∷ []) result
   nobody_found number more none result is =
-      let dead = nobody number more none (state.node_at number) refl in
-      subst (FindsBelow rules state (number ∷ [])) (sym is) (record {
-        past = λ other there. silent number (is_past rules) (past_below rules).nowhere dead other there;
-        caught = λ other there. silent number (is_caught rules) (caught_below rules).nowhere dead other there;
-      })
+      subst (FindsBelow rules state (number ∷ [])) (sym is) (silent number (nobody number more none (state.node_at number) refl))
 
   pub nothing_touched : (result : Found) → result ≡ nothing_found → AreCovered rules state (all_below state []) → FindsAll rules state result
   nothing_touched result is covered =
-      subst (FindsAll rules state) (sym is) (finds_all rules state tree [] nothing_found covered.past covered.caught
-      (λ number there. absurd (found number [] there)) (λ number there. absurd (found number [] there)))
+      subst (FindsAll rules state) (sym is) (finds_all rules state tree [] nothing_found covered (λ number there. absurd (found number [] there)))
 
 -- ---- after an edit
 
@@ -188,9 +161,8 @@ module _ (rules : List Ruling) (edit : EditOf) (next state : State) (edited : Is
 
   pub covered : EditsAreJudgedByTheirParts → AreCovered rules next (all_below next (touched state edit))
   covered judged =
-      let those = judged rules state edit edited.fitting edited.rooted edited.whole edited.reached edited.taken edited.within in
-      let now : AreCovered rules (after state edit) (all_below (after state edit) (touched state edit)) = record { past = λ number living. (those number living).0; caught = λ number living. (those number living).1 } in
-      subst (λ (s : State). AreCovered rules s (all_below s (touched state edit))) (sym edited.is) now
+      subst (λ (s : State). AreCovered rules s (all_below s (touched state edit))) (sym edited.is)
+      (judged rules state edit edited.fitting edited.rooted edited.whole edited.reached edited.taken edited.within)
 
   pub untouched_all : IsTree next → EditsAreJudgedByTheirParts → touched state edit ≡ [] → (result : Found) → result ≡ nothing_found → FindsAll rules next result
   untouched_all tree judged none result is = nothing_touched rules next tree result is (subst (λ (l : List ℕ). AreCovered rules next (all_below next l)) none (covered judged))

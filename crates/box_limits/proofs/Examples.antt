@@ -1,4 +1,4 @@
--- Small documents whose boxes are past a limit or within it, by the lines of their nodes and by box_gen's definitions.
+-- A small document whose boxes are past the limit or within it, by the lines of their nodes and by box_gen's definitions.
 use Rattle.std.specs.Prelude.{◌≡◌, refl, true, false, List, [], ◌∷◌, Some, None, slice_get}
 use Rattle.css_types.specs.declared.value.Declaration.{Declaration}
 use Rattle.css_types.specs.declared.property.Property.TheVariants as properties
@@ -17,35 +17,10 @@ use Rattle.computed.specs.Sides.{margin_at, padding_at, size_at, border_at, marg
 use Rattle.computed.specs.Step.{own_font_size, own_mode, own_display, own_direction, own_orientation, own_combine, own_bidi, own_face, own_line_height, own_align, own_shift, sized}
 use Rattle.computed.specs.Winners.{won, said}
 use Rattle.style_tree.specs.Styling.{styled_document, styled_in}
-use Rattle.box_gen.specs.Boxes.{caught, root_caught}
 use Rattle.box_gen.specs.Orthogonal.{past, root_past}
-use Rattle.box_limits.specs.Lines.{is_caught, is_past, place_on}
+use Rattle.box_limits.specs.Lines.{is_past, place_on}
 
--- `body`, in it a `span` with a `div` and an inline-block that has a `div` too
-inline_block : List Declaration
-inline_block = record { property = properties.Display; value = values.Keyword keywords.InlineBlock; important = false; place = 0 } ∷ []
-
-unfoldable blocks : List Entry
-blocks = (record { parent = None; children = 1 ∷ []; what = element tags.Html None [] None [] }) ∷ (record { parent = Some 0; children = 2 ∷ []; what = element tags.Body None [] None [] })
-    ∷ (record { parent = Some 1; children = 3 ∷ 4 ∷ []; what = element tags.Span None [] None [] }) ∷ (record { parent = Some 2; children = []; what = element tags.Div None [] None [] })
-    ∷ (record { parent = Some 2; children = 5 ∷ []; what = element tags.Span None [] None inline_block }) ∷ (record { parent = Some 4; children = []; what = element tags.Div None [] None [] }) ∷ []
-
-unfoldable with_blocks : State
-with_blocks = record { node_at = λ n. slice_get blocks n; next = 6 }
-
-one_caught : root_caught (styled_document [] with_blocks) ≡ 3 ∷ []
-unfolding with_blocks blocks inline_block caught styled_in line_to tree_to matches_from some each tails tag_names.tags is_less stated claims_of_rules greatest_from sum default_rules initial won said margin_at padding_at size_at border_at margins paddings borders own_font_size own_mode own_display own_direction own_orientation own_combine own_bidi own_face own_line_height own_align own_shift sized
-one_caught = refl
-
-third_is_caught : is_caught [] (line with_blocks 3) ≡ true
-unfolding with_blocks blocks inline_block place_on line_to matches_from some each tails tag_names.tags is_less stated claims_of_rules greatest_from sum default_rules initial won said margin_at padding_at size_at border_at margins paddings borders own_font_size own_mode own_display own_direction own_orientation own_combine own_bidi own_face own_line_height own_align own_shift sized
-third_is_caught = refl
-
-fifth_is_not : is_caught [] (line with_blocks 5) ≡ false
-unfolding with_blocks blocks inline_block place_on line_to matches_from some each tails tag_names.tags is_less stated claims_of_rules greatest_from sum default_rules initial won said margin_at padding_at size_at border_at margins paddings borders own_font_size own_mode own_display own_direction own_orientation own_combine own_bidi own_face own_line_height own_align own_shift sized
-fifth_is_not = refl
-
--- `body`, and seven `div`s one in the other, each of the other mode
+-- `body`, and seven `div`s one in the other, each of the other mode, with a `span` between the first two: an inline box doesn't turn
 vertical : List Declaration
 vertical = record { property = properties.WritingMode; value = values.Keyword keywords.VerticalRl; important = false; place = 0 } ∷ []
 
@@ -54,22 +29,22 @@ horizontal = record { property = properties.WritingMode; value = values.Keyword 
 
 unfoldable turned : List Entry
 turned = (record { parent = None; children = 1 ∷ []; what = element tags.Html None [] None [] }) ∷ (record { parent = Some 0; children = 2 ∷ []; what = element tags.Body None [] None [] })
-    ∷ (record { parent = Some 1; children = 3 ∷ []; what = element tags.Div None [] None vertical }) ∷ (record { parent = Some 2; children = 4 ∷ []; what = element tags.Div None [] None horizontal })
-    ∷ (record { parent = Some 3; children = 5 ∷ []; what = element tags.Div None [] None vertical }) ∷ (record { parent = Some 4; children = 6 ∷ []; what = element tags.Div None [] None horizontal })
-    ∷ (record { parent = Some 5; children = 7 ∷ []; what = element tags.Div None [] None vertical }) ∷ (record { parent = Some 6; children = 8 ∷ []; what = element tags.Div None [] None horizontal })
-    ∷ (record { parent = Some 7; children = []; what = element tags.Div None [] None vertical }) ∷ []
+    ∷ (record { parent = Some 1; children = 3 ∷ []; what = element tags.Div None [] None vertical }) ∷ (record { parent = Some 2; children = 4 ∷ []; what = element tags.Span None [] None [] })
+    ∷ (record { parent = Some 3; children = 5 ∷ []; what = element tags.Div None [] None horizontal }) ∷ (record { parent = Some 4; children = 6 ∷ []; what = element tags.Div None [] None vertical })
+    ∷ (record { parent = Some 5; children = 7 ∷ []; what = element tags.Div None [] None horizontal }) ∷ (record { parent = Some 6; children = 8 ∷ []; what = element tags.Div None [] None vertical })
+    ∷ (record { parent = Some 7; children = 9 ∷ []; what = element tags.Div None [] None horizontal }) ∷ (record { parent = Some 8; children = []; what = element tags.Div None [] None vertical }) ∷ []
 
 unfoldable with_turns : State
-with_turns = record { node_at = λ n. slice_get turned n; next = 9 }
+with_turns = record { node_at = λ n. slice_get turned n; next = 10 }
 
-one_past : root_past (styled_document [] with_turns) ≡ 8 ∷ []
+one_past : root_past (styled_document [] with_turns) ≡ 9 ∷ []
 unfolding with_turns turned vertical horizontal past styled_in line_to tree_to matches_from some each tails tag_names.tags is_less stated claims_of_rules greatest_from sum default_rules initial won said margin_at padding_at size_at border_at margins paddings borders own_font_size own_mode own_display own_direction own_orientation own_combine own_bidi own_face own_line_height own_align own_shift sized
 one_past = refl
 
-seven_are_past : is_past [] (line with_turns 8) ≡ true
+seven_are_past : is_past [] (line with_turns 9) ≡ true
 unfolding with_turns turned vertical horizontal place_on line_to matches_from some each tails tag_names.tags is_less stated claims_of_rules greatest_from sum default_rules initial won said margin_at padding_at size_at border_at margins paddings borders own_font_size own_mode own_display own_direction own_orientation own_combine own_bidi own_face own_line_height own_align own_shift sized
 seven_are_past = refl
 
-six_are_not : is_past [] (line with_turns 7) ≡ false
+six_are_not : is_past [] (line with_turns 8) ≡ false
 unfolding with_turns turned vertical horizontal place_on line_to matches_from some each tails tag_names.tags is_less stated claims_of_rules greatest_from sum default_rules initial won said margin_at padding_at size_at border_at margins paddings borders own_font_size own_mode own_display own_direction own_orientation own_combine own_bidi own_face own_line_height own_align own_shift sized
 six_are_not = refl

@@ -1,6 +1,6 @@
--- The boxes of a document break a limit exactly where the line of a node says so.
-use Rattle.std.proofs.Common.{◌≡◌, ◌∙◌, ℕ, zero, suc, ◌<◌, ◌≤◌, Bool, true, false, List, [], ◌∷◌, ◌++◌, append-nil, refl, ap, sym, subst, arith, Option, Some, None, inl, inr}
-use Rattle.std.specs.Prelude.{flat_map, filter, option_map, unwrap_or, is_some}
+-- The boxes of a document break the limit exactly where the line of a node says so.
+use Rattle.std.proofs.Common.{◌≡◌, ◌∙◌, ℕ, zero, suc, ◌<◌, ◌≤◌, Bool, true, false, List, [], ◌∷◌, ◌++◌, append-nil, refl, ap, sym, subst, arith, Option, inl}
+use Rattle.std.specs.Prelude.{flat_map, filter, option_map, unwrap_or}
 use Rattle.wm_modes.specs.declared.mode.WritingMode.{WritingMode}
 use Rattle.wm_modes.specs.declared.mode.WritingMode.TheVariants.{HorizontalTb, VerticalRl, VerticalLr, SidewaysRl, SidewaysLr}
 use Rattle.style_types.specs.declared.style.Style.{Style}
@@ -18,19 +18,17 @@ use Rattle.computed.specs.Step.{style_of}
 use Rattle.style_tree.specs.Styling.{body_style, from_html, html_style, kind_of, root_style, styled_document, styled_in, unturned, winners_at}
 use Rattle.box_gen.specs.declared.role.Role.{Role}
 use Rattle.box_gen.specs.declared.role.Role.TheVariants.{Nothing, Words, LineBreak, InlineBox, Atom, BlockLevel}
-use Rattle.box_gen.specs.declared.site.Site.{Site}
-use Rattle.box_gen.specs.Boxes.{put_if, root_caught}
-use Rattle.box_gen.specs.Found.{caught_from, past_from}
-use Rattle.box_gen.specs.Orthogonal.{root_past, turns_in}
+use Rattle.box_gen.specs.Found.{past_from}
+use Rattle.box_gen.specs.Orthogonal.{put_if, root_past, turns_in}
 use Rattle.box_gen.specs.Site as sites
 use Rattle.box_gen.specs.Site.{in_root}
-use Rattle.box_gen.proofs.Sites.{Ends, Steps, caught_ends, caught_steps, past_ends, past_steps, tests_caught}
+use Rattle.box_gen.proofs.Sites.{past_ends, past_steps}
 use Rattle.box_limits.specs.declared.place.Place.{Place}
-use Rattle.box_limits.specs.Limits.{AreThoseWhere, DocumentsAreJudgedByLines}
-use Rattle.box_limits.specs.Lines.{body_style_on, html_style_on, is_caught, is_past, place_in_body, place_on, role_at}
-use Rattle.box_limits.proofs.Among.{IsIn, contained, found, in_all, kept, of_one, passes}
+use Rattle.box_limits.specs.Limits.{AreThoseThatBreak, DocumentsAreJudgedByLines, breaks}
+use Rattle.box_limits.specs.Lines.{body_style_on, html_style_on, is_past, place_in_body, place_on, role_at}
+use Rattle.box_limits.proofs.Among.{IsIn, contained, found, in_all, kept, of_one, only, passes}
 use Rattle.box_limits.proofs.Levels.{child_below, first_below, line_is, no_line, up_to}
-use Rattle.box_limits.proofs.Walks.{HasTwo, SaysBy, walks}
+use Rattle.box_limits.proofs.Walks.{HasTwo, breaking_lives, walks}
 
 -- ---- `body`
 
@@ -49,35 +47,14 @@ body_past InlineBox mode = refl
 body_past Atom mode = rw (no_turns mode) refl
 body_past BlockLevel mode = rw (no_turns mode) refl
 
-pub body_caught : (role : Role) (mode : WritingMode) → tests_caught role mode (in_root mode) ≡ false
-body_caught Nothing mode = refl
-body_caught Words mode = refl
-body_caught LineBreak mode = refl
-body_caught InlineBox mode = refl
-body_caught Atom mode = refl
-body_caught BlockLevel mode = refl
-
--- ---- what the lines say
-
-pub says_past : (rules : List Ruling) → SaysBy rules sites.is_past (is_past rules)
-says_past rules what above = refl
-
-pub says_caught : (rules : List Ruling) → SaysBy rules tests_caught (is_caught rules)
-says_caught rules what above = refl
-
--- it says nothing of `html` and `body`, nor where no node lives
-pub record SaysBelow (says : List What → Bool) : Type 0 where
-  pub nowhere : says [] ≡ false
-  pub html : (html : What) → says (html ∷ []) ≡ false
-  pub body : (body html : What) → says (body ∷ html ∷ []) ≡ false
-
-pub past_below : (rules : List Ruling) → SaysBelow (is_past rules)
+-- a line says nothing of `html` and `body`
+html_within : (rules : List Ruling) (html : What) → is_past rules (html ∷ []) ≡ false
 unfolding place_on
-past_below rules = record { nowhere = refl; html = λ html. refl; body = λ body html. refl }
+html_within rules html = refl
 
-pub caught_below : (rules : List Ruling) → SaysBelow (is_caught rules)
+body_within : (rules : List Ruling) (body html : What) → is_past rules (body ∷ html ∷ []) ≡ false
 unfolding place_on
-caught_below rules = record { nowhere = refl; html = λ html. refl; body = λ body html. refl }
+body_within rules body html = refl
 
 -- ---- a document
 
@@ -138,82 +115,67 @@ module _ (rules : List Ruling) (state : State) (rooted : IsRooted state) where
     body_has_two : HasTwo (line state 1)
     body_has_two = subst HasTwo (sym body_line) tt
 
-    module _ (walk : Site → Nodes → List ℕ) (test : Role → WritingMode → Site → Bool) (says : List What → Bool) (steps : Steps walk test) (ends : Ends walk) (by : SaysBy rules test says)
-        (body_passes : (role : Role) (mode : WritingMode) → test role mode (in_root mode) ≡ false) (below : SaysBelow says) where
-      abbrev pub inner : Nodes
-      inner = styled_in rules state own (tree_to 62 state body.children)
+    abbrev pub inner : Nodes
+    inner = styled_in rules state own (tree_to 62 state body.children)
 
-      -- what is walked from `body` on
-      pub walked : walk (in_root own.mode) (styled.node 1 (kind_of body.what) own inner styled.none) ≡ filter (λ number. says (line state number)) (flat_map (below_levels 0 62 state) (children_at state 1))
-      walked =
-          steps (in_root own.mode) 1 (kind_of body.what) own inner styled.none
-          ∙ ap (λ (l : List ℕ). put_if (test (role_at body.what own) own.mode (in_root own.mode)) 1 (walk body_place.site inner) ++ l) (ends (in_root own.mode))
-          ∙ append-nil _
-          ∙ ap (λ (b : Bool). put_if b 1 (walk body_place.site inner)) (body_passes (role_at body.what own) own.mode)
-          ∙ ap (λ (l : List ℕ). walk body_place.site (styled_in rules state own (tree_to 62 state l))) (sym body_children)
-          ∙ walks rules state whole reached walk test says steps ends by 62 1 1 body_place (children_at state 1) body_at body_has_two body_place_is (λ number among. among)
+    -- what is walked from `body` on
+    walked : past_from (in_root own.mode) (styled.node 1 (kind_of body.what) own inner styled.none) ≡ filter (breaks rules state) (flat_map (below_levels 0 62 state) (children_at state 1))
+    walked =
+        past_steps (in_root own.mode) 1 (kind_of body.what) own inner styled.none
+        ∙ ap (λ (l : List ℕ). put_if (sites.is_past (role_at body.what own) own.mode (in_root own.mode)) 1 (past_from body_place.site inner) ++ l) (past_ends (in_root own.mode))
+        ∙ append-nil _
+        ∙ ap (λ (b : Bool). put_if b 1 (past_from body_place.site inner)) (body_past (role_at body.what own) own.mode)
+        ∙ ap (λ (l : List ℕ). past_from body_place.site (styled_in rules state own (tree_to 62 state l))) (sym body_children)
+        ∙ walks rules state whole reached 62 1 1 body_place (children_at state 1) body_at body_has_two body_place_is (λ number among. among)
 
-      -- a node of which the line says so
-      alive : (number : ℕ) (o : Option Entry) → state.node_at number ≡ o → says (line state number) ≡ true → is_some o ≡ true
-      unfolding dom.line_to
-      alive number None is good = absurd (let none : line state number ≡ [] = ap (dom.line_with (dom.line_to 63 state)) is in let both : false ≡ true = sym below.nowhere ∙ ap says (sym none) ∙ good in cc)
-      alive number (Some entry) is good = refl
+    first_level : (parent number : ℕ) → parent ≡ 0 → IsIn number (children_at state parent) → number ≡ 1
+    first_level parent number is there = only 1 number (subst (IsIn number) html_children (subst (λ (n : ℕ). IsIn number (children_at state n)) is there))
 
-      only_body : (number : ℕ) → IsIn number (1 ∷ []) → number ≡ 1
-      only_body number (inl same) = sym same
-      only_body number (inr later) = absurd later
+    under : (level number : ℕ) → IsAtLevel state (suc (suc level)) number → IsIn number (flat_map (below_levels 0 (suc level) state) (children_at state 1))
+    under zero number (parent, (root, is, there), here) =
+        let second : parent ≡ 1 = first_level root parent is (found parent (children_at state root) there) in
+        in_all (below_levels 0 1 state) number number (children_at state 1) (subst (λ (n : ℕ). IsIn number (children_at state n)) second (found number (children_at state parent) here)) (first_below state 0 number)
+    under (suc level) number (parent, above, here) =
+        let (first, among, at) = of_one (below_levels 0 (suc level) state) parent (children_at state 1) (under level parent above) in
+        in_all (below_levels 0 (suc (suc level)) state) number first (children_at state 1) among (child_below state (suc level) first parent number at (found number (children_at state parent) here))
 
-      first_level : (parent number : ℕ) → parent ≡ 0 → IsIn number (children_at state parent) → number ≡ 1
-      first_level parent number is there = only_body number (subst (IsIn number) html_children (subst (λ (n : ℕ). IsIn number (children_at state n)) is there))
+    further : (most level number : ℕ) → level ≤ most → IsIn number (flat_map (below_levels 0 level state) (children_at state 1)) → IsIn number (flat_map (below_levels 0 most state) (children_at state 1))
+    further most level number within there =
+        let (first, among, at) = of_one (below_levels 0 level state) number (children_at state 1) there in
+        in_all (below_levels 0 most state) number first (children_at state 1) among (up_to state most level first number within at)
 
-      under : (level number : ℕ) → IsAtLevel state (suc (suc level)) number → IsIn number (flat_map (below_levels 0 (suc level) state) (children_at state 1))
-      under zero number (parent, (root, is, there), here) =
-          let second : parent ≡ 1 = first_level root parent is (found parent (children_at state root) there) in
-          in_all (below_levels 0 1 state) number number (children_at state 1) (subst (λ (n : ℕ). IsIn number (children_at state n)) second (found number (children_at state parent) here)) (first_below state 0 number)
-      under (suc level) number (parent, above, here) =
-          let (first, among, at) = of_one (below_levels 0 (suc level) state) parent (children_at state 1) (under level parent above) in
-          in_all (below_levels 0 (suc (suc level)) state) number first (children_at state 1) among (child_below state (suc level) first parent number at (found number (children_at state parent) here))
+    -- it stands in `body`
+    placed : (level number : ℕ) → level < 64 → IsAtLevel state level number → breaks rules state number ≡ true → IsIn number (flat_map (below_levels 0 62 state) (children_at state 1))
+    placed zero number within at good =
+        absurd (let both : false ≡ true = sym (html_within rules html.what) ∙ ap (is_past rules) (sym html_line) ∙ ap (breaks rules state) (sym at) ∙ good in cc)
+    placed (suc zero) number within (root, is, there) good =
+        let second : number ≡ 1 = first_level root number is (found number (children_at state root) there) in
+        absurd (let both : false ≡ true = sym (body_within rules body.what html.what) ∙ ap (is_past rules) (sym body_line) ∙ ap (breaks rules state) (sym second) ∙ good in cc)
+    placed (suc (suc level)) number within at good = further 62 (suc level) number (omega (arith, within)) (under level number at)
 
-      further : (most level number : ℕ) → level ≤ most → IsIn number (flat_map (below_levels 0 level state) (children_at state 1)) → IsIn number (flat_map (below_levels 0 most state) (children_at state 1))
-      further most level number within there =
-          let (first, among, at) = of_one (below_levels 0 level state) number (children_at state 1) there in
-          in_all (below_levels 0 most state) number first (children_at state 1) among (up_to state most level first number within at)
+    pub placed_at : (number : ℕ) → lives state number ≡ true → breaks rules state number ≡ true → IsIn number (flat_map (below_levels 0 62 state) (children_at state 1))
+    placed_at number living good = let (level, within, at) = reached.reached number living in placed level number within at good
 
-      -- it stands in `body`
-      placed : (level number : ℕ) → level < 64 → IsAtLevel state level number → says (line state number) ≡ true → IsIn number (flat_map (below_levels 0 62 state) (children_at state 1))
-      placed zero number within at good =
-          absurd (let both : false ≡ true = sym (below.html html.what) ∙ ap says (sym html_line) ∙ ap (λ (n : ℕ). says (line state n)) (sym at) ∙ good in cc)
-      placed (suc zero) number within (root, is, there) good =
-          let second : number ≡ 1 = first_level root number is (found number (children_at state root) there) in
-          absurd (let both : false ≡ true = sym (below.body body.what html.what) ∙ ap says (sym body_line) ∙ ap (λ (n : ℕ). says (line state n)) (sym second) ∙ good in cc)
-      placed (suc (suc level)) number within at good = further 62 (suc level) number (omega (arith, within)) (under level number at)
+    -- and in `body` with all levels
+    pub placed_below : (number : ℕ) → lives state number ≡ true → breaks rules state number ≡ true → IsIn number (flat_map (below_levels 0 64 state) (children_at state 1))
+    placed_below number living good = further 64 62 number (omega arith) (placed_at number living good)
 
-      pub placed_at : (number : ℕ) → lives state number ≡ true → says (line state number) ≡ true → IsIn number (flat_map (below_levels 0 62 state) (children_at state 1))
-      placed_at number living good = let (level, within, at) = reached.reached number living in placed level number within at good
-
-      -- and in `body` with all levels
-      pub placed_below : (number : ℕ) → lives state number ≡ true → says (line state number) ≡ true → IsIn number (flat_map (below_levels 0 64 state) (children_at state 1))
-      placed_below number living good = further 64 62 number (omega arith) (placed_at number living good)
-
-      pub those : (numbers : List ℕ) → numbers ≡ walk (in_root own.mode) (styled.node 1 (kind_of body.what) own inner styled.none) → AreThoseWhere says state numbers
-      those numbers are number =
-          let as_listed : numbers ≡ filter (λ number. says (line state number)) (flat_map (below_levels 0 62 state) (children_at state 1)) = are ∙ walked in (
-            λ there.
-                let good : says (line state number) ≡ true = passes (λ number. says (line state number)) number (flat_map (below_levels 0 62 state) (children_at state 1)) (subst (IsIn number) as_listed (found number numbers there)) in
-                (alive number (state.node_at number) refl good, good),
-            λ (living, good).
-                contained number numbers (subst (IsIn number) (sym as_listed) (kept (λ number. says (line state number)) number (flat_map (below_levels 0 62 state) (children_at state 1)) (placed_at number living good) good)),
-          )
+    those : (numbers : List ℕ) → numbers ≡ past_from (in_root own.mode) (styled.node 1 (kind_of body.what) own inner styled.none) → AreThoseThatBreak rules state numbers
+    those numbers are number =
+        let as_listed : numbers ≡ filter (breaks rules state) (flat_map (below_levels 0 62 state) (children_at state 1)) = are ∙ walked in (
+          λ there.
+              let good : breaks rules state number ≡ true = passes (breaks rules state) number (flat_map (below_levels 0 62 state) (children_at state 1)) (subst (IsIn number) as_listed (found number numbers there)) in
+              (breaking_lives rules state number good, good),
+          λ (living, good).
+              contained number numbers (subst (IsIn number) (sym as_listed) (kept (breaks rules state) number (flat_map (below_levels 0 62 state) (children_at state 1)) (placed_at number living good) good)),
+        )
 
     styled_as : styled_document rules state
         ≡ styled.node 0 (kind_of html.what) (root_style (html_style rules state) own) (styled.node 1 (kind_of body.what) own (styled_in rules state own (tree_to 62 state body.children)) styled.none) styled.none
     styled_as = ap (from_html rules state) two
 
-    pub past_are : AreThoseWhere (is_past rules) state (root_past (styled_document rules state))
-    past_are = those past_from sites.is_past (is_past rules) past_steps past_ends (says_past rules) body_past (past_below rules) (root_past (styled_document rules state)) (ap root_past styled_as)
-
-    pub caught_are : AreThoseWhere (is_caught rules) state (root_caught (styled_document rules state))
-    caught_are = those caught_from tests_caught (is_caught rules) caught_steps caught_ends (says_caught rules) body_caught (caught_below rules) (root_caught (styled_document rules state)) (ap root_caught styled_as)
+    pub past_are : AreThoseThatBreak rules state (root_past (styled_document rules state))
+    past_are = those (root_past (styled_document rules state)) (ap root_past styled_as)
 
 pub documents_are_judged_by_lines : DocumentsAreJudgedByLines
-documents_are_judged_by_lines rules state rooted whole reached = (past_are rules state rooted whole reached, caught_are rules state rooted whole reached)
+documents_are_judged_by_lines = past_are

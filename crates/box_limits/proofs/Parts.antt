@@ -1,4 +1,4 @@
--- Only boxes on which an edit hangs can break a limit after it.
+-- Only boxes on which an edit hangs can break the limit after it.
 use Rattle.std.proofs.Common.{◌≡◌, ◌∙◌, ◌⊎◌, ℕ, zero, suc, ◌+◌, ◌<◌, Bool, true, false, List, [], ◌∷◌, refl, ap, sym, subst, arith, Option, Some, None, inl, inr}
 use Rattle.std.specs.Prelude.{◌&&◌, nat_lt, is_some, option_map, unwrap_or, ⊤}
 use Rattle.std.specs.List.{Contains}
@@ -17,14 +17,13 @@ use Rattle.style_tree.specs.Styling.{styled_document}
 use Rattle.box_gen.specs.declared.role.Role.{Role}
 use Rattle.box_gen.specs.declared.role.Role.TheVariants.{Nothing, Words, LineBreak, InlineBox, Atom, BlockLevel}
 use Rattle.box_gen.specs.declared.site.Site.{Site}
-use Rattle.box_gen.specs.Boxes.{root_caught}
 use Rattle.box_gen.specs.Orthogonal.{most_orthogonal, root_past, turns_in}
 use Rattle.box_gen.specs.Site as sites
-use Rattle.box_gen.specs.Site.{in_node, is_block_level, is_container}
+use Rattle.box_gen.specs.Site.{in_node, is_container}
 use Rattle.box_limits.specs.declared.place.Place.{Place}
-use Rattle.box_limits.specs.Limits.{AreThoseWhere, EditsAreJudgedByTheirParts, part, touched}
-use Rattle.box_limits.specs.Lines.{is_caught, is_past, place_on, role_at, style_on}
-use Rattle.box_limits.proofs.Among.{IsIn, contained, found, in_all}
+use Rattle.box_limits.specs.Limits.{AreCovered, AreThoseThatBreak, EditsAreJudgedByTheirParts, part, touched}
+use Rattle.box_limits.specs.Lines.{is_past, place_on, role_at, style_on}
+use Rattle.box_limits.proofs.Among.{IsIn, contained, found, in_all, only}
 use Rattle.box_limits.proofs.Judged.{documents_are_judged_by_lines, html_children}
 use Rattle.box_limits.proofs.Levels.{child_below, child_line, first_below, line_is, no_line, up_to}
 use Rattle.box_limits.proofs.Origins.{IsText, Origin, origin}
@@ -43,15 +42,11 @@ hides BlockLevel mode site is = is
 not_past : (role : Role) (mode : WritingMode) (site : Site) → site.shown ≡ false → sites.is_past role mode site ≡ false
 not_past role mode site is = ap (λ (b : Bool). b && (is_container role && nat_lt most_orthogonal (turns_in site.mode mode site.turns))) is
 
-not_caught : (role : Role) (site : Site) → site.shown ≡ false → sites.is_caught role site ≡ false
-not_caught role site is = ap (λ (b : Bool). b && (is_block_level role && site.inside)) is
-
 -- a line that says nothing, nor does one with others before it
 record IsHidden (rules : List Ruling) (line : List What) : Type 0 where
   two : HasTwo line
   shown : (place_on rules line).site.shown ≡ false
-  past : is_past rules line ≡ false
-  caught : is_caught rules line ≡ false
+  within : is_past rules line ≡ false
 
 more_two : (what : What) (above : List What) → HasTwo above → HasTwo (what ∷ above)
 more_two what [] two = absurd two
@@ -64,8 +59,7 @@ hidden_below rules what above hidden =
     record {
       two = more_two what above hidden.two;
       shown = ap (λ (p : Place). p.site.shown) (place_below rules what above hidden.two) ∙ hides (role_at what style) style.mode place.site hidden.shown;
-      past = not_past (role_at what style) style.mode place.site hidden.shown;
-      caught = not_caught (role_at what style) place.site hidden.shown;
+      within = not_past (role_at what style) style.mode place.site hidden.shown;
     }
 
 and_false : (b : Bool) → (b && false) ≡ false
@@ -76,8 +70,7 @@ text_hidden : (rules : List Ruling) (letters : List ℕ) (above : List What) →
 text_hidden rules letters above two = record {
   two = more_two (text letters) above two;
   shown = ap (λ (p : Place). p.site.shown) (place_below rules (text letters) above two);
-  past = and_false (place_on rules above).site.shown;
-  caught = and_false (place_on rules above).site.shown;
+  within = and_false (place_on rules above).site.shown;
 }
 
 -- ---- the nodes after an edit
@@ -87,10 +80,6 @@ not_element what (letters, is) here = subst IsElement is here
 
 same_entry : (entry other : Entry) → Some entry ≡ Some other → entry ≡ other
 same_entry entry other is = ap (λ (o : Option Entry). unwrap_or o entry) is
-
-only_one : (number : ℕ) → IsIn number (1 ∷ []) → number ≡ 1
-only_one number (inl same) = sym same
-only_one number (inr later) = absurd later
 
 abbrev HasOne : List What → Type 0
 HasOne [] = ⊥
@@ -118,7 +107,7 @@ module _ (next : State) (rooted : IsRooted next) (whole : IsWhole next) (reached
   -- a text stands below `body`
   text_below : (level parent number : ℕ) (entry : Entry) → IsAtLevel next level parent → IsIn number (children_at next parent) → next.node_at number ≡ Some entry → IsText entry.what → HasTwo (line next parent)
   text_below zero parent number entry at there here told =
-      let second : number ≡ 1 = only_one number (subst (IsIn number) (html_children [] next rooted) (subst (λ (n : ℕ). IsIn number (children_at next n)) at there)) in
+      let second : number ≡ 1 = only 1 number (subst (IsIn number) (html_children [] next rooted) (subst (λ (n : ℕ). IsIn number (children_at next n)) at there)) in
       let same : rooted.body.0 ≡ entry = same_entry rooted.body.0 entry (sym rooted.body.1 ∙ ap next.node_at (sym second) ∙ here) in
       absurd (not_element entry.what told (subst (λ (e : Entry). IsElement e.what) same rooted.body.2))
   text_below (suc level) parent number entry at there here told = two_at level parent at
@@ -203,24 +192,18 @@ module _ (rules : List Ruling) (state : State) (edit : EditOf) (rooted_before : 
       contained number (part state edit) (in_all (below_levels 0 64 next) number first (touched state edit) among (up_to next 64 (suc level) first number (omega (arith, within)) at))
 
   -- where no node broke the limit before
-  judged : (says : List What → Bool) (numbers : List ℕ) → AreThoseWhere says state numbers → numbers ≡ [] → ((line : List What) → IsHidden rules line → says line ≡ false)
-      → (number : ℕ) → lives next number ≡ true → says (line next number) ≡ true → Contains (part state edit) number
-  judged says numbers those empty hides_ number living good =
+  judged : (numbers : List ℕ) → AreThoseThatBreak rules state numbers → numbers ≡ [] → AreCovered rules next (part state edit)
+  judged numbers those empty number living good =
       let (level, within, at) = reached.reached number living in
       elim (stays level number at) [
         | inl inside ↦ inside_part level number within inside
-        | inr (inl hidden) ↦ absurd (let both : false ≡ true = sym (hides_ (line next number) hidden) ∙ good in cc)
+        | inr (inl hidden) ↦ absurd (let both : false ≡ true = sym hidden.within ∙ good in cc)
         | inr (inr (lived, lines)) ↦
-            let there : IsIn number numbers = found number numbers ((those number).1 (lived, ap says (sym (lines 64)) ∙ good)) in
+            let there : IsIn number numbers = found number numbers ((those number).1 (lived, ap (is_past rules) (sym (lines 64)) ∙ good)) in
             absurd (subst (IsIn number) empty there)
       ]
 
 pub edits_are_judged : KeepRoots → EditsKeepWhole → EditsKeepReached → EditsAreJudgedByTheirParts
-edits_are_judged keep_roots keep_whole keep_reached rules state edit fitting rooted whole reached accepted within number living =
-    let next_rooted = keep_roots state edit rooted (children_have_parents state whole) accepted in
-    let next_whole = keep_whole state edit whole accepted in
-    let next_reached = keep_reached state edit fitting rooted whole reached accepted in
-    let before = documents_are_judged_by_lines rules state rooted whole reached in (
-      judged rules state edit rooted whole next_rooted next_whole next_reached (is_past rules) (root_past (styled_document rules state)) before.0 within.turns (λ line hidden. hidden.past) number living,
-      judged rules state edit rooted whole next_rooted next_whole next_reached (is_caught rules) (root_caught (styled_document rules state)) before.1 within.blocks (λ line hidden. hidden.caught) number living,
-    )
+edits_are_judged keep_roots keep_whole keep_reached rules state edit fitting rooted whole reached accepted within =
+    judged rules state edit rooted whole (keep_roots state edit rooted (children_have_parents state whole) accepted) (keep_whole state edit whole accepted) (keep_reached state edit fitting rooted whole reached accepted)
+    (root_past (styled_document rules state)) (documents_are_judged_by_lines rules state rooted whole reached) within.turns

@@ -1,5 +1,5 @@
 -- Where nodes stand, from the node that they stand in.
-use Rattle.std.proofs.Common.{◌≡◌, ◌∙◌, ℕ, zero, suc, ◌-◌, ◌<◌, List, [], ◌∷◌, refl, ap, sym, subst, arith, Option, Some, None, option_map, inl, inr}
+use Rattle.std.proofs.Common.{◌≡◌, ◌∙◌, ℕ, zero, suc, ◌-◌, ◌<◌, List, [], ◌∷◌, refl, ap, sym, subst, arith, Option, Some, None, option_map}
 use Rattle.std.specs.Prelude.{unwrap_or, option_and_then, IsSome}
 use Rattle.std.proofs.lemmas.Option.{none-some}
 use Rattle.std.specs.Borrow.{Bor}
@@ -13,7 +13,7 @@ use Rattle.style_tree.specs.Styling.{body_style, style_at}
 use Rattle.box_limits.specs.declared.place.Place.{Place}
 use Rattle.box_limits.specs.Lines.{outside, place_in, place_of_body, place_on, style_on}
 use Rattle.box_limits.specs.Judging.{IsTree}
-use Rattle.box_limits.proofs.Among.{IsIn, found}
+use Rattle.box_limits.proofs.Among.{IsIn, found, only}
 use Rattle.box_limits.proofs.Judged.{body, body_place_is, html_children}
 use Rattle.box_limits.proofs.Levels.{child_line, line_is, no_line}
 use Rattle.box_limits.proofs.Parts.{two_at}
@@ -54,13 +54,9 @@ module _ (rules : List Ruling) (state : State) (tree : IsTree state) where
       let lines : line state number ≡ entry.what ∷ [] = line_is state tree.whole 63 number entry (sym is) ∙ ap (λ (l : List What). entry.what ∷ l) (ap (line_to 63 state) top ∙ no_line state tree.whole 63) in
       here ∙ sym (ap (place_on rules) lines)
 
-  only_one : (number : ℕ) → IsIn number (1 ∷ []) → number ≡ 1
-  only_one number (inl same) = sym same
-  only_one number (inr later) = absurd later
-
   has_two : (level parent number : ℕ) → IsAtLevel state level parent → IsIn number (children_at state parent) → (number ≡ 1 → ⊥) → HasTwo (line state parent)
   has_two zero parent number at there apart =
-      absurd (apart (only_one number (subst (IsIn number) (html_children rules state tree.rooted) (subst (λ (n : ℕ). IsIn number (children_at state n)) at there))))
+      absurd (apart (only 1 number (subst (IsIn number) (html_children rules state tree.rooted) (subst (λ (n : ℕ). IsIn number (children_at state n)) at there))))
   has_two (suc level) parent number at there apart = two_at state tree.rooted tree.whole tree.reached level parent at
 
   pub place_placed : (number parent most : ℕ) (entry : Entry) → Some entry ≡ state.node_at number → entry.parent ≡ Some parent → (number ≡ 1 → ⊥)

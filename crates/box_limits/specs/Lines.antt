@@ -1,6 +1,5 @@
--- What a node's line says of its box: whether too many boxes above it turn, and whether it is a block-level box in an inline box. The line
--- is what the node is, what its parent is, and so on up to `html`. CSS 2, 9.2.1.1, narrowed; CSS Writing Modes 4, 7.3, with a limit of this
--- project's own.
+-- What a node's line says of its box: whether, with itself, too many boxes above it turn. The line is what the node is, what its parent is,
+-- and so on up to `html`. CSS Writing Modes 4, 7.3, with a limit of this project's own.
 use Rattle.std.specs.Prelude.{Bool, false, List, [], ◌∷◌}
 use Rattle.style_types.specs.declared.style.Style.{Style}
 use Rattle.style_types.specs.Initial.{initial}
@@ -41,7 +40,7 @@ html_style_on rules html = style_of initial (winners rules (html ∷ []) initial
 abbrev pub body_style_on : List Ruling → (body html : What) → Style
 body_style_on rules body html = unturned (html_style_on rules html) (winners rules (body ∷ html ∷ []) (html_style_on rules html))
 
--- `body` never turns, and stands in no inline box
+-- `body` never turns
 abbrev pub place_of_body : Style → Place
 place_of_body style = record { style = style; site = in_root style.mode }
 
@@ -56,20 +55,12 @@ place_on rules (body ∷ html ∷ []) = place_in_body body (body_style_on rules 
 place_on rules (what ∷ parent ∷ upper ∷ others) =
     place_in what (style_on rules (what ∷ parent ∷ upper ∷ others) what (place_on rules (parent ∷ upper ∷ others)).style) (place_on rules (parent ∷ upper ∷ others))
 
--- ---- the two limits
+-- ---- the limit
 
 abbrev pub is_past_at : List Ruling → (line : List What) → What → Place → Bool
 is_past_at rules line what place = sites.is_past (role_at what (style_on rules line what place.style)) (style_on rules line what place.style).mode place.site
-
-abbrev pub is_caught_at : List Ruling → (line : List What) → What → Place → Bool
-is_caught_at rules line what place = sites.is_caught (role_at what (style_on rules line what place.style)) place.site
 
 -- the box of the first of a line has, with itself, too many above that are orthogonal to their containing blocks
 abbrev pub is_past : List Ruling → (line : List What) → Bool
 is_past rules [] = false
 is_past rules (what ∷ above) = is_past_at rules (what ∷ above) what (place_on rules above)
-
--- the box of the first of a line is a block-level box in an inline box
-abbrev pub is_caught : List Ruling → (line : List What) → Bool
-is_caught rules [] = false
-is_caught rules (what ∷ above) = is_caught_at rules (what ∷ above) what (place_on rules above)

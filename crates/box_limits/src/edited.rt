@@ -8,9 +8,9 @@ ghost use Rattle.dom_store.specs.State.{IsSaidState, State, state_of};
 ghost use Rattle.cascade.specs.Index.{index_rules};
 ghost use Rattle.cascade.specs.Winners.{AreSaidRules};
 ghost use Rattle.tree_laws.specs.Reached.{IsAtLevel};
-ghost use Rattle.box_limits.specs.Limits.{Answers, IsEditedFrom, all_below};
+ghost use Rattle.box_limits.specs.Limits.{Answers, AreCovered, IsEditedFrom, all_below};
 ghost use Rattle.box_limits.specs.Judging as definitions;
-ghost use Rattle.box_limits.specs.Judging.{AreCovered, FindsAll, FindsBelow, IsTree};
+ghost use Rattle.box_limits.specs.Judging.{FindsAll, FindsBelow, IsTree};
 
 use crate::above::BODY;
 use crate::error::LimitError;
@@ -25,7 +25,7 @@ use std::alloc::{AllocError, Global};
 use style_tree::Styling;
 use tree_laws::laws::{accepted_edits_keep_documents_reached, accepted_edits_keep_documents_whole};
 
-/// Whether the boxes of a document are within the limits after this edit, where they were before it. Looks at the nodes on which
+/// Whether the boxes of a document are within the limit after this edit, where they were before it. Looks at the nodes on which
 /// those boxes hang that the edit made or changed, at all below these, and at the lines of these nodes up to `html`: after a
 /// text was set or a node removed, at none.
 pub fn check_edited(
@@ -48,7 +48,7 @@ pub fn check_edited(
 }
 
 impl<'a> Judging<'a> {
-    // Of all nodes those that break a limit after this edit.
+    // Of all nodes the least that breaks the limit after this edit.
     fn edited(&self, alloc: Global, edit: &Edit) -> Result<Found, AllocError>
         requires edited { (state : State) × IsEditedFrom (index_rules self.now.styling.rules.now) (edit_of edit.now) (state_of self.now.styling.document.now) state }
         ensures { IfOk result (λ found. FindsAll (index_rules self.now.styling.rules.now) (state_of self.now.styling.document.now) found) }
@@ -75,7 +75,7 @@ impl<'a> Judging<'a> {
         }
     }
 
-    // Where the others break no limit, of all nodes those that do, after the node of this number was changed.
+    // Of all nodes the least that breaks the limit, after the node of this number was changed, where only it and those below it can.
     fn changed(&self, alloc: Global, number: u32) -> Result<Found, AllocError>
         requires tree { IsTree (state_of self.now.styling.document.now) }
         ensures { IfOk result (λ found. AreCovered (index_rules self.now.styling.rules.now) (state_of self.now.styling.document.now) (all_below (state_of self.now.styling.document.now) (number ∷ []))
@@ -92,7 +92,7 @@ impl<'a> Judging<'a> {
         Ok(found)
     }
 
-    // Of all nodes those that break a limit.
+    // Of all nodes the least that breaks the limit.
     fn below_body(&self, alloc: Global) -> Result<Found, AllocError>
         requires tree { IsTree (state_of self.now.styling.document.now) }
         ensures { IfOk result (λ found. FindsAll (index_rules self.now.styling.rules.now) (state_of self.now.styling.document.now) found) }
@@ -102,7 +102,7 @@ impl<'a> Judging<'a> {
         Ok(found)
     }
 
-    // Of the children of a node from this index on, so many, and of all below them those that break a limit.
+    // Of the children of a node from this index on, so many, and of all below them the least that breaks the limit.
     fn inserted(
         &self,
         alloc: Global,

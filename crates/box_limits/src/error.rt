@@ -10,7 +10,7 @@ use thiserror::Error;
 /// Why the boxes of a document may not stand as they do.
 #[derive(Error, Clone, Copy, Debug, PartialEq, Eq)]
 pub enum LimitError {
-    /// They pass a limit.
+    /// They pass the limit.
     #[error("{0}")]
     Limit(BoxLimit),
     #[error("Memory")]

@@ -1,4 +1,4 @@
-//! Nodes are judged, with all below them (CSS 2, 9.2.1.1; CSS Writing Modes 4, 7.3).
+//! Nodes are judged, with all below them (CSS Writing Modes 4, 7.3).
 
 ghost use Rattle.std.specs.Prelude.{◌≡◌, IfOk};
 ghost use Rattle.style_types.specs.Tree as trees;
@@ -71,7 +71,7 @@ impl<'a> Judging<'a> {
         Ok(found)
     }
 
-    /// Of these children of a node and all below them those that break a limit. No other node is looked at but those that the
+    /// Of these children of a node and all below them the least that breaks the limit. No other node is looked at but those that the
     /// children stand in.
     pub(crate) fn children(
         &self,

@@ -1,16 +1,16 @@
-//! Laws of the limits of boxes. These functions do nothing: their contracts are the laws.
+//! Laws of the limit of boxes. These functions do nothing: their contracts are the laws.
 
 ghost use Rattle.box_limits.specs.Limits.{DocumentsAreJudgedByLines, EditsAreJudgedByTheirParts};
 
 use dom_store::laws::accepted_edits_keep_roots;
 use tree_laws::laws::{accepted_edits_keep_documents_reached, accepted_edits_keep_documents_whole};
 
-/// Whether a box breaks a limit is told by the line of its node alone.
+/// Whether a box breaks the limit is told by the line of its node alone.
 pub fn documents_are_judged_by_lines()
     ensures { DocumentsAreJudgedByLines }
 {}
 
-/// Only boxes on which an edit hangs can break a limit after it.
+/// Only boxes on which an edit hangs can break the limit after it.
 pub fn edits_are_judged_by_their_parts()
     ensures { EditsAreJudgedByTheirParts }
 {

@@ -1,5 +1,4 @@
-//! The two limits of boxes, judged where an edit touches a document: how many may turn inside one another, and that no block-level box
-//! stands in an inline box (docs/PROFILE/boxes.md).
+//! The limit of boxes, judged where an edit touches a document: how many may turn inside one another (docs/PROFILE/boxes.md).
 #![tactic(auto)]
 
 mod above;

@@ -62,10 +62,6 @@ impl Place {
         ensures { result ≡ found_there number (what_of kind.now) style.now self.now.site }
     {
         let role = role_of(kind, style);
-        Found::at(
-            number,
-            self.site.is_past(role, style.mode),
-            self.site.is_caught(role),
-        )
+        Found::at(number, self.site.is_past(role, style.mode))
     }
 }
