@@ -3,7 +3,7 @@
 use std::fmt::Debug;
 use std::io;
 use std::io::Write;
-use style_types::{SideSizes, SideWidths, Style};
+use style_types::{Insets, SideSizes, SideWidths, Style};
 
 /// Prints the fields of a style that differ from the other style's.
 pub(crate) fn print_differences<W: Write>(
@@ -16,7 +16,9 @@ pub(crate) fn print_differences<W: Write>(
     print_sizes(output, style, other)?;
     print_sides(output, "margin", style.margin, other.margin)?;
     print_sides(output, "padding", style.padding, other.padding)?;
-    print_widths(output, "border", style.border, other.border)
+    print_widths(output, "border", style.border, other.border)?;
+    print_field(output, "relative", style.relative, other.relative)?;
+    print_insets(output, style.insets, other.insets)
 }
 
 fn print_modes<W: Write>(output: &mut W, style: &Style, other: &Style) -> io::Result<()> {
@@ -67,6 +69,13 @@ fn print_widths<W: Write>(
     print_side(output, name, "right", sides.right, other.right)?;
     print_side(output, name, "bottom", sides.bottom, other.bottom)?;
     print_side(output, name, "left", sides.left, other.left)
+}
+
+fn print_insets<W: Write>(output: &mut W, insets: Insets, other: Insets) -> io::Result<()> {
+    print_side(output, "inset", "top", insets.top, other.top)?;
+    print_side(output, "inset", "right", insets.right, other.right)?;
+    print_side(output, "inset", "bottom", insets.bottom, other.bottom)?;
+    print_side(output, "inset", "left", insets.left, other.left)
 }
 
 fn print_side<W: Write, T: Copy + Debug + PartialEq>(
