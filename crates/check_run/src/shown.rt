@@ -1,4 +1,4 @@
-//! A document that is shown twice, with a face that counts how often it is asked.
+//! A document that is shown twice, the second time with its shifts, with a face that counts how often it is asked.
 
 ghost use Rattle.std.specs.Prelude.{◌≡◌, ◌≤◌, ◌<◌, length};
 ghost use Rattle.face_api.specs.Kinds.{wide_table};
@@ -21,6 +21,9 @@ use wm_units::{Steps, View};
 
 const TURNED: &[u8] =
     b"<html><body><p>one two <span style=\"display:inline-block;writing-mode:vertical-rl\">three \xe5\x9b\x9b</span></p><div style=\"writing-mode:vertical-lr\">five six</div></body></html>";
+
+const SHIFTED: &[u8] =
+    b"<html><body><p>one <b style=\"position:relative;top:5px\">two</b></p></body></html>";
 
 const VIEW: View = View {
     inline: 20480,
@@ -71,7 +74,7 @@ fn listed(alloc: Global, page: &Placed) -> Result<SteadySink, Fail> {
     Ok(sink)
 }
 
-// A document that can be opened, shown twice; `None` where it can't.
+// A document that can be opened, shown without its shifts and then with them; `None` where it can't.
 fn shown_twice<L: Ledger, M: Ledger>(
     alloc: Global,
     input: &[u8],
@@ -108,14 +111,14 @@ fn shown_twice<L: Ledger, M: Ledger>(
     let mut arranged = Steps::<M>::open(second);
     let page = session.show(&mut prepared, &mut arranged)?;
     let asked_first = asked.get();
-    let again = session.show(&mut prepared, &mut arranged)?;
+    let again = session.page(&mut prepared, &mut arranged)?;
     Ok(Some(Twice {
         listings: (listed(alloc, &page)?, listed(alloc, &again)?),
         asked: (asked_first, asked.get()),
     }))
 }
 
-/// What is laid out is kept: the second page is the first one, and no face is asked for it.
+/// What is laid out is kept: no face is asked for the second page. It is the first one, since nothing is shifted.
 #[test]
 fn a_second_show_asks_no_face(rt: HostRuntime) -> Result<(), Fail> {
     let shown = shown_twice::<Brand, Brand>(rt.alloc(), TURNED, Blank::new(1), Blank::new(1))?;
@@ -124,6 +127,18 @@ fn a_second_show_asks_no_face(rt: HostRuntime) -> Result<(), Fail> {
         assert_eq!(rt; twice.listings.0.bytes(), twice.listings.1.bytes());
         assert_eq!(rt; twice.asked.0, twice.asked.1);
         assert!(rt; twice.asked.0 > 0);
+    }
+    Ok(())
+}
+
+/// Nor is one asked for a page with shifts, and that is another page.
+#[test]
+fn a_shifted_page_asks_no_face(rt: HostRuntime) -> Result<(), Fail> {
+    let shown = shown_twice::<Brand, Brand>(rt.alloc(), SHIFTED, Blank::new(1), Blank::new(1))?;
+    assert!(rt; shown.is_some());
+    if let Some(twice) = shown {
+        assert!(rt; twice.listings.0.bytes() != twice.listings.1.bytes());
+        assert_eq!(rt; twice.asked.0, twice.asked.1);
     }
     Ok(())
 }

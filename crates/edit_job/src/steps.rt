@@ -103,7 +103,7 @@ fn tell_page<K: Sink, L: Ledger, M: Ledger>(
     ensures later { K.faults sink.old ≤ K.faults sink.new }
     ensures fault { IsErrOf result WriteError.WriteFault → Rose (K.faults sink.old) (K.faults sink.new) }
 {
-    let placed = session.show(prepared, arranged)?;
+    let placed = session.page(prepared, arranged)?;
     write_listing(&placed, sink)
 }
 

@@ -19,6 +19,9 @@ use Rattle.box_arena.specs.Planting as planting
 use Rattle.para_prepare.specs.Preparation.{Preparation}
 use Rattle.relayout.specs.Laws.{BareIsRight}
 use Rattle.relayout.specs.Relayout.{AreRightUnder}
+use Rattle.rel_shift.specs.declared.position.Position.{Position}
+use Rattle.std.specs.declared.vec.Vec.{Vec}
+use Rattle.session.specs.Kept.{ArePositions}
 use Rattle.session.specs.Limits.{BoxesFit, CanBeLaidOut, DocumentsFit}
 
 -- states that are one are the same
@@ -37,6 +40,10 @@ few_boxes nodes tree makes fits = subst (λ (boxes : Boxes). planting.count boxe
 -- and they stand where they were planted
 pub stand : (nodes : Nodes) (tree : BoxTree) (slots : Slots Preparation) (root : ℕ) → boxes_of tree ≡ root_boxes nodes → Stands slots root (boxes_of tree) → Stands slots root (root_boxes nodes)
 stand nodes tree slots root makes stands = subst (λ (boxes : Boxes). Stands slots root boxes) makes stands
+
+-- the positions that were put in are those that are kept
+pub same_positions : {A : Type 0} (nodes : Nodes) (made kept : Option (Vec Position A)) → kept ≡ made → ArePositions made nodes → ArePositions kept nodes
+same_positions {A} nodes made kept same are = subst (λ (list : Option (Vec Position A)). ArePositions list nodes) (sym same) are
 
 -- where nothing is kept all that is kept is right
 pub right : BareIsRight → (faces : List (Option Table)) (view : View) (slots : Slots Preparation) (root : ℕ) → ((key : ℕ) → planting.IsBare slots key) → AreRightUnder faces view slots root

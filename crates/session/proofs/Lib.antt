@@ -6,6 +6,7 @@ pub mod Limiting
 pub mod Near
 pub mod Outcomes
 pub mod Refusals
+pub mod Shifts
 pub mod Standing
 pub mod Styled
 pub mod Weighing

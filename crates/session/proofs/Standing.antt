@@ -9,6 +9,7 @@ use Rattle.tree_laws.specs.Weight.{bytes, total}
 use Rattle.tree_laws.specs.Wholeness.{IsWhole}
 use Rattle.cascade.specs.Index.{index_rules}
 use Rattle.style_tree.specs.Styling.{styled_document}
+use Rattle.style_types.specs.Tree.{Nodes}
 use Rattle.box_gen.specs.Boxes.{root_boxes}
 use Rattle.box_gen.specs.Limit.{IsWithinLimits}
 use Rattle.box_gen.specs.Tree.{Boxes, box, none}
@@ -20,7 +21,7 @@ use Rattle.box_arena.specs.declared.entry.Entry.{Entry}
 use Rattle.face_api.specs.Table.{Table}
 use Rattle.para_prepare.specs.Preparation.{Preparation}
 use Rattle.relayout.specs.Relayout.{AreRightUnder, IsSteadyUnder}
-use Rattle.session.specs.State.{AreReady, IsSound, boxes_of}
+use Rattle.session.specs.State.{AreReady, IsSound, styled_in}
 use Rattle.session.specs.declared.planting.Rooted.{Rooted}
 use Rattle.session.specs.declared.session.Session.{Session}
 use Rattle.slab.specs.Slab.{Slab}
@@ -66,15 +67,15 @@ steady faces view old new root tree stands free under =
     )
 
 -- what was ready is ready after a layout
-pub steady_ready : (faces : List (Option Table)) (view : View) (tree : Boxes) (made : Rooted) (arena : Slab (Entry Preparation)) → AreReady faces view tree made → IsSteadyUnder faces view made.arena arena made.root
-    → AreReady faces view tree (record made { arena = arena })
-steady_ready faces view tree made arena ready under =
-    let all = steady faces view made.arena arena made.root tree ready.stands ready.free under in
-    record { stands = all.0; free = all.1; fit = ready.fit; right = all.2 }
+pub steady_ready : (faces : List (Option Table)) (view : View) (nodes : Nodes) (made : Rooted) (arena : Slab (Entry Preparation)) → AreReady faces view nodes made → IsSteadyUnder faces view made.arena arena made.root
+    → AreReady faces view nodes (record made { arena = arena })
+steady_ready faces view nodes made arena ready under =
+    let all = steady faces view made.arena arena made.root (root_boxes nodes) ready.stands ready.free under in
+    record { stands = all.0; free = all.1; fit = ready.fit; right = all.2; within = ready.within; positions = ready.positions }
 
 module _ {I : Type 0} {D : I → Type 0} where
   -- a session with other boxes is sound where those are ready
-  pub sound_on : (faces : List (Option Table)) (session : Session I D) (boxes : Option Rooted) → IsSound faces session → IfSome boxes (AreReady faces session.view (boxes_of session)) → IsSound faces (record session { boxes = boxes })
+  pub sound_on : (faces : List (Option Table)) (session : Session I D) (boxes : Option Rooted) → IsSound faces session → IfSome boxes (AreReady faces session.view (styled_in session)) → IsSound faces (record session { boxes = boxes })
   sound_on faces session boxes sound ready = record {
     rooted = sound.rooted;
     said = sound.said;
@@ -88,12 +89,7 @@ module _ {I : Type 0} {D : I → Type 0} where
     ready = ready;
   }
 
-  -- so it is after a layout
-  pub steady_sound : (faces : List (Option Table)) (session : Session I D) (made : Rooted) (arena : Slab (Entry Preparation)) → IsSound faces session → AreReady faces session.view (boxes_of session) made
-      → IsSteadyUnder faces session.view made.arena arena made.root → IsSound faces (record session { boxes = Some (record made { arena = arena }) })
-  steady_sound faces session made arena sound ready under = sound_on faces session (Some (record made { arena = arena })) sound (steady_ready faces session.view (boxes_of session) made arena ready under)
-
-  -- and where its document has the same state
+  -- so it is where its document has the same state
   pub sound_in : (faces : List (Option Table)) (session : Session I D) (document : Document) → state_of document ≡ state_of session.document → IsSound faces session → IsSound faces (record session { document = document })
   sound_in faces session document same sound =
       let styled = λ (state : State). styled_document (index_rules session.rules) state in
@@ -107,5 +103,5 @@ module _ {I : Type 0} {D : I → Type 0} where
         rules = sound.rules;
         within = subst (λ (state : State). IsWithinLimits (styled state)) (sym same) sound.within;
         view = sound.view;
-        ready = subst (λ (state : State). IfSome session.boxes (AreReady faces session.view (root_boxes (styled state)))) (sym same) sound.ready;
+        ready = subst (λ (state : State). IfSome session.boxes (AreReady faces session.view (styled state))) (sym same) sound.ready;
       }

@@ -11,10 +11,11 @@ use Rattle.dom_store.specs.declared.error.EditError.TheVariants as edit
 use Rattle.dom_store.specs.Opening.{IsTooDeep, depths, greatest_count, opened}
 use Rattle.dom_store.specs.State.{greatest_depth, state_of}
 use Rattle.style_tree.specs.Styling.{styled_document}
-use Rattle.box_gen.specs.declared.tree.BoxTree.{BoxTree}
 use Rattle.box_gen.specs.Boxes.{root_boxes}
 use Rattle.box_gen.specs.Limit.{IsWithinLimits, Passes}
 use Rattle.box_gen.specs.Tree.{boxes_of}
+use Rattle.session.specs.Kept.{ArePositions}
+use Rattle.session.specs.declared.generated.Generated.{Generated}
 use Rattle.session.specs.declared.error.OpenError.{OpenError}
 use Rattle.session.specs.declared.error.OpenError.TheVariants.{TooManyNodes, TooDeep, Limit, Memory}
 
@@ -37,9 +38,9 @@ Stores nodes own (Err (TooDeep number)) = (length nodes ≤ greatest_count) × I
 Stores nodes own (Err (Limit limit)) = ⊥
 Stores nodes own (Err Memory) = ⊤
 
--- the boxes of a styled tree, where they pass no limit
-abbrev pub MakesBoxes : Nodes → Result BoxTree OpenError → Type 0
-MakesBoxes nodes (Ok tree) = IsWithinLimits nodes × (boxes_of tree ≡ root_boxes nodes)
+-- the boxes of a styled tree, where they pass no limit, and its positions
+abbrev pub MakesBoxes : Nodes → Result Generated OpenError → Type 0
+MakesBoxes nodes (Ok made) = IsWithinLimits nodes × (boxes_of made.tree ≡ root_boxes nodes) × ArePositions made.positions nodes
 MakesBoxes nodes (Err (TooManyNodes number)) = ⊥
 MakesBoxes nodes (Err (TooDeep number)) = ⊥
 MakesBoxes nodes (Err (Limit limit)) = Passes nodes limit

@@ -18,38 +18,46 @@ use Rattle.cascade.specs.Winners.{AreSaidRules}
 use Rattle.style_tree.specs.Styling.{styled_document}
 use Rattle.box_gen.specs.Boxes.{root_boxes}
 use Rattle.box_gen.specs.Limit.{IsWithinLimits}
-use Rattle.box_gen.specs.Tree.{Boxes}
 use Rattle.box_arena.specs.At.{parent_at}
 use Rattle.box_arena.specs.Boxes.{Stands}
 use Rattle.relayout.specs.Flow.{layout}
 use Rattle.relayout.specs.Relayout.{AreRightUnder}
 use Rattle.place_map.specs.Placed.{Page}
 use Rattle.place_map.specs.Placing.{place}
+use Rattle.rel_shift.specs.Positions.{positions_of}
+use Rattle.rel_shift.specs.Shifting.{shift}
 use Rattle.session.specs.declared.error.OpenError.{OpenError}
 use Rattle.session.specs.declared.error.OpenError.TheVariants.{Memory}
 use Rattle.session.specs.declared.planting.Rooted.{Rooted}
 use Rattle.session.specs.declared.session.Session.{Session}
-use Rattle.session.specs.Limits.{CanBeLaidOut}
+use Rattle.session.specs.Kept.{ArePositions}
+use Rattle.session.specs.Limits.{CanBeLaidOut, IsWithin}
 use Rattle.session.specs.Opening.{CanOpen, IsRefused}
 
--- the page of a styled tree: its flow from nothing, carried to the page
-abbrev pub page_of : (faces : List (Option Table)) → View → Nodes → Page
-page_of faces view nodes = place view (layout faces view.inline view.block (root_boxes nodes))
+-- the flow of a styled tree from nothing, carried to the page
+abbrev pub flow_page_of : (faces : List (Option Table)) → View → Nodes → Page
+flow_page_of faces view nodes = place view (layout faces view.inline view.block (root_boxes nodes))
 
--- boxes that were made stand in their arena and can be laid out, and what is kept there is right
-pub record AreReady (faces : List (Option Table)) (view : View) (boxes : Boxes) (made : Rooted) : Type 0 where
-  pub stands : Stands made.arena.slots made.root boxes
+-- the page of a styled tree: the fragments of that are shifted as their nodes are
+abbrev pub page_of : (faces : List (Option Table)) → View → Nodes → Page
+page_of faces view nodes = shift (flow_page_of faces view nodes) (positions_of nodes)
+
+-- boxes that were made of a styled tree stand in their arena and can be laid out, and what is kept there and of positions is right
+pub record AreReady (faces : List (Option Table)) (view : View) (nodes : Nodes) (made : Rooted) : Type 0 where
+  pub stands : Stands made.arena.slots made.root (root_boxes nodes)
   pub free : parent_at made.arena.slots made.root ≡ None
-  pub fit : CanBeLaidOut boxes
+  pub fit : CanBeLaidOut (root_boxes nodes)
   pub right : AreRightUnder faces view made.arena.slots made.root
+  pub within : IsWithin nodes
+  pub positions : ArePositions made.positions nodes
 
 module _ {I : Type 0} {D : I → Type 0} where
-  -- its document as a styled tree, and the boxes of that
+  -- its document as a styled tree
   abbrev pub styled_in : Session I D → Nodes
   styled_in session = styled_document (index_rules session.rules) (state_of session.document)
 
-  abbrev pub boxes_of : Session I D → Boxes
-  boxes_of session = root_boxes (styled_in session)
+  abbrev pub flow_page_in : (faces : List (Option Table)) → Session I D → Page
+  flow_page_in faces session = flow_page_of faces session.view (styled_in session)
 
   abbrev pub page_in : (faces : List (Option Table)) → Session I D → Page
   page_in faces session = page_of faces session.view (styled_in session)
@@ -65,7 +73,7 @@ module _ {I : Type 0} {D : I → Type 0} where
     pub rules : AreSaidRules (index_rules session.rules)
     pub within : IsWithinLimits (styled_in session)
     pub view : IsView session.view
-    pub ready : IfSome session.boxes (AreReady faces session.view (boxes_of session))
+    pub ready : IfSome session.boxes (AreReady faces session.view (styled_in session))
 
   -- the session of a document, or why there is none
   abbrev pub Opens : List Node → List (List Declaration) → List Ruling → Result (Session I D) OpenError → Type 0

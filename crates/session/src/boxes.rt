@@ -17,13 +17,15 @@ ghost use Rattle.box_arena.specs.Boxes.{Stands};
 ghost use Rattle.box_arena.specs.Planting.{IsBare};
 ghost use Rattle.box_limits.specs.Limits.{Answers, IsEditedFrom};
 ghost use Rattle.session.specs.Editing.{CanBeTakenBack};
-ghost use Rattle.session.specs.Limits.{CanBeLaidOut};
+ghost use Rattle.session.specs.Kept.{ArePositions};
+ghost use Rattle.session.specs.Limits.{CanBeLaidOut, IsWithin};
 ghost use Rattle.session.specs.Opening.{MakesBoxes};
 
 use crate::error::OpenError;
+use crate::generated::{Generated, generate};
 use crate::laws::{boxes_within_limits_fit, documents_within_limits_fit};
 use crate::planting::{Rooted, grown};
-use box_gen::{BoxTree, boxes, check_boxes};
+use box_gen::check_boxes;
 use box_limits::laws::{documents_are_judged_by_lines, edits_are_judged_by_their_parts};
 use box_limits::{LimitError, check_edited};
 use cascade::RuleIndex;
@@ -36,12 +38,12 @@ use tree_laws::laws::{
     children_have_parents,
 };
 
-/// The boxes of a document by these rules.
+/// The boxes of a document by these rules, and its positions.
 pub(crate) fn boxes_in(
     alloc: Global,
     document: &Document,
     rules: &RuleIndex,
-) -> Result<BoxTree, OpenError>
+) -> Result<Generated, OpenError>
     requires rooted { IsRooted (state_of document.now) }
     requires rules { AreSaidRules (index_rules rules.now) }
     requires own { IsSaidState (state_of document.now) }
@@ -50,8 +52,8 @@ pub(crate) fn boxes_in(
 {
     let root = styled(alloc, document, rules)?;
     check_boxes(&root)?;
-    let tree = boxes(alloc, &root)?;
-    Ok(tree)
+    let made = generate(alloc, &root)?;
+    Ok(made)
 }
 
 /// Whether the boxes of a document can stand after this edit, where they could before it. After a removal, which can't be taken
@@ -87,7 +89,7 @@ pub(crate) fn check_boxes_after(
     }
 }
 
-/// The boxes of a document where they can stand, in an arena of their own in which nothing is kept.
+/// The boxes of a document where they can stand, in an arena of their own in which nothing is kept, with its positions.
 pub(crate) fn made_boxes(
     alloc: Global,
     document: &Document,
@@ -104,11 +106,13 @@ pub(crate) fn made_boxes(
     ensures free { IfOk result (λ made. parent_at made.arena.slots made.root ≡ None) }
     ensures fit { IfOk result (λ _. CanBeLaidOut (root_boxes (styled_document (index_rules rules.now) (state_of document.now)))) }
     ensures bare { IfOk result (λ made. (key : ℕ) → IsBare made.arena.slots key) }
+    ensures inside { IfOk result (λ _. IsWithin (styled_document (index_rules rules.now) (state_of document.now))) }
+    ensures positions { IfOk result (λ made. ArePositions made.positions (styled_document (index_rules rules.now) (state_of document.now))) }
 {
     documents_within_limits_fit();
     boxes_within_limits_fit();
     let root = styled(alloc, document, rules)?;
-    let tree = boxes(alloc, &root)?;
-    let made = grown(alloc, tree)?;
+    let parts = generate(alloc, &root)?;
+    let made = grown(alloc, parts)?;
     Ok(made)
 }

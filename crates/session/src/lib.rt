@@ -4,9 +4,11 @@
 mod boxes;
 mod editing;
 mod error;
+mod generated;
 pub mod laws;
 mod planting;
 mod session;
+mod shifted;
 mod stored;
 
 pub use error::{ApplyError, OpenError};

@@ -7,27 +7,35 @@ ghost use Rattle.box_arena.specs.Boxes.{Stands};
 ghost use Rattle.box_arena.specs.Planting as rule;
 ghost use Rattle.box_arena.specs.Planting.{IsBare};
 
+use crate::generated::Generated;
 use box_arena::{BoxArena, BoxKey, count};
-use box_gen::BoxTree;
 use para_prepare::Prepared;
+use rel_shift::Positions;
 use std::alloc::{AllocError, Global};
 
-/// An arena, and the box in it that is no other's child.
+/// The boxes of a document in an arena, the one of them that is no other's child, and the positions of its nodes.
 #[derive(Drop)]
 pub(crate) struct Rooted {
     pub(crate) arena: BoxArena<Prepared>,
     pub(crate) root: BoxKey,
+    /// None where no element is relatively positioned.
+    pub(crate) positions: Option<Positions>,
 }
 
-/// These boxes in an arena, where nothing is kept.
-pub(crate) fn grown(alloc: Global, tree: BoxTree) -> Result<Rooted, AllocError>
-    requires few { rule.count (boxes_of tree) ≤ 2 ^ 18 }
-    ensures stands { IfOk result (λ made. Stands made.arena.slots made.root (boxes_of tree)) }
+/// These boxes in an arena, where nothing is kept, and these positions.
+pub(crate) fn grown(alloc: Global, generated: Generated) -> Result<Rooted, AllocError>
+    requires few { rule.count (boxes_of generated.tree) ≤ 2 ^ 18 }
+    ensures stands { IfOk result (λ made. Stands made.arena.slots made.root (boxes_of generated.tree)) }
+    ensures positions { IfOk result (λ made. made.positions ≡ generated.positions) }
     ensures free { IfOk result (λ made. parent_at made.arena.slots made.root ≡ None) }
     ensures bare { IfOk result (λ made. (key : ℕ) → IsBare made.arena.slots key) }
 {
     let mut arena = BoxArena::new(alloc);
-    arena.reserve(count(&tree))?;
-    let root = arena.plant(tree);
-    Ok(Rooted { arena, root })
+    arena.reserve(count(&generated.tree))?;
+    let root = arena.plant(generated.tree);
+    Ok(Rooted {
+        arena,
+        root,
+        positions: generated.positions,
+    })
 }

@@ -1,6 +1,6 @@
 //! A document that is open: its nodes and styles, its faces, and its boxes with what is kept of them.
 
-ghost use Rattle.std.specs.Prelude.{◌≡◌, ◌-◌, ◌≤◌, ◌^◌, IfErr, IfOk, None, length, map};
+ghost use Rattle.std.specs.Prelude.{◌≡◌, ◌-◌, ◌≤◌, ◌^◌, IfErr, IfOk, IfSome, None, length, map};
 ghost use Rattle.std.specs.List.{All};
 ghost use Rattle.face_api.specs.Faces.{faces_of};
 ghost use Rattle.css_types.specs.Rule.{rulings_of};
@@ -12,8 +12,10 @@ ghost use Rattle.tree_laws.specs.Weight.{bytes, total};
 ghost use Rattle.cascade.specs.Winners.{AreSaidRules};
 ghost use Rattle.place_map.specs.Near.{AreNearParts};
 ghost use Rattle.place_map.specs.Placed.{placed_of};
+ghost use Rattle.rel_shift.specs.Bounds.{AreSized};
 ghost use Rattle.rel_shift.specs.Laws.{ArePlacesWithin};
-ghost use Rattle.session.specs.State.{AreReady, IsSound, Opens, boxes_of, page_in};
+ghost use Rattle.rel_shift.specs.Positions.{positions_of};
+ghost use Rattle.session.specs.State.{AreReady, IsSound, Opens, flow_page_in, page_in, styled_in};
 
 use crate::boxes::{boxes_in, made_boxes};
 use crate::error::OpenError;
@@ -21,6 +23,7 @@ use crate::laws::{
     boxes_within_limits_fit, documents_within_limits_fit, what_does_not_spread_is_near,
 };
 use crate::planting::{Rooted, grown};
+use crate::shifted::shifted;
 use crate::stored::stored;
 use cascade::RuleIndex;
 use css_types::Styled;
@@ -28,10 +31,13 @@ use dom_store::Document;
 use face_api::{Face, Faces};
 use html_read::ReadDocument;
 use place_map::{Placed, place};
-use relayout::laws::what_is_not_kept_is_right;
+use rel_shift::laws::{pages_stay_without_insets, positions_are_bounded, sizes_of_boxes_suffice};
+use rel_shift::{Positions, positions};
+use relayout::laws::{contents_have_sizes, what_is_not_kept_is_right};
 use relayout::relayout;
 use std::alloc::{AllocError, Global};
 use std::sync::ledger::Ledger;
+use style_tree::styled;
 use tree_laws::laws::{
     live_counts_are_totals, opened_documents_are_reached, opened_documents_are_whole,
 };
@@ -46,7 +52,7 @@ pub struct Session {
     pub(crate) faces: Faces,
     /// The sizes of the view, told in the root's mode.
     pub(crate) view: View,
-    /// The boxes, with what is kept of them; none where they are still to be made.
+    /// The boxes, with what is kept of them and the positions of the nodes; none where they are still to be made.
     pub(crate) boxes: Option<Rooted>,
 }
 
@@ -95,11 +101,34 @@ impl Session {
         })
     }
 
-    /// The page: the flow of the document as it is now, carried to the page. Boxes are made where there are none; what is kept of
-    /// them is used, and all that is laid out is kept. No coordinate of the page is further than 2^60 from 0, and no fragment stands
-    /// further than 2^60 - 2^49 from the page's left and top edges. Where memory runs out the boxes are dropped, and the page can be
-    /// asked for again.
+    /// The flow of the document as it is now, carried to the page, where no fragment is shifted. Boxes are made where there are none;
+    /// what is kept of them is used, and all that is laid out is kept. No coordinate of the page is further than 2^60 from 0, and no
+    /// fragment stands further than 2^60 - 2^49 from the page's left and top edges. Where memory runs out the boxes are dropped, and
+    /// the page can be asked for again.
     pub fn show<L: Ledger, M: Ledger>(
+        &mut self,
+        prepared: &mut Steps<L>,
+        arranged: &mut Steps<M>,
+    ) -> Result<Placed, AllocError>
+        requires sound { IsSound (faces_of ⟦<dyn Face as Face>⟧ self.old.faces) self.old }
+        ensures page { IfOk result (λ placed. placed_of placed ≡ flow_page_in (faces_of ⟦<dyn Face as Face>⟧ self.old.faces) self.old) }
+        ensures near { IfOk result (λ placed. AreNearParts (placed_of placed).parts) }
+        ensures within { IfOk result (λ placed. ArePlacesWithin (2 ^ 60 - 2 ^ 49) (placed_of placed).parts) }
+        ensures rest { self.new ≡ record self.old { boxes = self.new.boxes } }
+        ensures sound { IsSound (faces_of ⟦<dyn Face as Face>⟧ self.new.faces) self.new }
+        ensures dropped { IfErr result (λ _. self.new.boxes ≡ None) }
+    {
+        let mut made = self.take_boxes()?;
+        let placed = self.flow_page(&mut made, prepared, arranged)?;
+        self.boxes = Some(made);
+        Ok(placed)
+    }
+
+    /// The page of the document as it is now: that of `show`, with each fragment shifted as its node is (`shift` of rel_shift). The
+    /// positions of the nodes are kept with the boxes; where no element is relatively positioned there are none, and the page is that
+    /// of `show`. No coordinate of the page is further than 2^60 from 0. Where memory runs out the boxes are dropped, and the page can
+    /// be asked for again.
+    pub fn page<L: Ledger, M: Ledger>(
         &mut self,
         prepared: &mut Steps<L>,
         arranged: &mut Steps<M>,
@@ -107,13 +136,67 @@ impl Session {
         requires sound { IsSound (faces_of ⟦<dyn Face as Face>⟧ self.old.faces) self.old }
         ensures page { IfOk result (λ placed. placed_of placed ≡ page_in (faces_of ⟦<dyn Face as Face>⟧ self.old.faces) self.old) }
         ensures near { IfOk result (λ placed. AreNearParts (placed_of placed).parts) }
-        ensures within { IfOk result (λ placed. ArePlacesWithin (2 ^ 60 - 2 ^ 49) (placed_of placed).parts) }
         ensures rest { self.new ≡ record self.old { boxes = self.new.boxes } }
         ensures sound { IsSound (faces_of ⟦<dyn Face as Face>⟧ self.new.faces) self.new }
         ensures dropped { IfErr result (λ _. self.new.boxes ≡ None) }
     {
-        what_does_not_spread_is_near();
+        positions_are_bounded();
+        pages_stay_without_insets();
         let mut made = self.take_boxes()?;
+        let placed = self.flow_page(&mut made, prepared, arranged)?;
+        let page = shifted(self.alloc, placed, &made.positions)?;
+        self.boxes = Some(made);
+        Ok(page)
+    }
+
+    /// The positions of the document as it is now: which of its nodes aren't hidden, and by what each is shifted. Copied where they
+    /// are kept, else listed anew. Nothing changes.
+    pub fn positions(&self) -> Result<Positions, AllocError>
+        requires sound { IsSound (faces_of ⟦<dyn Face as Face>⟧ self.now.faces) self.now }
+        ensures { IfOk result (λ made. made.items ≡ positions_of (styled_in self.now)) }
+    {
+        match self.kept_positions() {
+            Some(kept) => {
+                let copy = kept.clone()?;
+                Ok(copy)
+            }
+            None => {
+                let root = styled(self.alloc, &self.document, &self.rules)?;
+                let made = positions(self.alloc, &root)?;
+                Ok(made)
+            }
+        }
+    }
+
+    // The positions that are kept; none where there are no boxes, and where no element is relatively positioned.
+    fn kept_positions(&self) -> Option<&Positions>
+        requires sound { IsSound (faces_of ⟦<dyn Face as Face>⟧ self.now.faces) self.now }
+        ensures { IfSome result (λ kept. kept.now.items ≡ positions_of (styled_in self.now)) }
+    {
+        match &self.boxes {
+            Some(made) => made.positions.as_ref(),
+            None => None,
+        }
+    }
+
+    // The flow of its document, carried to the page, from its boxes.
+    fn flow_page<L: Ledger, M: Ledger>(
+        &self,
+        made: &mut Rooted,
+        prepared: &mut Steps<L>,
+        arranged: &mut Steps<M>,
+    ) -> Result<Placed, AllocError>
+        requires sound { IsSound (faces_of ⟦<dyn Face as Face>⟧ self.now.faces) self.now }
+        requires ready { AreReady (faces_of ⟦<dyn Face as Face>⟧ self.now.faces) self.now.view (styled_in self.now) made.old }
+        ensures page { IfOk result (λ placed. placed_of placed ≡ flow_page_in (faces_of ⟦<dyn Face as Face>⟧ self.now.faces) self.now) }
+        ensures near { IfOk result (λ placed. AreNearParts (placed_of placed).parts) }
+        ensures within { IfOk result (λ placed. ArePlacesWithin (2 ^ 60 - 2 ^ 49) (placed_of placed).parts) }
+        ensures sized { IfOk result (λ placed. AreSized (placed_of placed)) }
+        ensures ready { AreReady (faces_of ⟦<dyn Face as Face>⟧ self.now.faces) self.now.view (styled_in self.now) made.new }
+    {
+        what_does_not_spread_is_near();
+        contents_have_sizes();
+        sizes_of_boxes_suffice();
         let root = relayout(
             self.alloc,
             &mut made.arena,
@@ -124,7 +207,6 @@ impl Session {
             arranged,
         )?;
         let placed = place(self.alloc, &root, self.view)?;
-        self.boxes = Some(made);
         Ok(placed)
     }
 
@@ -133,7 +215,7 @@ impl Session {
         requires sound { IsSound (faces_of ⟦<dyn Face as Face>⟧ self.old.faces) self.old }
         ensures rest { self.new ≡ record self.old { boxes = None } }
         ensures sound { IsSound (faces_of ⟦<dyn Face as Face>⟧ self.new.faces) self.new }
-        ensures ready { IfOk result (λ made. AreReady (faces_of ⟦<dyn Face as Face>⟧ self.new.faces) self.new.view (boxes_of self.new) made) }
+        ensures ready { IfOk result (λ made. AreReady (faces_of ⟦<dyn Face as Face>⟧ self.new.faces) self.new.view (styled_in self.new) made) }
     {
         what_is_not_kept_is_right();
         match self.boxes.take() {

@@ -10,7 +10,7 @@ use Rattle.cascade.specs.Index.{index_rules}
 use Rattle.cascade.specs.Winners.{AreSaidRules}
 use Rattle.dom_store.specs.Opening.{opened}
 use Rattle.session.specs.Opening.{MakesBoxes}
-use Rattle.session.proofs.Fresh.{few_boxes, fits, right, same_opened, stand}
+use Rattle.session.proofs.Fresh.{few_boxes, fits, right, same_opened, same_positions, stand}
 use Rattle.session.proofs.Refusals.{refused_opening}
 use Rattle.session.proofs.session.Session.open.Goals as goal
 
@@ -61,7 +61,7 @@ grown-requires g c =
     let short = c.requires.bytes in
     record {
       few =
-          few_boxes _ c.in_ok-boxes.boxes c.in_ok-boxes.ensures.makes.1
+          few_boxes _ c.in_ok-boxes.boxes.tree c.in_ok-boxes.ensures.makes.1
           (fits c.documents_within_limits_fit.ensures c.boxes_within_limits_fit.ensures (index_rules c.in_ok-rules.rules) state opened.0 (omega (arith, counts, number, few)) (omega (arith, letters, short)) c.in_ok-boxes.ensures.bounded);
     }
 
@@ -96,9 +96,11 @@ returns-clause-sound g c =
       within = c.in_ok-boxes.ensures.makes.0;
       view = c.requires.view;
       ready = record {
-        stands = stand _ c.in_ok-boxes.boxes c.in_ok-grown.grown.arena.slots c.in_ok-grown.grown.root c.in_ok-boxes.ensures.makes.1 c.in_ok-grown.ensures.stands;
+        stands = stand _ c.in_ok-boxes.boxes.tree c.in_ok-grown.grown.arena.slots c.in_ok-grown.grown.root c.in_ok-boxes.ensures.makes.1 c.in_ok-grown.ensures.stands;
         free = c.in_ok-grown.ensures.free;
         fit = fits c.documents_within_limits_fit.ensures c.boxes_within_limits_fit.ensures (index_rules c.in_ok-rules.rules) state opened.0 (omega (arith, counts, number, few)) (omega (arith, letters, short)) c.in_ok-boxes.ensures.bounded;
         right = right c.what_is_not_kept_is_right.ensures.bare (faces_of (λ vtable. (g.dyn-1.0.entry vtable).1) c.args.faces) c.args.view c.in_ok-grown.grown.arena.slots c.in_ok-grown.grown.root c.in_ok-grown.ensures.bare;
+        within = c.documents_within_limits_fit.ensures (index_rules c.in_ok-rules.rules) state opened.0 (omega (arith, counts, number, few)) (omega (arith, letters, short)) c.in_ok-boxes.ensures.bounded;
+        positions = same_positions _ _ _ c.in_ok-grown.ensures.positions c.in_ok-boxes.ensures.makes.2;
       };
     }

@@ -11,4 +11,6 @@ returns-in_ok-made-in-None-clause-ready g c =
       free = own.free;
       fit = own.fit;
       right = right c.what_is_not_kept_is_right.ensures.bare (faces_of (λ vtable. (g.dyn-1.0.entry vtable).1) c.args.self.now.faces) c.args.self.now.view made.arena.slots made.root own.bare;
+      within = own.inside;
+      positions = own.positions;
     }

@@ -1,0 +1,33 @@
+use Rattle.std.proofs.Common.{◌∙◌, ap, subst, sym}
+use Rattle.face_api.specs.Faces.{faces_of}
+use Rattle.fragment_types.specs.Fragment.{kind_of, piece_of}
+use Rattle.fragment_types.specs.declared.fragment.Fragment.{out-Fragment}
+use Rattle.place_map.specs.Placed.{Page}
+use Rattle.rel_shift.specs.Bounds.{AreSized}
+use Rattle.rel_shift.specs.Laws.{ArePlacesWithin}
+use Rattle.session.specs.State.{styled_in}
+use Rattle.session.proofs.Near.{page_within, view_near}
+use Rattle.session.proofs.Shifts.{flow_is, page_sized}
+use Rattle.session.proofs.Standing.{steady_ready}
+use Rattle.session.proofs.session.Session.flow_page.Goals as goal
+
+pub place-requires : goal.place-requires
+place-requires g c = record {
+  near = view_near c.what_does_not_spread_is_near.ensures c.args.self.now.view (kind_of (out-Fragment c.in_ok-root.root).kind) (piece_of c.in_ok-root.root) c.requires.sound.view c.in_ok-root.ensures.near;
+}
+
+pub returns-clause-within : goal.returns-clause-within
+returns-clause-within g c =
+    subst (λ (page : Page). ArePlacesWithin 1152358554653425664 page.parts) (sym c.in_ok-placed.ensures.page)
+    (page_within c.args.self.now.view (piece_of c.in_ok-root.root) c.requires.sound.view c.in_ok-root.ensures.near)
+
+pub returns-clause-sized : goal.returns-clause-sized
+returns-clause-sized g c =
+    let faces = faces_of (λ vtable. (g.dyn-1.0.entry vtable).1) c.args.self.now.faces in
+    let nodes = styled_in c.args.self.now in
+    subst AreSized (sym (flow_is faces c.args.self.now.view nodes _ (piece_of c.in_ok-root.root) c.in_ok-placed.ensures.page (c.in_ok-root.ensures.layout _ c.requires.ready.stands)))
+    (page_sized c.contents_have_sizes.ensures c.sizes_of_boxes_suffice.ensures faces c.args.self.now.view nodes c.requires.sound.view)
+
+pub returns-clause-ready : goal.returns-clause-ready
+returns-clause-ready g c =
+    steady_ready (faces_of (λ vtable. (g.dyn-1.0.entry vtable).1) c.args.self.now.faces) c.args.self.now.view (styled_in c.args.self.now) c.args.made.now c.relayout.new.arena c.requires.ready c.relayout.ensures.steady

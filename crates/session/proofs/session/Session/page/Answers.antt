@@ -1,0 +1,28 @@
+use Rattle.std.proofs.Common.{◌∙◌, ap, sym, Some, arith}
+use Rattle.face_api.specs.Faces.{faces_of}
+use Rattle.place_map.specs.Placed.{placed_of}
+use Rattle.session.specs.Kept.{shifted_by}
+use Rattle.session.specs.State.{styled_in}
+use Rattle.session.proofs.Shifts.{kept_bounded, kept_few, page_is, within_more}
+use Rattle.session.proofs.Standing.{sound_on}
+use Rattle.session.proofs.session.Session.page.Goals as goal
+
+pub shifted-requires : goal.shifted-requires
+shifted-requires g c = record {
+  near = c.in_ok-placed.ensures.near;
+  within = within_more _ _ (omega arith) (placed_of c.in_ok-placed.placed).parts c.in_ok-placed.ensures.within;
+  sized = c.in_ok-placed.ensures.sized;
+  bounded = kept_bounded c.positions_are_bounded.ensures (styled_in c.take_boxes.new.self) c.flow_page.ensures.ready.within c.flow_page.new.made.positions c.flow_page.ensures.ready.positions;
+  few = kept_few c.positions_are_bounded.ensures (styled_in c.take_boxes.new.self) c.flow_page.ensures.ready.within c.flow_page.new.made.positions c.flow_page.ensures.ready.positions;
+}
+
+pub returns-clause-page : goal.returns-clause-page
+returns-clause-page g c =
+    c.in_ok-page.ensures.page
+    ∙ ap (shifted_by c.flow_page.new.made.positions) c.in_ok-placed.ensures.page
+    ∙ page_is c.pages_stay_without_insets.ensures (faces_of (λ vtable. (g.dyn-1.0.entry vtable).1) c.take_boxes.new.self.faces) c.take_boxes.new.self.view (styled_in c.take_boxes.new.self)
+    c.flow_page.new.made.positions c.flow_page.ensures.ready.positions
+
+pub returns-clause-sound : goal.returns-clause-sound
+returns-clause-sound g c =
+    sound_on (faces_of (λ vtable. (g.dyn-1.0.entry vtable).1) c.take_boxes.new.self.faces) c.take_boxes.new.self (Some c.flow_page.new.made) c.take_boxes.ensures.sound c.flow_page.ensures.ready
