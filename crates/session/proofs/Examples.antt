@@ -23,12 +23,8 @@ too_many_turn : open_word (opening.Limit (limits.TooManyOrthogonal 9)) ≡ codes
 unfolding open_word limit_word
 too_many_turn = refl
 
-a_block_in_an_inline_box : open_word (opening.Limit (limits.BlockInInline 4)) ≡ codes "BlockInInline"
-unfolding open_word limit_word
-a_block_in_an_inline_box = refl
-
-the_block_of_the_inline_box : open_node (opening.Limit (limits.BlockInInline 4)) ≡ Some 4
-the_block_of_the_inline_box = refl
+the_first_that_turns_too_often : open_node (opening.Limit (limits.TooManyOrthogonal 9)) ≡ Some 9
+the_first_that_turns_too_often = refl
 
 want_of_memory : open_node opening.Memory ≡ None
 want_of_memory = refl
@@ -37,6 +33,6 @@ no_text : apply_word (applying.Document edits.NotText) ≡ codes "NotText"
 unfolding apply_word error_word
 no_text = refl
 
-an_edit_past_a_limit : apply_word (applying.Limit (limits.BlockInInline 4)) ≡ codes "BlockInInline"
+an_edit_past_the_limit_of_boxes : apply_word (applying.Limit (limits.TooManyOrthogonal 9)) ≡ codes "TooManyOrthogonal"
 unfolding apply_word limit_word
-an_edit_past_a_limit = refl
+an_edit_past_the_limit_of_boxes = refl

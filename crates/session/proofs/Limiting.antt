@@ -1,11 +1,10 @@
--- A styled tree is within both limits of boxes, or passes one, and one alone.
+-- A styled tree is within the limit of boxes, or passes it, in one way alone.
 use Rattle.std.proofs.Common.{◌≡◌, ◌⊎◌, inl, inr, refl, sym, ap, subst, arith, ℕ, zero, suc, ◌≤◌, Bool, true, false, leb, List, [], ◌∷◌, Some}
 use Rattle.std.specs.List.{Contains}
 use Rattle.std.proofs.lemmas.Bool.{leb-false, leb-true}
 use Rattle.style_types.specs.Tree.{Nodes}
 use Rattle.box_gen.specs.declared.limit.BoxLimit.{BoxLimit}
-use Rattle.box_gen.specs.declared.limit.BoxLimit.TheVariants.{TooManyOrthogonal, BlockInInline}
-use Rattle.box_gen.specs.Boxes.{root_caught}
+use Rattle.box_gen.specs.declared.limit.BoxLimit.TheVariants.{TooManyOrthogonal}
 use Rattle.box_gen.specs.Limit.{IsWithinLimits, Passes}
 use Rattle.box_gen.specs.Orthogonal.{IsLeastOf, root_past}
 
@@ -50,28 +49,20 @@ least_or_none (number ∷ numbers) = go (least_or_none numbers) where
 pub least_one : (one other : ℕ) → one ≤ other → other ≤ one → other ≡ one
 least_one one other a b = omega (arith, a, b)
 
--- ---- the limits of boxes
+-- ---- the limit of boxes
 
 module _ (nodes : Nodes) where
   pub not_within : (limit : BoxLimit) → Passes nodes limit → IsWithinLimits nodes → ⊥
   not_within (TooManyOrthogonal number) least within = none_there _ number within.turns least.0
-  not_within (BlockInInline number) (turns, least) within = none_there _ number within.blocks least.0
 
   pub one_limit : (limit other : BoxLimit) → Passes nodes limit → Passes nodes other → other ≡ limit
   one_limit (TooManyOrthogonal number) (TooManyOrthogonal n) least least' = ap (λ (k : ℕ). TooManyOrthogonal k) (least_one number n (least.1 n least'.0) (least'.1 number least.0))
-  one_limit (TooManyOrthogonal number) (BlockInInline n) least (turns, least') = absurd (none_there _ number turns least.0)
-  one_limit (BlockInInline number) (TooManyOrthogonal n) (turns, least) least' = absurd (none_there _ n turns least'.0)
-  one_limit (BlockInInline number) (BlockInInline n) (turns, least) (turns', least') = ap (λ (k : ℕ). BlockInInline k) (least_one number n (least.1 n least'.0) (least'.1 number least.0))
 
   abbrev pub IsWithinOrPasses : Type 0
   IsWithinOrPasses = IsWithinLimits nodes ⊎ ((limit : BoxLimit) × Passes nodes limit)
 
-  by_blocks : root_past nodes ≡ [] → IsEmptyOrHasLeast (root_caught nodes) → IsWithinOrPasses
-  by_blocks turns (inl blocks) = inl (record { turns = turns; blocks = blocks })
-  by_blocks turns (inr (number, least)) = inr (BlockInInline number, (turns, least))
-
   by_turns : IsEmptyOrHasLeast (root_past nodes) → IsWithinOrPasses
-  by_turns (inl turns) = by_blocks turns (least_or_none (root_caught nodes))
+  by_turns (inl turns) = inl (record { turns = turns })
   by_turns (inr (number, least)) = inr (TooManyOrthogonal number, least)
 
   pub within_or_passes : IsWithinOrPasses

@@ -1,4 +1,4 @@
--- Boxes stay within their limits where a node goes, and other edits are taken back.
+-- Boxes stay within their limit where a node goes, and other edits are taken back.
 use Rattle.std.proofs.Common.{◌≡◌, ℕ, List, [], ◌∷◌, refl, sym, subst, arith}
 use Rattle.std.specs.List.{Contains}
 use Rattle.css_types.specs.Rule.{Ruling}
@@ -19,7 +19,7 @@ empty : (numbers : List ℕ) → ((number : ℕ) → Contains numbers number →
 empty [] none = refl
 empty (number ∷ numbers) none = absurd (none number (0, omega arith, refl))
 
--- after a removal no box breaks a limit
+-- after a removal no box breaks the limit
 pub removed_within : DocumentsAreJudgedByLines → EditsAreJudgedByTheirParts → KeepRoots → ChildrenHaveParents → EditsKeepWhole → EditsKeepReached
     → (rules : List Ruling) (next state : State) (number : ℕ) → IsEditedFrom rules (remove number) next state → IsWithinLimits (styled_document rules next)
 removed_within by_lines by_parts roots parents whole reached rules next state number edited =
@@ -28,8 +28,7 @@ removed_within by_lines by_parts roots parents whole reached rules next state nu
     (reached state edit tt edited.rooted edited.whole edited.reached edited.taken) in
     let stay = by_parts rules state edit tt edited.rooted edited.whole edited.reached edited.taken edited.within in
     subst (λ (s : State). IsWithinLimits (styled_document rules s)) (sym edited.is) (record {
-      turns = empty _ (λ other held. let told = (judged.0 other).0 held in none_there [] other refl ((stay other told.0).0 told.1));
-      blocks = empty _ (λ other held. let told = (judged.1 other).0 held in none_there [] other refl ((stay other told.0).1 told.1));
+      turns = empty _ (λ other held. let told = (judged other).0 held in none_there [] other refl (stay other told.0 told.1));
     })
 
 -- what is kept of another edit leads back

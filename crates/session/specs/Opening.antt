@@ -38,7 +38,7 @@ Stores nodes own (Err (TooDeep number)) = (length nodes ≤ greatest_count) × I
 Stores nodes own (Err (Limit limit)) = ⊥
 Stores nodes own (Err Memory) = ⊤
 
--- the boxes of a styled tree, where they pass no limit, and its positions
+-- the boxes of a styled tree, where they are within their limit, and its positions
 abbrev pub MakesBoxes : Nodes → Result Generated OpenError → Type 0
 MakesBoxes nodes (Ok made) = IsWithinLimits nodes × (boxes_of made.tree ≡ root_boxes nodes) × ArePositions made.positions nodes
 MakesBoxes nodes (Err (TooManyNodes number)) = ⊥

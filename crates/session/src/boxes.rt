@@ -11,7 +11,6 @@ ghost use Rattle.dom_store.specs.Standing.{live_count};
 ghost use Rattle.tree_laws.specs.Weight.{bytes, total};
 ghost use Rattle.tree_laws.specs.Wholeness.{IsWhole};
 ghost use Rattle.box_gen.specs.Boxes.{root_boxes};
-ghost use Rattle.box_gen.specs.Limit.{IsWithinLimits};
 ghost use Rattle.box_arena.specs.At.{parent_at};
 ghost use Rattle.box_arena.specs.Boxes.{Stands};
 ghost use Rattle.box_arena.specs.Planting.{IsBare};
@@ -38,7 +37,7 @@ use tree_laws::laws::{
     children_have_parents,
 };
 
-/// The boxes of a document by these rules, and its positions.
+/// The boxes of a document by these rules, where they are within their limit, and its positions.
 pub(crate) fn boxes_in(
     alloc: Global,
     document: &Document,
@@ -89,7 +88,7 @@ pub(crate) fn check_boxes_after(
     }
 }
 
-/// The boxes of a document where they can stand, in an arena of their own in which nothing is kept, with its positions.
+/// The boxes of a document, in an arena of their own in which nothing is kept, with its positions.
 pub(crate) fn made_boxes(
     alloc: Global,
     document: &Document,
@@ -101,7 +100,6 @@ pub(crate) fn made_boxes(
     requires whole { IsWhole (state_of document.now) }
     requires few { live_count (state_of document.now) ≤ greatest_count }
     requires short { total bytes (state_of document.now) ≤ 1048576 }
-    requires within { IsWithinLimits (styled_document (index_rules rules.now) (state_of document.now)) }
     ensures stands { IfOk result (λ made. Stands made.arena.slots made.root (root_boxes (styled_document (index_rules rules.now) (state_of document.now)))) }
     ensures free { IfOk result (λ made. parent_at made.arena.slots made.root ≡ None) }
     ensures fit { IfOk result (λ _. CanBeLaidOut (root_boxes (styled_document (index_rules rules.now) (state_of document.now)))) }

@@ -23,12 +23,11 @@ use tree_laws::laws::{
 
 impl Session {
     /// Applies an edit. Refused is first what the document refuses (`Document::apply`), then a state with more than six boxes on
-    /// a line of ancestors that are orthogonal to their containing blocks, then one with a block-level box in an inline box, both
-    /// with the least number of such a node. A refused edit changes nothing: the state of the document, the faces and all that is
-    /// kept of boxes stay as they were. After one that is accepted nothing is kept. Where the edit can be applied the texts of
-    /// the next state together hold at most 1,048,576 bytes. Costs what the edit of the document costs (`Document::apply`), and
-    /// the styles of the nodes on which the boxes depend that it makes or changes, of all below these and of those above; boxes
-    /// are made at the next page.
+    /// a line of ancestors that are orthogonal to their containing blocks, with the least number of the node of such a box. A
+    /// refused edit changes nothing: the state of the document, the faces and all that is kept of boxes stay as they were. After
+    /// one that is accepted nothing is kept. Where the edit can be applied the texts of the next state together hold at most
+    /// 1,048,576 bytes. Costs what the edit of the document costs (`Document::apply`), and the styles of the nodes on which the
+    /// boxes depend that it makes or changes, of all below these and of those above; boxes are made at the next page.
     pub fn apply(&mut self, edit: &Edit) -> Result<(), ApplyError>
         requires sound { IsSound (faces_of ⟦<dyn Face as Face>⟧ self.old.faces) self.old }
         requires fitting { IsFitting (edit_of edit.now) }

@@ -21,7 +21,7 @@ pub enum OpenError {
     /// A node would stand deeper than 64, where `html` is at 1: the least such number.
     #[error("TooDeep {0}")]
     TooDeep(u32),
-    /// Its boxes would pass a limit.
+    /// Its boxes would pass their limit.
     #[error("{0}")]
     Limit(BoxLimit),
     #[error("Memory")]
@@ -97,7 +97,7 @@ pub enum ApplyError {
     /// The document refuses it.
     #[error("{0}")]
     Document(EditError),
-    /// The boxes of the next state would pass a limit.
+    /// The boxes of the next state would pass their limit.
     #[error("{0}")]
     Limit(BoxLimit),
     #[error("Memory")]

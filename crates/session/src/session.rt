@@ -58,9 +58,9 @@ pub struct Session {
 
 impl Session {
     /// Opens a document that was read, with its styles, its faces and the sizes of its view in units of 1/64 px. Refused are more
-    /// than 65,536 nodes, nodes deeper than 64, more than six boxes on a line of ancestors that are orthogonal to their containing
-    /// blocks, and block-level boxes in inline boxes, in this order, each with the least number of such a node. Its texts
-    /// together hold at most 1,048,576 bytes.
+    /// than 65,536 nodes, nodes deeper than 64, and more than six boxes on a line of ancestors that are orthogonal to their
+    /// containing blocks, in this order, each with the least number of such a node. Its texts together hold at most 1,048,576
+    /// bytes.
     pub fn open(
         alloc: Global,
         read: &ReadDocument,
