@@ -31,3 +31,11 @@ returns-clause-sized g c =
 pub returns-clause-ready : goal.returns-clause-ready
 returns-clause-ready g c =
     steady_ready (faces_of (λ vtable. (g.dyn-1.0.entry vtable).1) c.args.self.now.faces) c.args.self.now.view (styled_in c.args.self.now) c.args.made.now c.relayout.new.arena c.requires.ready c.relayout.ensures.steady
+
+pub returns-in_err-root-clause-ready : goal.returns-in_err-root-clause-ready
+returns-in_err-root-clause-ready g c =
+    steady_ready (faces_of (λ vtable. (g.dyn-1.0.entry vtable).1) c.args.self.now.faces) c.args.self.now.view (styled_in c.args.self.now) c.args.made.now c.relayout.new.arena c.requires.ready c.relayout.ensures.steady
+
+pub returns-in_err-placed-clause-ready : goal.returns-in_err-placed-clause-ready
+returns-in_err-placed-clause-ready g c =
+    steady_ready (faces_of (λ vtable. (g.dyn-1.0.entry vtable).1) c.args.self.now.faces) c.args.self.now.view (styled_in c.args.self.now) c.args.made.now c.relayout.new.arena c.requires.ready c.relayout.ensures.steady

@@ -2,7 +2,8 @@ use Rattle.std.proofs.Common.{◌∙◌, ap, sym, Some, arith}
 use Rattle.face_api.specs.Faces.{faces_of}
 use Rattle.place_map.specs.Placed.{placed_of}
 use Rattle.session.specs.Kept.{shifted_by}
-use Rattle.session.specs.State.{styled_in}
+use Rattle.session.specs.State.{page_in, styled_in}
+use Rattle.session.specs.declared.session.Session.{Session}
 use Rattle.session.proofs.Shifts.{kept_bounded, kept_few, page_is, within_more}
 use Rattle.session.proofs.Standing.{sound_on}
 use Rattle.session.proofs.session.Session.page.Goals as goal
@@ -22,6 +23,7 @@ returns-clause-page g c =
     ∙ ap (shifted_by c.flow_page.new.made.positions) c.in_ok-placed.ensures.page
     ∙ page_is c.pages_stay_without_insets.ensures (faces_of (λ vtable. (g.dyn-1.0.entry vtable).1) c.take_boxes.new.self.faces) c.take_boxes.new.self.view (styled_in c.take_boxes.new.self)
     c.flow_page.new.made.positions c.flow_page.ensures.ready.positions
+    ∙ ap (λ (s : Session _ _). page_in (faces_of (λ vtable. (g.dyn-1.0.entry vtable).1) s.faces) s) c.take_boxes.ensures.rest
 
 pub returns-clause-sound : goal.returns-clause-sound
 returns-clause-sound g c =
