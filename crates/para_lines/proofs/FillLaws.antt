@@ -119,9 +119,6 @@ pub record Filling (inline : Option ℤ) (entries : List Entry) (items : List Pr
       made ++ fill_items_from inline entries (chain_behind entries (source_before items k)) (drop k items) (drop k breaks) (drop k (item_chains entries items)) rest
       ≡ fill_items_from inline entries [] items breaks (item_chains entries items) advances
 
-pub filling_first : (inline : Option ℤ) (entries : List Entry) (items : List PreparedItem) (breaks : List Breaking) (advances : List ℤ) → Filling inline entries items breaks advances advances [] 0
-filling_first inline entries items breaks advances = record { done = refl }
-
 before_next : (entries : List Entry) (items : List PreparedItem) (k : ℕ) (item : PreparedItem) → k < length items → item ≡ get_or items k item → chain_at entries item.source ≡ chain_behind entries (source_before items (k + 1))
 before_next entries items k item lt read =
     let e : suc k ≡ k + 1 = omega arith in

@@ -7,7 +7,7 @@ use Rattle.para_prepare.specs.declared.item.PreparedContent.TheVariants.{Unit, C
 use Rattle.para_prepare.specs.declared.item.PreparedItem.{PreparedItem}
 use Rattle.para_lines.specs.declared.paragraph.Atom.{Atom}
 use Rattle.para_lines.specs.declared.standing.Standing as code
-use Rattle.para_lines.specs.Filling.{advance_of, past}
+use Rattle.para_lines.specs.Filling.{advance_of}
 use Rattle.para_lines.specs.Lines.{atom_extents}
 use Rattle.para_lines.specs.Paragraph.{atom_of}
 

@@ -40,7 +40,7 @@ impl<'a> PreparedLists<'a> {
         }
     }
 
-    /// Those of the items from one place up to another.
+    /// The lists of the items from one place up to another.
     pub(crate) fn between(&self, from: usize, end: usize) -> PreparedLists<'a>
         requires order { from ≤ end }
         requires within { end ≤ length self.now.items.now }

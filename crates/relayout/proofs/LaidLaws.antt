@@ -16,9 +16,7 @@ use Rattle.block_flow.specs.declared.boxes.ParentEdges.{ParentEdges}
 use Rattle.block_flow.specs.Stacking as stacking
 use Rattle.block_flow.specs.Stacked.{IsStackOf, IsWithin, Stacked}
 use Rattle.block_flow.specs.Children.{AreChildren, Child, StandsFor, lengths_of}
-use Rattle.line_place.specs.Placing.{atom_at}
 use Rattle.line_place.specs.Spread.{spread, spread_in}
-use Rattle.line_place.proofs.Fragments.{as_piece, atom_moved}
 use Rattle.para_lines.specs.Lines.{Atom}
 use Rattle.relayout.specs.declared.content.Filling as code
 use Rattle.relayout.specs.declared.flowed.LaidBox.{LaidBox}
@@ -90,15 +88,6 @@ set_down_is own size (b ∷ boxes) (l ∷ laid) (place ∷ places) are =
 
 abbrev rect_with : ℤ → ℤ → ℤ → ℤ → FlowRect
 rect_with i b along across = record { i = i; b = b; inline = along; block = across }
-
-abbrev placed : ℤ → ℤ → FlowRect → FlowRect
-placed i b rect = record { i = i; b = b; inline = rect.inline; block = rect.block }
-
-pub put_is : (made f : Fragment) (rect : FlowRect) (i b : ℤ) (next : Pieces) → piece_of made ≡ moved_to rect (piece_of f) → rect ≡ placed i b (part_of f).rect
-    → before made next ≡ at i b (part_of f) next
-put_is made f rect i b next is r =
-    atom_moved made f rect i b next is (ap (λ (x : FlowRect). x.i) r) (ap (λ (x : FlowRect). x.b) r) (ap (λ (x : FlowRect). x.inline) r) (ap (λ (x : FlowRect). x.block) r)
-    ∙ ap (λ (x : Pieces). atom_at i b x next) (as_piece f none)
 
 -- one more is set down
 pub set_more : (own : Containing) (size : ℤ) (boxes : List LaidBox) (places : List ℤ) (k : ℕ) (b : LaidBox) (d : ℤ) → k < length boxes → length places ≡ length boxes → b ≡ get_or boxes k b
