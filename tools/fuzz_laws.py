@@ -180,11 +180,13 @@ class Trial:
 
     @staticmethod
     def wrong_in_tree(tree: Tree, page: listing.Page) -> Iterator[str]:
-        """What is wrong with the page of a tree: a fragment stands behind one of its node's parent, a run has the letters of its text."""
+        """What is wrong with the page of a tree: a run or an inline box stands behind a fragment of its node's parent, a run has the letters of its text."""
         living, seen = tree.living(), set()
         for each in page.fragments:
             node = living.get(each.node)
-            if not node or (each.kind == "run") == bool(node.tag) or node.parent and node.parent.number not in seen:
+            # A block in an inline box may stand before all pieces of that which are on lines.
+            is_inline = each.kind in ("run", "span")
+            if not node or (each.kind == "run") == bool(node.tag) or is_inline and node.parent and node.parent.number not in seen:
                 yield f"the node is another, or its parent doesn't stand before it: {each}"
             elif each.kind == "run" and each.natural is None:
                 text = iter(node.text[each.begin : each.end])

@@ -457,10 +457,18 @@ class Owners:
         node: int | None = each.node
         while self.parents is not None and node is not None and candidates:
             node = self.parents.get(node)
-            nearest = [at for at in candidates if self.fragments[at].node == node]
+            nearest = [at for at in candidates if self.fragments[at].node == node and not self.is_cut_by(each, at)]
             if nearest:
                 return nearest
         return candidates
+
+    def is_cut_by(self, each: Fragment, at: int) -> bool:
+        """Whether a box lies outside of the line of an inline box in an anonymous block: then that is a piece of one that the box cuts."""
+        if each.kind != "box" or self.fragments[at].kind != "span":
+            return False
+        lines = (self.fragments[around] for around in reversed(self.open) if around < at)
+        line = next((around for around in lines if around.kind == "line"), None)
+        return line is not None and line.box > 0 and self.fit(each, line) <= 0
 
     def fit(self, each: Fragment, holder: Fragment) -> float:
         """How well a fragment stands in another, by their places. Things reach out of boxes and lines, hardly out of inline boxes."""

@@ -55,6 +55,17 @@ class Listings(support.ToolCase):
                     before = owner is not None and owner < place and stands_in(fragment, page.fragments[owner], nodes)
                     self.hold(before, f"{path}: the owner of {fragment}")
 
+    def test_blocks_in_inline_boxes(self) -> None:
+        """By the document a block that cuts an inline box stands in the block container, not in the piece before it."""
+        moved = next(path for path in all_listings() if path.endswith("moved_boxes.listing"))
+        for path, nodes in ((example("block_in_an_inline_box"), {4: 1}), (moved, {20: 1})):
+            page, tree = page_of(path), source.read_nodes(held(path.replace(".listing", ".html")))
+            owners = listing.owners(page, source.parents_of(tree))
+            for fragment, owner in zip(page.fragments, owners):
+                if fragment.kind == "box" and fragment.node in nodes:
+                    container = page.fragments[owner or 0]
+                    self.same((container.kind, container.node, container.box), ("box", nodes[fragment.node], 0), f"{path}: the owner of {fragment}")
+
     def test_no_front_of_a_listing_is_one(self) -> None:
         """No front of a listing is one."""
         whole = held(example("isolate_in_a_line"))
