@@ -64,7 +64,7 @@ class Listings(support.ToolCase):
             for fragment, owner in zip(page.fragments, owners):
                 if fragment.kind == "box" and fragment.node in nodes:
                     container = page.fragments[owner or 0]
-                    self.same((container.kind, container.node, container.box), ("box", nodes[fragment.node], 0), f"{path}: the owner of {fragment}")
+                    self.same((container.kind, container.node), ("box", nodes[fragment.node]), f"{path}: the owner of {fragment}")
 
     def test_no_front_of_a_listing_is_one(self) -> None:
         """No front of a listing is one."""
