@@ -61,11 +61,12 @@ impl Face for AskedFace {
     }
 }
 
-/// Two listings, one after the other, and how often the face had been asked when each was laid out.
+/// Two listings, one after the other, how often the face had been asked when each was laid out, and how many positions there are.
 #[derive(Drop)]
 struct Twice {
     listings: (SteadySink, SteadySink),
     asked: (u32, u32),
+    positions: usize,
 }
 
 fn listed(alloc: Global, page: &Placed) -> Result<SteadySink, Fail> {
@@ -115,6 +116,7 @@ fn shown_twice<L: Ledger, M: Ledger>(
     Ok(Some(Twice {
         listings: (listed(alloc, &page)?, listed(alloc, &again)?),
         asked: (asked_first, asked.get()),
+        positions: session.positions()?.len(),
     }))
 }
 
@@ -127,6 +129,7 @@ fn a_second_show_asks_no_face(rt: HostRuntime) -> Result<(), Fail> {
         assert_eq!(rt; twice.listings.0.bytes(), twice.listings.1.bytes());
         assert_eq!(rt; twice.asked.0, twice.asked.1);
         assert!(rt; twice.asked.0 > 0);
+        assert_eq!(rt; twice.positions, 8);
     }
     Ok(())
 }
@@ -139,6 +142,7 @@ fn a_shifted_page_asks_no_face(rt: HostRuntime) -> Result<(), Fail> {
     if let Some(twice) = shown {
         assert!(rt; twice.listings.0.bytes() != twice.listings.1.bytes());
         assert_eq!(rt; twice.asked.0, twice.asked.1);
+        assert_eq!(rt; twice.positions, 6);
     }
     Ok(())
 }
