@@ -19,6 +19,6 @@ pub use checked::check_boxes;
 pub use found::Found;
 pub use generate::boxes;
 pub use limit::BoxLimit;
-pub use role::{Role, role_of_break, role_of_element};
+pub use role::{Role, role_of, role_of_break, role_of_element};
 pub use site::Site;
 pub use tree::{BoxNode, BoxTree, BoxTrees, Content};

@@ -32,7 +32,7 @@ impl Role {
 }
 
 /// What this node is to its container.
-pub(crate) fn role_of(node: &StyledNode) -> Role
+pub fn role_of(node: &StyledNode) -> Role
     ensures { result ≡ role_in (nodes_of node.now) }
 {
     let display = node.style.display;

@@ -1,10 +1,11 @@
 -- Trees of fragments, without where they lie in memory.
-use Rattle.std.specs.Prelude.{ℕ, Bool, List, [], ◌∷◌, map, Option, ℤ}
+use Rattle.std.specs.Prelude.{ℕ, Bool, List, [], ◌∷◌, map, Option, IfSome, ⊤, ℤ}
 use Rattle.margin_collapse.specs.declared.margins.Margins.{Margins}
 use Rattle.wm_modes.specs.declared.mode.WritingMode.{WritingMode}
 use Rattle.wm_modes.specs.declared.mode.Direction.{Direction}
 use Rattle.wm_modes.specs.declared.rects.FlowRect.{FlowRect}
 use Rattle.fragment_types.specs.declared.item.BoxName.{BoxName}
+use Rattle.style_types.specs.Style.{IsExtent}
 use Rattle.style_types.specs.declared.style.Baseline.{Baseline}
 use Rattle.fragment_types.specs.declared.unit_kind.UnitKind.{UnitKind}
 use Rattle.fragment_types.specs.RunUnit.{RunUnit}
@@ -56,3 +57,11 @@ pieces_of fragments = in_line (map before fragments)
 abbrev pub moved_to : FlowRect → Pieces → Pieces
 moved_to rect none = none
 moved_to rect (piece name _ kind inner next) = piece name rect kind inner next
+
+-- sizes that can be a containing block's: those of a content area, and its block size where that is definite
+abbrev pub IsSizedKind : Kind → Type 0
+IsSizedKind (block mode dir content definite start end_ through) = IsExtent content.inline × IsExtent content.block × IfSome definite IsExtent
+IsSizedKind (line index base mode baseline) = ⊤
+IsSizedKind span = ⊤
+IsSizedKind (run form level natural units) = ⊤
+IsSizedKind (measure min max) = ⊤

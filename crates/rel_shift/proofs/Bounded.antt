@@ -11,15 +11,15 @@ use Rattle.wm_modes.specs.declared.rects.FlowRect.{FlowRect}
 use Rattle.style_types.specs.Style.{AreInsets, IsExtent}
 use Rattle.style_types.specs.declared.style.Style.{Style}
 use Rattle.style_types.specs.Tree as styled
-use Rattle.style_types.specs.Tree.{NodeKind, Nodes}
-use Rattle.fragment_types.specs.Fragment.{Kind, block, line, span, run, measure}
+use Rattle.style_types.specs.Tree.{NodeKind, Nodes, nodes_in}
+use Rattle.fragment_types.specs.Fragment.{IsSizedKind, Kind, block, line, span, run, measure}
 use Rattle.fragment_types.specs.declared.item.BoxName.{BoxName}
 use Rattle.box_gen.specs.Boxes.{Role, nothing, words, line_break, inline_box, atom, block_level, role_of}
 use Rattle.place_map.specs.Near.{AreNearParts}
 use Rattle.place_map.specs.Placed.{Parts, none, part, mode_of}
-use Rattle.rel_shift.specs.Bounds.{AreSizedParts, HasBounds, HaveBounds, IsSized, IsSizedKind, IsWithin}
+use Rattle.rel_shift.specs.Bounds.{AreSizedParts, HasBounds, HaveBounds, IsSized, IsWithin}
 use Rattle.rel_shift.specs.Boxes.{box_in, mode_inside, own_box}
-use Rattle.rel_shift.specs.Laws.{ArePlacesWithin, PositionsAreBounded, SizesSuffice, nodes_in}
+use Rattle.rel_shift.specs.Laws.{ArePlacesWithin, PositionsAreBounded, SizesSuffice}
 use Rattle.rel_shift.specs.Positions.{insets_of, position, positions_in, positions_of, holder_in, unless_hidden}
 use Rattle.rel_shift.specs.Shifting.{shifted}
 use Rattle.rel_shift.specs.Totals.{total}

@@ -3,7 +3,7 @@ use Rattle.std.specs.Prelude.{ℕ, ◌≤◌, unsigned_abs, Option, IfSome, ⊤}
 use Rattle.style_types.specs.Style.{AreInsets, IsExtent}
 use Rattle.style_types.specs.Tree as styled
 use Rattle.style_types.specs.Tree.{Nodes}
-use Rattle.fragment_types.specs.Fragment.{Kind, block, line, span, run, measure}
+use Rattle.fragment_types.specs.Fragment.{IsSizedKind}
 use Rattle.place_map.specs.Placed.{Page, Parts, none, part}
 use Rattle.rel_shift.specs.Totals.{containing}
 use Rattle.rel_shift.specs.declared.containing.Containing.{Containing}
@@ -27,14 +27,6 @@ pub record IsSized (c : Containing) : Type 0 where
 -- each containing block of a page, the view among them
 abbrev pub AreSized : Page → Type 0
 AreSized page = (holder : Option ℕ) → IfSome (containing page holder) IsSized
-
--- the content area of a box, and its definite block size
-abbrev pub IsSizedKind : Kind → Type 0
-IsSizedKind (block mode dir content definite start end_ through) = IsExtent content.inline × IsExtent content.block × IfSome definite IsExtent
-IsSizedKind (line index base mode baseline) = ⊤
-IsSizedKind span = ⊤
-IsSizedKind (run form level natural units) = ⊤
-IsSizedKind (measure min max) = ⊤
 
 -- those of these fragments and of all inside them
 abbrev pub AreSizedParts : Parts → Type 0

@@ -1,10 +1,9 @@
 -- What holds of shifts.
-use Rattle.std.specs.Prelude.{◌≡◌, ℕ, suc, ◌+◌, ◌≤◌, ◌==◌, Bool, false, List, ◌∷◌, ◌++◌, length, pos, unsigned_abs, Option, Some, None, ⊤}
+use Rattle.std.specs.Prelude.{◌≡◌, ℕ, ◌+◌, ◌≤◌, ◌==◌, Bool, false, List, ◌∷◌, ◌++◌, length, pos, unsigned_abs, Option, Some, None, ⊤}
 use Rattle.std.specs.List.{All, list_any}
 use Rattle.wm_units.specs.View.{IsView}
 use Rattle.wm_modes.specs.declared.rects.Rect.{Rect}
-use Rattle.style_types.specs.Tree as styled
-use Rattle.style_types.specs.Tree.{Nodes}
+use Rattle.style_types.specs.Tree.{Nodes, nodes_in}
 use Rattle.place_map.specs.Placed.{Page, Parts, none, part}
 use Rattle.rel_shift.specs.Bounds.{AreSized, AreSizedParts, HasBounds, HaveBounds, IsWithin}
 use Rattle.rel_shift.specs.Own.{no_shift, plus}
@@ -65,10 +64,6 @@ GoNoFurther = (page : Page) (positions : List Position) (most more : ℕ) → ((
     → ArePlacesWithin most page.parts → ArePlacesWithin (most + more) (shift page positions).parts
 
 -- ---- what `shift` asks for
-
-abbrev pub nodes_in : Nodes → ℕ
-nodes_in styled.none = 0
-nodes_in (styled.node number kind style inner next) = suc (nodes_in inner + nodes_in next)
 
 -- a styled tree has no more positions than nodes, and these are bounded where its insets are
 pub record PositionsAreBounded : Type 0 where

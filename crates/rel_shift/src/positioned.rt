@@ -4,11 +4,10 @@
 ghost use Rattle.std.specs.List.{list_any};
 ghost use Rattle.std.specs.Prelude.{◌≡◌, ◌++◌, ℕ, IfOk, Option};
 ghost use Rattle.style_types.specs.Tree.{all_nodes_of, nodes_of};
-ghost use Rattle.box_gen.specs.Building.{role_in};
 ghost use Rattle.rel_shift.specs.Positions as rule;
 
 use crate::position::{Position, Positions};
-use box_gen::{Role, role_of_break, role_of_element};
+use box_gen::{Role, role_of};
 use std::alloc::{AllocError, Global};
 use style_types::{Insets, StyledKind, StyledNode};
 
@@ -133,17 +132,5 @@ fn holder_in(role: Role, node: u32, holder: u32) -> u32
     match role {
         Role::InlineBox => holder,
         Role::Nothing | Role::Words | Role::LineBreak | Role::Atom | Role::BlockLevel => node,
-    }
-}
-
-// What a node is to its container.
-fn role_of(node: &StyledNode) -> Role
-    ensures { result ≡ role_in (nodes_of node.now) }
-{
-    let display = node.style.display;
-    match node.kind {
-        StyledKind::Text { .. } => Role::Words,
-        StyledKind::Break => role_of_break(display),
-        StyledKind::Element => role_of_element(display),
     }
 }

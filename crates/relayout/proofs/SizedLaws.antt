@@ -9,7 +9,7 @@ use Rattle.fragment_types.specs.declared.constraint.Constraint.{Constraint}
 use Rattle.fragment_types.specs.declared.item.BoxName.{BoxName}
 use Rattle.style_types.specs.declared.style.Style.{Style}
 use Rattle.style_types.specs.Style.{IsExtent}
-use Rattle.fragment_types.specs.Fragment.{Pieces, none, piece}
+use Rattle.fragment_types.specs.Fragment.{IsSizedKind, Pieces, none, piece}
 use Rattle.size_rules.specs.Equation as equation
 use Rattle.size_rules.specs.Limits.{fit, held}
 use Rattle.block_flow.specs.declared.boxes.ParentEdges.{ParentEdges}
@@ -27,7 +27,7 @@ use Rattle.relayout.specs.Flow.{answered, flow_step, laid_out, laid_under, membe
 use Rattle.relayout.specs.Flowed.{Laid, Member, Part}
 use Rattle.relayout.specs.Inline.{Outside, around, end_margin, equation_of, inline_size, known_by, known_or_shrunk, known_size, room, shrunk, start_margin}
 use Rattle.relayout.specs.Intrinsic.{inner, prepared}
-use Rattle.relayout.specs.Sized.{AreSizedPieces, IsSizedKind, LayoutsAreSized}
+use Rattle.relayout.specs.Sized.{AreSizedPieces, LayoutsAreSized}
 use Rattle.relayout.specs.Sizes.{block_sizes, containing_of, definite, given, hold, inline_sizes, is_atom, is_parallel, sizes_along}
 use Rattle.relayout.proofs.LinePieces.{AreAtoms, IsByAtoms, lines_by_atoms}
 

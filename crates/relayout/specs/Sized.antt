@@ -1,18 +1,10 @@
 -- Content areas have sizes that can be a containing block's.
-use Rattle.std.specs.Prelude.{⊤, List, Option, IfSome, ℤ}
+use Rattle.std.specs.Prelude.{⊤, List, Option, ℤ}
 use Rattle.face_api.specs.Table.{Table}
 use Rattle.style_types.specs.Style.{IsExtent}
-use Rattle.fragment_types.specs.Fragment.{Kind, block, line, span, run, measure, Pieces, none, piece}
+use Rattle.fragment_types.specs.Fragment.{IsSizedKind, Pieces, none, piece}
 use Rattle.box_gen.specs.Tree.{Boxes}
 use Rattle.relayout.specs.Flow.{layout}
-
--- the content area of a box: its sizes, and its block size where that is definite
-abbrev pub IsSizedKind : Kind → Type 0
-IsSizedKind (block mode dir content definite start end_ through) = IsExtent content.inline × IsExtent content.block × IfSome definite IsExtent
-IsSizedKind (line index base mode baseline) = ⊤
-IsSizedKind span = ⊤
-IsSizedKind (run form level natural units) = ⊤
-IsSizedKind (measure min max) = ⊤
 
 -- those of these fragments and of all that stand inside them
 abbrev pub AreSizedPieces : Pieces → Type 0

@@ -23,13 +23,12 @@ use Rattle.place_map.specs.Placing.{place, place_parts, placed}
 use Rattle.relayout.specs.Flow.{layout}
 use Rattle.relayout.specs.Sized.{AreSizedPieces, LayoutsAreSized}
 use Rattle.rel_shift.specs.Bounds.{AreSized, AreSizedParts, HasBounds, HaveBounds}
-use Rattle.rel_shift.specs.Laws as positions
 use Rattle.rel_shift.specs.Laws.{ArePlacesWithin, PositionsAreBounded, SizesSuffice, StayWithoutInsets}
 use Rattle.rel_shift.specs.Positions.{positions_of}
 use Rattle.rel_shift.specs.Shifting.{shift}
 use Rattle.rel_shift.specs.declared.position.Position.{Position}
 use Rattle.session.specs.Kept.{ArePositions, shifted_by}
-use Rattle.session.specs.Limits.{IsWithin, nodes_in}
+use Rattle.session.specs.Limits.{IsWithin}
 use Rattle.session.specs.State.{flow_page_of, page_of}
 
 -- ---- positions
@@ -38,10 +37,6 @@ insets_bounded : (nodes : Nodes) → AreBounded nodes → HaveBounds nodes
 unfolding AreBounded
 insets_bounded styled.none bounded = tt
 insets_bounded (styled.node number kind style inner next) bounded = (bounded.0.insets, insets_bounded inner bounded.1, insets_bounded next bounded.2)
-
-same_count : (nodes : Nodes) → positions.nodes_in nodes ≡ nodes_in nodes
-same_count styled.none = refl
-same_count (styled.node number kind style inner next) = let one = same_count inner in let other = same_count next in omega (arith, one, other)
 
 module _ {A : Type 0} (law : PositionsAreBounded) (nodes : Nodes) (within : IsWithin nodes) where
   pub kept_bounded : (kept : Option (Vec Position A)) → ArePositions kept nodes → IfSome kept (λ list. All HasBounds list.items)
@@ -52,10 +47,9 @@ module _ {A : Type 0} (law : PositionsAreBounded) (nodes : Nodes) (within : IsWi
   kept_few None are = tt
   kept_few (Some list) are =
       let many = law.few nodes in
-      let same = same_count nodes in
       let few = within.few in
       let all = ap length are in
-      omega (arith, many, same, few, all)
+      omega (arith, many, few, all)
 
 -- where none are kept nothing is shifted
 pub page_is : {A : Type 0} → StayWithoutInsets → (faces : List (Option Table)) (view : View) (nodes : Nodes) (kept : Option (Vec Position A)) → ArePositions kept nodes

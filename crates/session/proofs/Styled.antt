@@ -2,6 +2,7 @@
 use Rattle.std.proofs.Common.{◌≡◌, ℕ, zero, suc, ◌≤◌, List, [], ◌∷◌, Option, Some, None, max, refl, arith}
 use Rattle.html_tokens.specs.declared.tag.Tag.{Tag}
 use Rattle.html_tokens.specs.declared.tag.Tag.TheVariants as tags
+use Rattle.style_types.specs.Tree.{nodes_in}
 use Rattle.style_types.specs.declared.style.Style.{Style}
 use Rattle.css_types.specs.Rule.{Ruling}
 use Rattle.dom_store.specs.State as dom
@@ -9,7 +10,7 @@ use Rattle.dom_store.specs.State.{Entry, State, Tree, What, tree_of, tree_to, tr
 use Rattle.tree_laws.specs.Laws.{CountsAreTotals, TreesWeighNoMore}
 use Rattle.tree_laws.specs.Weight.{bytes, one, weight_in}
 use Rattle.style_tree.specs.Styling.{body_style, from_html, kind_by, kind_of, style_at, styled_in}
-use Rattle.session.specs.Limits.{DocumentsFit, bytes_in, bytes_of, depth, nodes_in}
+use Rattle.session.specs.Limits.{DocumentsFit, bytes_in, bytes_of, depth}
 
 -- ---- styled nodes
 

@@ -1,7 +1,7 @@
 -- How much a styled tree may have, and that its boxes can be laid out then.
 use Rattle.std.specs.Prelude.{ℕ, suc, ◌+◌, ◌-◌, ◌≤◌, ◌^◌, max, List, length}
 use Rattle.style_types.specs.Tree as styled
-use Rattle.style_types.specs.Tree.{NodeKind, Nodes}
+use Rattle.style_types.specs.Tree.{NodeKind, Nodes, nodes_in}
 use Rattle.css_types.specs.Rule.{Ruling}
 use Rattle.dom_store.specs.Opening.{greatest_count}
 use Rattle.dom_store.specs.Standing.{live_count}
@@ -12,11 +12,6 @@ use Rattle.style_tree.specs.Styling.{AreBounded, styled_document}
 use Rattle.box_gen.specs.Tree.{Boxes}
 use Rattle.box_gen.specs.Boxes.{root_boxes}
 use Rattle.relayout.specs.Fit.{AreFit, count, height, weight}
-
--- how many nodes there are
-abbrev pub nodes_in : Nodes → ℕ
-nodes_in styled.none = 0
-nodes_in (styled.node number kind style inner next) = suc (nodes_in inner + nodes_in next)
 
 -- the bytes of a text
 abbrev pub bytes_of : NodeKind → ℕ

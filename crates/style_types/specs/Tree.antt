@@ -1,5 +1,5 @@
 -- Styled trees, without where they lie in memory.
-use Rattle.std.specs.Prelude.{ℕ, List, [], ◌∷◌, map}
+use Rattle.std.specs.Prelude.{ℕ, suc, ◌+◌, List, [], ◌∷◌, map}
 use Rattle.std.specs.String.{string_bytes}
 use Rattle.style_types.specs.declared.style.Style.{Style}
 use Rattle.style_types.specs.declared.tree.StyledKind as code_kind
@@ -41,3 +41,8 @@ nodes_of root = before root none
 -- the trees of nodes that stand one after the other
 abbrev pub all_nodes_of : List StyledNode → Nodes
 all_nodes_of roots = in_line (map before roots)
+
+-- how many nodes there are
+abbrev pub nodes_in : Nodes → ℕ
+nodes_in none = 0
+nodes_in (node number kind style inner next) = suc (nodes_in inner + nodes_in next)

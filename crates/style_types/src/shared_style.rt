@@ -8,7 +8,7 @@ use std::marker::Model;
 use std::ops::Deref;
 use std::rc::Rc;
 
-/// The style of an element, which the nodes of its texts and the items of a paragraph share: a style takes some 300 bytes.
+/// The style of an element, which the nodes of its texts and the items of a paragraph share: a style takes 360 bytes.
 /// A contract sees it as the style.
 #[derive(Debug, Drop)]
 pub struct SharedStyle {
