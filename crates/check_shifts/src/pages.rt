@@ -8,11 +8,11 @@ ghost use Rattle.rel_shift.specs.Bounds.{AreSized};
 use fragment_types::{BoxName, BoxPart, FragmentKind};
 use margin_collapse::Margins;
 use place_map::{Placed, PlacedPart};
-use rel_shift::{Insets, Position, shift};
+use rel_shift::shift;
 use std::alloc::{AllocError, Global};
 use std::rc::Rc;
 use std::test::*;
-use style_types::Size;
+use style_types::{Insets, Position, Size};
 use wm_modes::{Direction, FlowRect, Rect, WritingMode};
 use wm_units::View;
 

@@ -1,9 +1,11 @@
 //! The positions of a small document.
 
-use rel_shift::{Insets, Position, has_relative, positions};
+use rel_shift::{has_relative, positions};
 use std::alloc::{AllocError, Global};
 use std::test::*;
-use style_types::{Display, SharedStyle, Size, Style, StyledKind, StyledNode, StyledNodes};
+use style_types::{
+    Display, Insets, Position, SharedStyle, Size, Style, StyledKind, StyledNode, StyledNodes,
+};
 
 const INSETS: Insets = Insets {
     top: Size::Length(320),

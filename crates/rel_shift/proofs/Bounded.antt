@@ -25,7 +25,7 @@ use Rattle.rel_shift.specs.Shifting.{shifted}
 use Rattle.rel_shift.specs.Totals.{total}
 use Rattle.rel_shift.specs.declared.containing.Containing.{Containing}
 use Rattle.rel_shift.specs.declared.insets.Shift.{Shift}
-use Rattle.rel_shift.specs.declared.position.Position.{Position}
+use Rattle.style_types.specs.declared.position.Position.{Position}
 
 -- ---- positions
 

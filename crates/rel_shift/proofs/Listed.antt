@@ -12,7 +12,7 @@ use Rattle.box_gen.specs.Boxes.{Role, nothing, words, line_break, inline_box, at
 use Rattle.box_gen.specs.Building.{code_of, role_in}
 use Rattle.box_gen.proofs.NodeLines.{left_at, none_left, opened, role_opened}
 use Rattle.rel_shift.specs.Positions.{has_insets, holder_by, holder_in, insets_in, is_hidden, position_in, positions_in, unless_hidden}
-use Rattle.rel_shift.specs.declared.position.Position.{Position}
+use Rattle.style_types.specs.declared.position.Position.{Position}
 
 -- ---- roles
 

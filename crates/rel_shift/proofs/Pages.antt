@@ -14,7 +14,7 @@ use Rattle.fragment_types.specs.declared.unit_kind.UnitKind.TheVariants.{Along}
 use Rattle.place_map.specs.Placed.{Page, Parts, none, part}
 use Rattle.rel_shift.specs.Shifting.{shift}
 use Rattle.style_types.specs.declared.style.Insets.{Insets}
-use Rattle.rel_shift.specs.declared.position.Position.{Position}
+use Rattle.style_types.specs.declared.position.Position.{Position}
 
 abbrev insets : (top right bottom left : Size) → Insets
 insets top right bottom left = record { top = top; right = right; bottom = bottom; left = left }

@@ -9,7 +9,7 @@ use Rattle.style_types.specs.declared.style.Size.{Size}
 use Rattle.style_types.specs.declared.style.Size.TheVariants.{Auto, Length, Percent}
 use Rattle.style_types.specs.declared.style.Style.{Style}
 use Rattle.rel_shift.specs.Positions.{positions_in, positions_of}
-use Rattle.rel_shift.specs.declared.position.Position.{Position}
+use Rattle.style_types.specs.declared.position.Position.{Position}
 
 abbrev insets : (top right bottom left : Size) → Insets
 insets top right bottom left = record { top = top; right = right; bottom = bottom; left = left }

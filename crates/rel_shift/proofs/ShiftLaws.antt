@@ -16,7 +16,7 @@ use Rattle.rel_shift.specs.Shifting.{moved, shifted}
 use Rattle.rel_shift.specs.Totals.{own, total, total_back}
 use Rattle.rel_shift.specs.declared.insets.Shift.{Shift}
 use Rattle.style_types.specs.declared.style.Insets.{Insets}
-use Rattle.rel_shift.specs.declared.position.Position.{Position}
+use Rattle.style_types.specs.declared.position.Position.{Position}
 
 -- ---- what stays
 

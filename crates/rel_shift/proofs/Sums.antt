@@ -7,7 +7,7 @@ use Rattle.rel_shift.specs.Bounds.{IsWithin}
 use Rattle.rel_shift.specs.Own.{plus}
 use Rattle.rel_shift.specs.Totals.{own, total_around, total_back, total_in, total_with}
 use Rattle.rel_shift.specs.declared.insets.Shift.{Shift}
-use Rattle.rel_shift.specs.declared.position.Position.{Position}
+use Rattle.style_types.specs.declared.position.Position.{Position}
 use Rattle.rel_shift.specs.declared.totals.Totals.{Totals}
 
 -- ---- the sum

@@ -8,7 +8,7 @@ use Rattle.place_map.specs.Placed.{Page, Parts, none, part}
 use Rattle.rel_shift.specs.Totals.{containing}
 use Rattle.rel_shift.specs.declared.containing.Containing.{Containing}
 use Rattle.rel_shift.specs.declared.insets.Shift.{Shift}
-use Rattle.rel_shift.specs.declared.position.Position.{Position}
+use Rattle.style_types.specs.declared.position.Position.{Position}
 
 -- insets reach as far as margins do
 abbrev pub HasBounds : Position → Type 0

@@ -11,7 +11,7 @@ use Rattle.rel_shift.specs.Positions.{has_insets, positions_of}
 use Rattle.rel_shift.specs.Shifting.{shift}
 use Rattle.rel_shift.specs.Totals.{own, total}
 use Rattle.rel_shift.specs.declared.insets.Shift.{Shift}
-use Rattle.rel_shift.specs.declared.position.Position.{Position}
+use Rattle.style_types.specs.declared.position.Position.{Position}
 
 -- ---- what stays
 

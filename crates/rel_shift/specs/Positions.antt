@@ -7,7 +7,7 @@ use Rattle.style_types.specs.Tree.{Nodes, NodeKind}
 use Rattle.box_gen.specs.declared.role.Role as code_role
 use Rattle.box_gen.specs.declared.role.Role.TheVariants as code_roles
 use Rattle.box_gen.specs.Boxes.{Role, nothing, words, line_break, inline_box, atom, block_level, role_of}
-use Rattle.rel_shift.specs.declared.position.Position.{Position}
+use Rattle.style_types.specs.declared.position.Position.{Position}
 
 -- a relatively positioned element has its insets; a text has none, nor has a `br`
 abbrev pub insets_of : NodeKind → Style → Option Insets

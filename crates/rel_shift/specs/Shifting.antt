@@ -4,7 +4,7 @@ use Rattle.wm_modes.specs.declared.rects.Rect.{Rect}
 use Rattle.place_map.specs.Placed.{Page, Parts, none, part}
 use Rattle.rel_shift.specs.Totals.{total}
 use Rattle.rel_shift.specs.declared.insets.Shift.{Shift}
-use Rattle.rel_shift.specs.declared.position.Position.{Position}
+use Rattle.style_types.specs.declared.position.Position.{Position}
 
 abbrev pub moved : Shift → Rect → Rect
 moved by rect = record { x = rect.x +ℤ by.dx; y = rect.y +ℤ by.dy; w = rect.w; h = rect.h }

@@ -8,7 +8,7 @@ use Rattle.rel_shift.specs.Own.{no_shift, own_shift, plus}
 use Rattle.rel_shift.specs.declared.containing.Containing.{Containing}
 use Rattle.style_types.specs.declared.style.Insets.{Insets}
 use Rattle.rel_shift.specs.declared.insets.Shift.{Shift}
-use Rattle.rel_shift.specs.declared.position.Position.{Position}
+use Rattle.style_types.specs.declared.position.Position.{Position}
 use Rattle.rel_shift.specs.declared.totals.Totals.{Totals}
 
 -- the own box of the holder, or the view

@@ -8,14 +8,11 @@ mod insets;
 mod kinds;
 pub mod laws;
 mod own;
-mod position;
 mod positioned;
 mod shifting;
 mod totals;
 
 pub use insets::Shift;
 pub use own::own_shift;
-pub use position::{Position, Positions};
 pub use positioned::{has_relative, positions};
 pub use shifting::shift;
-pub use style_types::Insets;

@@ -6,10 +6,9 @@ ghost use Rattle.std.specs.Prelude.{◌≡◌, ◌++◌, ℕ, IfOk, Option};
 ghost use Rattle.style_types.specs.Tree.{all_nodes_of, nodes_of};
 ghost use Rattle.rel_shift.specs.Positions as rule;
 
-use crate::position::{Position, Positions};
 use box_gen::{Role, role_of};
 use std::alloc::{AllocError, Global};
-use style_types::{Insets, StyledKind, StyledNode};
+use style_types::{Insets, Position, Positions, StyledKind, StyledNode};
 
 /// The positions of a styled tree: those of its nodes that aren't hidden, in document order. Takes memory for the list, and time
 /// in proportion to the tree.

@@ -12,10 +12,10 @@ ghost use Rattle.wm_modes.specs.Near.{IsNear};
 
 use crate::insets::Shift;
 use crate::kinds::copied;
-use crate::position::Position;
 use crate::totals::Totals;
 use place_map::{Placed, PlacedPart, PlacedParts};
 use std::alloc::{AllocError, Global};
+use style_types::Position;
 use wm_modes::Rect;
 
 /// A page with each box, line, inline box and run shifted as its node is: by the node's own shift and those of the elements

@@ -13,10 +13,10 @@ ghost use Rattle.rel_shift.specs.Totals as rule;
 use crate::boxes::{boxes_by_node, view_block};
 use crate::containing::Containing;
 use crate::insets::Shift;
-use crate::position::Position;
 use place_map::Placed;
 use std::alloc::{AllocError, Global};
 use std::collections::BTreeMap;
+use style_types::Position;
 
 /// The shifts of nodes, by their numbers.
 #[derive(Drop)]

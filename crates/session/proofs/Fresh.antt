@@ -19,7 +19,7 @@ use Rattle.box_arena.specs.Planting as planting
 use Rattle.para_prepare.specs.Preparation.{Preparation}
 use Rattle.relayout.specs.Laws.{BareIsRight}
 use Rattle.relayout.specs.Relayout.{AreRightUnder}
-use Rattle.rel_shift.specs.declared.position.Position.{Position}
+use Rattle.style_types.specs.declared.position.Position.{Position}
 use Rattle.std.specs.declared.vec.Vec.{Vec}
 use Rattle.session.specs.Kept.{ArePositions}
 use Rattle.session.specs.Limits.{BoxesFit, CanBeLaidOut, DocumentsFit}

@@ -26,7 +26,7 @@ use Rattle.rel_shift.specs.Bounds.{AreSized, AreSizedParts, HasBounds, HaveBound
 use Rattle.rel_shift.specs.Laws.{ArePlacesWithin, PositionsAreBounded, SizesSuffice, StayWithoutInsets}
 use Rattle.rel_shift.specs.Positions.{positions_of}
 use Rattle.rel_shift.specs.Shifting.{shift}
-use Rattle.rel_shift.specs.declared.position.Position.{Position}
+use Rattle.style_types.specs.declared.position.Position.{Position}
 use Rattle.session.specs.Kept.{ArePositions, shifted_by}
 use Rattle.session.specs.Limits.{IsWithin}
 use Rattle.session.specs.State.{flow_page_of, page_of}

@@ -6,7 +6,7 @@ use Rattle.style_types.specs.Tree.{Nodes}
 use Rattle.place_map.specs.Placed.{Page}
 use Rattle.rel_shift.specs.Positions.{has_insets, positions_of}
 use Rattle.rel_shift.specs.Shifting.{shift}
-use Rattle.rel_shift.specs.declared.position.Position.{Position}
+use Rattle.style_types.specs.declared.position.Position.{Position}
 
 -- those of this styled tree; none where no element is relatively positioned, since nothing is shifted then
 abbrev pub ArePositions : {A : Type 0} → Option (Vec Position A) → Nodes → Type 0

@@ -8,9 +8,9 @@ ghost use Rattle.box_gen.specs.Tree.{boxes_of};
 ghost use Rattle.session.specs.Kept.{ArePositions};
 
 use box_gen::{BoxTree, boxes};
-use rel_shift::{Positions, has_relative, positions};
+use rel_shift::{has_relative, positions};
 use std::alloc::{AllocError, Global};
-use style_types::StyledNode;
+use style_types::{Positions, StyledNode};
 
 /// The boxes of a document, and the positions of its nodes.
 #[derive(Drop)]

@@ -10,8 +10,8 @@ ghost use Rattle.box_arena.specs.Planting.{IsBare};
 use crate::generated::Generated;
 use box_arena::{BoxArena, BoxKey, count};
 use para_prepare::Prepared;
-use rel_shift::Positions;
 use std::alloc::{AllocError, Global};
+use style_types::Positions;
 
 /// The boxes of a document in an arena, the one of them that is no other's child, and the positions of its nodes.
 #[derive(Drop)]

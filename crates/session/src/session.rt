@@ -32,12 +32,13 @@ use face_api::{Face, Faces};
 use html_read::ReadDocument;
 use place_map::{Placed, place};
 use rel_shift::laws::{pages_stay_without_insets, positions_are_bounded, sizes_of_boxes_suffice};
-use rel_shift::{Positions, positions};
+use rel_shift::positions;
 use relayout::laws::{contents_have_sizes, what_is_not_kept_is_right};
 use relayout::relayout;
 use std::alloc::{AllocError, Global};
 use std::sync::ledger::Ledger;
 use style_tree::styled;
+use style_types::Positions;
 use tree_laws::laws::{
     live_counts_are_totals, opened_documents_are_reached, opened_documents_are_whole,
 };

@@ -9,8 +9,9 @@ ghost use Rattle.rel_shift.specs.Laws.{ArePlacesWithin};
 ghost use Rattle.session.specs.Kept.{shifted_by};
 
 use place_map::Placed;
-use rel_shift::{Positions, shift};
+use rel_shift::shift;
 use std::alloc::{AllocError, Global};
+use style_types::Positions;
 
 /// A page with its fragments shifted by these positions; as it is where there are none.
 pub(crate) fn shifted(

@@ -3,11 +3,13 @@
 
 mod initial;
 mod lists;
+mod position;
 mod shared_style;
 mod style;
 mod tree;
 
 pub use lists::StyledNodes;
+pub use position::{Position, Positions};
 pub use shared_style::SharedStyle;
 pub use style::{
     Align, Baseline, Combine, Display, Insets, LineHeight, SideSizes, SideWidths, Size, Style,

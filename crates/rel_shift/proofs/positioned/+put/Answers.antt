@@ -1,5 +1,5 @@
 use Rattle.std.proofs.Common.{◌∙◌, ◌++◌, ap, sym, refl, append-nil, arith, List}
-use Rattle.rel_shift.specs.declared.position.Position.{Position}
+use Rattle.style_types.specs.declared.position.Position.{Position}
 use Rattle.rel_shift.proofs.Listed.{of_hidden, of_shown, put_all, put_both, put_more}
 use Rattle.rel_shift.proofs.positioned.+put.Goals as goal
 

@@ -1,6 +1,6 @@
 //! Which nodes of a document are shifted (CSS Positioned Layout 3, 2 and 3.1).
 
-use style_types::Insets;
+use crate::style::Insets;
 
 /// A node of a document that isn't hidden.
 #[derive(Clone, Copy, Debug, PartialEq, Eq)]
