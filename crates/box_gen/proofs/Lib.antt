@@ -1,6 +1,7 @@
 pub mod BoxLines
 pub mod ContainerLaws
 pub mod Contents
+pub mod EdgeLaws
 pub mod Examples
 pub mod Fillings
 pub mod Founds

@@ -15,7 +15,7 @@ use Rattle.box_gen.specs.Tree.{Boxes, none, box}
 
 -- ---- what is open ends and begins again
 
-numbers : List Opened → List ℕ
+unfoldable pub numbers : List Opened → List ℕ
 numbers [] = []
 numbers (innermost ∷ opened) = innermost.node ∷ numbers opened
 
@@ -34,7 +34,7 @@ again_paired (innermost ∷ opened) items paired =
 -- ---- a list of parts, and its runs
 
 -- where inline boxes of these numbers are open they stop, and each that starts stops, as brackets do; and so it is in the boxes of the parts
-AreWhole : List Part → (around : List ℕ) → Type 0
+unfoldable pub AreWhole : List Part → (around : List ℕ) → Type 0
 AreWhole [] around = around ≡ []
 AreWhole (part.words number letters style ∷ parts) around = AreWhole parts around
 AreWhole (part.line_break number ∷ parts) around = AreWhole parts around
@@ -107,26 +107,29 @@ whole_inside : (parts : List Part) → Continues parts → AreWhole parts []
 unfolding AreWhole Continues
 whole_inside parts continues = subst (λ (l : List Part). AreWhole l []) (append-nil parts) (continues [] [] refl)
 
-role_whole : (role : Role) (number : ℕ) (style : Style) (inner : List Part) → Continues inner → Continues (parts_by role number style inner)
+role_continues : (role : Role) (number : ℕ) (style : Style) (inner : List Part) → Continues inner → Continues (parts_by role number style inner)
 unfolding AreWhole Continues
-role_whole nothing number style inner continues behind around whole = whole
-role_whole (words letters) number style inner continues behind around whole = whole
-role_whole line_break number style inner continues behind around whole = whole
-role_whole inline_box number style inner continues behind around whole =
+role_continues nothing number style inner continues behind around whole = whole
+role_continues (words letters) number style inner continues behind around whole = whole
+role_continues line_break number style inner continues behind around whole = whole
+role_continues inline_box number style inner continues behind around whole =
     let stop = part.stops number (has_block inner) in
     subst (λ (l : List Part). AreWhole l (number ∷ around)) (sym (append_assoc inner (stop ∷ []) behind)) (continues (stop ∷ behind) (number ∷ around) (refl, whole))
-role_whole atom number style inner continues behind around whole = (made_paired number style inner (whole_inside inner continues), whole)
-role_whole block_level number style inner continues behind around whole = (made_paired number style inner (whole_inside inner continues), whole)
+role_continues atom number style inner continues behind around whole = (made_paired number style inner (whole_inside inner continues), whole)
+role_continues block_level number style inner continues behind around whole = (made_paired number style inner (whole_inside inner continues), whole)
 
-content_whole : (nodes : Nodes) → Continues (content nodes)
+content_continues : (nodes : Nodes) → Continues (content nodes)
 unfolding content Continues
-content_whole styled.none behind around whole = whole
-content_whole (styled.node number kind style inner next) behind around whole =
+content_continues styled.none behind around whole = whole
+content_continues (styled.node number kind style inner next) behind around whole =
     let own = parts_by (role_of kind style) number style (content inner) in
     subst (λ (l : List Part). AreWhole l around) (sym (append_assoc own (content next) behind))
-    (role_whole (role_of kind style) number style (content inner) (content_whole inner) (content next ++ behind) around (content_whole next behind around whole))
+    (role_continues (role_of kind style) number style (content inner) (content_continues inner) (content next ++ behind) around (content_continues next behind around whole))
+
+pub content_whole : (nodes : Nodes) → AreWhole (content nodes) []
+content_whole nodes = whole_inside (content nodes) (content_continues nodes)
 
 pub items_are_paired : ItemsArePaired
 unfolding HavePairs
 items_are_paired styled.none = tt
-items_are_paired (styled.node number kind style inner next) = made_paired number style (content inner) (whole_inside (content inner) (content_whole inner))
+items_are_paired (styled.node number kind style inner next) = made_paired number style (content inner) (content_whole inner)

@@ -1,12 +1,12 @@
 -- Laws of boxes.
-use Rattle.std.specs.Prelude.{◌≡◌, ℕ, zero, suc, Bool, true, false, List, [], ◌∷◌, ◌++◌}
+use Rattle.std.specs.Prelude.{◌≡◌, ◌⊎◌, ℕ, zero, suc, true, false, List, [], ◌∷◌, ◌++◌}
 use Rattle.std.specs.Bool.{⊤}
 use Rattle.fragment_types.specs.Item as item
 use Rattle.fragment_types.specs.Item.{Entry}
 use Rattle.style_types.specs.declared.style.Style.{Style}
 use Rattle.style_types.specs.Tree as styled
 use Rattle.style_types.specs.Tree.{Nodes, NodeKind}
-use Rattle.box_gen.specs.Boxes.{Role, nothing, words, line_break, inline_box, atom, block_level, role_of, is_blank, root_boxes}
+use Rattle.box_gen.specs.Boxes.{Role, nothing, words, line_break, inline_box, atom, block_level, role_of, is_blank, root_boxes, Blocks, no_more, then, Held, runs, content}
 use Rattle.box_gen.specs.Tree.{Content, blocks, inline, Boxes, none, box}
 
 -- ---- each box once
@@ -108,19 +108,17 @@ unfoldable pub shown_texts : Nodes → List Text
 shown_texts styled.none = []
 shown_texts (styled.node number kind style inner next) = shown_by (role_of kind style) number (shown_texts inner) ++ shown_texts next
 
-abbrev pub put_unless : (blank : Bool) → Text → List Text → List Text
-put_unless true text others = others
-put_unless false text others = text ∷ others
+-- these texts are those that are shown, in order, but that some may be missing that are white space alone
+unfoldable pub AreAllBut : (shown here : List Text) → Type 0
+AreAllBut [] [] = ⊤
+AreAllBut [] (text ∷ here) = ⊥
+AreAllBut (text ∷ shown) [] = (is_blank text.1 ≡ true) × AreAllBut shown []
+AreAllBut (text ∷ shown) (first ∷ here) = ((first ≡ text) × AreAllBut shown here) ⊎ ((is_blank text.1 ≡ true) × AreAllBut shown (first ∷ here))
 
--- those that aren't white space alone
-unfoldable pub solid : List Text → List Text
-solid [] = []
-solid (text ∷ others) = put_unless (is_blank text.1) text (solid others)
-
--- each text that is shown and isn't white space alone stands in the boxes once, in document order
+-- each text that is shown stands in the boxes once, in document order, but that one of white space alone may stand in none
 abbrev pub TextsStandOnce : Type 0
 TextsStandOnce = (number : ℕ) (kind : NodeKind) (style : Style) (inner next : Nodes)
-    → solid (texts (root_boxes (styled.node number kind style inner next))) ≡ solid (shown_texts inner)
+    → AreAllBut (shown_texts inner) (texts (root_boxes (styled.node number kind style inner next)))
 
 -- ---- items in pairs
 
@@ -147,3 +145,42 @@ HavePairs (box name style content inner next) = IsPaired content × (HavePairs i
 -- in each paragraph inline boxes and pieces of them begin and end as brackets do: also where a block-level box cuts some of them
 abbrev pub ItemsArePaired : Type 0
 ItemsArePaired = (root : Nodes) → HavePairs (root_boxes root)
+
+-- ---- edges of pieces
+
+-- Inline boxes in a run. `opened` are those that are open here, the innermost first; `again` those that a block-level box before the run
+-- cut, the outermost first: before all else they begin again, without inline-start edges. Each box that starts has its inline-start
+-- edges, and each that stops its inline-end edges. At the end those that a block-level box cuts end, the innermost first, without
+-- inline-end edges: these are `cut`, the outermost first, of which `behind` holds.
+unfoldable pub HasEdges : List Entry → (opened again cut : List ℕ) → (behind : List ℕ → Type 0) → Type 0
+HasEdges [] opened again cut behind = (opened ≡ []) × ((again ≡ []) × behind cut)
+HasEdges (item.begins number style true ∷ items) opened again cut behind = (again ≡ []) × ((cut ≡ []) × HasEdges items (number ∷ opened) [] [] behind)
+HasEdges (item.begins number style false ∷ items) opened [] cut behind = ⊥
+HasEdges (item.begins number style false ∷ items) opened (outermost ∷ again) cut behind =
+    (number ≡ outermost) × ((cut ≡ []) × HasEdges items (number ∷ opened) again [] behind)
+HasEdges (item.ends number edges ∷ items) [] again cut behind = ⊥
+HasEdges (item.ends number true ∷ items) (innermost ∷ opened) again cut behind =
+    (number ≡ innermost) × ((again ≡ []) × ((cut ≡ []) × HasEdges items opened [] [] behind))
+HasEdges (item.ends number false ∷ items) (innermost ∷ opened) again cut behind =
+    (number ≡ innermost) × ((again ≡ []) × HasEdges items opened [] (number ∷ cut) behind)
+HasEdges (item.text number letters style ∷ items) opened again cut behind = (again ≡ []) × ((cut ≡ []) × HasEdges items opened [] [] behind)
+HasEdges (item.line_break number ∷ items) opened again cut behind = (again ≡ []) × ((cut ≡ []) × HasEdges items opened [] [] behind)
+HasEdges (item.atom name ∷ items) opened again cut behind = (again ≡ []) × ((cut ≡ []) × HasEdges items opened [] [] behind)
+
+-- so in run after run, the first behind the cut of these boxes; behind the last none is left that was cut
+unfoldable pub HaveEdges : List (List Entry) → (again : List ℕ) → Type 0
+HaveEdges [] again = again ≡ []
+HaveEdges (run ∷ others) again = HasEdges run [] again [] (HaveEdges others)
+
+unfoldable pub runs_behind : Blocks → List (List Entry)
+runs_behind no_more = []
+runs_behind (then block run others) = run.items ∷ runs_behind others
+
+-- the runs of a container's content, those among them that make no box
+abbrev pub all_runs : Held → List (List Entry)
+all_runs held = held.first.items ∷ runs_behind held.others
+
+-- of the pieces of each inline box the first alone has its inline-start edges, and the last alone its inline-end edges: whatever block-level
+-- boxes cut it, and also where such a piece is in a run that makes no box
+abbrev pub PiecesHaveEdges : Type 0
+PiecesHaveEdges = (nodes : Nodes) → HaveEdges (all_runs (runs [] (content nodes))) []

@@ -1,6 +1,6 @@
 //! Laws of boxes. The functions do nothing: their contracts are the laws.
 
-ghost use Rattle.box_gen.specs.Laws.{ContainersStandOnce, HiddenNodesAreNothing, ItemsArePaired, TextsStandOnce};
+ghost use Rattle.box_gen.specs.Laws.{ContainersStandOnce, HiddenNodesAreNothing, ItemsArePaired, PiecesHaveEdges, TextsStandOnce};
 
 /// Each block-level element and each inline-block that is shown has one box of its own, in document order, in a box of its block
 /// container, whatever inline boxes stand between the two.
@@ -8,7 +8,7 @@ pub fn containers_stand_once()
     ensures { ContainersStandOnce }
 {}
 
-/// Each text that is shown and isn't white space alone stands in the boxes once, in document order.
+/// Each text that is shown stands in the boxes once, in document order, but that one of white space alone may stand in none.
 pub fn texts_stand_once()
     ensures { TextsStandOnce }
 {}
@@ -21,4 +21,9 @@ pub fn items_are_paired()
 /// Hidden elements and hidden line breaks change no box.
 pub fn hidden_nodes_are_nothing()
     ensures { HiddenNodesAreNothing }
+{}
+
+/// Of the pieces of an inline box the first alone has its inline-start edges, and the last alone its inline-end edges.
+pub fn pieces_have_edges()
+    ensures { PiecesHaveEdges }
 {}
