@@ -1,6 +1,6 @@
 //! The inline boxes of a paragraph: which stand round each of its items, and where each ends (CSS 2, 9.2.2).
 
-ghost use Rattle.std.specs.Prelude.{◌≡◌, ◌+◌, ◌*◌, ◌<◌, ◌≤◌, ◌^◌, [], ℕ, length, map, slice_index_or, All, IfOk, IfSome, unsigned_abs};
+ghost use Rattle.std.specs.Prelude.{◌≡◌, ◌+◌, ◌*◌, ◌<◌, ◌≤◌, ◌^◌, [], length, map, slice_index_or, IfOk, IfSome, unsigned_abs};
 ghost use Rattle.fragment_types.specs.Item.{entries_of, entry_of};
 ghost use Rattle.style_types.specs.Style.{IsBounded};
 ghost use Rattle.para_lines.specs.Around.{box_at, box_by, chains, has, no_entry};

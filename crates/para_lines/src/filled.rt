@@ -1,6 +1,6 @@
 //! Where the lines of a paragraph end (CSS 2, 9.4.2).
 
-ghost use Rattle.std.specs.Prelude.{◌≡◌, ◌+◌, ◌≤◌, Some, IfOk, OnOk, length, map};
+ghost use Rattle.std.specs.Prelude.{◌≡◌, ◌+◌, ◌≤◌, Some, IfOk, OnOk, length};
 ghost use Rattle.para_lines.specs.Conditions.{IsInput, IsInput-prop};
 
 use crate::alone::Alone;

@@ -1,6 +1,6 @@
 //! The items of a paragraph as lines are filled with them (CSS 2, 9.4.2).
 
-ghost use Rattle.std.specs.Prelude.{◌≡◌, ◌+◌, ◌-◌, ◌<◌, ◌≤◌, ◌^◌, [], ℤ, All, IfOk, IfSome, List, Option, length, drop, pos, slice_index_or, unsigned_abs};
+ghost use Rattle.std.specs.Prelude.{◌≡◌, ◌+◌, ◌-◌, ◌<◌, ◌≤◌, ◌^◌, ℤ, IfOk, IfSome, List, Option, length, drop, pos, slice_index_or, unsigned_abs};
 ghost use Rattle.std.proofs.Props.{props};
 ghost use Rattle.fragment_types.specs.Item.{Entry};
 ghost use Rattle.fragment_types.specs.declared.breaking.Breaking.{Breaking};

@@ -1,5 +1,5 @@
 -- Positions that an independent implementation gives, by computation.
-use Rattle.std.specs.Prelude.{◌≡◌, refl, ℕ, true, [], ◌∷◌, ℤ, pos, negsuc, Option, Some, None}
+use Rattle.std.specs.Prelude.{◌≡◌, refl, ℕ, true, [], ◌∷◌, pos, negsuc, Option, Some, None}
 use Rattle.style_types.specs.Initial.{initial}
 use Rattle.style_types.specs.Tree.{NodeKind, element, line_break, text, node, none}
 use Rattle.style_types.specs.declared.style.Display.{Display}

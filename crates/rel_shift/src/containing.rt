@@ -1,9 +1,9 @@
 //! Containing blocks of relatively positioned elements, and the shift in one (CSS Positioned Layout 3, 3.2 to 3.4).
 
-ghost use Rattle.std.specs.Prelude.{◌≡◌, ◌≤◌, ◌^◌, unsigned_abs, IfSome};
+ghost use Rattle.std.specs.Prelude.{◌≡◌, ◌^◌, IfSome};
 ghost use Rattle.rel_shift.specs.Bounds.{IsSized, IsWithin};
 ghost use Rattle.rel_shift.specs.Own as rule;
-ghost use Rattle.style_types.specs.Style.{AreInsets, IsExtent, IsLength};
+ghost use Rattle.style_types.specs.Style.{AreInsets, IsLength};
 
 use crate::insets::{Shift, inset_on};
 use size_rules::resolved;

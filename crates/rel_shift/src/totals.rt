@@ -3,9 +3,9 @@
 ghost use Rattle.std.specs.BTreeMap.{get};
 ghost use Rattle.std.specs.List.{All};
 ghost use Rattle.std.specs.Ordering.{nat_cmp};
-ghost use Rattle.std.specs.Prelude.{◌≡◌, ℕ, ◌+◌, ◌≤◌, ◌^◌, length, IfOk, IfSome};
+ghost use Rattle.std.specs.Prelude.{◌≡◌, ℕ, ◌≤◌, ◌^◌, length, IfOk};
 ghost use Rattle.place_map.specs.Placed.{placed_of};
-ghost use Rattle.rel_shift.specs.Bounds.{AreSized, HasBounds, IsSized, IsWithin};
+ghost use Rattle.rel_shift.specs.Bounds.{AreSized, HasBounds, IsWithin};
 ghost use Rattle.rel_shift.specs.Boxes.{box_of};
 ghost use Rattle.rel_shift.specs.Own as sums;
 ghost use Rattle.rel_shift.specs.Totals as rule;

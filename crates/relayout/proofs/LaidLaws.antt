@@ -10,7 +10,7 @@ use Rattle.margin_collapse.specs.declared.margins.Margins.{Margins}
 use Rattle.margin_collapse.specs.Pairs.{IsPairOf}
 use Rattle.fragment_types.specs.declared.fragment.Fragment.{Fragment}
 use Rattle.style_types.specs.declared.style.Style.{Style}
-use Rattle.fragment_types.specs.Fragment.{Kind, block, line, measure, run, span, Pieces, before, moved_to, none, piece_of, pieces_of}
+use Rattle.fragment_types.specs.Fragment.{Kind, block, line, measure, run, span, Pieces, none, pieces_of}
 use Rattle.block_flow.specs.declared.boxes.ChildBox.{ChildBox}
 use Rattle.block_flow.specs.declared.boxes.ParentEdges.{ParentEdges}
 use Rattle.block_flow.specs.Stacking as stacking

@@ -17,7 +17,7 @@ use Rattle.box_arena.specs.Arena.{Keeps, KeepsText}
 use Rattle.box_arena.specs.At.{Node, Slots, first_at, links_at, next_at, node_at, node_of, parent_at, text_at}
 use Rattle.box_arena.specs.Boxes.{StandFrom}
 use Rattle.box_arena.specs.Links as linking
-use Rattle.box_arena.specs.Links.{IsLinked, first_of, next_of, parent_of}
+use Rattle.box_arena.specs.Links.{IsLinked}
 use Rattle.box_gen.specs.Tree.{Boxes, Content, blocks, box, inline, none as no_boxes}
 use Rattle.para_prepare.specs.Preparation.{Preparation}
 use Rattle.relayout.specs.declared.flowed.LaidBox.{LaidBox}

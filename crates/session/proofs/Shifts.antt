@@ -1,5 +1,5 @@
 -- What a page needs to be shifted by the positions of its document, and that it is then.
-use Rattle.std.proofs.Common.{◌≡◌, refl, sym, ap, subst, ◌∙◌, arith, ℕ, suc, ◌+◌, ◌≤◌, List, length, Option, Some, None, IfSome}
+use Rattle.std.proofs.Common.{◌≡◌, sym, ap, subst, ◌∙◌, arith, ℕ, ◌≤◌, List, length, Option, Some, None, IfSome}
 use Rattle.std.specs.List.{All}
 use Rattle.std.specs.declared.vec.Vec.{Vec}
 use Rattle.face_api.specs.Table.{Table}

@@ -1,4 +1,4 @@
-use Rattle.std.proofs.Common.{◌≡◌, ◌∙◌, refl, ap, arith, map, List, ℕ, to_z, of_z, w64}
+use Rattle.std.proofs.Common.{◌≡◌, ◌∙◌, refl, ap, arith, map, List, to_z, of_z, w64}
 use Rattle.std.proofs.lemmas.Int.{ints}
 use Rattle.line_place.specs.LineText.{extent_in, unit_in}
 use Rattle.line_place.specs.Reach.{item_reach, total}

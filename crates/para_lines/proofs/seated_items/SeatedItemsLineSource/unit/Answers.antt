@@ -1,11 +1,10 @@
-use Rattle.std.proofs.Common.{◌≡◌, ◌<◌, ◌∙◌, ap, sym, subst, arith, length, List, ℕ}
-use Rattle.std.specs.Prelude.{slice_index_or}
+use Rattle.std.proofs.Common.{◌<◌, ◌∙◌, ap, sym, arith, length, List}
 use Rattle.std.proofs.lemmas.List.{get_or-map, length-map}
 use Rattle.fragment_types.specs.Item.{Entry}
 use Rattle.line_place.specs.Line.{Item}
 use Rattle.line_place.specs.LineText.{unit_in}
 use Rattle.para_lines.specs.Standing.{Standing, plain}
-use Rattle.para_lines.specs.Line.{ItemsOn, standing_of}
+use Rattle.para_lines.specs.Line.{standing_of}
 use Rattle.para_lines.specs.Lines as rule
 use Rattle.para_lines.proofs.TextLines.{unit_bare}
 use Rattle.para_lines.proofs.seated_items.SeatedItemsLineSource.unit.Goals as goal

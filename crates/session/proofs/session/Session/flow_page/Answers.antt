@@ -1,4 +1,4 @@
-use Rattle.std.proofs.Common.{◌∙◌, ap, subst, sym}
+use Rattle.std.proofs.Common.{subst, sym}
 use Rattle.face_api.specs.Faces.{faces_of}
 use Rattle.fragment_types.specs.Fragment.{kind_of, piece_of}
 use Rattle.fragment_types.specs.declared.fragment.Fragment.{out-Fragment}

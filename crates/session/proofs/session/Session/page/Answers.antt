@@ -1,4 +1,4 @@
-use Rattle.std.proofs.Common.{◌∙◌, ap, sym, Some, arith}
+use Rattle.std.proofs.Common.{◌∙◌, ap, Some, arith}
 use Rattle.face_api.specs.Faces.{faces_of}
 use Rattle.place_map.specs.Placed.{placed_of}
 use Rattle.session.specs.Kept.{shifted_by}
