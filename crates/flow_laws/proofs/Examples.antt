@@ -1,5 +1,5 @@
 -- The laws at trees of boxes, whose numbers were worked out by hand.
-use Rattle.std.proofs.Common.{◌≡◌, refl, arith, ℕ, false, List, [], ◌∷◌, Option, Some, None, ℤ, pos, ◌+ℤ◌, ◌≤ℤ◌}
+use Rattle.std.proofs.Common.{◌≡◌, refl, arith, ℕ, true, false, List, [], ◌∷◌, Option, Some, None, ℤ, pos, ◌+ℤ◌, ◌≤ℤ◌}
 use Rattle.std.proofs.lemmas.Int.{ints}
 use Rattle.face_api.specs.Kinds.{mono_table, wide_table, first_table}
 use Rattle.face_api.specs.Living.{used_table}
@@ -12,6 +12,8 @@ use Rattle.style_types.specs.declared.style.Display.TheVariants as displays
 use Rattle.style_types.specs.declared.style.Size.TheVariants as sizes
 use Rattle.style_types.specs.declared.style.Style.{Style}
 use Rattle.style_types.specs.Initial.{initial}
+use Rattle.style_types.specs.Tree as styled
+use Rattle.style_types.specs.Tree.{Nodes}
 use Rattle.fragment_types.specs.Item as item
 use Rattle.fragment_types.specs.Item.{Entry}
 use Rattle.style_types.specs.Style.{IsBounded}
@@ -39,6 +41,7 @@ use Rattle.unicode_segmentation.proofs.Computing.{unicode_segmentation}
 use Rattle.size_rules.specs.Equation.{or_zero, rest, start_margin}
 use Rattle.fragment_types.specs.Fragment.{Kind, block, none, piece, Pieces}
 use Rattle.box_arena.specs.At.{Node}
+use Rattle.box_gen.specs.Boxes.{root_boxes}
 use Rattle.box_gen.specs.Tree.{Boxes, none as no_boxes, box, blocks, inline}
 use Rattle.relayout.specs.Boxed.{block_box, border_box, boxed, content_area, handed_on, measured}
 use Rattle.relayout.specs.Content.{filled, paragraph, stack}
@@ -54,9 +57,11 @@ use Rattle.flow_laws.specs.Placing.{AreBoxesOf, come_to, given}
 use Rattle.flow_laws.specs.Constraint.{Met, behind, comes_to, fragment_on, here, inside, outside_of}
 use Rattle.flow_laws.specs.Margins.{FillsInline}
 use Rattle.flow_laws.specs.Standing.{AreLinesInside, StandBetween}
+use Rattle.flow_laws.specs.Static.{static_nodes}
 use Rattle.flow_laws.proofs.ConstraintLaws.{same_box_same_fragment}
 use Rattle.flow_laws.proofs.MarginLaws.{fills_containing_block}
 use Rattle.flow_laws.proofs.StandingLaws.{content_stands_inside, lines_stand_inside}
+use Rattle.flow_laws.proofs.StaticLaws.{flows_are_of_static_nodes}
 
 abbrev no_faces : List (Option Table)
 no_faces = []
@@ -211,3 +216,15 @@ rect_of (piece name rect kind none next) = rect
 on_line : rect_of held.part.inner ≡ record { i = pos 64; b = pos 448; inline = pos 640; block = pos 320 }
 unfolding flow_step asked measured laid_out boxed border_box content_area block_box handed_on contribution inner shrunk equation_of inline_size known_size inline_place stack filled initial or_zero rest start_margin paragraph paragraph_lines fill_items box_at chains leaves line_marks preparation parts marks taking_part bidi_texts inside_boxes visual_order reset order paragraph_levels explicit_levels explicit_classes isolating_runs weak resolved sequence_classes sequence_levels units_of unit_clusters advance_of used_table row_of bidi_class break_class orientation mirror bracket unicode_segmentation
 on_line = refl
+
+-- ---- a box that is moved by its insets: the flow is that of a document where it is static
+
+abbrev moved : Style
+moved = record plain { relative = true; insets = record { top = sizes.Length (pos 640); right = sizes.Auto; bottom = sizes.Auto; left = sizes.Percent (pos 1000) } }
+
+abbrev document : Style → Nodes
+document style = styled.node 0 styled.element plain (styled.node 1 styled.element style (styled.node 2 (styled.text (97 ∷ [])) style styled.none styled.none) styled.none) styled.none
+
+one_flow : layout faces (pos 12800) (pos 9600) (root_boxes (document moved)) ≡ layout faces (pos 12800) (pos 9600) (root_boxes (document plain))
+unfolding static_nodes initial
+one_flow = flows_are_of_static_nodes faces (pos 12800) (pos 9600) (document moved) (document plain) refl

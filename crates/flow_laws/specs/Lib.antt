@@ -2,3 +2,4 @@ pub mod Constraint
 pub mod Margins
 pub mod Placing
 pub mod Standing
+pub mod Static
