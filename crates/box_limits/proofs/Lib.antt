@@ -1,3 +1,4 @@
+pub mod Alike
 pub mod Among
 pub mod Editing
 mod Examples
@@ -8,4 +9,6 @@ pub mod Levels
 pub mod Origins
 pub mod Parts
 pub mod Placing
+pub mod Renumbering
 pub mod Walks
+pub mod Winning

@@ -1,3 +1,4 @@
 pub mod Judging
 pub mod Limits
 pub mod Lines
+pub mod Rules

@@ -1,6 +1,7 @@
 //! Laws of the limit of boxes. These functions do nothing: their contracts are the laws.
 
 ghost use Rattle.box_limits.specs.Limits.{DocumentsAreJudgedByLines, EditsAreJudgedByTheirParts};
+ghost use Rattle.box_limits.specs.Rules.{RulesThatTurnNone};
 
 use dom_store::laws::accepted_edits_keep_roots;
 use tree_laws::laws::{accepted_edits_keep_documents_reached, accepted_edits_keep_documents_whole};
@@ -18,3 +19,8 @@ pub fn edits_are_judged_by_their_parts()
     accepted_edits_keep_documents_whole();
     accepted_edits_keep_documents_reached();
 }
+
+/// Rules that say nothing of the display or the writing mode bring no box past the limit.
+pub fn rules_that_turn_none()
+    ensures { RulesThatTurnNone }
+{}

@@ -8,6 +8,8 @@ mod judging;
 pub mod laws;
 mod place;
 mod role;
+mod rules;
 
 pub use edited::check_edited;
 pub use error::LimitError;
+pub use rules::turn_none;
