@@ -4,23 +4,24 @@ ghost use Rattle.std.specs.Prelude.{◌≡◌, ◌+◌, ◌≤◌, List, ℕ, On
 ghost use Rattle.std.specs.Io.KnownBytes.{Appends};
 ghost use Rattle.face_api.specs.Faces.{faces_of};
 ghost use Rattle.io_edge.specs.Edge.{AppendsFront, Rose};
-ghost use Rattle.dom_store.specs.Edited.{IsFitting, IsSaidEdit, bytes_brought, edit_of};
-ghost use Rattle.dom_store.specs.State.{State, state_of};
+ghost use Rattle.dom_store.specs.State.{state_of};
+ghost use Rattle.edits.specs.Change.{IsFitting, IsSaid, bytes_brought, change_of};
+ghost use Rattle.edits.specs.State.{State};
 ghost use Rattle.tree_laws.specs.Weight.{bytes, total};
 ghost use Rattle.edit_script.specs.Fitting.{AllFit, Fits, bytes_in, bytes_of};
 ghost use Rattle.edit_script.specs.Meaning as steps;
 ghost use Rattle.edit_script.specs.Views.{step_of, steps_of};
 ghost use Rattle.listing.specs.Listing.{listing};
 ghost use Rattle.session.specs.Error.{apply_word};
-ghost use Rattle.session.specs.State.{IsSound, page_in};
+ghost use Rattle.session.specs.State.{IsSound, page_in, state_in};
 ghost use Rattle.session.specs.declared.error.ApplyError.TheVariants as applying;
 ghost use Rattle.edit_job.specs.Refusal.{IsRefusal, refusal};
 ghost use Rattle.edit_job.specs.Steps.{AreStepsIn, IsStepIn};
 
 use crate::laws::steps_have_one_end;
 use crate::refusal::refusal_line;
-use dom_store::Edit;
 use edit_script::{ScriptLine, ScriptStep};
+use edits::Edit;
 use face_api::Face;
 use io_edge::{Sink, WriteError, write_all_of};
 use listing::write_listing;
@@ -44,7 +45,7 @@ pub fn tell_steps<K: Sink, L: Ledger, M: Ledger>(
     requires fit { AllFit (steps_of script.now) }
     requires room { total bytes (state_of session.old.document) + bytes_of (steps_of script.now) ≤ 1048576 }
     ensures whole { OnOk result ((due : List ℕ)
-        × AreStepsIn (faces_of ⟦<dyn Face as Face>⟧ session.old.faces) session.old (steps_of script.now) (state_of session.new.document) due
+        × AreStepsIn (faces_of ⟦<dyn Face as Face>⟧ session.old.faces) session.old (steps_of script.now) (state_in (faces_of ⟦<dyn Face as Face>⟧ session.new.faces) session.new) due
         × Appends (K.held sink.old) (K.held sink.new) due) }
     ensures front { (last : State) (due : List ℕ)
         → AreStepsIn (faces_of ⟦<dyn Face as Face>⟧ session.old.faces) session.old (steps_of script.now) last due
@@ -71,12 +72,12 @@ fn tell_step<K: Sink, L: Ledger, M: Ledger>(
     requires fits { Fits (step_of line.now.what) }
     requires room { total bytes (state_of session.old.document) + bytes_in (step_of line.now.what) ≤ 1048576 }
     ensures whole { OnOk result ((due : List ℕ)
-        × IsStepIn (faces_of ⟦<dyn Face as Face>⟧ session.old.faces) session.old (step_of line.now.what) line.now.line (state_of session.new.document) due
+        × IsStepIn (faces_of ⟦<dyn Face as Face>⟧ session.old.faces) session.old (step_of line.now.what) line.now.line (state_in (faces_of ⟦<dyn Face as Face>⟧ session.new.faces) session.new) due
         × Appends (K.held sink.old) (K.held sink.new) due) }
     ensures front { (next : State) (due : List ℕ)
         → IsStepIn (faces_of ⟦<dyn Face as Face>⟧ session.old.faces) session.old (step_of line.now.what) line.now.line next due
         → AppendsFront (K.held sink.old) (K.held sink.new) due }
-    ensures rest { session.new ≡ record session.old { document = session.new.document; boxes = session.new.boxes } }
+    ensures view { session.new.view ≡ session.old.view }
     ensures sound { IsSound (faces_of ⟦<dyn Face as Face>⟧ session.new.faces) session.new }
     ensures bytes { total bytes (state_of session.new.document) ≤ total bytes (state_of session.old.document) + bytes_in (step_of line.now.what) }
     ensures later { K.faults sink.old ≤ K.faults sink.new }
@@ -98,7 +99,7 @@ fn tell_page<K: Sink, L: Ledger, M: Ledger>(
     requires sound { IsSound (faces_of ⟦<dyn Face as Face>⟧ session.old.faces) session.old }
     ensures whole { OnOk result (Appends (K.held sink.old) (K.held sink.new) (listing (page_in (faces_of ⟦<dyn Face as Face>⟧ session.old.faces) session.old))) }
     ensures front { AppendsFront (K.held sink.old) (K.held sink.new) (listing (page_in (faces_of ⟦<dyn Face as Face>⟧ session.old.faces) session.old)) }
-    ensures rest { session.new ≡ record session.old { boxes = session.new.boxes } }
+    ensures rest { session.new ≡ record session.old { index = session.new.index; boxes = session.new.boxes } }
     ensures sound { IsSound (faces_of ⟦<dyn Face as Face>⟧ session.new.faces) session.new }
     ensures later { K.faults sink.old ≤ K.faults sink.new }
     ensures fault { IsErrOf result WriteError.WriteFault → Rose (K.faults sink.old) (K.faults sink.new) }
@@ -115,18 +116,18 @@ fn tell_edit<K: Sink>(
     sink: &mut K,
 ) -> Result<(), WriteError>
     requires sound { IsSound (faces_of ⟦<dyn Face as Face>⟧ session.old.faces) session.old }
-    requires fitting { IsFitting (edit_of edit.now) }
-    requires said { IsSaidEdit (edit_of edit.now) }
-    requires room { total bytes (state_of session.old.document) + bytes_brought (edit_of edit.now) ≤ 1048576 }
+    requires fitting { IsFitting (change_of edit.now) }
+    requires said { IsSaid (change_of edit.now) }
+    requires room { total bytes (state_of session.old.document) + bytes_brought (change_of edit.now) ≤ 1048576 }
     ensures whole { OnOk result ((due : List ℕ)
-        × IsStepIn (faces_of ⟦<dyn Face as Face>⟧ session.old.faces) session.old (steps.edit (edit_of edit.now)) line (state_of session.new.document) due
+        × IsStepIn (faces_of ⟦<dyn Face as Face>⟧ session.old.faces) session.old (steps.edit (change_of edit.now)) line (state_in (faces_of ⟦<dyn Face as Face>⟧ session.new.faces) session.new) due
         × Appends (K.held sink.old) (K.held sink.new) due) }
     ensures front { (next : State) (due : List ℕ)
-        → IsStepIn (faces_of ⟦<dyn Face as Face>⟧ session.old.faces) session.old (steps.edit (edit_of edit.now)) line next due
+        → IsStepIn (faces_of ⟦<dyn Face as Face>⟧ session.old.faces) session.old (steps.edit (change_of edit.now)) line next due
         → AppendsFront (K.held sink.old) (K.held sink.new) due }
-    ensures rest { session.new ≡ record session.old { document = session.new.document; boxes = session.new.boxes } }
+    ensures view { session.new.view ≡ session.old.view }
     ensures sound { IsSound (faces_of ⟦<dyn Face as Face>⟧ session.new.faces) session.new }
-    ensures bytes { total bytes (state_of session.new.document) ≤ total bytes (state_of session.old.document) + bytes_brought (edit_of edit.now) }
+    ensures bytes { total bytes (state_of session.new.document) ≤ total bytes (state_of session.old.document) + bytes_brought (change_of edit.now) }
     ensures later { K.faults sink.old ≤ K.faults sink.new }
     ensures fault { IsErrOf result WriteError.WriteFault → Rose (K.faults sink.old) (K.faults sink.new) }
 {
@@ -147,7 +148,13 @@ fn tell_refusal<K: Sink>(error: ApplyError, line: usize, sink: &mut K) -> Result
     ensures fault { IsErrOf result WriteError.WriteFault → Rose (K.faults sink.old) (K.faults sink.new) }
 {
     match error {
-        ApplyError::Document(_) | ApplyError::Limit(_) => {
+        ApplyError::Document(_)
+        | ApplyError::NoFace
+        | ApplyError::Fixed
+        | ApplyError::Full
+        | ApplyError::TooManyRules
+        | ApplyError::NoRule
+        | ApplyError::Limit(_) => {
             write_all_of(sink, refusal_line(error.word(), line).as_bytes())
         }
         ApplyError::Memory => Err(WriteError::Memory),

@@ -13,9 +13,10 @@ use Rattle.reading.proofs.DecimalLaws.{decimal_spells}
 use Rattle.reading.proofs.WordLaws.{one_word_spells}
 use Rattle.edit_script.specs.declared.command.Word.{Word}
 use Rattle.edit_script.specs.declared.command.Word.TheVariants as words_
-use Rattle.edit_script.specs.Command.{Command, all, argument, arguments, command, insert_arguments, is_end, move_arguments, node_and_rest, nothing, rest, words}
+use Rattle.edit_script.specs.Command.{Command, all, argument, argument_within, arguments, command, insert_arguments, is_end, metric_arguments, move_arguments, node_and_rest, nothing, rest, words}
 use Rattle.edit_script.specs.Command as commands
-use Rattle.edit_script.specs.Grammar.{AreArguments, IsArgument, IsCommand, IsNodeAndRest, IsRest}
+use Rattle.edit_script.specs.Grammar.{AreArguments, IsArgument, IsArgumentWithin, IsCommand, IsMetric, IsNodeAndRest, IsRest}
+use Rattle.edit_script.proofs.CharacterLaws.{character_spells, from_within, is_within, orientation_no_digit, orientation_spells, passing, passing_spells, to_within}
 
 abbrev pub good : {A : Type 0} → A × List ℕ → Read A
 good x = Ok x
@@ -43,6 +44,20 @@ argument_no_digit text behind n a = subst (λ (t : List ℕ). NoDigit (t ++ behi
 more_no_digit : (text front more behind : List ℕ) (n : ℕ) → IsArgument front n → text ≡ front ++ more → NoDigit (text ++ behind)
 more_no_digit text front more behind n a whole =
     subst (λ (t : List ℕ). NoDigit (t ++ behind)) (sym whole) (subst (λ (f : List ℕ). NoDigit ((f ++ more) ++ behind)) (sym a.2) refl)
+
+-- a space with which a text begins is no digit
+spaced_no_digit : (text front more behind inside : List ℕ) → text ≡ front ++ more → front ≡ 32 ∷ inside → NoDigit (text ++ behind)
+spaced_no_digit text front more behind inside whole is =
+    subst (λ (t : List ℕ). NoDigit (t ++ behind)) (sym whole) (subst (λ (f : List ℕ). NoDigit ((f ++ more) ++ behind)) (sym is) refl)
+
+within_spells : (least most : ℕ) → Spells (argument_within least most) (IsArgumentWithin least most) NoDigit
+unfolding argument_within passing is_within
+within_spells least most =
+    spells_as (passing_spells (is_within least most) argument_spells) (λ text n is. (is.0, (to_within least most n is.1).0, (to_within least most n is.1).1))
+    (λ text n is. (is.0, from_within least most n is.1 is.2))
+
+within_last : (least most : ℕ) → Spells (argument_within least most) (IsArgumentWithin least most) AtEnd
+within_last least most = spells_before (within_spells least most) end_no_digit
 
 -- ---- what stands behind them
 
@@ -93,6 +108,15 @@ node_and_rest_spells =
     follow_spells argument_spells (λ node. mapped_spells (λ behind. (node, behind)) rest_spells)
     (λ node y back behind r last. rest_no_digit back r.0 behind r.1 last)
 
+metric_spells : Spells metric_arguments IsMetric AtEnd
+unfolding metric_arguments
+metric_spells =
+    follow_spells (within_spells 0 7)
+    (λ face. follow_spells character_spells
+    (λ c. follow_spells orientation_spells (λ upright. mapped_spells (λ value. commands.metric face c upright value) (within_last 0 10000)) (λ upright y back behind r last. tt))
+    (λ c y back behind r last. orientation_no_digit back r.1 r.2 behind r.0 r.3 r.5))
+    (λ face y back behind r last. spaced_no_digit back r.1 r.2 behind _ r.5 r.3.2)
+
 -- ---- what stands behind each word
 
 arguments_spell : (word : Word) → Spells (arguments word) (AreArguments word) AtEnd
@@ -111,6 +135,10 @@ arguments_spell words_.Move =
     (λ node. follow_spells argument_spells (λ parent. mapped_spells (λ index. commands.move node parent index) argument_last)
     (λ parent y back behind r last. argument_no_digit back behind r.0 r.1))
     (λ node y back behind r last. more_no_digit back r.1 r.2 behind r.0 r.3 r.5)
+arguments_spell words_.Metric = metric_spells
+arguments_spell words_.Retire = mapped_spells (λ face. commands.retire face) (within_last 1 7)
+arguments_spell words_.Rule = mapped_spells (λ behind. commands.rule behind) rest_spells
+arguments_spell words_.Unrule = mapped_spells (λ index. commands.unrule index) argument_last
 arguments_spell words_.Show = spells_before (give_spells commands.show) (λ behind last. tt)
 
 -- ---- to the end of the line

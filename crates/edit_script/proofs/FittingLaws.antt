@@ -1,29 +1,28 @@
 -- What a script brings to a document.
-use Rattle.std.proofs.Common.{◌≡◌, ℕ, suc, ◌+◌, ◌-◌, ◌≤◌, ◌==◌, min, Bool, true, false, cond, take, slice_index, List, [], ◌∷◌, length, Option, Some, None, Ok, Err, refl, ap, sym, subst, inl, inr, arith}
-use Rattle.std.specs.Prelude.{IfOk, Result, ⊤}
-use Rattle.std.specs.List.{All, onto_first, slice_split}
+use Rattle.std.proofs.Common.{◌≡◌, ℕ, suc, ◌+◌, ◌-◌, ◌≤◌, ◌==◌, Bool, true, false, cond, take, slice_index, List, [], ◌∷◌, length, Some, None, Ok, Err, refl, ap, sym, subst, inl, inr, arith}
+use Rattle.std.specs.Prelude.{IfOk, Result}
+use Rattle.std.specs.List.{onto_first, slice_split}
 use Rattle.std.specs.Str.Lines.{strip_carriage_return}
 use Rattle.std.proofs.lemmas.List.{length-take}
-use Rattle.std.proofs.lemmas.List.Elements.{All-cons}
 use Rattle.std.proofs.lemmas.List.Splits.{slice_split-cons_no, slice_split-cons_yes}
 use Rattle.basic_laws.proofs.Lists.{back_fits}
-use Rattle.css_types.specs.declared.value.Declaration.{Declaration}
 use Rattle.html_tokens.specs.Grammar.{IsGap}
 use Rattle.html_read.specs.Grammar.{IsFragment}
 use Rattle.html_read.specs.Shape.{text_bytes}
 use Rattle.html_read.specs.Values.{Node}
 use Rattle.edit_script.specs.Command as commands
-use Rattle.edit_script.specs.Command.{Command}
+use Rattle.edit_script.specs.Command.{Command, command}
 use Rattle.edit_script.specs.declared.command.Word.{Word}
 use Rattle.edit_script.specs.declared.command.Word.TheVariants as words_
 use Rattle.edit_script.specs.declared.error.ScriptError.{ScriptError}
 use Rattle.edit_script.specs.Answered.{Told}
-use Rattle.edit_script.specs.Fitting.{AllFit, BringNoMore, bytes_in, bytes_of}
-use Rattle.edit_script.specs.Grammar.{AreArguments, AreLines, IsCommand, IsNodeAndRest, IsRest, Means, Says}
+use Rattle.edit_script.specs.Fitting.{AllFit, BringNoMore, HasFitting, bytes_in, bytes_of}
+use Rattle.edit_script.specs.Grammar.{AreArguments, AreLines, IsCommand, IsNodeAndRest, IsRest, Means}
 use Rattle.edit_script.specs.Meaning.{Step}
 use Rattle.edit_script.specs.Script.{Begun, StepAt, empty, is_lf, script}
 use Rattle.edit_script.proofs.AnsweredLaws.{told_script}
-use Rattle.edit_script.proofs.MeaningLaws.{FragmentsAre}
+use Rattle.edit_script.proofs.CommandLaws.{command_is, good}
+use Rattle.edit_script.proofs.MeaningLaws.{AreSpelled}
 
 -- ---- what stands behind the words of a line
 
@@ -34,6 +33,10 @@ rest_of (commands.class node rest) = rest
 rest_of (commands.insert parent index rest) = rest
 rest_of (commands.remove node) = []
 rest_of (commands.move node parent index) = []
+rest_of (commands.metric face c upright value) = []
+rest_of (commands.retire face) = []
+rest_of (commands.rule rest) = rest
+rest_of (commands.unrule index) = []
 rest_of commands.show = []
 
 rest_within : (text rest : List ℕ) → IsRest text rest → length rest ≤ length text
@@ -64,6 +67,11 @@ arguments_within words_.Insert text c (parent, front, back, number, (index, betw
 arguments_within words_.Remove text c (node, is, same) = let long = same_rest c (commands.remove node) same in omega (arith, long)
 arguments_within words_.Move text c (node, front, back, number, (parent, between, last, other, (index, is, same), cut), whole) =
     let long = same_rest c (commands.move node parent index) same in omega (arith, long)
+arguments_within words_.Metric text c (face, f1, b1, number, (code, f2, b2, character, (upright, f3, b3, orientation, (value, is, same), w3), w2), w1) =
+    let long = same_rest c (commands.metric face code upright value) same in omega (arith, long)
+arguments_within words_.Retire text c (face, is, same) = let long = same_rest c (commands.retire face) same in omega (arith, long)
+arguments_within words_.Rule text c (rest, is, same) = let within = rest_within text rest is in let long = same_rest c (commands.rule rest) same in omega (arith, within, long)
+arguments_within words_.Unrule text c (index, is, same) = let long = same_rest c (commands.unrule index) same in omega (arith, long)
 arguments_within words_.Show text c (none, same) = let long = same_rest c commands.show same in omega (arith, long)
 
 command_within : (line : List ℕ) (c : Command) → IsCommand line c → length (rest_of c) ≤ length line
@@ -71,6 +79,26 @@ command_within line c (word, front, back, is, arguments, cut) =
     let within = arguments_within word back c arguments in
     let most = back_fits front back line cut in
     omega (arith, within, most)
+
+-- ---- numbers that fit
+
+arguments_fit : (word : Word) (text : List ℕ) (c : Command) → AreArguments word text c → HasFitting c
+arguments_fit words_.Text text c (r, is, same) = subst HasFitting (sym same) tt
+arguments_fit words_.Style text c (r, is, same) = subst HasFitting (sym same) tt
+arguments_fit words_.Class text c (r, is, same) = subst HasFitting (sym same) tt
+arguments_fit words_.Insert text c (parent, front, back, number, (index, between, last, other, (rest, is, same), cut), whole) = subst HasFitting (sym same) tt
+arguments_fit words_.Remove text c (node, is, same) = subst HasFitting (sym same) tt
+arguments_fit words_.Move text c (node, front, back, number, (parent, between, last, other, (index, is, same), cut), whole) = subst HasFitting (sym same) tt
+arguments_fit words_.Metric text c (face, f1, b1, number, (code, f2, b2, character, (upright, f3, b3, orientation, (value, is, same), w3), w2), w1) = subst HasFitting (sym same) is.2
+arguments_fit words_.Retire text c (face, is, same) = subst HasFitting (sym same) is.1
+arguments_fit words_.Rule text c (rest, is, same) = subst HasFitting (sym same) tt
+arguments_fit words_.Unrule text c (index, is, same) = subst HasFitting (sym same) tt
+arguments_fit words_.Show text c (none, same) = subst HasFitting (sym same) tt
+
+pub command_fits : (line rest : List ℕ) (c : Command) → command line ≡ good (c, rest) → HasFitting c
+command_fits line rest c e =
+    let is = command_is line rest c e in
+    arguments_fit is.0 is.2 c is.4
 
 -- ---- lines
 
@@ -114,6 +142,10 @@ module _ (shorter : (text letters : List ℕ) → IsGap text letters → length 
   means_within (commands.insert parent index rest) what (nodes, own, is, each, same) = let long = same_bytes what _ same in let within = fragments rest nodes is in omega (arith, long, within)
   means_within (commands.remove node) what same = let long = same_bytes what _ same in omega (arith, long)
   means_within (commands.move node parent index) what same = let long = same_bytes what _ same in omega (arith, long)
+  means_within (commands.metric face c upright value) what same = let long = same_bytes what _ same in omega (arith, long)
+  means_within (commands.retire face) what same = let long = same_bytes what _ same in omega (arith, long)
+  means_within (commands.rule rest) what (all, is, same) = let long = same_bytes what _ same in omega (arith, long)
+  means_within (commands.unrule index) what same = let long = same_bytes what _ same in omega (arith, long)
   means_within commands.show what same = let long = same_bytes what _ same in omega (arith, long)
 
   lines_within : (number : ℕ) (lines : List (List ℕ)) (said : List StepAt) → AreLines number lines said → bytes_of said ≤ total lines
@@ -141,6 +173,6 @@ module _ (shorter : (text letters : List ℕ) → IsGap text letters → length 
 pub none_fit : (begun : Begun) → begun ≡ empty → AllFit begun.said
 none_fit begun is = subst (λ (b : Begun). AllFit b.said) (sym is) (λ place other within. absurd (omega (arith, within)))
 
-pub told_bytes : {X : Type 0} → BringNoMore → FragmentsAre → (view : X → List StepAt) (start : ℕ) (text : List ℕ) (r : Result X ScriptError) → Told start view r (script text) → IfOk r (λ x. bytes_of (view x) ≤ length text)
-told_bytes no_more fragments_are view start text (Ok x) e = no_more text (view x) (told_script fragments_are view start text (Ok x) e).is
-told_bytes no_more fragments_are view start text (Err error) e = tt
+pub told_bytes : {X : Type 0} → BringNoMore → AreSpelled → (view : X → List StepAt) (start : ℕ) (text : List ℕ) (r : Result X ScriptError) → Told start view r (script text) → IfOk r (λ x. bytes_of (view x) ≤ length text)
+told_bytes no_more spelled view start text (Ok x) e = no_more text (view x) (told_script spelled view start text (Ok x) e).is
+told_bytes no_more spelled view start text (Err error) e = tt

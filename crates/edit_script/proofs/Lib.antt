@@ -1,5 +1,6 @@
 mod AnsweredLaws
 mod Bringing
+mod CharacterLaws
 mod ClassWords
 mod CommandLaws
 mod Examples

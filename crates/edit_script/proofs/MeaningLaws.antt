@@ -7,6 +7,7 @@ use Rattle.reading.specs.Readers.{◌>>=◌, ReadOr, follow, give, mapped}
 use Rattle.reading.specs.Stop.{end_of}
 use Rattle.reading.proofs.SpellLaws.{bind_ok, same_answer, told_ok}
 use Rattle.css_types.specs.declared.value.Declaration.{Declaration}
+use Rattle.css_types.specs.Rule.{Ruling}
 use Rattle.html_tokens.specs.Error as html_error
 use Rattle.html_tokens.specs.Grammar.{IsGap}
 use Rattle.html_tokens.specs.Text.{gap}
@@ -21,14 +22,19 @@ use Rattle.css_values.specs.Grammar.{AreDeclarations}
 use Rattle.css_values.specs.declared.within.Within.TheVariants.{Attribute}
 use Rattle.css_values.proofs.AnsweredLaws.{attribute_found}
 use Rattle.css_values.proofs.DeclarationLaws.{declarations_spells}
-use Rattle.css_sheet.specs.Answered.{AreEach, AreOwn, AreOwnOf}
+use Rattle.css_sheet.specs.Answered.{AreEach, AreOwn, AreOwnOf, IsWholeSheet}
+use Rattle.css_sheet.specs.Grammar.{IsSheet}
+use Rattle.css_sheet.specs.Sheet.{Sheet, empty, sheet}
+use Rattle.reading.specs.Placed.{SpellsPlaced}
+use Rattle.reading.specs.Spelling.{Anything}
 use Rattle.css_sheet.specs.Styled.{Placed, at_name, attributes, before_others, moved_to, own_of, own_of_kind}
 use Rattle.css_sheet.specs.Styled as styled
 use Rattle.edit_script.specs.Command.{Command, nothing}
 use Rattle.edit_script.specs.Command as commands
 use Rattle.edit_script.specs.Grammar.{IsText, Means}
-use Rattle.edit_script.specs.Meaning.{Said, Step, and_then, by_css, by_html, by_styles, is_less, letters, meaning, new_nodes, own, unless, whole_gap}
+use Rattle.edit_script.specs.Meaning.{Said, Step, and_then, by_css, by_html, by_styles, is_less, letters, meaning, new_nodes, own, sheet_rules, unless, whole_gap}
 use Rattle.dom_store.specs.Edits as edits
+use Rattle.edits.specs.Change as changes
 use Rattle.edit_script.specs.Meaning as meanings
 use Rattle.edit_script.proofs.CommandLaws.{nothing_takes}
 
@@ -124,6 +130,40 @@ own_again bytes all are =
     ap (declarations Attribute (end_of 0 bytes)) (sym (append-nil bytes)) ∙ (declarations_spells Attribute (end_of 0 bytes)).again bytes all [] are tt in
     ap by_css read
 
+-- ---- rules
+
+-- sheets are read as they are spelled
+abbrev pub SheetsAre : Type 0
+SheetsAre = (end_ : ℕ) (s : Sheet) → SpellsPlaced (sheet end_ s) (IsSheet end_ s) Anything
+
+whole_is : SheetsAre → (bytes rest : List ℕ) (all : Sheet) → sheet (end_of 0 bytes) empty bytes ≡ css_ok (all, rest) → IsWholeSheet 0 bytes all
+whole_is sheets_are bytes rest all e =
+    let t = (sheets_are (end_of 0 bytes) empty).takes bytes all rest e in
+    let none : rest ≡ [] = t.1.ends in
+    let whole : bytes ≡ t.0 = t.2 ∙ ap (λ (l : List ℕ). t.0 ++ l) none ∙ append-nil t.0 in
+    let end_ = end_of 0 bytes in
+    subst (λ (text : List ℕ). IsSheet end_ empty text [] all) (sym whole) (subst (λ (behind : List ℕ). IsSheet end_ empty t.0 behind all) none t.1)
+
+whole_again : SheetsAre → (bytes : List ℕ) (all : Sheet) → IsWholeSheet 0 bytes all → sheet (end_of 0 bytes) empty bytes ≡ css_ok (all, [])
+whole_again sheets_are bytes all is = ap (sheet (end_of 0 bytes) empty) (sym (append-nil bytes)) ∙ (sheets_are (end_of 0 bytes) empty).again bytes all [] is tt
+
+-- the rules of a whole sheet
+abbrev AreRulesOf : List ℕ → List Ruling → Type 0
+AreRulesOf bytes rules = (all : Sheet) × IsWholeSheet 0 bytes all × (rules ≡ all.rules)
+
+sheet_is : SheetsAre → (bytes : List ℕ) (rules : List Ruling) → sheet_rules bytes ≡ there rules → AreRulesOf bytes rules
+unfolding sheet_rules
+sheet_is sheets_are bytes rules e =
+    let r = by_css_ok (mapped (λ s. s.rules) (sheet (end_of 0 bytes) empty) bytes) rules e in
+    let a = bind_ok (sheet (end_of 0 bytes) empty bytes) (λ (p : Sheet × List ℕ). give p.0.rules p.1) (rules, r.0) r.1 in
+    let same = same_answer {E = css_error.Fault} a.0.0.rules rules a.0.1 r.0 a.2 in
+    (a.0.0, whole_is sheets_are bytes a.0.1 a.0.0 a.1, sym same.0)
+
+sheet_again : SheetsAre → (bytes : List ℕ) (all : Sheet) → IsWholeSheet 0 bytes all → sheet_rules bytes ≡ there all.rules
+unfolding sheet_rules
+sheet_again sheets_are bytes all is =
+    ap (λ (r : ReadOr css_error.Fault Sheet). by_css (r >>= λ (p : Sheet × List ℕ). give p.0.rules p.1)) (whole_again sheets_are bytes all is)
+
 -- ---- nodes with their styles
 
 abbrev placed : {A : Type 0} → A → Placed A
@@ -209,33 +249,50 @@ new_again fragments_are bytes nodes own_ is are =
 
 -- ---- lines
 
-pub means : FragmentsAre → (c : Command) (what : Step) → meaning c ≡ there what → Means c what
-unfolding meaning
-means fragments_are (commands.text node rest) what e =
-    let a = then_ok (letters rest) (λ (l : List ℕ). there (meanings.edit (edits.set_text node l))) what e in
-    (a.0, text_is rest a.0 a.1, sym (same_there (meanings.edit (edits.set_text node a.0)) what a.2))
-means fragments_are (commands.style node rest) what e =
-    let a = then_ok (own rest) (λ (d : List Declaration). there (meanings.edit (edits.set_style node d))) what e in
-    (a.0, own_is rest a.0 a.1, sym (same_there (meanings.edit (edits.set_style node a.0)) what a.2))
-means fragments_are (commands.class node rest) what e = cc
-means fragments_are (commands.insert parent index rest) what e =
-    let a = then_ok (new_nodes rest) (λ (new : List Node × List (List Declaration)). there (meanings.edit (edits.insert parent index new.0 new.1))) what e in
-    let is = new_is fragments_are rest a.0 a.1 in
-    (a.0.0, a.0.1, is.fragment, is.styles, sym (same_there (meanings.edit (edits.insert parent index a.0.0 a.0.1)) what a.2))
-means fragments_are (commands.remove node) what e = cc
-means fragments_are (commands.move node parent index) what e = cc
-means fragments_are commands.show what e = cc
+-- fragments and sheets are read as they are spelled
+pub record AreSpelled : Type 0 where
+  pub fragments : FragmentsAre
+  pub sheets : SheetsAre
 
-pub means_again : FragmentsAre → (c : Command) (what : Step) → Means c what → meaning c ≡ there what
+pub means : AreSpelled → (c : Command) (what : Step) → meaning c ≡ there what → Means c what
 unfolding meaning
-means_again fragments_are (commands.text node rest) what m =
-    ap (λ (r : Said (List ℕ)). and_then r (λ l. there (meanings.edit (edits.set_text node l)))) (text_again rest m.0 m.1) ∙ ap (λ (s : Step). there s) (sym m.2)
-means_again fragments_are (commands.style node rest) what m =
-    ap (λ (r : Said (List Declaration)). and_then r (λ d. there (meanings.edit (edits.set_style node d)))) (own_again rest m.0 m.1) ∙ ap (λ (s : Step). there s) (sym m.2)
-means_again fragments_are (commands.class node rest) what m = ap (λ (s : Step). there s) (sym m)
-means_again fragments_are (commands.insert parent index rest) what m =
-    ap (λ (r : Said (List Node × List (List Declaration))). and_then r (λ new. there (meanings.edit (edits.insert parent index new.0 new.1)))) (new_again fragments_are rest m.0 m.1 m.2 m.3)
+means spelled (commands.text node rest) what e =
+    let a = then_ok (letters rest) (λ (l : List ℕ). there (meanings.edit (changes.of_tree (edits.set_text node l)))) what e in
+    (a.0, text_is rest a.0 a.1, sym (same_there (meanings.edit (changes.of_tree (edits.set_text node a.0))) what a.2))
+means spelled (commands.style node rest) what e =
+    let a = then_ok (own rest) (λ (d : List Declaration). there (meanings.edit (changes.of_tree (edits.set_style node d)))) what e in
+    (a.0, own_is rest a.0 a.1, sym (same_there (meanings.edit (changes.of_tree (edits.set_style node a.0))) what a.2))
+means spelled (commands.class node rest) what e = cc
+means spelled (commands.insert parent index rest) what e =
+    let a = then_ok (new_nodes rest) (λ (new : List Node × List (List Declaration)). there (meanings.edit (changes.of_tree (edits.insert parent index new.0 new.1)))) what e in
+    let is = new_is spelled.fragments rest a.0 a.1 in
+    (a.0.0, a.0.1, is.fragment, is.styles, sym (same_there (meanings.edit (changes.of_tree (edits.insert parent index a.0.0 a.0.1))) what a.2))
+means spelled (commands.remove node) what e = cc
+means spelled (commands.move node parent index) what e = cc
+means spelled (commands.metric face c upright value) what e = cc
+means spelled (commands.retire face) what e = cc
+means spelled (commands.rule rest) what e =
+    let a = then_ok (sheet_rules rest) (λ (rules : List Ruling). there (meanings.edit (changes.rule rules))) what e in
+    let is = sheet_is spelled.sheets rest a.0 a.1 in
+    (is.0, is.1, sym (same_there (meanings.edit (changes.rule a.0)) what a.2) ∙ ap (λ (rules : List Ruling). meanings.edit (changes.rule rules)) is.2)
+means spelled (commands.unrule index) what e = cc
+means spelled commands.show what e = cc
+
+pub means_again : AreSpelled → (c : Command) (what : Step) → Means c what → meaning c ≡ there what
+unfolding meaning
+means_again spelled (commands.text node rest) what m =
+    ap (λ (r : Said (List ℕ)). and_then r (λ l. there (meanings.edit (changes.of_tree (edits.set_text node l))))) (text_again rest m.0 m.1) ∙ ap (λ (s : Step). there s) (sym m.2)
+means_again spelled (commands.style node rest) what m =
+    ap (λ (r : Said (List Declaration)). and_then r (λ d. there (meanings.edit (changes.of_tree (edits.set_style node d))))) (own_again rest m.0 m.1) ∙ ap (λ (s : Step). there s) (sym m.2)
+means_again spelled (commands.class node rest) what m = ap (λ (s : Step). there s) (sym m)
+means_again spelled (commands.insert parent index rest) what m =
+    ap (λ (r : Said (List Node × List (List Declaration))). and_then r (λ new. there (meanings.edit (changes.of_tree (edits.insert parent index new.0 new.1))))) (new_again spelled.fragments rest m.0 m.1 m.2 m.3)
     ∙ ap (λ (s : Step). there s) (sym m.4)
-means_again fragments_are (commands.remove node) what m = ap (λ (s : Step). there s) (sym m)
-means_again fragments_are (commands.move node parent index) what m = ap (λ (s : Step). there s) (sym m)
-means_again fragments_are commands.show what m = ap (λ (s : Step). there s) (sym m)
+means_again spelled (commands.remove node) what m = ap (λ (s : Step). there s) (sym m)
+means_again spelled (commands.move node parent index) what m = ap (λ (s : Step). there s) (sym m)
+means_again spelled (commands.metric face c upright value) what m = ap (λ (s : Step). there s) (sym m)
+means_again spelled (commands.retire face) what m = ap (λ (s : Step). there s) (sym m)
+means_again spelled (commands.rule rest) what m =
+    ap (λ (r : Said (List Ruling)). and_then r (λ rules. there (meanings.edit (changes.rule rules)))) (sheet_again spelled.sheets rest m.0 m.1) ∙ ap (λ (s : Step). there s) (sym m.2)
+means_again spelled (commands.unrule index) what m = ap (λ (s : Step). there s) (sym m)
+means_again spelled commands.show what m = ap (λ (s : Step). there s) (sym m)

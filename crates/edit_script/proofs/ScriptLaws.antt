@@ -6,8 +6,9 @@ use Rattle.std.specs.Str.Lines.{strip_carriage_return}
 use Rattle.std.proofs.lemmas.Bool.{lt-ltb, ltb-true}
 use Rattle.std.proofs.lemmas.List.{append-nil}
 use Rattle.reading.specs.Readers.{Read}
-use Rattle.dom_store.specs.Edits as changes
-use Rattle.dom_store.specs.Edits.{EditOf}
+use Rattle.dom_store.specs.Edits as tree
+use Rattle.edits.specs.Change as changes
+use Rattle.edits.specs.Change.{Change}
 use Rattle.edit_script.specs.declared.error.Refusal.{Refusal}
 use Rattle.edit_script.specs.declared.error.Refusal.TheVariants as kinds
 use Rattle.html_read.specs.Judging as judging
@@ -18,7 +19,7 @@ use Rattle.edit_script.specs.Meaning.{Said, Step, and_then, meaning}
 use Rattle.edit_script.specs.Meaning as meanings
 use Rattle.edit_script.specs.Script.{Begun, StepAt, at_place, counted, counted_edit, counted_show, empty, is_blank, is_lf, judged, lines_from, passed, script, unless_blank, with_line, with_step}
 use Rattle.edit_script.proofs.CommandLaws.{command_again, command_is}
-use Rattle.edit_script.proofs.MeaningLaws.{FragmentsAre, means, means_again, same_there, then_ok, there}
+use Rattle.edit_script.proofs.MeaningLaws.{AreSpelled, means, means_again, same_there, then_ok, there}
 
 -- ---- counts
 
@@ -37,7 +38,7 @@ edit_more b = record { said = b.said; lines = b.lines; edits = b.edits + 1; show
 show_more : Begun → Begun
 show_more b = record { said = b.said; lines = b.lines; edits = b.edits; shows = b.shows + 1 }
 
-edit_counts : (b : Begun) (change : EditOf) → b.edits < 10000 → IsCounted b (meanings.edit change) (edit_more b)
+edit_counts : (b : Begun) (change : Change) → b.edits < 10000 → IsCounted b (meanings.edit change) (edit_more b)
 unfolding edit_more
 edit_counts b change lt = record { said = refl; lines = refl; edits = refl; shows = omega arith; few_edits = λ few. omega (arith, lt); few_shows = λ few. few }
 
@@ -45,11 +46,11 @@ show_counts : (b : Begun) → b.shows < 64 → IsCounted b meanings.show (show_m
 unfolding show_more
 show_counts b lt = record { said = refl; lines = refl; edits = omega arith; shows = refl; few_edits = λ few. few; few_shows = λ few. omega (arith, lt) }
 
-edit_by : (b next : Begun) (change : EditOf) (t : Bool) → nat_lt b.edits 10000 ≡ t → cond t (there (edit_more b)) (Err kinds.TooManyEdits) ≡ there next → IsCounted b (meanings.edit change) next
+edit_by : (b next : Begun) (change : Change) (t : Bool) → nat_lt b.edits 10000 ≡ t → cond t (there (edit_more b)) (Err kinds.TooManyEdits) ≡ there next → IsCounted b (meanings.edit change) next
 edit_by b next change true lt e = subst (λ (z : Begun). IsCounted b (meanings.edit change) z) (same_there (edit_more b) next e) (edit_counts b change (ltb-true b.edits 10000 lt))
 edit_by b next change false lt e = absurd cc
 
-edit_counted : (b next : Begun) (change : EditOf) → counted_edit b ≡ there next → IsCounted b (meanings.edit change) next
+edit_counted : (b next : Begun) (change : Change) → counted_edit b ≡ there next → IsCounted b (meanings.edit change) next
 unfolding edit_more edit_by
 edit_counted b next change e = edit_by b next change (nat_lt b.edits 10000) refl e
 
@@ -61,17 +62,21 @@ show_counted : (b next : Begun) → counted_show b ≡ there next → IsCounted 
 unfolding show_more show_by
 show_counted b next e = show_by b next (nat_lt b.shows 64) refl e
 
-an_edit : (b next : Begun) (change : EditOf) (what : Step) → what ≡ meanings.edit change → counted_edit b ≡ there next → IsCounted b what next
+an_edit : (b next : Begun) (change : Change) (what : Step) → what ≡ meanings.edit change → counted_edit b ≡ there next → IsCounted b what next
 an_edit b next change what is e = subst (λ (w : Step). IsCounted b w next) (sym is) (edit_counted b next change e)
 
 is_counted : (c : Command) (b next : Begun) (what : Step) → Means c what → counted c b ≡ there next → IsCounted b what next
 is_counted commands.show b next what m e = subst (λ (w : Step). IsCounted b w next) (sym m) (show_counted b next e)
-is_counted (commands.text node rest) b next what m e = an_edit b next (changes.set_text node m.0) what m.2 e
-is_counted (commands.style node rest) b next what m e = an_edit b next (changes.set_style node m.0) what m.2 e
-is_counted (commands.class node rest) b next what m e = an_edit b next (changes.set_class node (judging.words rest)) what m e
-is_counted (commands.insert parent index rest) b next what m e = an_edit b next (changes.insert parent index m.0 m.1) what m.4 e
-is_counted (commands.remove node) b next what m e = an_edit b next (changes.remove node) what m e
-is_counted (commands.move node parent index) b next what m e = an_edit b next (changes.move_to node parent index) what m e
+is_counted (commands.text node rest) b next what m e = an_edit b next (changes.of_tree (tree.set_text node m.0)) what m.2 e
+is_counted (commands.style node rest) b next what m e = an_edit b next (changes.of_tree (tree.set_style node m.0)) what m.2 e
+is_counted (commands.class node rest) b next what m e = an_edit b next (changes.of_tree (tree.set_class node (judging.words rest))) what m e
+is_counted (commands.insert parent index rest) b next what m e = an_edit b next (changes.of_tree (tree.insert parent index m.0 m.1)) what m.4 e
+is_counted (commands.remove node) b next what m e = an_edit b next (changes.of_tree (tree.remove node)) what m e
+is_counted (commands.move node parent index) b next what m e = an_edit b next (changes.of_tree (tree.move_to node parent index)) what m e
+is_counted (commands.metric face c upright value) b next what m e = an_edit b next (changes.metric face c upright value) what m e
+is_counted (commands.retire face) b next what m e = an_edit b next (changes.retire face) what m e
+is_counted (commands.rule rest) b next what m e = an_edit b next (changes.rule m.0.rules) what m.2 e
+is_counted (commands.unrule index) b next what m e = an_edit b next (changes.unrule index) what m e
 
 -- a step that may still come is counted
 record Counts (c : Command) (b : Begun) : Type 0 where
@@ -86,7 +91,7 @@ show_may : (b : Begun) → b.shows < 64 → counted_show b ≡ there (show_more 
 unfolding show_more
 show_may b lt = ap (λ (t : Bool). cond t (there (show_more b)) (Err kinds.TooManyShows)) (lt-ltb b.shows 64 lt)
 
-edit_fits : (b : Begun) (change : EditOf) (what : Step) → what ≡ meanings.edit change → b.edits + edits_in what ≤ 10000 → b.edits < 10000
+edit_fits : (b : Begun) (change : Change) (what : Step) → what ≡ meanings.edit change → b.edits + edits_in what ≤ 10000 → b.edits < 10000
 edit_fits b change what is few =
     let one : edits_in what ≡ 1 = ap edits_in is in
     omega (arith, one, few)
@@ -98,12 +103,16 @@ show_fits b what is few =
 
 may_count : (c : Command) (b : Begun) (what : Step) → Means c what → b.edits + edits_in what ≤ 10000 → b.shows + shows_in what ≤ 64 → Counts c b
 may_count commands.show b what m edits shows = record { next = show_more b; is = show_may b (show_fits b what m shows) }
-may_count (commands.text node rest) b what m edits shows = record { next = edit_more b; is = edit_may b (edit_fits b (changes.set_text node m.0) what m.2 edits) }
-may_count (commands.style node rest) b what m edits shows = record { next = edit_more b; is = edit_may b (edit_fits b (changes.set_style node m.0) what m.2 edits) }
-may_count (commands.class node rest) b what m edits shows = record { next = edit_more b; is = edit_may b (edit_fits b (changes.set_class node (judging.words rest)) what m edits) }
-may_count (commands.insert parent index rest) b what m edits shows = record { next = edit_more b; is = edit_may b (edit_fits b (changes.insert parent index m.0 m.1) what m.4 edits) }
-may_count (commands.remove node) b what m edits shows = record { next = edit_more b; is = edit_may b (edit_fits b (changes.remove node) what m edits) }
-may_count (commands.move node parent index) b what m edits shows = record { next = edit_more b; is = edit_may b (edit_fits b (changes.move_to node parent index) what m edits) }
+may_count (commands.text node rest) b what m edits shows = record { next = edit_more b; is = edit_may b (edit_fits b (changes.of_tree (tree.set_text node m.0)) what m.2 edits) }
+may_count (commands.style node rest) b what m edits shows = record { next = edit_more b; is = edit_may b (edit_fits b (changes.of_tree (tree.set_style node m.0)) what m.2 edits) }
+may_count (commands.class node rest) b what m edits shows = record { next = edit_more b; is = edit_may b (edit_fits b (changes.of_tree (tree.set_class node (judging.words rest))) what m edits) }
+may_count (commands.insert parent index rest) b what m edits shows = record { next = edit_more b; is = edit_may b (edit_fits b (changes.of_tree (tree.insert parent index m.0 m.1)) what m.4 edits) }
+may_count (commands.remove node) b what m edits shows = record { next = edit_more b; is = edit_may b (edit_fits b (changes.of_tree (tree.remove node)) what m edits) }
+may_count (commands.move node parent index) b what m edits shows = record { next = edit_more b; is = edit_may b (edit_fits b (changes.of_tree (tree.move_to node parent index)) what m edits) }
+may_count (commands.metric face c upright value) b what m edits shows = record { next = edit_more b; is = edit_may b (edit_fits b (changes.metric face c upright value) what m edits) }
+may_count (commands.retire face) b what m edits shows = record { next = edit_more b; is = edit_may b (edit_fits b (changes.retire face) what m edits) }
+may_count (commands.rule rest) b what m edits shows = record { next = edit_more b; is = edit_may b (edit_fits b (changes.rule m.0.rules) what m.2 edits) }
+may_count (commands.unrule index) b what m edits shows = record { next = edit_more b; is = edit_may b (edit_fits b (changes.unrule index) what m edits) }
 
 -- ---- a line
 
@@ -151,23 +160,23 @@ step_next b mid line what says counts = record {
   few_shows = counts.few_shows;
 }
 
-command_next : FragmentsAre → (b next : Begun) (line : List ℕ) (r : Read Command) → is_blank (strip_carriage_return line) ≡ false → command (strip_carriage_return line) ≡ r → judged r (passed b) ≡ there next → IsNext b line next
-command_next fragments_are b next line (Err left) some e j = absurd cc
-command_next fragments_are b next line (Ok read) some e j =
+command_next : AreSpelled → (b next : Begun) (line : List ℕ) (r : Read Command) → is_blank (strip_carriage_return line) ≡ false → command (strip_carriage_return line) ≡ r → judged r (passed b) ≡ there next → IsNext b line next
+command_next spelled b next line (Err left) some e j = absurd cc
+command_next spelled b next line (Ok read) some e j =
     let a = then_ok (counted read.0 (passed b)) (λ (mid : Begun). and_then (meaning read.0) (λ what. there (with_step mid what))) next j in
     let d = then_ok (meaning read.0) (λ (what : Step). there (with_step a.0 what)) next a.2 in
-    let m = means fragments_are read.0 d.0 d.1 in
+    let m = means spelled read.0 d.0 d.1 in
     let is = command_is (strip_carriage_return line) read.1 read.0 e in
     subst (λ (z : Begun). IsNext b line z) (same_there (with_step a.0 d.0) next d.2)
     (step_next b a.0 line d.0 (some, read.0, is, m) (is_counted read.0 (passed b) a.0 d.0 m a.1))
 
-next_by : FragmentsAre → (b next : Begun) (line : List ℕ) (t : Bool) → is_blank (strip_carriage_return line) ≡ t → unless_blank t (strip_carriage_return line) (passed b) ≡ there next → IsNext b line next
-next_by fragments_are b next line true blank e = subst (λ (z : Begun). IsNext b line z) (same_there (passed b) next e) (blank_next b line blank)
-next_by fragments_are b next line false some e = command_next fragments_are b next line (command (strip_carriage_return line)) some refl e
+next_by : AreSpelled → (b next : Begun) (line : List ℕ) (t : Bool) → is_blank (strip_carriage_return line) ≡ t → unless_blank t (strip_carriage_return line) (passed b) ≡ there next → IsNext b line next
+next_by spelled b next line true blank e = subst (λ (z : Begun). IsNext b line z) (same_there (passed b) next e) (blank_next b line blank)
+next_by spelled b next line false some e = command_next spelled b next line (command (strip_carriage_return line)) some refl e
 
-line_next : FragmentsAre → (b next : Begun) (line : List ℕ) → with_line b line ≡ there next → IsNext b line next
+line_next : AreSpelled → (b next : Begun) (line : List ℕ) → with_line b line ≡ there next → IsNext b line next
 unfolding with_line
-line_next fragments_are b next line e = next_by fragments_are b next line (is_blank (strip_carriage_return line)) refl e
+line_next spelled b next line e = next_by spelled b next line (is_blank (strip_carriage_return line)) refl e
 
 -- a line that may still come is read
 record Reads (b : Begun) (line : List ℕ) (first : Option Step) : Type 0 where
@@ -189,16 +198,16 @@ step_line b mid line c what some read counts means_ =
     ap (λ (t : Bool). unless_blank t (strip_carriage_return line) (passed b)) some ∙ ap (λ (r : Read Command). judged r (passed b)) read
     ∙ ap (λ (r : Said Begun). and_then r (λ next. and_then (meaning c) (λ w. there (with_step next w)))) counts ∙ ap (λ (r : Said Step). and_then r (λ w. there (with_step mid w))) means_
 
-line_reads : FragmentsAre → (b : Begun) (line : List ℕ) (first : Option Step) → Says (strip_carriage_return line) first → b.edits + edits_of (numbered (b.lines + 1) first []) ≤ 10000
+line_reads : AreSpelled → (b : Begun) (line : List ℕ) (first : Option Step) → Says (strip_carriage_return line) first → b.edits + edits_of (numbered (b.lines + 1) first []) ≤ 10000
     → b.shows + shows_of (numbered (b.lines + 1) first []) ≤ 64 → Reads b line first
-line_reads fragments_are b line None blank edits shows =
+line_reads spelled b line None blank edits shows =
     record { next = passed b; is = blank_line b line blank; lines = refl; said = sym (append-nil b.said); edits = omega arith; shows = omega arith }
-line_reads fragments_are b line (Some what) says edits shows =
+line_reads spelled b line (Some what) says edits shows =
     let counts = may_count says.1 (passed b) what says.3 (omega (arith, edits)) (omega (arith, shows)) in
     let more = is_counted says.1 (passed b) counts.next what says.3 counts.is in
     record {
       next = with_step counts.next what;
-      is = step_line b counts.next line says.1 what says.0 (command_again (strip_carriage_return line) says.1 says.2) counts.is (means_again fragments_are says.1 what says.3);
+      is = step_line b counts.next line says.1 what says.0 (command_again (strip_carriage_return line) says.1 says.2) counts.is (means_again spelled says.1 what says.3);
       lines = more.lines;
       said = step_said b counts.next what more;
       edits = step_edits b counts.next what more;
@@ -246,25 +255,25 @@ read said = Ok said
 pub ok_said : (one other : List StepAt) → read one ≡ read other → one ≡ other
 ok_said one other e = cc
 
-further : FragmentsAre → (place : ℕ) (b : Begun) (lines : List (List ℕ)) (said : List StepAt) → b.edits ≤ 10000 → b.shows ≤ 64 → lines_from place b lines ≡ Ok said → IsFurther b lines said
+further : AreSpelled → (place : ℕ) (b : Begun) (lines : List (List ℕ)) (said : List StepAt) → b.edits ≤ 10000 → b.shows ≤ 64 → lines_from place b lines ≡ Ok said → IsFurther b lines said
 unfolding lines_from
-further fragments_are place b [] said edits shows e = record { more = []; are = refl; whole = sym (append-nil b.said ∙ ok_said b.said said e); edits = omega (arith, edits); shows = omega (arith, shows) }
-further fragments_are place b (line ∷ others) said edits shows e =
+further spelled place b [] said edits shows e = record { more = []; are = refl; whole = sym (append-nil b.said ∙ ok_said b.said said e); edits = omega (arith, edits); shows = omega (arith, shows) }
+further spelled place b (line ∷ others) said edits shows e =
     let a = at_place_ok place (with_line b line) (λ (next : Begun). lines_from (place + length line + 1) next others) said e in
-    let n = line_next fragments_are b a.0 line a.1 in
-    further_line b a.0 line others said n (further fragments_are (place + length line + 1) a.0 others said (n.few_edits edits) (n.few_shows shows) a.2)
+    let n = line_next spelled b a.0 line a.1 in
+    further_line b a.0 line others said n (further spelled (place + length line + 1) a.0 others said (n.few_edits edits) (n.few_shows shows) a.2)
 
-again : FragmentsAre → (place : ℕ) (b : Begun) (lines : List (List ℕ)) (more : List StepAt) → AreLines (b.lines + 1) lines more → b.edits + edits_of more ≤ 10000 → b.shows + shows_of more ≤ 64
+again : AreSpelled → (place : ℕ) (b : Begun) (lines : List (List ℕ)) (more : List StepAt) → AreLines (b.lines + 1) lines more → b.edits + edits_of more ≤ 10000 → b.shows + shows_of more ≤ 64
     → lines_from place b lines ≡ Ok (b.said ++ more)
 unfolding lines_from
-again fragments_are place b [] more none edits shows = ap read (sym (append-nil b.said) ∙ ap (λ (l : List StepAt). b.said ++ l) (sym none))
-again fragments_are place b (line ∷ others) more are edits shows =
+again spelled place b [] more none edits shows = ap read (sym (append-nil b.said) ∙ ap (λ (l : List StepAt). b.said ++ l) (sym none))
+again spelled place b (line ∷ others) more are edits shows =
     let first : Option Step = are.0 in
     let number : ℕ = b.lines + 1 in
     let all_edits : edits_of more ≡ edits_of (numbered number first []) + edits_of are.1 = ap edits_of are.4 ∙ edits_more number first are.1 in
     let all_shows : shows_of more ≡ shows_of (numbered number first []) + shows_of are.1 = ap shows_of are.4 ∙ shows_more number first are.1 in
-    let r = line_reads fragments_are b line first are.2 (omega (arith, edits, all_edits)) (omega (arith, shows, all_shows)) in
-    let later = again fragments_are (place + length line + 1) r.next others are.1 (subst (λ (k : ℕ). AreLines (k + 1) others are.1) (sym r.lines) are.3)
+    let r = line_reads spelled b line first are.2 (omega (arith, edits, all_edits)) (omega (arith, shows, all_shows)) in
+    let later = again spelled (place + length line + 1) r.next others are.1 (subst (λ (k : ℕ). AreLines (k + 1) others are.1) (sym r.lines) are.3)
     (omega (arith, r.edits, all_edits, edits)) (omega (arith, r.shows, all_shows, shows)) in
     ap (λ (s : Said Begun). at_place place s (λ next. lines_from (place + length line + 1) next others)) r.is ∙ later
     ∙ ap read
@@ -272,14 +281,14 @@ again fragments_are place b (line ∷ others) more are edits shows =
 
 -- ---- scripts
 
-pub script_is : FragmentsAre → (text : List ℕ) (said : List StepAt) → script text ≡ Ok said → IsScript text said
+pub script_is : AreSpelled → (text : List ℕ) (said : List StepAt) → script text ≡ Ok said → IsScript text said
 unfolding script
-script_is fragments_are text said e =
-    let f = further fragments_are 0 empty (slice_split is_lf text) said (omega arith) (omega arith) e in
+script_is spelled text said e =
+    let f = further spelled 0 empty (slice_split is_lf text) said (omega arith) (omega arith) e in
     let edits : edits_of f.more ≤ 10000 = omega (arith, f.edits) in
     let shows : shows_of f.more ≤ 64 = omega (arith, f.shows) in
     subst (λ (l : List StepAt). IsScript text l) (sym f.whole) (record { are_lines = f.are; few_edits = edits; few_shows = shows })
 
-pub script_again : FragmentsAre → (text : List ℕ) (said : List StepAt) → IsScript text said → script text ≡ Ok said
+pub script_again : AreSpelled → (text : List ℕ) (said : List StepAt) → IsScript text said → script text ≡ Ok said
 unfolding script
-script_again fragments_are text said is = again fragments_are 0 empty (slice_split is_lf text) said is.are_lines (omega (arith, is.few_edits)) (omega (arith, is.few_shows))
+script_again spelled text said is = again spelled 0 empty (slice_split is_lf text) said is.are_lines (omega (arith, is.few_edits)) (omega (arith, is.few_shows))

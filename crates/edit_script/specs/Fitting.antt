@@ -1,15 +1,24 @@
 -- What a script brings to a document: edits that fit, and no more text than it has.
 use Rattle.std.specs.Prelude.{ℕ, ◌+◌, ◌≤◌, List, [], ◌∷◌, length, ⊤}
 use Rattle.std.specs.List.{All}
-use Rattle.dom_store.specs.Edited.{IsFitting, IsSaidEdit, bytes_brought}
+use Rattle.edits.specs.Change.{IsFitting, IsSaid, bytes_brought}
+use Rattle.edit_script.specs.Command.{Command}
+use Rattle.edit_script.specs.Command as commands
 use Rattle.edit_script.specs.Grammar.{IsScript}
 use Rattle.edit_script.specs.Meaning.{Step, show, edit}
 use Rattle.edit_script.specs.Script.{StepAt}
 
--- an edit has the nodes of a fragment, each with its own declarations, with numbers that a style sheet can say
+-- an edit has the nodes of a fragment, each with its own declarations; numbers of declarations, in rules too, are such as a
+-- style sheet can say; an advance is at most 10,000, and face 0 isn't retired
 abbrev pub Fits : Step → Type 0
 Fits show = ⊤
-Fits (edit change) = IsFitting change × IsSaidEdit change
+Fits (edit change) = IsFitting change × IsSaid change
+
+-- the words of a line bring no greater advance, and don't retire face 0
+abbrev pub HasFitting : Command → Type 0
+HasFitting (commands.metric face c upright value) = value ≤ 10000
+HasFitting (commands.retire face) = 1 ≤ face
+HasFitting other = ⊤
 
 abbrev pub AllFit : List StepAt → Type 0
 AllFit said = All (λ s. Fits s.what) said

@@ -4,6 +4,7 @@ use Rattle.std.specs.List.{before_first, list_any}
 use Rattle.reading.specs.Readers.{ReadOr, follow, mapped}
 use Rattle.reading.specs.Stop.{end_of}
 use Rattle.css_types.specs.declared.value.Declaration.{Declaration}
+use Rattle.css_types.specs.Rule.{Ruling}
 use Rattle.html_tokens.specs.declared.error.Refusal.TheVariants.{Syntax}
 use Rattle.html_tokens.specs.Error as html_error
 use Rattle.html_tokens.specs.Text.{gap}
@@ -13,8 +14,10 @@ use Rattle.html_read.specs.Values.{Node}
 use Rattle.css_values.specs.declared.within.Within.TheVariants.{Attribute}
 use Rattle.css_values.specs.Declarations.{declarations}
 use Rattle.css_values.specs.Error as css_error
+use Rattle.css_sheet.specs.Sheet.{empty, sheet}
 use Rattle.css_sheet.specs.Styled.{Placed, attributes}
-use Rattle.dom_store.specs.Edits.{EditOf, set_text, set_style, set_class, insert, remove, move_to}
+use Rattle.dom_store.specs.Edits.{set_text, set_style, set_class, insert, remove, move_to}
+use Rattle.edits.specs.Change.{Change, of_tree, metric, retire, rule, unrule}
 use Rattle.edit_script.specs.declared.error.Refusal.{Refusal}
 use Rattle.edit_script.specs.declared.error.Refusal.TheVariants as kinds
 use Rattle.edit_script.specs.Command.{Command, nothing}
@@ -23,7 +26,7 @@ use Rattle.edit_script.specs.Command as commands
 -- what a line says
 pub data Step : Type 0 where
   show : Step
-  edit : (change : EditOf) → Step
+  edit : (change : Change) → Step
 
 -- a value, or what is wrong
 abbrev pub Said : Type 0 → Type 0
@@ -73,13 +76,21 @@ own bytes = by_css (declarations Attribute (end_of 0 bytes) bytes)
 unfoldable pub new_nodes : List ℕ → Said (List Node × List (List Declaration))
 new_nodes bytes = and_then (by_html (fragment bytes)) (λ nodes. and_then (by_styles (attributes nodes)) (λ styles. Ok (nodes, styles)))
 
+-- the rules of a sheet of its own, counted and placed from its first byte
+unfoldable pub sheet_rules : List ℕ → Said (List Ruling)
+sheet_rules bytes = by_css (mapped (λ s. s.rules) (sheet (end_of 0 bytes) empty) bytes)
+
 -- ---- lines
 
 unfoldable pub meaning : Command → Said Step
-meaning (commands.text node rest) = and_then (letters rest) (λ text_. Ok (edit (set_text node text_)))
-meaning (commands.style node rest) = and_then (own rest) (λ declared. Ok (edit (set_style node declared)))
-meaning (commands.class node rest) = Ok (edit (set_class node (judging.words rest)))
-meaning (commands.insert parent index rest) = and_then (new_nodes rest) (λ new. Ok (edit (insert parent index new.0 new.1)))
-meaning (commands.remove node) = Ok (edit (remove node))
-meaning (commands.move node parent index) = Ok (edit (move_to node parent index))
+meaning (commands.text node rest) = and_then (letters rest) (λ text_. Ok (edit (of_tree (set_text node text_))))
+meaning (commands.style node rest) = and_then (own rest) (λ declared. Ok (edit (of_tree (set_style node declared))))
+meaning (commands.class node rest) = Ok (edit (of_tree (set_class node (judging.words rest))))
+meaning (commands.insert parent index rest) = and_then (new_nodes rest) (λ new. Ok (edit (of_tree (insert parent index new.0 new.1))))
+meaning (commands.remove node) = Ok (edit (of_tree (remove node)))
+meaning (commands.move node parent index) = Ok (edit (of_tree (move_to node parent index)))
+meaning (commands.metric face c upright value) = Ok (edit (metric face c upright value))
+meaning (commands.retire face) = Ok (edit (retire face))
+meaning (commands.rule rest) = and_then (sheet_rules rest) (λ rules. Ok (edit (rule rules)))
+meaning (commands.unrule index) = Ok (edit (unrule index))
 meaning commands.show = Ok show

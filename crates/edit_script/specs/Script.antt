@@ -51,6 +51,10 @@ counted (commands.class node rest) b = counted_edit b
 counted (commands.insert parent index rest) b = counted_edit b
 counted (commands.remove node) b = counted_edit b
 counted (commands.move node parent index) b = counted_edit b
+counted (commands.metric face c upright value) b = counted_edit b
+counted (commands.retire face) b = counted_edit b
+counted (commands.rule rest) b = counted_edit b
+counted (commands.unrule index) b = counted_edit b
 
 abbrev pub with_step : Begun → Step → Begun
 with_step b what = record { said = b.said ++ record { line = b.lines; what = what } ∷ []; lines = b.lines; edits = b.edits; shows = b.shows }

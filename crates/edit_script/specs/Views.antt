@@ -1,8 +1,7 @@
 -- What the code has, without where it lies in memory.
 use Rattle.std.specs.Prelude.{◌≡◌, ◌⊎◌, ℕ, false, List, [], ◌∷◌, ◌++◌, map}
 use Rattle.std.specs.List.{All}
-use Rattle.std.specs.String.{string_bytes}
-use Rattle.dom_store.specs.Edited.{edit_of}
+use Rattle.edits.specs.Change.{change_of}
 use Rattle.html_read.specs.Values.{Node, nodes_of}
 use Rattle.css_types.specs.declared.value.Declaration.{Declaration}
 use Rattle.edit_script.specs.declared.step.ScriptStep as code_step
@@ -22,7 +21,7 @@ new_of new = (nodes_of new.read.items, map (λ own. own.items) new.styles.items)
 
 abbrev pub step_of : code_step.ScriptStep → Step
 step_of steps.Show = show
-step_of (steps.Edit change) = edit (edit_of change)
+step_of (steps.Edit change) = edit (change_of change)
 
 abbrev pub step_at : code_line.ScriptLine → StepAt
 step_at l = record { line = l.line; what = step_of l.what }
@@ -37,6 +36,10 @@ command_of (commands.Class node rest) = words.class node rest.now
 command_of (commands.Insert parent index rest) = words.insert parent index rest.now
 command_of (commands.Remove node) = words.remove node
 command_of (commands.Move node parent index) = words.move node parent index
+command_of (commands.Metric face c upright value) = words.metric face c upright value
+command_of (commands.Retire face) = words.retire face
+command_of (commands.Rule rest) = words.rule rest.now
+command_of (commands.Unrule index) = words.unrule index
 command_of commands.Show = words.show
 
 abbrev pub begun_of : code_begun.Begun → Begun

@@ -5,20 +5,22 @@ ghost use Rattle.std.specs.List.{All};
 ghost use Rattle.std.specs.String.{string_bytes};
 ghost use Rattle.html_read.specs.Judging as judging;
 ghost use Rattle.html_read.specs.Shape.{IsFragmentShaped};
+ghost use Rattle.css_types.specs.Rule.{rulings_of};
 ghost use Rattle.dom_store.specs.State.{AreSaid};
 ghost use Rattle.edit_script.specs.declared.error.Halt.TheVariants as halts;
 ghost use Rattle.edit_script.specs.Error.{Reads};
-ghost use Rattle.edit_script.specs.Fitting.{Fits};
+ghost use Rattle.edit_script.specs.Fitting.{Fits, HasFitting};
 ghost use Rattle.edit_script.specs.Meaning as meanings;
 ghost use Rattle.edit_script.specs.Views.{command_of, new_of, step_of};
 
 use crate::command::Command;
 use crate::error::{Halt, Refusal};
 use crate::step::ScriptStep;
-use css_sheet::read_styled;
-use css_types::Declarations;
+use css_sheet::{read_sheet, read_styled};
+use css_types::{Declarations, Rules};
 use css_values::read_declarations;
-use dom_store::{Edit, NewNodes};
+use dom_store::NewNodes;
+use edits::{Edit, TreeEdit};
 use html_read::{ReadDocument, Sheets, read_fragment};
 use html_tokens::gap;
 use letters::{LetterList, Letters, SharedText};
@@ -28,20 +30,20 @@ use std::alloc::Global;
 #[tactic(auto, unfolding(crate::specs::Meaning::meaning))]
 pub(crate) fn meaning(alloc: Global, command: Command<'_>) -> Result<ScriptStep, Halt>
     ensures read { Reads step_of result (meanings.meaning (command_of command.entry)) }
-    ensures fits { IfOk result (λ step. Fits (step_of step)) }
+    ensures fits { HasFitting (command_of command.entry) → IfOk result (λ step. Fits (step_of step)) }
 {
     match command {
         Command::Text { node, rest } => {
             let text = SharedText::new(alloc, letters(alloc, rest)?)?;
-            Ok(ScriptStep::Edit(Edit::Text { node, text }))
+            Ok(ScriptStep::Edit(Edit::Tree(TreeEdit::Text { node, text })))
         }
         Command::Style { node, rest } => {
             let declarations = own(alloc, rest)?;
-            Ok(ScriptStep::Edit(Edit::Style { node, declarations }))
+            Ok(ScriptStep::Edit(Edit::Tree(TreeEdit::Style { node, declarations })))
         }
         Command::Class { node, rest } => {
             let words = class_words(alloc, rest)?;
-            Ok(ScriptStep::Edit(Edit::Class { node, words }))
+            Ok(ScriptStep::Edit(Edit::Tree(TreeEdit::Class { node, words })))
         }
         Command::Insert {
             parent,
@@ -49,22 +51,39 @@ pub(crate) fn meaning(alloc: Global, command: Command<'_>) -> Result<ScriptStep,
             rest,
         } => {
             let nodes = new_nodes(alloc, rest)?;
-            Ok(ScriptStep::Edit(Edit::Insert {
+            Ok(ScriptStep::Edit(Edit::Tree(TreeEdit::Insert {
                 parent,
                 index,
                 nodes,
-            }))
+            })))
         }
-        Command::Remove { node } => Ok(ScriptStep::Edit(Edit::Remove { node })),
+        Command::Remove { node } => Ok(ScriptStep::Edit(Edit::Tree(TreeEdit::Remove { node }))),
         Command::Move {
             node,
             parent,
             index,
-        } => Ok(ScriptStep::Edit(Edit::Move {
+        } => Ok(ScriptStep::Edit(Edit::Tree(TreeEdit::Move {
             node,
             parent,
             index,
+        }))),
+        Command::Metric {
+            face,
+            c,
+            upright,
+            value,
+        } => Ok(ScriptStep::Edit(Edit::Metric {
+            face,
+            c,
+            upright,
+            value,
         })),
+        Command::Retire { face } => Ok(ScriptStep::Edit(Edit::Retire { face })),
+        Command::Rule { rest } => {
+            let rules = sheet_rules(alloc, rest)?;
+            Ok(ScriptStep::Edit(Edit::Rule { rules }))
+        }
+        Command::Unrule { index } => Ok(ScriptStep::Edit(Edit::Unrule { index })),
         Command::Show => Ok(ScriptStep::Show),
     }
 }
@@ -102,6 +121,15 @@ fn own(alloc: Global, text: &str) -> Result<Declarations, Halt>
     ensures said { IfOk result (λ d. AreSaid d.items) }
 {
     Ok(read_declarations(alloc, text, 0)?)
+}
+
+// The rules of a sheet of its own.
+#[tactic(auto, unfolding(crate::specs::Meaning::sheet_rules))]
+fn sheet_rules(alloc: Global, text: &str) -> Result<Rules, Halt>
+    ensures read { Reads (λ r. rulings_of r.items) result (meanings.sheet_rules text.now) }
+    ensures said { IfOk result (λ r. All (λ rule. AreSaid rule.declarations) (rulings_of r.items)) }
+{
+    Ok(read_sheet(alloc, text, 0)?)
 }
 
 // The words of a text, between white space.

@@ -4,7 +4,7 @@ ghost use Rattle.std.specs.Prelude.{◌≡◌, ◌+◌, ◌-◌, ◌^◌, ◌<�
 ghost use Rattle.std.specs.Str.Lines.{strip_carriage_return};
 ghost use Rattle.edit_script.specs.Answered.{IsTheScript, RefusesScript, Told};
 ghost use Rattle.edit_script.specs.Error.{Reads, told_at};
-ghost use Rattle.edit_script.specs.Fitting.{AllFit, bytes_of};
+ghost use Rattle.edit_script.specs.Fitting.{AllFit, HasFitting, bytes_of};
 ghost use Rattle.edit_script.specs.Script as scripts;
 ghost use Rattle.edit_script.specs.Views.{IsFirstLine, begun_of, command_of, steps_of};
 
@@ -13,6 +13,7 @@ use crate::error::{Halt, Refusal, ScriptError};
 use crate::laws::scripts_bring_no_more;
 use crate::meaning::meaning;
 use crate::step::{Script, ScriptLine};
+use css_sheet::laws::sheets_spell;
 use html_read::laws::fragments_spell;
 use std::alloc::Global;
 
@@ -33,20 +34,22 @@ struct Begun {
 
 /// Reads a script (docs/PROFILE/scripts.md). `start` is the place of its first byte in the input. A refusal has the
 /// place of the first byte of a line in that input, held at the last number of usize. The places of declarations are
-/// counted from the first byte of the text that is read as declarations, those of style attributes from the first byte
-/// of their fragment.
+/// counted from the first byte of the text that is read as declarations or as a sheet, those of style attributes from
+/// the first byte of their fragment.
 pub fn read_script(alloc: Global, text: &str, start: usize) -> Result<Script, ScriptError>
     // The answer is that of the reading: what the lines say, or the refusal with its place.
     ensures read { Told start (λ script. steps_of script.items) result (scripts.script text.now) }
     // The text is a script that says this and nothing else; where it is refused it is none.
     ensures found { IfOk result (λ script. IsTheScript text.now (steps_of script.items)) }
     ensures refused { IfErr result (λ error. RefusesScript text.now error) }
-    // Nodes that are inserted are those of a fragment, each with its own declarations; numbers of declarations are such as a
-    // style sheet can say; and together the edits bring no more bytes of text than the script has.
+    // Nodes that are inserted are those of a fragment, each with its own declarations; numbers of declarations, in rules
+    // too, are such as a style sheet can say; an advance is at most 10,000, and face 0 isn't retired; and together the
+    // edits bring no more bytes of text than the script has.
     ensures fit { IfOk result (λ script. AllFit (steps_of script.items)) }
     ensures bytes { IfOk result (λ script. bytes_of (steps_of script.items) ≤ length text.now) }
 {
     fragments_spell();
+    sheets_spell();
     scripts_bring_no_more();
     answer_script(alloc, text, start)
 }
@@ -119,7 +122,7 @@ fn read_line(alloc: Global, begun: &mut Begun, line: &str) -> Result<(), Halt>
 fn put_step(alloc: Global, begun: &mut Begun, command: Command<'_>) -> Result<(), Halt>
     ensures read { Reads (λ _. begun_of begun.new) result (scripts.with_command (command_of command.entry) (begun_of begun.old)) }
     ensures line { begun.new.lines ≡ begun.old.lines }
-    ensures fit { AllFit (steps_of begun.old.said.items) → IfOk result (λ _. AllFit (steps_of begun.new.said.items)) }
+    ensures fit { HasFitting (command_of command.entry) → AllFit (steps_of begun.old.said.items) → IfOk result (λ _. AllFit (steps_of begun.new.said.items)) }
 {
     count(begun, command)?;
     let what = meaning(alloc, command)?;
@@ -161,7 +164,11 @@ fn count(begun: &mut Begun, command: Command<'_>) -> Result<(), Halt>
         | Command::Class { .. }
         | Command::Insert { .. }
         | Command::Remove { .. }
-        | Command::Move { .. } => count_edit(begun),
+        | Command::Move { .. }
+        | Command::Metric { .. }
+        | Command::Retire { .. }
+        | Command::Rule { .. }
+        | Command::Unrule { .. } => count_edit(begun),
     }
 }
 

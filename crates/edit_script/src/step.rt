@@ -1,13 +1,13 @@
 //! What a script says.
 
-use dom_store::Edit;
+use edits::Edit;
 
 /// What a line says.
 #[derive(Debug, Drop)]
 pub enum ScriptStep {
     /// The page is listed.
     Show,
-    /// The tree is edited.
+    /// The document is edited.
     Edit(Edit),
 }
 

@@ -24,7 +24,8 @@ use Rattle.html_read.specs.Shape.{text_bytes}
 use Rattle.html_read.specs.Values.{Node, Whole, nodes_of, whole_of}
 use Rattle.dom_store.specs.Opening.{opened}
 use Rattle.dom_store.specs.State.{State, state_of}
-use Rattle.cascade.specs.Index.{index_rules}
+use Rattle.edits.specs.State as edited
+use Rattle.session.specs.State.{rules_in, state_in}
 use Rattle.std.specs.Global.{Vec}
 use Rattle.edit_script.specs.Error.{kind_word as script_word}
 use Rattle.edit_script.specs.declared.error.Refusal as script
@@ -42,7 +43,7 @@ use Rattle.edit_job.specs.Steps.{AreSteps, AreStepsIn}
 use Rattle.input_due.specs.Due.{End, Done, Refused, IsDueBy, IsOf, cause_word, node_of, not_opened}
 use Rattle.input_due.specs.declared.follows.Follows.{Follows}
 use Rattle.input_due.specs.declared.follows.Follows.TheVariants.{Nothing, Script}
-use Rattle.input_due.specs.Input.{IsDueOfDocument, IsDueOfInput, IsDueOfOpened, IsDueOfRead, IsDueOfSteps, IsDueOfStyling, IsDueOfTail, IsDueOfWhole, longest_input, placed_from, steps_behind}
+use Rattle.input_due.specs.Input.{IsDueOfDocument, IsDueOfInput, IsDueOfOpened, IsDueOfRead, IsDueOfSteps, IsDueOfStyling, IsDueOfTail, IsDueOfWhole, longest_input, opened_with, placed_from, steps_behind}
 use Rattle.input_due.specs.Document.{read_at}
 use Rattle.input_due.specs.declared.due.Due.{Due}
 use Rattle.input_due.specs.declared.due.Due.TheVariants as dues
@@ -58,19 +59,19 @@ module _ {I : Type 0} {D : I → Type 0} (members : (x : I) → Ghosts (D x)) (f
   -- ---- a document that can be opened, or not
 
   -- the steps over a session are those over its document
-  same_steps : (session : Session I D) (nodes : List Node) (styles : Styling) → faces_of members session.faces ≡ faces → session.view ≡ view → state_of session.document ≡ opened nodes styles.own → index_rules session.rules ≡ styles.rules
-      → (steps : List StepAt) (last : State) (due : List ℕ)
-      → AreStepsIn (faces_of members session.faces) session steps last due ≡ AreSteps faces view styles.rules (opened nodes styles.own) steps last due
+  same_steps : (session : Session I D) (nodes : List Node) (styles : Styling) → faces_of members session.faces ≡ faces → session.view ≡ view → state_of session.document ≡ opened nodes styles.own → rules_in session ≡ styles.rules
+      → (steps : List StepAt) (last : edited.State) (due : List ℕ)
+      → AreStepsIn (faces_of members session.faces) session steps last due ≡ AreSteps view (opened_with faces nodes styles) steps last due
   same_steps session nodes styles own sees state rules steps last due =
-      ap (λ (f : List (Option Table)). AreSteps f session.view (index_rules session.rules) (state_of session.document) steps last due) own
-      ∙ ap (λ (v : View). AreSteps faces v (index_rules session.rules) (state_of session.document) steps last due) sees
-      ∙ ap (λ (r : List Ruling). AreSteps faces view r (state_of session.document) steps last due) rules
-      ∙ ap (λ (s : State). AreSteps faces view styles.rules s steps last due) state
+      ap (λ (v : View). AreSteps v (state_in (faces_of members session.faces) session) steps last due) sees
+      ∙ ap (λ (f : List (Option Table)). AreSteps view (state_in f session) steps last due) own
+      ∙ ap (λ (r : List Ruling). AreSteps view (record { tree = state_of session.document; rules = r; faces = faces }) steps last due) rules
+      ∙ ap (λ (tree : State). AreSteps view (record { tree = tree; rules = styles.rules; faces = faces }) steps last due) state
 
-  pub due_of_opened : (session : Session I D) (script : Vec ScriptLine) (nodes : List Node) (styles : Styling) → faces_of members session.faces ≡ faces → session.view ≡ view → state_of session.document ≡ opened nodes styles.own → index_rules session.rules ≡ styles.rules
+  pub due_of_opened : (session : Session I D) (script : Vec ScriptLine) (nodes : List Node) (styles : Styling) → faces_of members session.faces ≡ faces → session.view ≡ view → state_of session.document ≡ opened nodes styles.own → rules_in session ≡ styles.rules
       → CanOpen nodes styles.own styles.rules → HasOneAnswer → IsDueBy members (IsDueOfOpened faces view nodes styles (steps_of script.items)) (dues.Steps session script)
   due_of_opened session script nodes styles own sees state rules can one = both where
-    same : (last : State) (due : List ℕ) → AreStepsIn (faces_of members session.faces) session (steps_of script.items) last due ≡ AreSteps faces view styles.rules (opened nodes styles.own) (steps_of script.items) last due
+    same : (last : edited.State) (due : List ℕ) → AreStepsIn (faces_of members session.faces) session (steps_of script.items) last due ≡ AreSteps view (opened_with faces nodes styles) (steps_of script.items) last due
     same last due = same_steps session nodes styles own sees state rules (steps_of script.items) last due
 
     there : (end_ : End) (due : List ℕ) → IsDueOfOpened faces view nodes styles (steps_of script.items) end_ due → IsOf members (dues.Steps session script) end_ due

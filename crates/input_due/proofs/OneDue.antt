@@ -12,7 +12,6 @@ use Rattle.html_tokens.specs.Error.{Fault, kind_word, syntax}
 use Rattle.html_read.specs.Error.{place_in}
 use Rattle.html_read.specs.Reading as reading
 use Rattle.html_read.specs.Values.{Node, Whole}
-use Rattle.dom_store.specs.Opening.{opened}
 use Rattle.edit_script.specs.Error.{kind_word as script_word}
 use Rattle.edit_script.specs.declared.error.Refusal as script_faults
 use Rattle.edit_script.specs.Script.{StepAt}
@@ -23,7 +22,7 @@ use Rattle.edit_job.specs.Steps.{HaveAnEnd, HaveOneEnd}
 use Rattle.session.specs.Error.{open_word}
 use Rattle.input_due.specs.Due.{End, Done, Refused, node_of}
 use Rattle.input_due.specs.declared.follows.Follows.{Follows}
-use Rattle.input_due.specs.Input.{IsDueOfInput, IsDueOfOpened, IsDueOfRead, IsDueOfSteps, IsDueOfStyling, IsDueOfTail, has_script, longest_input, steps_behind}
+use Rattle.input_due.specs.Input.{IsDueOfInput, IsDueOfOpened, IsDueOfRead, IsDueOfSteps, IsDueOfStyling, IsDueOfTail, has_script, longest_input, opened_with, steps_behind}
 use Rattle.input_due.specs.Laws.{HaveOneDue}
 
 -- what was read of a script
@@ -53,7 +52,7 @@ module _ (faces : List (Option Table)) (view : View) (answers : HasOneAnswer) (l
   opened_some : (nodes : List Node) (styles : Styling) (steps : List StepAt) → CanOpen nodes styles.own styles.rules ⊎ ((error : OpenError) × IsRefused nodes styles.own styles.rules error)
       → (end_ : End) × (due : List ℕ) × IsDueOfOpened faces view nodes styles steps end_ due
   opened_some nodes styles steps (inl can) =
-      let end_ = leads faces view styles.rules (opened nodes styles.own) steps in
+      let end_ = leads view (opened_with faces nodes styles) steps in
       (Done, end_.1, (can, end_.0, end_.2))
   opened_some nodes styles steps (inr (error, refused)) = (Refused, refusal (open_word error) (node_of error), (error, refused, refl))
 
@@ -86,7 +85,7 @@ one_line word place end_ other due more (is, d) (is', d') = (is' ∙ sym is, d' 
 
 module _ (faces : List (Option Table)) (view : View) (answers : HasOneAnswer) (ends : HaveOneEnd) where
   opened_only : (nodes : List Node) (styles : Styling) (steps : List StepAt) (end_ other : End) (due more : List ℕ) → IsDueOfOpened faces view nodes styles steps end_ due → IsDueOfOpened faces view nodes styles steps other more → (other ≡ end_) × (more ≡ due)
-  opened_only nodes styles steps Done Done due more (can, last, here) (can', last', there) = (refl, (ends faces view styles.rules (opened nodes styles.own) steps last last' due more here there).1)
+  opened_only nodes styles steps Done Done due more (can, last, here) (can', last', there) = (refl, (ends view (opened_with faces nodes styles) steps last last' due more here there).1)
   opened_only nodes styles steps Done Refused due more (can, last, here) (error, refused, d) = absurd ((answers.only nodes styles.own styles.rules error refused).0 can)
   opened_only nodes styles steps Refused Done due more (error, refused, d) (can, last, here) = absurd ((answers.only nodes styles.own styles.rules error refused).0 can)
   opened_only nodes styles steps Refused Refused due more (error, refused, d) (error', refused', d') =

@@ -5,7 +5,8 @@ use Rattle.face_api.specs.Table.{Table}
 use Rattle.face_api.specs.declared.face.Face.{Ghosts}
 use Rattle.css_values.specs.Error.{kind_word as style_word}
 use Rattle.html_tokens.specs.Error.{kind_word}
-use Rattle.dom_store.specs.State.{State, state_of}
+use Rattle.dom_store.specs.State.{state_of}
+use Rattle.edits.specs.State.{State}
 use Rattle.tree_laws.specs.Weight.{bytes, total}
 use Rattle.edit_script.specs.Error.{kind_word as script_word}
 use Rattle.edit_script.specs.Fitting.{AllFit, bytes_of}

@@ -10,7 +10,7 @@ use Rattle.css_values.specs.Error.{kind_word as style_word}
 use Rattle.css_sheet.specs.Styled.{Placed, styling}
 use Rattle.css_types.specs.Rule.{Styling}
 use Rattle.dom_store.specs.Opening.{opened}
-use Rattle.dom_store.specs.State.{State}
+use Rattle.edits.specs.State.{State}
 use Rattle.edit_script.specs.declared.error.Refusal as script_faults
 use Rattle.edit_script.specs.Error.{kind_word as script_word}
 use Rattle.edit_script.specs.Answered.{place_from}
@@ -58,10 +58,14 @@ steps_behind Script size behind = placed_from (size - length behind) (scripts.sc
 
 -- ---- what is due
 
+-- the state of a document as it is opened
+abbrev pub opened_with : (faces : List (Option Table)) → List Node → Styling → State
+opened_with faces nodes styles = record { tree = opened nodes styles.own; rules = styles.rules; faces = faces }
+
 module _ (faces : List (Option Table)) (view : View) where
   -- for a document with its styles and the steps over it: what the steps write where it can be opened, else a refusal with the number of a node
   abbrev pub IsDueOfOpened : List Node → Styling → List StepAt → End → List ℕ → Type 0
-  IsDueOfOpened nodes styles steps Done due = CanOpen nodes styles.own styles.rules × (last : State) × AreSteps faces view styles.rules (opened nodes styles.own) steps last due
+  IsDueOfOpened nodes styles steps Done due = CanOpen nodes styles.own styles.rules × (last : State) × AreSteps view (opened_with faces nodes styles) steps last due
   IsDueOfOpened nodes styles steps Refused due = (error : OpenError) × IsRefused nodes styles.own styles.rules error × (due ≡ refusal (open_word error) (node_of error))
 
   -- for a document with its styles, by what was read behind it

@@ -1,11 +1,13 @@
 pub mod Answering
 mod Examples
+pub mod FaceEdits
 pub mod Fresh
 pub mod Holding
 pub mod Limiting
 pub mod Near
 pub mod Outcomes
 pub mod Refusals
+pub mod RuleEdits
 pub mod Shifts
 pub mod Standing
 pub mod Styled

@@ -1,15 +1,22 @@
 -- What an edit of an open document leads to, by what the document and its boxes answer.
-use Rattle.std.proofs.Common.{◌≡◌, ◌⊎◌, ◌+◌, ◌≤◌, sym, ap, subst, refl, inl, inr, ℕ, List, Option, Some, None, Err}
+use Rattle.std.proofs.Common.{◌≡◌, ◌⊎◌, ◌∙◌, ◌+◌, ◌≤◌, sym, ap, subst, refl, inl, inr, ℕ, List, Option, Some, None, option_map, Err}
 use Rattle.css_types.specs.Rule.{Ruling}
 use Rattle.dom_store.specs.declared.error.EditError.{EditError}
 use Rattle.dom_store.specs.declared.error.EditError.TheVariants as refusals
-use Rattle.dom_store.specs.Edited.{IsFitting, IsSaidEdit, accepted, bytes_brought, edited, refused, unless}
-use Rattle.dom_store.specs.Edits.{EditOf, after, concerned}
-use Rattle.dom_store.specs.Refusals.{refusal}
+use Rattle.dom_store.specs.Edited as tree
+use Rattle.dom_store.specs.Edited.{accepted, edited, refused, unless}
+use Rattle.dom_store.specs.Edits as trees
+use Rattle.dom_store.specs.Edits.{EditOf, concerned}
+use Rattle.dom_store.specs.Refusals as tree_refusals
 use Rattle.dom_store.specs.Laws.{KeepRoots, KeepSaid}
 use Rattle.dom_store.specs.Opening.{greatest_count}
 use Rattle.dom_store.specs.Standing.{live_count}
-use Rattle.dom_store.specs.State.{IsRooted, IsSaidState, State}
+use Rattle.dom_store.specs.State as dom
+use Rattle.dom_store.specs.State.{IsRooted, IsSaidState}
+use Rattle.edits.specs.Change.{Change, of_tree}
+use Rattle.edits.specs.Edited.{Reason, after, by_tree, fixed, full, no_face, no_rule, refusal, too_many_rules}
+use Rattle.edits.specs.State.{State}
+use Rattle.face_api.specs.Table.{Table}
 use Rattle.tree_laws.specs.Laws.{AcceptedAreDone, ChildrenHaveParents, EditsKeepWhole, EditsWeigh}
 use Rattle.tree_laws.specs.Reached.{EditsKeepReached, IsReached}
 use Rattle.tree_laws.specs.Weight.{bytes, total}
@@ -27,99 +34,154 @@ use Rattle.session.proofs.Limiting.{IsWithinOrPasses, not_within, one_limit, wit
 
 -- ---- one outcome
 
-module _ (rules : List Ruling) (state : State) (edit : EditOf) where
-  taken : (error : EditError) → refusal state edit ≡ Some error → refusal state edit ≡ None → ⊥
-  taken error is none = absurd cc
+-- why an edit is refused, in the session's words
+abbrev error_of : Reason → ApplyError
+error_of (by_tree error) = applying.Document error
+error_of no_face = applying.NoFace
+error_of fixed = applying.Fixed
+error_of full = applying.Full
+error_of too_many_rules = applying.TooManyRules
+error_of no_rule = applying.NoRule
 
-  same_some : (one other : EditError) → refusal state edit ≡ Some one → refusal state edit ≡ Some other → other ≡ one
+module _ (state : State) (change : Change) where
+  taken : (reason : Reason) → refusal state change ≡ Some reason → refusal state change ≡ None → ⊥
+  taken reason is none = absurd cc
+
+  same_some : (one other : Reason) → refusal state change ≡ Some one → refusal state change ≡ Some other → other ≡ one
   same_some one other is also = cc
 
-  not_applied : (error : ApplyError) → IsRefusedEdit rules state edit error → CanApply rules state edit → ⊥
-  not_applied (applying.Document error) is can = taken error is can.taken
-  not_applied (applying.Limit limit) (none, passes) can = not_within (styled_after rules state edit) limit passes can.within
-  not_applied applying.Memory is can = is
+  -- an error is that of a reason, or of a limit
+  abbrev IsOfReason : ApplyError → Type 0
+  IsOfReason error = (reason : Reason) × (error ≡ error_of reason) × (refusal state change ≡ Some reason)
 
-  same : (error other : ApplyError) → IsRefusedEdit rules state edit error → IsRefusedEdit rules state edit other → other ≡ error
-  same (applying.Document error) (applying.Document e) is is' = ap (λ (x : EditError). applying.Document x) (same_some error e is is')
-  same (applying.Document error) (applying.Limit l) is (none, passes) = absurd (taken error is none)
-  same (applying.Limit limit) (applying.Document e) (none, passes) is = absurd (taken e is none)
-  same (applying.Limit limit) (applying.Limit l) (none, passes) (none', passes') = ap (λ (x : BoxLimit). applying.Limit x) (one_limit (styled_after rules state edit) limit l passes passes')
-  same applying.Memory other is is' = absurd is
-  same (applying.Document error) applying.Memory is is' = absurd is'
-  same (applying.Limit limit) applying.Memory is is' = absurd is'
+  abbrev IsOfLimit : ApplyError → Type 0
+  IsOfLimit error = (limit : BoxLimit) × (error ≡ applying.Limit limit) × (refusal state change ≡ None) × Passes (styled_after state change) limit
 
-  -- by what the document, then its boxes are refused for
+  origin : (error : ApplyError) → IsRefusedEdit state change error → IsOfReason error ⊎ IsOfLimit error
+  origin (applying.Document error) is = inl (by_tree error, refl, is)
+  origin applying.NoFace is = inl (no_face, refl, is)
+  origin applying.Fixed is = inl (fixed, refl, is)
+  origin applying.Full is = inl (full, refl, is)
+  origin applying.TooManyRules is = inl (too_many_rules, refl, is)
+  origin applying.NoRule is = inl (no_rule, refl, is)
+  origin (applying.Limit limit) (none, passes) = inr (limit, refl, none, passes)
+  origin applying.Memory is = absurd is
+
+  refused_for : (reason : Reason) → refusal state change ≡ Some reason → IsRefusedEdit state change (error_of reason)
+  refused_for (by_tree error) is = is
+  refused_for no_face is = is
+  refused_for fixed is = is
+  refused_for full is = is
+  refused_for too_many_rules is = is
+  refused_for no_rule is = is
+
+  not_applied : (error : ApplyError) → IsOfReason error ⊎ IsOfLimit error → CanApply state change → ⊥
+  not_applied error (inl (reason, of, is)) can = taken reason is can.taken
+  not_applied error (inr (limit, of, none, passes)) can = not_within (styled_after state change) limit passes can.within
+
+  same : (error other : ApplyError) → IsOfReason error ⊎ IsOfLimit error → IsOfReason other ⊎ IsOfLimit other → other ≡ error
+  same error other (inl (reason, of, is)) (inl (reason', of', is')) = of' ∙ ap error_of (same_some reason reason' is is') ∙ sym of
+  same error other (inl (reason, of, is)) (inr (limit, of', none, passes)) = absurd (taken reason is none)
+  same error other (inr (limit, of, none, passes)) (inl (reason, of', is)) = absurd (taken reason is none)
+  same error other (inr (limit, of, none, passes)) (inr (limit', of', none', passes')) =
+      of' ∙ ap (λ (x : BoxLimit). applying.Limit x) (one_limit (styled_after state change) limit limit' passes passes') ∙ sym of
+
+  -- by what the edit, then its boxes are refused for
   abbrev HasOutcome : Type 0
-  HasOutcome = CanApply rules state edit ⊎ ((error : ApplyError) × IsRefusedEdit rules state edit error)
+  HasOutcome = CanApply state change ⊎ ((error : ApplyError) × IsRefusedEdit state change error)
 
-  by_boxes : refusal state edit ≡ None → IsWithinOrPasses (styled_after rules state edit) → HasOutcome
+  by_boxes : refusal state change ≡ None → IsWithinOrPasses (styled_after state change) → HasOutcome
   by_boxes none (inl within) = inl (record { taken = none; within = within })
   by_boxes none (inr (limit, passes)) = inr (applying.Limit limit, (none, passes))
 
-  by_document : (reason : Option EditError) → refusal state edit ≡ reason → HasOutcome
-  by_document None is = by_boxes is (within_or_passes (styled_after rules state edit))
-  by_document (Some error) is = inr (applying.Document error, is)
+  by_refusal : (reason : Option Reason) → refusal state change ≡ reason → HasOutcome
+  by_refusal None is = by_boxes is (within_or_passes (styled_after state change))
+  by_refusal (Some reason) is = inr (error_of reason, refused_for reason is)
 
 pub one_outcome : HasOneOutcome
 one_outcome = record {
-  some = λ rules state edit. by_document rules state edit (refusal state edit) refl;
-  only = λ rules state edit error is. (not_applied rules state edit error is, λ other also. same rules state edit error other is also);
+  some = λ state change. by_refusal state change (refusal state change) refl;
+  only = λ state change error is. (
+    not_applied state change error (origin state change error is),
+    λ other also. same state change error other (origin state change error is) (origin state change other also),
+  );
 }
 
 -- ---- what the document refuses
 
-refused_by : (reason : Option EditError) (next : State) (elements : List ℕ) (error : EditError) → unless reason next elements ≡ refused error → reason ≡ Some error
+refused_by : (reason : Option EditError) (next : dom.State) (elements : List ℕ) (error : EditError) → unless reason next elements ≡ refused error → reason ≡ Some error
 refused_by None next elements error is = absurd cc
 refused_by (Some reason) next elements error is = cc
 
-told : (rules : List Ruling) (state : State) (edit : EditOf) (error : EditError) → refusal state edit ≡ Some error → (of_refusal error ≡ applying.Memory) ⊎ IsRefusedEdit rules state edit (of_refusal error)
-told rules state edit refusals.NoNode is = inr is
-told rules state edit refusals.IsRoot is = inr is
-told rules state edit refusals.NotText is = inr is
-told rules state edit refusals.NotElement is = inr is
-told rules state edit refusals.Inside is = inr is
-told rules state edit refusals.BadIndex is = inr is
-told rules state edit (refusals.TooManyNodes number) is = inr is
-told rules state edit (refusals.TooDeep number) is = inr is
-told rules state edit refusals.Memory is = inl refl
+module _ (state : State) (edit : EditOf) where
+  by_document : (error : EditError) → tree_refusals.refusal state.tree edit ≡ Some error → refusal state (of_tree edit) ≡ Some (by_tree error)
+  by_document error is = ap (option_map by_tree) is
 
-pub refused_edit : (rules : List Ruling) (state : State) (edit : EditOf) (error : EditError) → (error ≡ refusals.Memory) ⊎ (edited state edit ≡ refused error)
-    → (of_refusal error ≡ applying.Memory) ⊎ IsRefusedEdit rules state edit (of_refusal error)
-refused_edit rules state edit error (inl is) = inl (ap of_refusal is)
-refused_edit rules state edit error (inr is) = told rules state edit error (refused_by (refusal state edit) (after state edit) (concerned state edit) error is)
+  told : (error : EditError) → tree_refusals.refusal state.tree edit ≡ Some error → (of_refusal error ≡ applying.Memory) ⊎ IsRefusedEdit state (of_tree edit) (of_refusal error)
+  told refusals.NoNode is = inr (by_document refusals.NoNode is)
+  told refusals.IsRoot is = inr (by_document refusals.IsRoot is)
+  told refusals.NotText is = inr (by_document refusals.NotText is)
+  told refusals.NotElement is = inr (by_document refusals.NotElement is)
+  told refusals.Inside is = inr (by_document refusals.Inside is)
+  told refusals.BadIndex is = inr (by_document refusals.BadIndex is)
+  told (refusals.TooManyNodes number) is = inr (by_document (refusals.TooManyNodes number) is)
+  told (refusals.TooDeep number) is = inr (by_document (refusals.TooDeep number) is)
+  told refusals.Memory is = inl refl
+
+  pub refused_edit : (error : EditError) → (error ≡ refusals.Memory) ⊎ (edited state.tree edit ≡ refused error)
+      → (of_refusal error ≡ applying.Memory) ⊎ IsRefusedEdit state (of_tree edit) (of_refusal error)
+  refused_edit error (inl is) = inl (ap of_refusal is)
+  refused_edit error (inr is) = told error (refused_by (tree_refusals.refusal state.tree edit) (trees.after state.tree edit) (concerned state.tree edit) error is)
 
 -- ---- an edit that the document takes
 
-pub done_by : AcceptedAreDone → (old next : State) (edit : EditOf) (elements : List ℕ) → edited old edit ≡ accepted next elements → (refusal old edit ≡ None) × (next ≡ after old edit)
-done_by done old next edit elements is = done old next edit elements is
+-- all of a document with this tree
+abbrev pub with_tree : (faces : List (Option Table)) → List Ruling → dom.State → State
+with_tree faces rules tree = record { tree = tree; rules = rules; faces = faces }
 
-module _ (rules : List Ruling) (old next : State) (edit : EditOf) (done : (refusal old edit ≡ None) × (next ≡ after old edit)) where
+-- these are the tables of the faces
+module _ (faces : List (Option Table)) (rules : List Ruling) (old next : dom.State) (edit : EditOf) (elements : List ℕ) (all : AcceptedAreDone) (is : edited old edit ≡ accepted next elements) where
+  abbrev before : State
+  before = with_tree faces rules old
+
+  done : (tree_refusals.refusal old edit ≡ None) × (next ≡ trees.after old edit)
+  done = all old next edit elements is
+
+  pub is_after : next ≡ trees.after old edit
+  is_after = done.1
+
+  none : refusal before (of_tree edit) ≡ None
+  none = ap (option_map by_tree) done.0
+
   -- what its boxes are refused for is what it is refused for
-  pub boxes_refuse : (error : LimitError) → Answers rules next (Err error) → (of_limit_error error ≡ applying.Memory) ⊎ IsRefusedEdit rules old edit (of_limit_error error)
-  boxes_refuse (limits.Limit limit) passes = inr (done.0, subst (λ (s : State). Passes (styled_document rules s) limit) done.1 passes)
+  pub boxes_refuse : (error : LimitError) → Answers rules next (Err error) → (of_limit_error error ≡ applying.Memory) ⊎ IsRefusedEdit before (of_tree edit) (of_limit_error error)
+  boxes_refuse (limits.Limit limit) passes = inr (none, subst (λ (s : dom.State). Passes (styled_document rules s) limit) done.1 passes)
   boxes_refuse limits.Memory answers = inl refl
 
-  pub can_apply : IsWithinLimits (styled_document rules next) → CanApply rules old edit
-  can_apply within = record { taken = done.0; within = subst (λ (s : State). IsWithinLimits (styled_document rules s)) done.1 within }
+  pub can_apply : IsWithinLimits (styled_document rules next) → CanApply before (of_tree edit)
+  can_apply within = record { taken = none; within = subst (λ (s : dom.State). IsWithinLimits (styled_document rules s)) done.1 within }
+
+  pub state_after : with_tree faces rules next ≡ after before (of_tree edit)
+  state_after = ap (with_tree faces rules) done.1
 
   -- its boxes may be judged
-  pub edited_from : IsFitting edit → IsRooted old → IsWhole old → IsReached old → IsWithinLimits (styled_document rules old) → IsEditedFrom rules edit next old
+  pub edited_from : tree.IsFitting edit → IsRooted old → IsWhole old → IsReached old → IsWithinLimits (styled_document rules old) → IsEditedFrom rules edit next old
   edited_from fitting rooted whole reached within = record { fitting = fitting; rooted = rooted; whole = whole; reached = reached; taken = done.0; within = within; is = done.1 }
 
   pub rooted_after : KeepRoots → ChildrenHaveParents → IsWhole old → IsRooted old → IsRooted next
   rooted_after keep parents whole rooted = subst IsRooted (sym done.1) (keep old edit rooted (parents old whole) done.0)
 
-  pub said_after : KeepSaid → IsSaidEdit edit → IsSaidState old → IsSaidState next
+  pub said_after : KeepSaid → tree.IsSaidEdit edit → IsSaidState old → IsSaidState next
   said_after keep said is = subst IsSaidState (sym done.1) (keep old edit is said)
 
   pub whole_after : EditsKeepWhole → IsWhole old → IsWhole next
   whole_after keep whole = subst IsWhole (sym done.1) (keep old edit whole done.0)
 
-  pub reached_after : EditsKeepReached → IsFitting edit → IsRooted old → IsWhole old → IsReached old → IsReached next
+  pub reached_after : EditsKeepReached → tree.IsFitting edit → IsRooted old → IsWhole old → IsReached old → IsReached next
   reached_after keep fitting rooted whole reached = subst IsReached (sym done.1) (keep old edit fitting rooted whole reached done.0)
 
   pub few_after : EditsWeigh → live_count old ≤ greatest_count → live_count next ≤ greatest_count
-  few_after weigh few = subst (λ (s : State). live_count s ≤ greatest_count) (sym done.1) ((weigh old edit done.0).0 few)
+  few_after weigh few = subst (λ (s : dom.State). live_count s ≤ greatest_count) (sym done.1) ((weigh old edit done.0).0 few)
 
-  pub bytes_after : EditsWeigh → total bytes next ≤ total bytes old + bytes_brought edit
-  bytes_after weigh = subst (λ (s : State). total bytes s ≤ total bytes old + bytes_brought edit) (sym done.1) (weigh old edit done.0).1
+  pub bytes_after : EditsWeigh → total bytes next ≤ total bytes old + tree.bytes_brought edit
+  bytes_after weigh = subst (λ (s : dom.State). total bytes s ≤ total bytes old + tree.bytes_brought edit) (sym done.1) (weigh old edit done.0).1

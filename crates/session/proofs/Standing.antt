@@ -8,6 +8,12 @@ use Rattle.tree_laws.specs.Reached.{IsReached}
 use Rattle.tree_laws.specs.Weight.{bytes, total}
 use Rattle.tree_laws.specs.Wholeness.{IsWhole}
 use Rattle.cascade.specs.Index.{index_rules}
+use Rattle.cascade.specs.Winners.{AreSaidRules}
+use Rattle.cascade.specs.declared.index.RuleIndex.{RuleIndex}
+use Rattle.css_types.specs.Rule.{Ruling, rulings_of}
+use Rattle.css_types.specs.declared.rule.Rule.{Rule}
+use Rattle.std.specs.declared.alloc.Global.{Global}
+use Rattle.std.specs.declared.vec.Vec.{Vec}
 use Rattle.style_tree.specs.Styling.{styled_document}
 use Rattle.style_types.specs.Tree.{Nodes}
 use Rattle.box_gen.specs.Boxes.{root_boxes}
@@ -19,9 +25,10 @@ use Rattle.box_arena.specs.Links as links
 use Rattle.box_arena.specs.Boxes.{StandFrom, Stands}
 use Rattle.box_arena.specs.declared.entry.Entry.{Entry}
 use Rattle.face_api.specs.Table.{Table}
+use Rattle.face_api.specs.declared.faces.Faces.{Faces}
 use Rattle.para_prepare.specs.Preparation.{Preparation}
 use Rattle.relayout.specs.Relayout.{AreRightUnder, IsSteadyUnder}
-use Rattle.session.specs.State.{AreReady, IsSound, styled_in}
+use Rattle.session.specs.State.{AreReady, IsSound, rules_in, styled_in}
 use Rattle.session.specs.declared.planting.Rooted.{Rooted}
 use Rattle.session.specs.declared.session.Session.{Session}
 use Rattle.slab.specs.Slab.{Slab}
@@ -73,6 +80,10 @@ steady_ready faces view nodes made arena ready under =
     let all = steady faces view made.arena arena made.root (root_boxes nodes) ready.stands ready.free under in
     record { stands = all.0; free = all.1; fit = ready.fit; right = all.2; within = ready.within; positions = ready.positions }
 
+-- the index that is there is one of the rules
+pub indexed_by : (index : Option RuleIndex) (one : RuleIndex) (rules : List Ruling) → Some one ≡ index → IfSome index (λ index. index_rules index ≡ rules) → index_rules one ≡ rules
+indexed_by index one rules is indexed = subst (λ (o : Option RuleIndex). IfSome o (λ index. index_rules index ≡ rules)) (sym is) indexed
+
 module _ {I : Type 0} {D : I → Type 0} where
   -- a session with other boxes is sound where those are ready
   pub sound_on : (faces : List (Option Table)) (session : Session I D) (boxes : Option Rooted) → IsSound faces session → IfSome boxes (AreReady faces session.view (styled_in session)) → IsSound faces (record session { boxes = boxes })
@@ -84,15 +95,33 @@ module _ {I : Type 0} {D : I → Type 0} where
     few = sound.few;
     short = sound.short;
     rules = sound.rules;
+    index = sound.index;
     within = sound.within;
     view = sound.view;
     ready = ready;
   }
 
+  -- so it is with another index of the same rules
+  pub sound_by : (faces : List (Option Table)) (session : Session I D) (index : Option RuleIndex) → IfSome index (λ index. index_rules index ≡ rules_in session) → IsSound faces session
+      → IsSound faces (record session { index = index })
+  sound_by faces session index indexed sound = record {
+    rooted = sound.rooted;
+    said = sound.said;
+    whole = sound.whole;
+    reached = sound.reached;
+    few = sound.few;
+    short = sound.short;
+    rules = sound.rules;
+    index = indexed;
+    within = sound.within;
+    view = sound.view;
+    ready = sound.ready;
+  }
+
   -- so it is where its document has the same state
   pub sound_in : (faces : List (Option Table)) (session : Session I D) (document : Document) → state_of document ≡ state_of session.document → IsSound faces session → IsSound faces (record session { document = document })
   sound_in faces session document same sound =
-      let styled = λ (state : State). styled_document (index_rules session.rules) state in
+      let styled = λ (state : State). styled_document (rules_in session) state in
       record {
         rooted = subst IsRooted (sym same) sound.rooted;
         said = subst IsSaidState (sym same) sound.said;
@@ -101,7 +130,75 @@ module _ {I : Type 0} {D : I → Type 0} where
         few = subst (λ (state : State). live_count state ≤ greatest_count) (sym same) sound.few;
         short = subst (λ (state : State). total bytes state ≤ 1048576) (sym same) sound.short;
         rules = sound.rules;
+        index = sound.index;
         within = subst (λ (state : State). IsWithinLimits (styled state)) (sym same) sound.within;
         view = sound.view;
         ready = subst (λ (state : State). IfSome session.boxes (AreReady faces session.view (styled state))) (sym same) sound.ready;
+      }
+
+  -- and where its faces have the same tables
+  pub sound_with : (old new : List (Option Table)) (session : Session I D) (faces : Faces I D) → new ≡ old → IsSound old session → IsSound new (record session { faces = faces })
+  sound_with old new session faces same sound = record {
+    rooted = sound.rooted;
+    said = sound.said;
+    whole = sound.whole;
+    reached = sound.reached;
+    few = sound.few;
+    short = sound.short;
+    rules = sound.rules;
+    index = sound.index;
+    within = sound.within;
+    view = sound.view;
+    ready = subst (λ (tables : List (Option Table)). IfSome session.boxes (AreReady tables session.view (styled_in session))) (sym same) sound.ready;
+  }
+
+  -- with other faces it is sound where no boxes are kept
+  pub sound_bare : (old new : List (Option Table)) (session : Session I D) (faces : Faces I D) → IsSound old session → IsSound new (record session { faces = faces; boxes = None })
+  sound_bare old new session faces sound = record {
+    rooted = sound.rooted;
+    said = sound.said;
+    whole = sound.whole;
+    reached = sound.reached;
+    few = sound.few;
+    short = sound.short;
+    rules = sound.rules;
+    index = sound.index;
+    within = sound.within;
+    view = sound.view;
+    ready = tt;
+  }
+
+  -- with other rules too, where the boxes can stand under them
+  pub sound_under : (faces : List (Option Table)) (session : Session I D) (rules : Vec Rule Global) (index : Option RuleIndex) → AreSaidRules (rulings_of rules.items)
+      → IfSome index (λ index. index_rules index ≡ rulings_of rules.items) → IsWithinLimits (styled_document (rulings_of rules.items) (state_of session.document)) → IsSound faces session
+      → IsSound faces (record session { rules = rules; index = index; boxes = None })
+  sound_under faces session rules index said indexed within sound = record {
+    rooted = sound.rooted;
+    said = sound.said;
+    whole = sound.whole;
+    reached = sound.reached;
+    few = sound.few;
+    short = sound.short;
+    rules = said;
+    index = indexed;
+    within = within;
+    view = sound.view;
+    ready = tt;
+  }
+
+  -- rules that lie elsewhere are the same
+  pub sound_moved : (faces : List (Option Table)) (session : Session I D) (rules : Vec Rule Global) → rules.items ≡ session.rules.items → IsSound faces session → IsSound faces (record session { rules = rules })
+  sound_moved faces session rules same sound =
+      record {
+        rooted = sound.rooted;
+        said = sound.said;
+        whole = sound.whole;
+        reached = sound.reached;
+        few = sound.few;
+        short = sound.short;
+        rules = subst (λ (items : List Rule). AreSaidRules (rulings_of items)) (sym same) sound.rules;
+        index = subst (λ (items : List Rule). IfSome session.index (λ index. index_rules index ≡ rulings_of items)) (sym same) sound.index;
+        within = subst (λ (items : List Rule). IsWithinLimits (styled_document (rulings_of items) (state_of session.document))) (sym same) sound.within;
+        view = sound.view;
+        ready = subst (λ (items : List Rule). IfSome session.boxes (AreReady faces session.view (styled_document (rulings_of items) (state_of session.document)))) (sym same) sound.ready;
       }

@@ -1,25 +1,33 @@
 -- What an edit of an open document leads to.
-use Rattle.std.specs.Prelude.{◌≡◌, ◌⊎◌, List, Some, None, Result, Ok, Err, ⊤}
-use Rattle.css_types.specs.Rule.{Ruling}
+use Rattle.std.specs.Prelude.{◌≡◌, ◌⊎◌, List, Option, Some, None, Result, Ok, Err, ⊤}
+use Rattle.face_api.specs.Table.{Table}
+use Rattle.face_api.specs.declared.error.FacesError.{FacesError}
+use Rattle.face_api.specs.declared.error.FacesError.TheVariants as faces_errors
 use Rattle.dom_store.specs.declared.error.EditError.{EditError}
 use Rattle.dom_store.specs.declared.error.EditError.TheVariants as refusals
-use Rattle.dom_store.specs.Edits.{EditOf, remove, after}
-use Rattle.dom_store.specs.Refusals.{refusal}
-use Rattle.dom_store.specs.State.{State, state_of}
-use Rattle.cascade.specs.Index.{index_rules}
-use Rattle.style_tree.specs.Styling.{styled_document}
+use Rattle.dom_store.specs.Edits.{EditOf, remove}
+use Rattle.edits.specs.Change.{Change}
+use Rattle.edits.specs.Edited.{after, by_tree, fixed, full, no_face, no_rule, refusal, too_many_rules}
+use Rattle.edits.specs.State.{State}
 use Rattle.style_types.specs.Tree.{Nodes}
 use Rattle.box_gen.specs.Limit.{IsWithinLimits, Passes}
 use Rattle.box_limits.specs.declared.error.LimitError.{LimitError}
 use Rattle.box_limits.specs.declared.error.LimitError.TheVariants as limits
 use Rattle.session.specs.declared.error.ApplyError.{ApplyError}
-use Rattle.session.specs.declared.error.ApplyError.TheVariants.{Document, Limit, Memory}
+use Rattle.session.specs.declared.error.ApplyError.TheVariants.{Document, NoFace, Fixed, Full, TooManyRules, NoRule, Limit, Memory}
 use Rattle.session.specs.declared.session.Session.{Session}
+use Rattle.session.specs.State.{state_in, styled_of}
 
 -- want of memory is no refusal
 abbrev pub of_refusal : EditError → ApplyError
 of_refusal refusals.Memory = Memory
 of_refusal other = Document other
+
+abbrev pub of_faces_error : FacesError → ApplyError
+of_faces_error faces_errors.NoFace = NoFace
+of_faces_error faces_errors.Fixed = Fixed
+of_faces_error faces_errors.Full = Full
+of_faces_error faces_errors.Memory = Memory
 
 abbrev pub of_limit_error : LimitError → ApplyError
 of_limit_error (limits.Limit limit) = Limit limit
@@ -31,29 +39,35 @@ CanBeTakenBack (remove number) = ⊥
 CanBeTakenBack other = ⊤
 
 -- the state after the edit as a styled tree
-abbrev pub styled_after : List Ruling → State → EditOf → Nodes
-styled_after rules state edit = styled_document rules (after state edit)
+abbrev pub styled_after : State → Change → Nodes
+styled_after state change = styled_of (after state change)
 
--- it can be applied: the document takes it, and the boxes of the next state can stand
-pub record CanApply (rules : List Ruling) (state : State) (edit : EditOf) : Type 0 where
-  pub taken : refusal state edit ≡ None
-  pub within : IsWithinLimits (styled_after rules state edit)
+-- it can be applied: it isn't refused, and the boxes of the next state can stand
+pub record CanApply (state : State) (change : Change) : Type 0 where
+  pub taken : refusal state change ≡ None
+  pub within : IsWithinLimits (styled_after state change)
 
--- it can't, for this reason: those of the document come first, then those of boxes
-abbrev pub IsRefusedEdit : List Ruling → State → EditOf → ApplyError → Type 0
-IsRefusedEdit rules state edit (Document error) = refusal state edit ≡ Some error
-IsRefusedEdit rules state edit (Limit limit) = (refusal state edit ≡ None) × Passes (styled_after rules state edit) limit
-IsRefusedEdit rules state edit Memory = ⊥
+-- it can't, for this reason: that of the edit comes first, then that of boxes
+abbrev pub IsRefusedEdit : State → Change → ApplyError → Type 0
+IsRefusedEdit state change (Document error) = refusal state change ≡ Some (by_tree error)
+IsRefusedEdit state change NoFace = refusal state change ≡ Some no_face
+IsRefusedEdit state change Fixed = refusal state change ≡ Some fixed
+IsRefusedEdit state change Full = refusal state change ≡ Some full
+IsRefusedEdit state change TooManyRules = refusal state change ≡ Some too_many_rules
+IsRefusedEdit state change NoRule = refusal state change ≡ Some no_rule
+IsRefusedEdit state change (Limit limit) = (refusal state change ≡ None) × Passes (styled_after state change) limit
+IsRefusedEdit state change Memory = ⊥
 
 -- an edit can be applied, or is refused, and for one reason alone
 pub record HasOneOutcome : Type 0 where
-  pub some : (rules : List Ruling) (state : State) (edit : EditOf) → CanApply rules state edit ⊎ ((error : ApplyError) × IsRefusedEdit rules state edit error)
-  pub only : (rules : List Ruling) (state : State) (edit : EditOf) (error : ApplyError) → IsRefusedEdit rules state edit error
-      → (CanApply rules state edit → ⊥) × ((other : ApplyError) → IsRefusedEdit rules state edit other → other ≡ error)
+  pub some : (state : State) (change : Change) → CanApply state change ⊎ ((error : ApplyError) × IsRefusedEdit state change error)
+  pub only : (state : State) (change : Change) (error : ApplyError) → IsRefusedEdit state change error
+      → (CanApply state change → ⊥) × ((other : ApplyError) → IsRefusedEdit state change other → other ≡ error)
 
 module _ {I : Type 0} {D : I → Type 0} where
-  -- it is done whole, or refused; then the document has the state that it had, and nothing else is changed
-  abbrev pub Applies : (old new : Session I D) → EditOf → Result ⊤ ApplyError → Type 0
-  Applies old new edit (Ok done) = CanApply (index_rules old.rules) (state_of old.document) edit × (state_of new.document ≡ after (state_of old.document) edit)
-  Applies old new edit (Err error) = ((error ≡ Memory) ⊎ IsRefusedEdit (index_rules old.rules) (state_of old.document) edit error)
-      × (new ≡ record old { document = new.document }) × (state_of new.document ≡ state_of old.document)
+  -- It is done whole, or refused; then all that pages hang on is as it was, and nothing that is kept of them is lost. The tables of the
+  -- faces are these before it and those after it.
+  abbrev pub Applies : (before behind : List (Option Table)) → (old new : Session I D) → Change → Result ⊤ ApplyError → Type 0
+  Applies before behind old new change (Ok done) = CanApply (state_in before old) change × (state_in behind new ≡ after (state_in before old) change)
+  Applies before behind old new change (Err error) = ((error ≡ Memory) ⊎ IsRefusedEdit (state_in before old) change error)
+      × (state_in behind new ≡ state_in before old) × (new.boxes ≡ old.boxes)

@@ -24,5 +24,10 @@ open_node opening.Memory = None
 -- the word of why an edit isn't done
 unfoldable pub apply_word : ApplyError → List ℕ
 apply_word (applying.Document error) = error_word error
+apply_word applying.NoFace = codes "NoFace"
+apply_word applying.Fixed = codes "Fixed"
+apply_word applying.Full = codes "Full"
+apply_word applying.TooManyRules = codes "TooManyRules"
+apply_word applying.NoRule = codes "NoRule"
 apply_word (applying.Limit limit) = limit_word limit
 apply_word applying.Memory = codes "Memory"

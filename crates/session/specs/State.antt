@@ -2,7 +2,7 @@
 use Rattle.std.specs.Prelude.{◌≡◌, ◌≤◌, ◌⊎◌, List, None, Option, IfSome, Result, Ok, Err}
 use Rattle.face_api.specs.Table.{Table}
 use Rattle.css_types.specs.declared.value.Declaration.{Declaration}
-use Rattle.css_types.specs.Rule.{Ruling}
+use Rattle.css_types.specs.Rule.{Ruling, rulings_of}
 use Rattle.style_types.specs.Tree.{Nodes}
 use Rattle.wm_units.specs.View.{IsView}
 use Rattle.wm_units.specs.declared.view.View.{View}
@@ -14,6 +14,7 @@ use Rattle.tree_laws.specs.Reached.{IsReached}
 use Rattle.tree_laws.specs.Weight.{bytes, total}
 use Rattle.tree_laws.specs.Wholeness.{IsWhole}
 use Rattle.cascade.specs.Index.{index_rules}
+use Rattle.edits.specs.State as edited
 use Rattle.cascade.specs.Winners.{AreSaidRules}
 use Rattle.style_tree.specs.Styling.{styled_document}
 use Rattle.box_gen.specs.Boxes.{root_boxes}
@@ -51,10 +52,22 @@ pub record AreReady (faces : List (Option Table)) (view : View) (nodes : Nodes) 
   pub within : IsWithin nodes
   pub positions : ArePositions made.positions nodes
 
+-- the document of a state as a styled tree
+abbrev pub styled_of : edited.State → Nodes
+styled_of state = styled_document state.rules state.tree
+
 module _ {I : Type 0} {D : I → Type 0} where
+  -- its rules, of which the index is made when it is asked
+  abbrev pub rules_in : Session I D → List Ruling
+  rules_in session = rulings_of session.rules.items
+
   -- its document as a styled tree
   abbrev pub styled_in : Session I D → Nodes
-  styled_in session = styled_document (index_rules session.rules) (state_of session.document)
+  styled_in session = styled_document (rules_in session) (state_of session.document)
+
+  -- all of it that its pages hang on, with the tables of its faces
+  abbrev pub state_in : (faces : List (Option Table)) → Session I D → edited.State
+  state_in faces session = record { tree = state_of session.document; rules = rules_in session; faces = faces }
 
   abbrev pub flow_page_in : (faces : List (Option Table)) → Session I D → Page
   flow_page_in faces session = flow_page_of faces session.view (styled_in session)
@@ -70,12 +83,13 @@ module _ {I : Type 0} {D : I → Type 0} where
     pub reached : IsReached (state_of session.document)
     pub few : live_count (state_of session.document) ≤ greatest_count
     pub short : total bytes (state_of session.document) ≤ 1048576
-    pub rules : AreSaidRules (index_rules session.rules)
+    pub rules : AreSaidRules (rules_in session)
+    pub index : IfSome session.index (λ index. index_rules index ≡ rules_in session)
     pub within : IsWithinLimits (styled_in session)
     pub view : IsView session.view
     pub ready : IfSome session.boxes (AreReady faces session.view (styled_in session))
 
   -- the session of a document, or why there is none
   abbrev pub Opens : List Node → List (List Declaration) → List Ruling → Result (Session I D) OpenError → Type 0
-  Opens nodes own rules (Ok session) = CanOpen nodes own rules × (state_of session.document ≡ opened nodes own) × (index_rules session.rules ≡ rules)
+  Opens nodes own rules (Ok session) = CanOpen nodes own rules × (state_of session.document ≡ opened nodes own) × (rules_in session ≡ rules)
   Opens nodes own rules (Err error) = (error ≡ Memory) ⊎ IsRefused nodes own rules error

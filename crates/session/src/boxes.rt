@@ -1,9 +1,10 @@
 //! The boxes of a document (docs/PROFILE/boxes.md).
 
-ghost use Rattle.std.specs.Prelude.{◌≡◌, ◌≤◌, ℕ, IfErr, IfOk, None};
+ghost use Rattle.std.specs.Prelude.{◌≡◌, ◌≤◌, ℕ, IfErr, IfOk, IfSome, None};
 ghost use Rattle.dom_store.specs.Edited.{edit_of};
 ghost use Rattle.dom_store.specs.State.{IsRooted, IsSaidState, State, state_of};
 ghost use Rattle.cascade.specs.Index.{index_rules};
+ghost use Rattle.css_types.specs.Rule.{rulings_of};
 ghost use Rattle.cascade.specs.Winners.{AreSaidRules};
 ghost use Rattle.style_tree.specs.Styling.{AreBounded, styled_document};
 ghost use Rattle.dom_store.specs.Opening.{greatest_count};
@@ -22,14 +23,17 @@ ghost use Rattle.session.specs.Opening.{MakesBoxes};
 
 use crate::error::OpenError;
 use crate::generated::{Generated, generate};
+use crate::indexed::{made_index, make_index};
 use crate::laws::{boxes_within_limits_fit, documents_within_limits_fit};
 use crate::planting::{Rooted, grown};
 use box_gen::check_boxes;
 use box_limits::laws::{documents_are_judged_by_lines, edits_are_judged_by_their_parts};
 use box_limits::{LimitError, check_edited};
 use cascade::RuleIndex;
+use css_types::Rule;
+use dom_store::Document;
 use dom_store::laws::accepted_edits_keep_roots;
-use dom_store::{Document, Edit};
+use edits::TreeEdit;
 use std::alloc::{AllocError, Global};
 use style_tree::styled;
 use tree_laws::laws::{
@@ -55,19 +59,22 @@ pub(crate) fn boxes_in(
     Ok(made)
 }
 
-/// Whether the boxes of a document can stand after this edit, where they could before it. After a removal, which can't be taken
-/// back, they can.
+/// Whether the boxes of a document can stand after this edit of its tree, where they could before it. After a removal, which can't be
+/// taken back, they can, and after a text was set: then the index of the rules isn't asked.
 pub(crate) fn check_boxes_after(
     alloc: Global,
     document: &Document,
-    rules: &RuleIndex,
-    edit: &Edit,
+    rules: &[Rule],
+    index: &mut Option<RuleIndex>,
+    edit: &TreeEdit,
 ) -> Result<(), LimitError>
-    requires rules { AreSaidRules (index_rules rules.now) }
+    requires rules { AreSaidRules (rulings_of rules.now) }
     requires own { IsSaidState (state_of document.now) }
-    requires edited { (state : State) × IsEditedFrom (index_rules rules.now) (edit_of edit.now) (state_of document.now) state }
-    ensures answers { Answers (index_rules rules.now) (state_of document.now) result }
+    requires index { IfSome index.old (λ index. index_rules index ≡ rulings_of rules.now) }
+    requires edited { (state : State) × IsEditedFrom (rulings_of rules.now) (edit_of edit.now) (state_of document.now) state }
+    ensures answers { Answers (rulings_of rules.now) (state_of document.now) result }
     ensures back { IfErr result (λ _. CanBeTakenBack (edit_of edit.now)) }
+    ensures index { IfSome index.new (λ index. index_rules index ≡ rulings_of rules.now) }
 {
     documents_are_judged_by_lines();
     edits_are_judged_by_their_parts();
@@ -76,13 +83,14 @@ pub(crate) fn check_boxes_after(
     accepted_edits_keep_documents_reached();
     children_have_parents();
     match edit {
-        Edit::Remove { .. } => Ok(()),
-        Edit::Text { .. }
-        | Edit::Style { .. }
-        | Edit::Class { .. }
-        | Edit::Insert { .. }
-        | Edit::Move { .. } => {
-            check_edited(alloc, document, rules, edit)?;
+        TreeEdit::Remove { .. } => Ok(()),
+        TreeEdit::Text { .. } => Ok(()),
+        TreeEdit::Style { .. }
+        | TreeEdit::Class { .. }
+        | TreeEdit::Insert { .. }
+        | TreeEdit::Move { .. } => {
+            make_index(alloc, index, rules)?;
+            check_edited(alloc, document, made_index(index), edit)?;
             Ok(())
         }
     }

@@ -1,20 +1,31 @@
 //! Edits of a document that is open: each is refused, or done whole (docs/PROFILE/edits.md).
 
-ghost use Rattle.std.specs.Prelude.{◌≡◌, ◌+◌, ◌≤◌};
+ghost use Rattle.std.specs.Prelude.{◌≡◌, ◌+◌, ◌≤◌, OnErr, OnOk};
+ghost use Rattle.std.specs.List.{All};
+ghost use Rattle.css_types.specs.Rule.{rulings_of};
+ghost use Rattle.cascade.specs.Winners.{AreSaidRules};
+ghost use Rattle.box_limits.specs.Limits.{Answers};
+ghost use Rattle.dom_store.specs.Edited as tree;
+ghost use Rattle.dom_store.specs.State.{AreSaid, state_of};
+ghost use Rattle.edits.specs.Change.{IsFitting, IsSaid, bytes_brought, change_of, metric, of_tree, retire, rule, unrule};
+ghost use Rattle.edits.specs.Edited.{after};
 ghost use Rattle.face_api.specs.Faces.{faces_of};
-ghost use Rattle.dom_store.specs.Edited.{IsFitting, IsSaidEdit, bytes_brought, edit_of};
-ghost use Rattle.dom_store.specs.Edits.{after};
-ghost use Rattle.dom_store.specs.State.{state_of};
-ghost use Rattle.cascade.specs.Index.{index_rules};
 ghost use Rattle.tree_laws.specs.Weight.{bytes, total};
 ghost use Rattle.session.specs.Editing.{Applies, CanApply};
-ghost use Rattle.session.specs.State.{IsSound};
+ghost use Rattle.session.specs.State.{IsSound, state_in};
 
 use crate::boxes::check_boxes_after;
 use crate::error::ApplyError;
+use crate::rules::{
+    are_too_many, check_rules, put_behind, rules_behind, rules_without, turns_none,
+};
 use crate::session::Session;
-use dom_store::Edit;
+use box_limits::laws::rules_that_turn_none;
+use box_limits::{LimitError, turn_none};
+use cascade::RuleIndex;
+use css_types::Rules;
 use dom_store::laws::{accepted_edits_keep_roots, accepted_edits_stay_said};
+use edits::{Edit, TreeEdit};
 use face_api::Face;
 use tree_laws::laws::{
     accepted_edits_are_done, accepted_edits_keep_documents_reached,
@@ -22,20 +33,50 @@ use tree_laws::laws::{
 };
 
 impl Session {
-    /// Applies an edit. Refused is first what the document refuses (`Document::apply`), then a state with more than six boxes on
-    /// a line of ancestors that are orthogonal to their containing blocks, with the least number of the node of such a box. A
-    /// refused edit changes nothing: the state of the document, the faces and all that is kept of boxes stay as they were. After
-    /// one that is accepted nothing is kept. Where the edit can be applied the texts of the next state together hold at most
-    /// 1,048,576 bytes. Costs what the edit of the document costs (`Document::apply`), and the styles of the nodes on which the
-    /// boxes depend that it makes or changes, of all below these and of those above; boxes are made at the next page.
+    /// Applies an edit. Refused is first what the document refuses (`Document::apply`), what its faces refuse (`Faces::set`,
+    /// `Faces::retire`), or what its rules do: more than 4,096 rules of the author or 65,536 declarations in them, or a rule that isn't
+    /// there; then a state with more than six boxes on a line of ancestors that are orthogonal to their containing blocks, with the
+    /// least number of the node of such a box. A refused edit changes nothing: the state of the document, the rules, the faces and all
+    /// that is kept of boxes stay as they were. After one that is accepted nothing is kept. A face that is retired is dropped at once.
+    /// Where the edit can be applied the texts of the next state together hold at most 1,048,576 bytes. An edit of the tree costs what
+    /// it costs the document (`Document::apply`), and the styles of the nodes on which the boxes depend that it makes or changes, of all
+    /// below these and of those above; one of the rules that names `display` or `writing-mode` costs the styles of all nodes, and any
+    /// other one the places of the rules. Boxes, and the index of the rules, are made when they are asked next.
     pub fn apply(&mut self, edit: &Edit) -> Result<(), ApplyError>
         requires sound { IsSound (faces_of ⟦<dyn Face as Face>⟧ self.old.faces) self.old }
-        requires fitting { IsFitting (edit_of edit.now) }
-        requires said { IsSaidEdit (edit_of edit.now) }
-        requires room { CanApply (index_rules self.old.rules) (state_of self.old.document) (edit_of edit.now) → total bytes (after (state_of self.old.document) (edit_of edit.now)) ≤ 1048576 }
-        ensures applies { Applies self.old self.new (edit_of edit.now) result }
-        ensures rest { self.new ≡ record self.old { document = self.new.document; boxes = self.new.boxes } }
-        ensures bytes { total bytes (state_of self.new.document) ≤ total bytes (state_of self.old.document) + bytes_brought (edit_of edit.now) }
+        requires fitting { IsFitting (change_of edit.now) }
+        requires said { IsSaid (change_of edit.now) }
+        requires room { CanApply (state_in (faces_of ⟦<dyn Face as Face>⟧ self.old.faces) self.old) (change_of edit.now)
+            → total bytes (after (state_in (faces_of ⟦<dyn Face as Face>⟧ self.old.faces) self.old) (change_of edit.now)).tree ≤ 1048576 }
+        ensures applies { Applies (faces_of ⟦<dyn Face as Face>⟧ self.old.faces) (faces_of ⟦<dyn Face as Face>⟧ self.new.faces) self.old self.new (change_of edit.now) result }
+        ensures view { self.new.view ≡ self.old.view }
+        ensures bytes { total bytes (state_of self.new.document) ≤ total bytes (state_of self.old.document) + bytes_brought (change_of edit.now) }
+        ensures sound { IsSound (faces_of ⟦<dyn Face as Face>⟧ self.new.faces) self.new }
+    {
+        match edit {
+            Edit::Tree(edit) => self.edit_tree(edit),
+            Edit::Metric {
+                face,
+                c,
+                upright,
+                value,
+            } => self.set_metric(*face, *c, *upright, *value),
+            Edit::Retire { face } => self.retire(*face),
+            Edit::Rule { rules } => self.put_rules(rules),
+            Edit::Unrule { index } => self.drop_rule(*index),
+        }
+    }
+
+    // An edit of the tree.
+    fn edit_tree(&mut self, edit: &TreeEdit) -> Result<(), ApplyError>
+        requires sound { IsSound (faces_of ⟦<dyn Face as Face>⟧ self.old.faces) self.old }
+        requires fitting { tree.IsFitting (tree.edit_of edit.now) }
+        requires said { tree.IsSaidEdit (tree.edit_of edit.now) }
+        requires room { CanApply (state_in (faces_of ⟦<dyn Face as Face>⟧ self.old.faces) self.old) (of_tree (tree.edit_of edit.now))
+            → total bytes (after (state_in (faces_of ⟦<dyn Face as Face>⟧ self.old.faces) self.old) (of_tree (tree.edit_of edit.now))).tree ≤ 1048576 }
+        ensures applies { Applies (faces_of ⟦<dyn Face as Face>⟧ self.old.faces) (faces_of ⟦<dyn Face as Face>⟧ self.new.faces) self.old self.new (of_tree (tree.edit_of edit.now)) result }
+        ensures view { self.new.view ≡ self.old.view }
+        ensures bytes { total bytes (state_of self.new.document) ≤ total bytes (state_of self.old.document) + tree.bytes_brought (tree.edit_of edit.now) }
         ensures sound { IsSound (faces_of ⟦<dyn Face as Face>⟧ self.new.faces) self.new }
     {
         accepted_edits_are_done();
@@ -46,7 +87,13 @@ impl Session {
         accepted_edits_stay_said();
         accepted_edits_keep_documents_reached();
         let change = self.document.apply(self.alloc, edit)?;
-        match check_boxes_after(self.alloc, &self.document, &self.rules, edit) {
+        match check_boxes_after(
+            self.alloc,
+            &self.document,
+            &self.rules,
+            &mut self.index,
+            edit,
+        ) {
             Ok(()) => {
                 self.boxes = None;
                 Ok(())
@@ -56,5 +103,97 @@ impl Session {
                 Err(ApplyError::from(error))
             }
         }
+    }
+
+    // An advance of a face. No box turns by it.
+    fn set_metric(&mut self, face: u8, c: char, upright: bool, value: u32) -> Result<(), ApplyError>
+        requires sound { IsSound (faces_of ⟦<dyn Face as Face>⟧ self.old.faces) self.old }
+        requires value { value ≤ 10000 }
+        ensures applies { Applies (faces_of ⟦<dyn Face as Face>⟧ self.old.faces) (faces_of ⟦<dyn Face as Face>⟧ self.new.faces) self.old self.new (metric face c upright value) result }
+        ensures rest { self.new ≡ record self.old { faces = self.new.faces; boxes = self.new.boxes } }
+        ensures sound { IsSound (faces_of ⟦<dyn Face as Face>⟧ self.new.faces) self.new }
+    {
+        self.faces.set(face, c, upright, value)?;
+        self.boxes = None;
+        Ok(())
+    }
+
+    // A face is given up. No box turns by it.
+    fn retire(&mut self, face: u8) -> Result<(), ApplyError>
+        requires sound { IsSound (faces_of ⟦<dyn Face as Face>⟧ self.old.faces) self.old }
+        requires face { 1 ≤ face }
+        ensures applies { Applies (faces_of ⟦<dyn Face as Face>⟧ self.old.faces) (faces_of ⟦<dyn Face as Face>⟧ self.new.faces) self.old self.new (retire face) result }
+        ensures rest { self.new ≡ record self.old { faces = self.new.faces; boxes = self.new.boxes } }
+        ensures sound { IsSound (faces_of ⟦<dyn Face as Face>⟧ self.new.faces) self.new }
+    {
+        self.faces.retire(face)?;
+        self.boxes = None;
+        Ok(())
+    }
+
+    // Rules behind the others. Where none of them turns a box, nothing is styled.
+    fn put_rules(&mut self, more: &Rules) -> Result<(), ApplyError>
+        requires sound { IsSound (faces_of ⟦<dyn Face as Face>⟧ self.old.faces) self.old }
+        requires said { All (λ rule. AreSaid rule.declarations) (rulings_of more.now.items) }
+        ensures applies { Applies (faces_of ⟦<dyn Face as Face>⟧ self.old.faces) (faces_of ⟦<dyn Face as Face>⟧ self.new.faces) self.old self.new (rule (rulings_of more.now.items)) result }
+        ensures rest { self.new ≡ record self.old { rules = self.new.rules; index = self.new.index; boxes = self.new.boxes } }
+        ensures sound { IsSound (faces_of ⟦<dyn Face as Face>⟧ self.new.faces) self.new }
+    {
+        rules_that_turn_none();
+        if are_too_many(&self.rules, more) {
+            return Err(ApplyError::TooManyRules);
+        }
+        if turn_none(more) {
+            put_behind(self.alloc, &mut self.rules, more)?;
+            self.index = None;
+            self.boxes = None;
+            Ok(())
+        } else {
+            let rules = rules_behind(self.alloc, &self.rules, more)?;
+            self.change_rules(rules)?;
+            Ok(())
+        }
+    }
+
+    // A rule goes. Where it turns no box, nothing is styled.
+    fn drop_rule(&mut self, number: u32) -> Result<(), ApplyError>
+        requires sound { IsSound (faces_of ⟦<dyn Face as Face>⟧ self.old.faces) self.old }
+        ensures applies { Applies (faces_of ⟦<dyn Face as Face>⟧ self.old.faces) (faces_of ⟦<dyn Face as Face>⟧ self.new.faces) self.old self.new (unrule number) result }
+        ensures rest { self.new ≡ record self.old { rules = self.new.rules; index = self.new.index; boxes = self.new.boxes } }
+        ensures sound { IsSound (faces_of ⟦<dyn Face as Face>⟧ self.new.faces) self.new }
+    {
+        rules_that_turn_none();
+        let at = number as usize;
+        if at >= self.rules.len() {
+            return Err(ApplyError::NoRule);
+        }
+        if turns_none(&self.rules, at) {
+            self.rules.remove(at);
+            self.index = None;
+            self.boxes = None;
+            Ok(())
+        } else {
+            let rules = rules_without(self.alloc, &self.rules, at)?;
+            self.change_rules(rules)?;
+            Ok(())
+        }
+    }
+
+    // These rules come in the place of the others, where the boxes can stand under them.
+    fn change_rules(&mut self, rules: Rules) -> Result<(), LimitError>
+        requires sound { IsSound (faces_of ⟦<dyn Face as Face>⟧ self.old.faces) self.old }
+        requires said { AreSaidRules (rulings_of rules.items) }
+        ensures answers { Answers (rulings_of rules.items) (state_of self.old.document) result }
+        ensures done { OnOk result (rulings_of self.new.rules.items ≡ rulings_of rules.items) }
+        ensures same { OnErr result (self.new ≡ self.old) }
+        ensures rest { self.new ≡ record self.old { rules = self.new.rules; index = self.new.index; boxes = self.new.boxes } }
+        ensures sound { IsSound (faces_of ⟦<dyn Face as Face>⟧ self.new.faces) self.new }
+    {
+        let index = RuleIndex::new(self.alloc, &rules)?;
+        check_rules(self.alloc, &self.document, &index)?;
+        self.rules = rules;
+        self.index = Some(index);
+        self.boxes = None;
+        Ok(())
     }
 }

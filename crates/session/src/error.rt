@@ -3,12 +3,14 @@
 ghost use Rattle.std.specs.Prelude.{◌≡◌, ◌≤◌, length};
 ghost use Rattle.session.specs.Opening.{of_edit_error};
 ghost use Rattle.session.specs.declared.error.OpenError.TheVariants.{Limit, Memory};
-ghost use Rattle.session.specs.Editing.{of_limit_error, of_refusal};
+ghost use Rattle.session.specs.Editing.{of_faces_error, of_limit_error, of_refusal};
+ghost use Rattle.session.specs.declared.error.ApplyError.TheVariants.{Memory as apply_memory};
 ghost use Rattle.session.specs.Error.{apply_word, open_node, open_word};
 
 use box_gen::BoxLimit;
 use box_limits::LimitError;
 use dom_store::EditError;
+use face_api::FacesError;
 use std::alloc::AllocError;
 use thiserror::Error;
 
@@ -97,6 +99,21 @@ pub enum ApplyError {
     /// The document refuses it.
     #[error("{0}")]
     Document(EditError),
+    /// There never was such a face, or it is retired.
+    #[error("NoFace")]
+    NoFace,
+    /// The face's table is fixed.
+    #[error("Fixed")]
+    Fixed,
+    /// The face has no room for one more row.
+    #[error("Full")]
+    Full,
+    /// There would be more than 4,096 rules of the author, or more than 65,536 declarations in them.
+    #[error("TooManyRules")]
+    TooManyRules,
+    /// There is no such rule of the author.
+    #[error("NoRule")]
+    NoRule,
     /// The boxes of the next state would pass their limit.
     #[error("{0}")]
     Limit(BoxLimit),
@@ -113,6 +130,11 @@ impl ApplyError {
     {
         match self {
             ApplyError::Document(error) => error.word(),
+            ApplyError::NoFace => "NoFace",
+            ApplyError::Fixed => "Fixed",
+            ApplyError::Full => "Full",
+            ApplyError::TooManyRules => "TooManyRules",
+            ApplyError::NoRule => "NoRule",
             ApplyError::Limit(limit) => limit.word(),
             ApplyError::Memory => "Memory",
         }
@@ -134,6 +156,27 @@ impl From<EditError> for ApplyError {
             | EditError::TooManyNodes(_)
             | EditError::TooDeep(_) => ApplyError::Document(error),
         }
+    }
+}
+
+impl From<FacesError> for ApplyError {
+    ghost from_gives = { λ error own. own ≡ of_faces_error error };
+
+    fn from(error: FacesError) -> ApplyError {
+        match error {
+            FacesError::NoFace => ApplyError::NoFace,
+            FacesError::Fixed => ApplyError::Fixed,
+            FacesError::Full => ApplyError::Full,
+            FacesError::Memory => ApplyError::Memory,
+        }
+    }
+}
+
+impl From<AllocError> for ApplyError {
+    ghost from_gives = { λ _ own. own ≡ apply_memory };
+
+    fn from(_: AllocError) -> ApplyError {
+        ApplyError::Memory
     }
 }
 

@@ -19,6 +19,7 @@ ghost use Rattle.session.specs.State.{AreReady, IsSound, Opens, flow_page_in, pa
 
 use crate::boxes::{boxes_in, made_boxes};
 use crate::error::OpenError;
+use crate::indexed::{listed_positions, made_index, make_index};
 use crate::laws::{
     boxes_within_limits_fit, documents_within_limits_fit, what_does_not_spread_is_near,
 };
@@ -26,7 +27,7 @@ use crate::planting::{Rooted, grown};
 use crate::shifted::shifted;
 use crate::stored::stored;
 use cascade::RuleIndex;
-use css_types::Styled;
+use css_types::{Rules, Styled, copy_of_rules};
 use dom_store::Document;
 use face_api::{Face, Faces};
 use html_read::ReadDocument;
@@ -49,7 +50,10 @@ use wm_units::{Steps, View};
 pub struct Session {
     pub(crate) alloc: Global,
     pub(crate) document: Document,
-    pub(crate) rules: RuleIndex,
+    /// The author's rules.
+    pub(crate) rules: Rules,
+    /// Their index; none where they changed since one was asked.
+    pub(crate) index: Option<RuleIndex>,
     pub(crate) faces: Faces,
     /// The sizes of the view, told in the root's mode.
     pub(crate) view: View,
@@ -89,13 +93,15 @@ impl Session {
         boxes_within_limits_fit();
         what_is_not_kept_is_right();
         let document = stored(alloc, read, styled)?;
-        let rules = RuleIndex::new(alloc, &styled.rules)?;
-        let boxes = boxes_in(alloc, &document, &rules)?;
+        let rules = copy_of_rules(alloc, &styled.rules)?;
+        let index = RuleIndex::new(alloc, &rules)?;
+        let boxes = boxes_in(alloc, &document, &index)?;
         let grown = grown(alloc, boxes)?;
         Ok(Session {
             alloc,
             document,
             rules,
+            index: Some(index),
             faces,
             view,
             boxes: Some(grown),
@@ -115,7 +121,7 @@ impl Session {
         ensures page { IfOk result (λ placed. placed_of placed ≡ flow_page_in (faces_of ⟦<dyn Face as Face>⟧ self.old.faces) self.old) }
         ensures near { IfOk result (λ placed. AreNearParts (placed_of placed).parts) }
         ensures within { IfOk result (λ placed. ArePlacesWithin (2 ^ 60 - 2 ^ 49) (placed_of placed).parts) }
-        ensures rest { self.new ≡ record self.old { boxes = self.new.boxes } }
+        ensures rest { self.new ≡ record self.old { index = self.new.index; boxes = self.new.boxes } }
         ensures sound { IsSound (faces_of ⟦<dyn Face as Face>⟧ self.new.faces) self.new }
         ensures dropped { IfErr result (λ _. self.new.boxes ≡ None) }
     {
@@ -137,7 +143,7 @@ impl Session {
         requires sound { IsSound (faces_of ⟦<dyn Face as Face>⟧ self.old.faces) self.old }
         ensures page { IfOk result (λ placed. placed_of placed ≡ page_in (faces_of ⟦<dyn Face as Face>⟧ self.old.faces) self.old) }
         ensures near { IfOk result (λ placed. AreNearParts (placed_of placed).parts) }
-        ensures rest { self.new ≡ record self.old { boxes = self.new.boxes } }
+        ensures rest { self.new ≡ record self.old { index = self.new.index; boxes = self.new.boxes } }
         ensures sound { IsSound (faces_of ⟦<dyn Face as Face>⟧ self.new.faces) self.new }
         ensures dropped { IfErr result (λ _. self.new.boxes ≡ None) }
     {
@@ -162,8 +168,7 @@ impl Session {
                 Ok(copy)
             }
             None => {
-                let root = styled(self.alloc, &self.document, &self.rules)?;
-                let made = positions(self.alloc, &root)?;
+                let made = listed_positions(self.alloc, &self.document, &self.rules, &self.index)?;
                 Ok(made)
             }
         }
@@ -214,7 +219,7 @@ impl Session {
     // Takes its boxes out; makes them where there are none.
     fn take_boxes(&mut self) -> Result<Rooted, AllocError>
         requires sound { IsSound (faces_of ⟦<dyn Face as Face>⟧ self.old.faces) self.old }
-        ensures rest { self.new ≡ record self.old { boxes = None } }
+        ensures rest { self.new ≡ record self.old { index = self.new.index; boxes = None } }
         ensures sound { IsSound (faces_of ⟦<dyn Face as Face>⟧ self.new.faces) self.new }
         ensures ready { IfOk result (λ made. AreReady (faces_of ⟦<dyn Face as Face>⟧ self.new.faces) self.new.view (styled_in self.new) made) }
     {
@@ -222,7 +227,8 @@ impl Session {
         match self.boxes.take() {
             Some(made) => Ok(made),
             None => {
-                let made = made_boxes(self.alloc, &self.document, &self.rules)?;
+                make_index(self.alloc, &mut self.index, &self.rules)?;
+                let made = made_boxes(self.alloc, &self.document, made_index(&self.index))?;
                 Ok(made)
             }
         }

@@ -9,8 +9,8 @@ use Rattle.face_api.specs.Table.{Table}
 use Rattle.face_api.specs.Faces.{faces_of}
 use Rattle.face_api.specs.declared.face.Face.{Ghosts}
 use Rattle.wm_units.specs.declared.view.View.{View}
-use Rattle.cascade.specs.Index.{index_rules}
-use Rattle.dom_store.specs.State.{State, state_of}
+use Rattle.edits.specs.State.{State}
+use Rattle.session.specs.State.{state_in}
 use Rattle.edit_script.specs.declared.step.ScriptLine.{ScriptLine}
 use Rattle.edit_script.specs.Views.{steps_of}
 use Rattle.edit_job.specs.Steps.{AreStepsIn, HaveOneEnd}
@@ -35,7 +35,7 @@ module _ {I : Type 0} {D : I → Type 0} (members : (x : I) → Ghosts (D x)) wh
   -- what is due is one text
   pub one_text : HaveOneEnd → (due : Due I D) (end_ other_end : End) (one other : List ℕ) → IsOf members due end_ one → IsOf members due other_end other → other ≡ one
   one_text ends (dues.Steps session script) end_ other_end one other (is, last, steps) (is', last', steps') =
-      (ends (faces_of members session.faces) session.view (index_rules session.rules) (state_of session.document) (steps_of script.items) last last' one other steps steps').1
+      (ends session.view (state_in (faces_of members session.faces) session) (steps_of script.items) last last' one other steps steps').1
   one_text ends (dues.Refused cause place) end_ other_end one other (is, d) (is', d') = d' ∙ sym d
 
   -- what was told of it is that

@@ -1,10 +1,9 @@
-use Rattle.std.proofs.Common.{◌+◌, sym, subst, arith, drop, List}
+use Rattle.std.proofs.Common.{◌+◌, ◌∙◌, sym, subst, arith, drop, List}
 use Rattle.face_api.specs.Faces.{faces_of}
-use Rattle.dom_store.specs.State.{state_of}
-use Rattle.cascade.specs.Index.{index_rules}
+use Rattle.session.specs.State.{state_in}
 use Rattle.edit_script.specs.Script.{StepAt}
 use Rattle.edit_script.specs.Views.{step_at, steps_of}
-use Rattle.edit_job.proofs.StepLaws.{HaveGone, broken, bytes_on, finished, gone_on, line_fits, line_on, none_on, step_over, still}
+use Rattle.edit_job.proofs.StepLaws.{HaveGone, broken, bytes_on, finished, gone_on, line_fits, line_on, none_on, step_over}
 use Rattle.edit_job.proofs.steps.tell_steps.Goals as goal
 
 pub tell_step-requires-clause-fits : goal.tell_step-requires-clause-fits
@@ -14,26 +13,31 @@ pub returns-in_err-tell_step-clause-front : goal.returns-in_err-tell_step-clause
 returns-in_err-tell_step-clause-front g c =
     let first = c.args.session.now in
     let now = c.loop-line.session in
-    let faces = faces_of (λ vtable. (g.dyn-1.0.entry vtable).1) first.faces in
+    let begun = state_in (faces_of (λ vtable. (g.dyn-1.0.entry vtable).1) first.faces) first in
+    let faces = faces_of (λ vtable. (g.dyn-1.0.entry vtable).1) now.faces in
+    let here = state_in faces now in
     let old = g.K.Sink.held c.args.sink.now in
     let mid = g.K.Sink.held c.loop-line.sink in
     let all = steps_of c.args.script.now in
-    let P : List StepAt → Type 0 = λ behind. HaveGone faces first.view (index_rules first.rules) (state_of first.document) (state_of now.document) old mid all behind in
-    broken faces first.view (index_rules first.rules) c.steps_have_one_end.ensures (state_of first.document) (state_of now.document) old mid (g.K.Sink.held c.tell_step.new.sink) all
+    let P : List StepAt → Type 0 = λ behind. HaveGone first.view begun here old mid all behind in
+    broken first.view c.steps_have_one_end.ensures begun here old mid (g.K.Sink.held c.tell_step.new.sink) all
     (step_at c.line-item.result) (steps_of (drop (c.loop-line.line-index + 1) c.args.script.now))
     (subst P (line_on c.args.script.now c.loop-line.line-index c.line-item.result c.loop-line-test.true c.line-item.is) c.loop-line.invariant.gone)
-    (λ next due step. c.in_err-tell_step.ensures.front next due (subst (λ (X : Type 0). X) (sym (step_over (λ vtable. (g.dyn-1.0.entry vtable).1) first now _ _ c.loop-line.invariant.same _ _ next due)) step))
+    (λ next due step. c.in_err-tell_step.ensures.front next due (subst (λ (X : Type 0). X) (sym (step_over faces first now c.loop-line.invariant.same _ _ next due)) step))
 
 pub loop-line-preserved : goal.loop-line-preserved
 loop-line-preserved g c =
     let first = c.args.session.now in
     let now = c.loop-line.session in
     let new = c.tell_step.new.session in
-    let faces = faces_of (λ vtable. (g.dyn-1.0.entry vtable).1) first.faces in
+    let next = state_in (faces_of (λ vtable. (g.dyn-1.0.entry vtable).1) new.faces) new in
+    let begun = state_in (faces_of (λ vtable. (g.dyn-1.0.entry vtable).1) first.faces) first in
+    let faces = faces_of (λ vtable. (g.dyn-1.0.entry vtable).1) now.faces in
+    let here = state_in faces now in
     let old = g.K.Sink.held c.args.sink.now in
     let mid = g.K.Sink.held c.loop-line.sink in
     let all = steps_of c.args.script.now in
-    let P : List StepAt → Type 0 = λ behind. HaveGone faces first.view (index_rules first.rules) (state_of first.document) (state_of now.document) old mid all behind in
+    let P : List StepAt → Type 0 = λ behind. HaveGone first.view begun here old mid all behind in
     let whole = c.in_ok-tell_step.ensures.whole in
     let more = c.in_ok-tell_step.ensures.bytes in
     let room = c.loop-line.invariant.room in
@@ -42,12 +46,12 @@ loop-line-preserved g c =
     let also = c.tell_step.ensures.later in
     record {
       gone =
-          gone_on faces first.view (index_rules first.rules) (state_of first.document) (state_of now.document) (state_of new.document) old mid (g.K.Sink.held c.tell_step.new.sink) all
+          gone_on first.view begun here next old mid (g.K.Sink.held c.tell_step.new.sink) all
           (step_at c.line-item.result) (steps_of (drop (c.loop-line.line-index + 1) c.args.script.now)) whole.0
           (subst P (line_on c.args.script.now c.loop-line.line-index c.line-item.result c.loop-line-test.true c.line-item.is) c.loop-line.invariant.gone)
-          (subst (λ (X : Type 0). X) (step_over (λ vtable. (g.dyn-1.0.entry vtable).1) first now _ _ c.loop-line.invariant.same _ _ (state_of new.document) whole.0) whole.1) whole.2;
+          (subst (λ (X : Type 0). X) (step_over faces first now c.loop-line.invariant.same _ _ next whole.0) whole.1) whole.2;
       sound = c.in_ok-tell_step.ensures.sound;
-      same = still first now new _ _ c.loop-line.invariant.same c.tell_step.ensures.rest;
+      same = c.tell_step.ensures.view ∙ c.loop-line.invariant.same;
       room = omega (arith, more, room, cut);
       later = omega (arith, later, also);
     }
@@ -56,11 +60,13 @@ pub returns-clause-front : goal.returns-clause-front
 returns-clause-front g c =
     let first = c.args.session.now in
     let now = c.loop-line.session in
-    let faces = faces_of (λ vtable. (g.dyn-1.0.entry vtable).1) first.faces in
+    let begun = state_in (faces_of (λ vtable. (g.dyn-1.0.entry vtable).1) first.faces) first in
+    let faces = faces_of (λ vtable. (g.dyn-1.0.entry vtable).1) now.faces in
+    let here = state_in faces now in
     let old = g.K.Sink.held c.args.sink.now in
     let new = g.K.Sink.held c.loop-line.sink in
     let all = steps_of c.args.script.now in
-    let P : List StepAt → Type 0 = λ behind. HaveGone faces first.view (index_rules first.rules) (state_of first.document) (state_of now.document) old new all behind in
+    let P : List StepAt → Type 0 = λ behind. HaveGone first.view begun here old new all behind in
     let over = c.loop-line-test.false in
-    finished faces first.view (index_rules first.rules) c.steps_have_one_end.ensures (state_of first.document) (state_of now.document) old new all
+    finished first.view c.steps_have_one_end.ensures begun here old new all
     (subst P (none_on c.args.script.now c.loop-line.line-index (omega (arith, over))) c.loop-line.invariant.gone)

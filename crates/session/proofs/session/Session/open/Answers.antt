@@ -10,41 +10,49 @@ use Rattle.cascade.specs.Index.{index_rules}
 use Rattle.cascade.specs.Winners.{AreSaidRules}
 use Rattle.dom_store.specs.Opening.{opened}
 use Rattle.session.specs.Opening.{MakesBoxes}
+use Rattle.session.specs.State.{AreReady}
 use Rattle.session.proofs.Fresh.{few_boxes, fits, right, same_opened, same_positions, stand}
 use Rattle.session.proofs.Refusals.{refused_opening}
 use Rattle.session.proofs.session.Session.open.Goals as goal
 
 pub boxes_in-requires-clause-rules : goal.boxes_in-requires-clause-rules
-boxes_in-requires-clause-rules g c = subst AreSaidRules (sym (c.in_ok-rules.ensures ∙ ap rulings_of c.deref.ensures.value)) c.requires.rules
+boxes_in-requires-clause-rules g c =
+    let copied : rulings_of c.in_ok-rules.rules.items ≡ rulings_of c.args.styled.now.rules.items = c.in_ok-rules.ensures ∙ ap rulings_of c.deref.ensures.value in
+    let indexed : index_rules c.in_ok-index.index ≡ rulings_of c.in_ok-rules.rules.items = c.in_ok-index.ensures ∙ ap rulings_of c.deref-2.ensures.value in
+    subst AreSaidRules (sym (indexed ∙ copied)) c.requires.rules
 
 pub returns-in_err-boxes-clause-opens : goal.returns-in_err-boxes-clause-opens
 returns-in_err-boxes-clause-opens g c =
+    let copied : rulings_of c.in_ok-rules.rules.items ≡ rulings_of c.args.styled.now.rules.items = c.in_ok-rules.ensures ∙ ap rulings_of c.deref.ensures.value in
+    let indexed : index_rules c.in_ok-index.index ≡ rulings_of c.in_ok-rules.rules.items = c.in_ok-index.ensures ∙ ap rulings_of c.deref-2.ensures.value in
     let error = c.in_err-boxes.field-0.0 in
     let nodes = nodes_of c.args.read.now.nodes.items in
     let own = map (λ own. own.items) c.args.styled.now.styles.items in
     let P : List Ruling → Type 0 = λ rules. MakesBoxes (styled_document rules (opened nodes own)) (Err error) in
-    let Q : State → Type 0 = λ state. MakesBoxes (styled_document (index_rules c.in_ok-rules.rules) state) (Err error) in
-    let refused = refused_opening nodes own (rulings_of c.args.styled.now.rules.items) error c.in_ok-document.ensures.stores.0 (subst P (c.in_ok-rules.ensures ∙ ap rulings_of c.deref.ensures.value) (subst Q c.in_ok-document.ensures.stores.1 c.in_err-boxes.ensures.makes)) in
+    let Q : State → Type 0 = λ state. MakesBoxes (styled_document (index_rules c.in_ok-index.index) state) (Err error) in
+    let refused = refused_opening nodes own (rulings_of c.args.styled.now.rules.items) error c.in_ok-document.ensures.stores.0 (subst P (indexed ∙ copied) (subst Q c.in_ok-document.ensures.stores.1 c.in_err-boxes.ensures.makes)) in
     let p = err_from_is_err_and c.from_residual-in_err-boxes.result c.from_residual-in_err-boxes.ensures.1 in
     rw (p.1, p.2) refused
 
 pub returns-clause-opens : goal.returns-clause-opens
 returns-clause-opens g c =
+    let copied : rulings_of c.in_ok-rules.rules.items ≡ rulings_of c.args.styled.now.rules.items = c.in_ok-rules.ensures ∙ ap rulings_of c.deref.ensures.value in
+    let indexed : index_rules c.in_ok-index.index ≡ rulings_of c.in_ok-rules.rules.items = c.in_ok-index.ensures ∙ ap rulings_of c.deref-2.ensures.value in
     let nodes = nodes_of c.args.read.now.nodes.items in
     let own = map (λ own. own.items) c.args.styled.now.styles.items in
     let rules = rulings_of c.args.styled.now.rules.items in
     let state = state_of c.in_ok-document.document in
     let stores = c.in_ok-document.ensures.stores in
     let makes = c.in_ok-boxes.ensures.makes in
-    let ruled : index_rules c.in_ok-rules.rules ≡ rules = c.in_ok-rules.ensures ∙ ap rulings_of c.deref.ensures.value in
-    let as_read : styled_document (index_rules c.in_ok-rules.rules) state ≡ styled_document rules (opened nodes own) =
+    let ruled : index_rules c.in_ok-index.index ≡ rules = indexed ∙ copied in
+    let as_read : styled_document (index_rules c.in_ok-index.index) state ≡ styled_document rules (opened nodes own) =
     ap (λ (r : List Ruling). styled_document r state) ruled ∙ ap (styled_document rules) stores.1 in (
       record {
         few = stores.0;
         within = subst IsWithinLimits as_read makes.0;
       },
       stores.1,
-      ruled,
+      copied,
     )
 
 pub grown-requires : goal.grown-requires
@@ -62,7 +70,7 @@ grown-requires g c =
     record {
       few =
           few_boxes _ c.in_ok-boxes.boxes.tree c.in_ok-boxes.ensures.makes.1
-          (fits c.documents_within_limits_fit.ensures c.boxes_within_limits_fit.ensures (index_rules c.in_ok-rules.rules) state opened.0 (omega (arith, counts, number, few)) (omega (arith, letters, short)) c.in_ok-boxes.ensures.bounded);
+          (fits c.documents_within_limits_fit.ensures c.boxes_within_limits_fit.ensures (index_rules c.in_ok-index.index) state opened.0 (omega (arith, counts, number, few)) (omega (arith, letters, short)) c.in_ok-boxes.ensures.bounded);
     }
 
 pub returns-clause-bytes : goal.returns-clause-bytes
@@ -74,6 +82,8 @@ returns-clause-bytes g c =
 
 pub returns-clause-sound : goal.returns-clause-sound
 returns-clause-sound g c =
+    let copied : rulings_of c.in_ok-rules.rules.items ≡ rulings_of c.args.styled.now.rules.items = c.in_ok-rules.ensures ∙ ap rulings_of c.deref.ensures.value in
+    let indexed : index_rules c.in_ok-index.index ≡ rulings_of c.in_ok-rules.rules.items = c.in_ok-index.ensures ∙ ap rulings_of c.deref-2.ensures.value in
     let nodes = nodes_of c.args.read.now.nodes.items in
     let own = map (λ own. own.items) c.args.styled.now.styles.items in
     let state = state_of c.in_ok-document.document in
@@ -92,15 +102,16 @@ returns-clause-sound g c =
       reached = c.opened_documents_are_reached.ensures nodes own state c.requires.shaped c.requires.ordered stores.0.low same;
       few = omega (arith, counts, number, few);
       short = omega (arith, letters, short);
-      rules = subst AreSaidRules (sym (c.in_ok-rules.ensures ∙ ap rulings_of c.deref.ensures.value)) c.requires.rules;
-      within = c.in_ok-boxes.ensures.makes.0;
+      rules = subst AreSaidRules (sym copied) c.requires.rules;
+      index = indexed;
+      within = subst (λ (rules : List Ruling). IsWithinLimits (styled_document rules state)) indexed c.in_ok-boxes.ensures.makes.0;
       view = c.requires.view;
-      ready = record {
+      ready = subst (λ (rules : List Ruling). AreReady (faces_of (λ vtable. (g.dyn-1.0.entry vtable).1) c.args.faces) c.args.view (styled_document rules state) c.in_ok-grown.grown) indexed (record {
         stands = stand _ c.in_ok-boxes.boxes.tree c.in_ok-grown.grown.arena.slots c.in_ok-grown.grown.root c.in_ok-boxes.ensures.makes.1 c.in_ok-grown.ensures.stands;
         free = c.in_ok-grown.ensures.free;
-        fit = fits c.documents_within_limits_fit.ensures c.boxes_within_limits_fit.ensures (index_rules c.in_ok-rules.rules) state opened.0 (omega (arith, counts, number, few)) (omega (arith, letters, short)) c.in_ok-boxes.ensures.bounded;
+        fit = fits c.documents_within_limits_fit.ensures c.boxes_within_limits_fit.ensures (index_rules c.in_ok-index.index) state opened.0 (omega (arith, counts, number, few)) (omega (arith, letters, short)) c.in_ok-boxes.ensures.bounded;
         right = right c.what_is_not_kept_is_right.ensures.bare (faces_of (λ vtable. (g.dyn-1.0.entry vtable).1) c.args.faces) c.args.view c.in_ok-grown.grown.arena.slots c.in_ok-grown.grown.root c.in_ok-grown.ensures.bare;
-        within = c.documents_within_limits_fit.ensures (index_rules c.in_ok-rules.rules) state opened.0 (omega (arith, counts, number, few)) (omega (arith, letters, short)) c.in_ok-boxes.ensures.bounded;
+        within = c.documents_within_limits_fit.ensures (index_rules c.in_ok-index.index) state opened.0 (omega (arith, counts, number, few)) (omega (arith, letters, short)) c.in_ok-boxes.ensures.bounded;
         positions = same_positions _ _ _ c.in_ok-grown.ensures.positions c.in_ok-boxes.ensures.makes.2;
-      };
+      });
     }

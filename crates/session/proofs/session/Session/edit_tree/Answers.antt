@@ -1,0 +1,157 @@
+use Rattle.std.proofs.Common.{◌≡◌, ◌∙◌, ◌≤◌, refl, sym, ap, subst, arith, List, IfSome, Err}
+use Rattle.std.proofs.lemmas.Result.{err_from_is_err_and}
+use Rattle.face_api.specs.Faces.{faces_of}
+use Rattle.css_types.specs.Rule.{Ruling, rulings_of}
+use Rattle.cascade.specs.Index.{index_rules}
+use Rattle.style_tree.specs.Styling.{styled_document}
+use Rattle.box_gen.specs.Limit.{IsWithinLimits}
+use Rattle.box_limits.specs.Limits.{Answers, IsEditedFrom}
+use Rattle.dom_store.specs.Edited.{edit_of}
+use Rattle.dom_store.specs.Edits.{after}
+use Rattle.dom_store.specs.State.{State, state_of}
+use Rattle.dom_store.specs.Taking.{before_of}
+use Rattle.tree_laws.specs.Weight.{bytes, total}
+use Rattle.session.specs.State.{rules_in, state_in}
+use Rattle.session.proofs.Outcomes.{boxes_refuse, bytes_after, can_apply, edited_from, few_after, is_after, reached_after, refused_edit, rooted_after, said_after, state_after, whole_after, with_tree}
+use Rattle.session.proofs.Standing.{sound_by, sound_in}
+use Rattle.session.proofs.Within.{leads_back}
+use Rattle.session.proofs.session.Session.edit_tree.Goals as goal
+
+pub returns-in_err-change-clause-applies : goal.returns-in_err-change-clause-applies
+returns-in_err-change-clause-applies g c =
+    let tables = faces_of (λ vtable. (g.dyn-1.0.entry vtable).1) c.args.self.now.faces in
+    let p = err_from_is_err_and c.from_residual.result c.from_residual.ensures.1 in
+    rw (p.1, p.2) (refused_edit (state_in tables c.args.self.now) (edit_of c.args.edit.now) c.in_err-change.field-0.0 c.in_err-change.ensures.applies.0, ap (with_tree tables (rules_in c.args.self.now)) c.in_err-change.ensures.applies.1, refl)
+
+pub returns-in_err-change-clause-sound : goal.returns-in_err-change-clause-sound
+returns-in_err-change-clause-sound g c =
+    let tables = faces_of (λ vtable. (g.dyn-1.0.entry vtable).1) c.args.self.now.faces in
+    sound_in tables c.args.self.now c.apply.new.self c.in_err-change.ensures.applies.1 c.requires.sound
+
+pub check_boxes_after-requires-clause-own : goal.check_boxes_after-requires-clause-own
+check_boxes_after-requires-clause-own g c =
+    let old = state_of c.args.self.now.document in
+    let next = state_of c.apply.new.self in
+    let rules = rules_in c.args.self.now in
+    let edit = edit_of c.args.edit.now in
+    let tables = faces_of (λ vtable. (g.dyn-1.0.entry vtable).1) c.args.self.now.faces in
+    let elements = c.in_ok-change.change.elements.items in
+    let done = c.accepted_edits_are_done.ensures in
+    let is = c.in_ok-change.ensures.applies in
+    let ruled = ap rulings_of c.deref.ensures.value in
+    said_after tables rules old next edit elements done is c.accepted_edits_stay_said.ensures c.requires.said c.requires.sound.said
+
+pub check_boxes_after-requires-clause-edited : goal.check_boxes_after-requires-clause-edited
+check_boxes_after-requires-clause-edited g c =
+    let old = state_of c.args.self.now.document in
+    let next = state_of c.apply.new.self in
+    let rules = rules_in c.args.self.now in
+    let edit = edit_of c.args.edit.now in
+    let tables = faces_of (λ vtable. (g.dyn-1.0.entry vtable).1) c.args.self.now.faces in
+    let elements = c.in_ok-change.change.elements.items in
+    let done = c.accepted_edits_are_done.ensures in
+    let is = c.in_ok-change.ensures.applies in
+    let ruled = ap rulings_of c.deref.ensures.value in
+    let sound = c.requires.sound in
+    (old, subst (λ (r : List Ruling). IsEditedFrom r edit next old) (sym ruled) (edited_from tables rules old next edit elements done is c.requires.fitting sound.rooted sound.whole sound.reached sound.within))
+
+pub returns-in-Ok-clause-applies : goal.returns-in-Ok-clause-applies
+returns-in-Ok-clause-applies g c =
+    let old = state_of c.args.self.now.document in
+    let next = state_of c.apply.new.self in
+    let rules = rules_in c.args.self.now in
+    let edit = edit_of c.args.edit.now in
+    let tables = faces_of (λ vtable. (g.dyn-1.0.entry vtable).1) c.args.self.now.faces in
+    let elements = c.in_ok-change.change.elements.items in
+    let done = c.accepted_edits_are_done.ensures in
+    let is = c.in_ok-change.ensures.applies in
+    let ruled = ap rulings_of c.deref.ensures.value in
+    let within = subst (λ (r : List Ruling). IsWithinLimits (styled_document r next)) ruled c.in-Ok.ensures.answers in
+    (can_apply tables rules old next edit elements done is within, state_after tables rules old next edit elements done is)
+
+pub returns-in-Ok-clause-bytes : goal.returns-in-Ok-clause-bytes
+returns-in-Ok-clause-bytes g c =
+    let old = state_of c.args.self.now.document in
+    let next = state_of c.apply.new.self in
+    let rules = rules_in c.args.self.now in
+    let edit = edit_of c.args.edit.now in
+    let tables = faces_of (λ vtable. (g.dyn-1.0.entry vtable).1) c.args.self.now.faces in
+    let elements = c.in_ok-change.change.elements.items in
+    let done = c.accepted_edits_are_done.ensures in
+    let is = c.in_ok-change.ensures.applies in
+    let ruled = ap rulings_of c.deref.ensures.value in
+    bytes_after tables rules old next edit elements done is c.accepted_edits_weigh.ensures
+
+pub returns-in-Ok-clause-sound : goal.returns-in-Ok-clause-sound
+returns-in-Ok-clause-sound g c =
+    let old = state_of c.args.self.now.document in
+    let next = state_of c.apply.new.self in
+    let rules = rules_in c.args.self.now in
+    let edit = edit_of c.args.edit.now in
+    let tables = faces_of (λ vtable. (g.dyn-1.0.entry vtable).1) c.args.self.now.faces in
+    let elements = c.in_ok-change.change.elements.items in
+    let done = c.accepted_edits_are_done.ensures in
+    let is = c.in_ok-change.ensures.applies in
+    let ruled = ap rulings_of c.deref.ensures.value in
+    let sound = c.requires.sound in
+    let weigh = c.accepted_edits_weigh.ensures in
+    let within = subst (λ (r : List Ruling). IsWithinLimits (styled_document r next)) ruled c.in-Ok.ensures.answers in
+    let room : total bytes (after old edit) ≤ 1048576 = c.requires.room (can_apply tables rules old next edit elements done is within) in
+    record {
+      rooted = rooted_after tables rules old next edit elements done is c.accepted_edits_keep_roots.ensures c.children_have_parents.ensures sound.whole sound.rooted;
+      said = said_after tables rules old next edit elements done is c.accepted_edits_stay_said.ensures c.requires.said sound.said;
+      whole = whole_after tables rules old next edit elements done is c.accepted_edits_keep_documents_whole.ensures sound.whole;
+      reached = reached_after tables rules old next edit elements done is c.accepted_edits_keep_documents_reached.ensures c.requires.fitting sound.rooted sound.whole sound.reached;
+      few = few_after tables rules old next edit elements done is weigh sound.few;
+      short = subst (λ (state : State). total bytes state ≤ 1048576) (sym (is_after tables rules old next edit elements done is)) room;
+      rules = sound.rules;
+      index = subst (λ (r : List Ruling). IfSome c.check_boxes_after.new.index (λ index. index_rules index ≡ r)) ruled c.in-Ok.ensures.index;
+      within = within;
+      view = sound.view;
+      ready = tt;
+    }
+
+pub returns-in-Err-clause-applies : goal.returns-in-Err-clause-applies
+returns-in-Err-clause-applies g c =
+    let old = state_of c.args.self.now.document in
+    let next = state_of c.apply.new.self in
+    let rules = rules_in c.args.self.now in
+    let edit = edit_of c.args.edit.now in
+    let tables = faces_of (λ vtable. (g.dyn-1.0.entry vtable).1) c.args.self.now.faces in
+    let elements = c.in_ok-change.change.elements.items in
+    let done = c.accepted_edits_are_done.ensures in
+    let is = c.in_ok-change.ensures.applies in
+    let ruled = ap rulings_of c.deref.ensures.value in
+    let same : state_of c.take_back.new.self ≡ old = c.take_back.ensures ∙ leads_back edit (before_of c.in_ok-change.change.before) next old c.in-Err.ensures.back c.in_ok-change.ensures.back in
+    rw c.from.ensures (boxes_refuse tables rules old next edit elements done is c.in-Err.error (subst (λ (r : List Ruling). Answers r next (Err c.in-Err.error)) ruled c.in-Err.ensures.answers), ap (with_tree tables rules) same, refl)
+
+pub returns-in-Err-clause-bytes : goal.returns-in-Err-clause-bytes
+returns-in-Err-clause-bytes g c =
+    let old = state_of c.args.self.now.document in
+    let next = state_of c.apply.new.self in
+    let rules = rules_in c.args.self.now in
+    let edit = edit_of c.args.edit.now in
+    let tables = faces_of (λ vtable. (g.dyn-1.0.entry vtable).1) c.args.self.now.faces in
+    let elements = c.in_ok-change.change.elements.items in
+    let done = c.accepted_edits_are_done.ensures in
+    let is = c.in_ok-change.ensures.applies in
+    let ruled = ap rulings_of c.deref.ensures.value in
+    let same : state_of c.take_back.new.self ≡ old = c.take_back.ensures ∙ leads_back edit (before_of c.in_ok-change.change.before) next old c.in-Err.ensures.back c.in_ok-change.ensures.back in
+    let much : total bytes (state_of c.take_back.new.self) ≡ total bytes old = ap (λ (state : State). total bytes state) same in
+    omega (arith, much)
+
+pub returns-in-Err-clause-sound : goal.returns-in-Err-clause-sound
+returns-in-Err-clause-sound g c =
+    let old = state_of c.args.self.now.document in
+    let next = state_of c.apply.new.self in
+    let rules = rules_in c.args.self.now in
+    let edit = edit_of c.args.edit.now in
+    let tables = faces_of (λ vtable. (g.dyn-1.0.entry vtable).1) c.args.self.now.faces in
+    let elements = c.in_ok-change.change.elements.items in
+    let done = c.accepted_edits_are_done.ensures in
+    let is = c.in_ok-change.ensures.applies in
+    let ruled = ap rulings_of c.deref.ensures.value in
+    let same : state_of c.take_back.new.self ≡ old = c.take_back.ensures ∙ leads_back edit (before_of c.in_ok-change.change.before) next old c.in-Err.ensures.back c.in_ok-change.ensures.back in
+    sound_by tables (record c.args.self.now { document = c.take_back.new.self }) c.check_boxes_after.new.index
+    (subst (λ (r : List Ruling). IfSome c.check_boxes_after.new.index (λ index. index_rules index ≡ r)) ruled c.in-Err.ensures.index)
+    (sound_in tables c.args.self.now c.take_back.new.self same c.requires.sound)
