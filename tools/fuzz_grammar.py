@@ -133,9 +133,11 @@ class Maker:
         sheet = "\n".join(self.rule() for _ in range(self.choice((0, 0, 1, 2, 5))))
         return Tree(sheet, Node("body", attributes=self.attributes(), children=content))
 
-    def edit(self, tree: Tree, words: str = "text text style class insert remove move") -> Edit:
+    def edit(self, tree: Tree, words: str = "text text style class insert remove move rule") -> Edit:
         """An edit of one of these words, most often one that the tree doesn't refuse."""
         word, living = self.choice(words.split()), tree.living()
+        if word == "rule":
+            return Edit(word, text=self.rule())
         fitting = [number for number, node in living.items() if is_fitting(word, node)]
         number = self.choice(fitting) if fitting and self.is_so(0.95) else self.random.randrange(tree.next + 2)
         index = self.random.randint(0, len(living[number].children) if number in living else 1)
@@ -150,7 +152,7 @@ class Maker:
         tree, steps = tree.copied(), [SHOW] * self.is_so(0.5)
         for _ in range(self.random.randint(1, 12)):
             steps.append(self.edit(tree) if self.is_so(0.7) else self.choice((SHOW, SHOW, SHOW, Edit(""), Edit("#", text="show"))))
-            if steps[-1].numbers and not tree.refusal(steps[-1]):
+            if steps[-1].is_edit() and not tree.refusal(steps[-1]):
                 tree.apply(steps[-1])
         return [*steps, SHOW]
 

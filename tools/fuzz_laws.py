@@ -246,7 +246,7 @@ class Trial:
                 yield from self.wrong_show(tree, page)
             elif step == SHOW:
                 yield f"line {line} shows no page"
-            elif step.numbers:
+            elif step.is_edit():
                 is_told = bool(parts) and isinstance(parts[0], listing.Refusal) and parts[0].number == line
                 yield from self.wrong_edit(tree, step, parts.popleft() if is_told else None)
                 if not is_told and not tree.refusal(step):

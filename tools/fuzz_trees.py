@@ -66,6 +66,10 @@ class Edit(NamedTuple):
     text: str = ""
     nodes: tuple[Node, ...] = ()
 
+    def is_edit(self) -> bool:
+        """Whether the line changes the document: its tree, by numbers of nodes, or its rules."""
+        return bool(self.numbers) or self.word == "rule"
+
     def line(self) -> str:
         rest = letters_of(self.text) if self.word == "text" else self.text + "".join(node.written() for node in self.nodes)
         return " ".join((self.word, *map(str, self.numbers))) + (f" {rest}" if rest else "")
@@ -112,6 +116,8 @@ class Tree:
 
     def refusal(self, edit: Edit) -> str | None:
         """Why an edit is refused by its numbers alone: the first reason in the order of docs/PROFILE/edits.md."""
+        if edit.word == "rule":
+            return None
         living, word, numbers, is_move = self.living(), edit.word, edit.numbers, edit.word == "move"
         if not all(number in living for number in numbers[: 1 + is_move]):
             return "NoNode"
@@ -127,6 +133,9 @@ class Tree:
 
     def apply(self, edit: Edit) -> None:
         """Does an edit that isn't refused."""
+        if edit.word == "rule":
+            self.sheet += f"\n{edit.text}"
+            return
         living, new = self.living(), [node.copied() for node in edit.nodes]
         node = living[edit.numbers[0]]
         if edit.word == "text":

@@ -21,15 +21,19 @@ MOST_OPEN = 4
 SIGNS = "@:[+~"
 # Which words of a script's line are numbers of nodes.
 NAMED = {"text": 1, "style": 1, "class": 1, "insert": 1, "remove": 1, "move": 2}
+# Rows that lines of one word alone can have.
+FOREIGN = {"a sign": "rule ", "dir": "insert "}
 # Which kinds of the reading of a script are about the whole line.
 WHOLE_LINES = ("ScriptSyntax", "TooManyEdits", "TooManyShows")
 REFERENCE = re.compile(r"&#(?:[xX]([0-9A-Fa-f]{1,6})|([0-9]{1,7}));")
 LONG_NUMBER = re.compile(r"\d{8}")
 SPACE = "[\t\n\f\r ]*"
 STYLE = re.compile(rf"style{SPACE}={SPACE}(?:\"([^\"]*)\"|'([^']*)')", re.IGNORECASE)
-BRINGING_LINE = re.compile(r"(?:(text|style) \d{1,7}|(insert) \d{1,7} \d{1,7}) ", re.ASCII)
-# What stands round declarations and round content in a small document, and what means something else there than in an attribute.
+BRINGING_LINE = re.compile(r"(?:(text|style) \d{1,7}|(insert) \d{1,7} \d{1,7}|(rule)) ", re.ASCII)
+# What stands round declarations, round rules and round content in a small document, and what means something else there than in an
+# attribute.
 SHEET = ("<html><head><style>x{", "}</style></head><body></body></html>")
+RULES = ("<html><head><style>", "</style></head><body></body></html>")
 CONTENT = ("<html><body>", "</body></html>")
 OTHERWISE = set("@{}<&")
 
@@ -130,12 +134,19 @@ def place_of(given: Input, refusal: listing.Refusal, facts: list[Fact], known: K
     numbers = {fact.number for fact in rows}
     if not rows:
         raise listing.InputError(f"docs/REFUSALS.md has no refusal {refusal.kind}")
-    if numbers == {"byte"}:
-        return place_of_byte(given, refusal, rows, known)
-    of_edit = not fits_node(given, refusal) if known.of_edit is None else known.of_edit
-    if numbers == {"line"} or of_edit:
+    if "byte" in numbers and not (numbers != {"byte"} and is_of_edit(given, refusal, known)):
+        return place_of_byte(given, refusal, [row for row in rows if row.number == "byte"], known)
+    if "node" not in numbers or (not fits_node(given, refusal) if known.of_edit is None else known.of_edit):
         return place_of_edit(given, refusal.number, [fact for fact in rows if fact.number == "line"])
     return place_of_node(given, refusal.number, [fact for fact in rows if fact.number == "node"])
+
+
+def is_of_edit(given: Input, refusal: listing.Refusal, known: Known) -> bool:
+    """Whether a kind of bytes and of lines tells of a line: by the status, else where its number is no place of a sheet or of rules in a script."""
+    if known.of_edit is not None:
+        return known.of_edit
+    at = given.characters_before(min(refusal.number, len(given.data)))
+    return not in_sheet(given, at) and not script_line(given, at).startswith("rule ")
 
 
 def fits_node(given: Input, refusal: listing.Refusal) -> bool:
@@ -199,7 +210,7 @@ def place_in_line(given: Input, kind: str, rows: Facts, known: Known, at: int, n
     inner = inside_line(given, known.probe, kind, at)
     if inner is None:
         line = script_line(given, at)
-        rows = [row for row in rows if row.of != "a sign" and (row.of != "dir" or line.startswith("insert "))]
+        rows = [row for row in rows if row.of not in FOREIGN or line.startswith(FOREIGN[row.of])]
         return Place(at, tuple(rows), (f"{note}, somewhere behind its words: its start is pointed at",))
     rows = rows_at(given, kind, rows, inner)
     if kind == "Syntax":
@@ -303,7 +314,7 @@ def inside_attribute(given: Input, probe: Probe | None, kind: str, at: int) -> i
 
 
 def inside_line(given: Input, probe: Probe | None, kind: str, at: int) -> int | None:
-    """The place behind the words of a line `style`, `text` or `insert`."""
+    """The place behind the words of a line `style`, `text`, `insert` or `rule`."""
     line = script_line(given, at).removesuffix("\r")
     words = BRINGING_LINE.match(line)
     if words is None:
@@ -311,6 +322,9 @@ def inside_line(given: Input, probe: Probe | None, kind: str, at: int) -> int | 
     begin, end = at + words.end(), at + len(line)
     if words[1] == "style":
         return inside_declarations(given, probe, kind, begin, end)
+    if words[3]:
+        # The element `style` ends at a tag.
+        return None if "<" in line else inside(given, probe, kind, begin, end, RULES)
     if "</body" in line.lower():
         # This would end the small document and not what is in it.
         return None

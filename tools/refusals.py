@@ -58,9 +58,9 @@ def read_facts(text: str) -> list[Fact]:
 def fact_of(row: re.Match[str], number: str) -> Fact:
     kind, of, cause, cure, limit, example = row.groups()
     shown = EXAMPLE.fullmatch(example)
-    if shown is None:
+    if shown is None and not example.startswith("none: "):
         raise listing.InputError(f"docs/REFUSALS.md: the example of {kind} gives no line `refused ..`")
-    return Fact(kind, (of or "").strip("`"), number, plain(cause), plain(cure), plain(limit), *shown.groups())
+    return Fact(kind, (of or "").strip("`"), number, plain(cause), plain(cure), plain(limit), *(shown.groups() if shown else ("", "")))
 
 
 def examples(text: str) -> list[tuple[str, str]]:

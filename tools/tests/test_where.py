@@ -35,6 +35,12 @@ WHERE_ROWS = (
     ("<html><head><!-- <style> --></head><body><p dir='x'></p></body></html>", "Unsupported 44", "`dir` has"),
     ("<html><body></body></html>\nshow\n", "Syntax 27", "no document"),
 )
+# The same of a limit on rules, which a sheet, a line `rule` and an edit can pass: the words, and the place that is pointed at.
+WHERE_RULES = (
+    ("<html><head><style>" + "a{}" * 4097 + "</style></head><body></body></html>", "TooManyRules 12307", "1:12308"),
+    ("<html><body></body></html>\nrule " + "a," * 4096 + "a{}\n", "TooManyRules 27", "2:1"),
+    ("<html><head><style>" + "a{}" * 4096 + "</style></head><body></body></html>\nshow\nrule b{}\n", "TooManyRules 2", "3:1"),
+)
 # The same of a number that may be that of a node.
 WHERE_NUMBER = ("<html><body></body></html>\nremove 1\nshow\n", "TooDeep 1", "a node would stand")
 # What the program tells no more than the start of: an input, its command, and the place that `where` finds.
@@ -53,6 +59,10 @@ WHERE_INSIDE = (
     ("<html><body>a</body></html>\ninsert 1 0 a</b>", "edit", "2:13"),
     ("<html><body>a</body></html>\ninsert 1 0 a<b>", "edit", "2:16"),
     ("<html><body>a</body></html>\ninsert 1 0 a</body></html>b", "edit", "2:1"),
+    ("<html><body>a</body></html>\nrule p{a:b} 東:hover{}", "edit", "2:14"),
+    ("<html><body>a</body></html>\nrule p{float:left}\r\n", "edit", "2:8"),
+    ("<html><body>a</body></html>\nrule p{a:b", "edit", "2:11"),
+    ("<html><body>a</body></html>\nrule p{}</style>", "edit", "2:1"),
 )
 # Documents that are refused as Syntax, with the place of the byte, and how the hint for it begins.
 HINTS = (
@@ -96,8 +106,8 @@ class Where(support.ToolCase):
         rows = re.findall(r"^\| `refused [^|]*\| .*$", held(os.path.join(TOP, "docs", "PROFILE", "commands.md")), re.MULTILINE)
         named = set(re.findall(r"`(?:refused )?([A-Z][A-Za-z0-9]+)(?: [0-9A-Z]+)?`", " ".join(rows))) - {"KIND", "PLACE", "LINE"}
         self.same({fact.kind for fact in facts}, named, "the kinds of docs/REFUSALS.md")
-        self.same(len(facts), 27, "the count of rows of docs/REFUSALS.md")
-        for fact in facts:
+        self.same(len(facts), 32, "the count of rows of docs/REFUSALS.md")
+        for fact in (each for each in facts if each.answer):
             self.same(fact.answer.split()[1], fact.kind, f"docs/REFUSALS.md: the example of {fact.kind}")
 
     def test_places_in_bytes(self) -> None:
@@ -123,6 +133,13 @@ class Where(support.ToolCase):
     def test_rows_by_the_place(self) -> None:
         for row in WHERE_ROWS:
             self.check_where_row(*row)
+
+    def test_limits_on_rules(self) -> None:
+        self.needs_built("report_nodes")
+        for given, words, place in WHERE_RULES:
+            path = self.new_path()
+            put_input(path, given)
+            self.hold(tried("where", path, f"refused {words}").out.startswith(f"{path}:{place}: refused {words}\n"), f"where {words}")
 
     def test_places_of_nodes(self) -> None:
         self.needs_built("report_nodes")
