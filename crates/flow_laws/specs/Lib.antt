@@ -1,4 +1,5 @@
 pub mod Constraint
+pub mod Faces
 pub mod Margins
 pub mod Placing
 pub mod Standing

@@ -4,6 +4,7 @@
 #![tactic(auto)]
 
 pub mod constraint;
+pub mod faces;
 pub mod margins;
 pub mod placing;
 pub mod position;
