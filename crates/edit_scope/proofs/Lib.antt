@@ -1,0 +1,8 @@
+mod Examples
+pub mod BelowLaws
+pub mod BoxLaws
+pub mod HolderLaws
+pub mod LeafLaws
+pub mod LineLaws
+pub mod PartLaws
+pub mod Untouched

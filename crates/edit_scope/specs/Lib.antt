@@ -1,0 +1,4 @@
+pub mod Boxes
+pub mod Laws
+pub mod Leaves
+pub mod Scope

@@ -1,0 +1,34 @@
+//! What an edit leaves as it is.
+
+ghost use Rattle.edit_scope.specs.Laws.{UnscopedLines, UntouchedBelow, UntouchedBoxes, UntouchedLines};
+ghost use Rattle.edit_scope.specs.Leaves.{EditsKeepLeaves, OpenedTextsAreLeaves};
+
+/// In a document that was opened no text has children.
+pub fn texts_of_opened_documents_are_leaves()
+    ensures { OpenedTextsAreLeaves }
+{}
+
+/// Nor has one after an edit that isn't refused, where inserted nodes are those of a fragment.
+pub fn accepted_edits_keep_texts_leaves()
+    ensures { EditsKeepLeaves }
+{}
+
+/// An element that isn't in the scope of an edit stands below the nodes below which it stood, and these are what they were.
+pub fn elements_outside_the_scope_keep_their_lines()
+    ensures { UnscopedLines }
+{}
+
+/// So does one with a box of its own that isn't touched.
+pub fn untouched_elements_keep_their_lines()
+    ensures { UntouchedLines }
+{}
+
+/// It is what it was, and so is all below it.
+pub fn untouched_elements_keep_what_is_below()
+    ensures { UntouchedBelow }
+{}
+
+/// It has the style that it had, in a holder of the style that this had, and its box is the one that it was, with all inside it.
+pub fn untouched_elements_keep_their_boxes()
+    ensures { UntouchedBoxes }
+{}
