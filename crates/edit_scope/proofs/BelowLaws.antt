@@ -1,6 +1,6 @@
 -- What stands below an element that an edit doesn't touch.
 use Rattle.std.proofs.Common.{◌≡◌, ◌∙◌, ℕ, zero, suc, ◌<◌, true, List, [], ◌∷◌, refl, ap, sym, subst, Option, Some, None, option_map, inl, inr}
-use Rattle.std.specs.Prelude.{flat_map, is_some, unwrap_or}
+use Rattle.std.specs.Prelude.{flat_map, is_some}
 use Rattle.std.specs.List.{Contains}
 use Rattle.std.proofs.lemmas.Option.{none-some, same_Some}
 use Rattle.css_types.specs.Rule.{Ruling}
@@ -68,6 +68,11 @@ module _ (state next : State) (whole_before : IsWhole state) (reached_before : I
       node_same (next.node_at child) (state.node_at child)
       (parent_is next whole parent child there ∙ sym (parent_is state whole_before parent child (subst (IsIn child) keeps.children there)))
       keeps_child.children (keeps.whats child there)
+
+-- the style of a node hangs on its line
+pub same_style : (rules : List Ruling) (state next : State) (child : ℕ) (what : What) (style : Style) → line next child ≡ line state child → style_at rules next child what style ≡ style_at rules state child what style
+same_style rules state next child (element tag id classes dir own) style lines = ap (λ (l : List What). style_of style (winners rules l style)) lines
+same_style rules state next child (text letters) style lines = refl
 
 -- ---- below an element that isn't touched
 
@@ -150,10 +155,6 @@ module _ (rules : List Ruling) (state : State) (edit : EditOf) (t : IsTaken stat
 
   -- ---- styled trees
 
-  same_style : (child : ℕ) (what : What) (style : Style) → line now child ≡ line state child → style_at rules now child what style ≡ style_at rules state child what style
-  same_style child (element tag id classes dir own) style lines = ap (λ (l : List What). style_of style (winners rules l style)) lines
-  same_style child (text letters) style lines = refl
-
   module _ (depth : ℕ) (inner : (levels upper : ℕ) → IsBelow now number levels upper → (style : Style) (numbers : List ℕ) → ((child : ℕ) → IsIn child numbers → IsIn child (children_at now upper))
       → styled_in rules now style (tree_to depth now numbers) ≡ styled_in rules state style (tree_to depth state numbers)) (levels upper : ℕ) (below : IsBelow now number levels upper) (style : Style) where
     styled_row : (numbers : List ℕ) → ((child : ℕ) → IsIn child numbers → IsIn child (children_at now upper)) → styled_in rules now style (tree_to (suc depth) now numbers) ≡ styled_in rules state style (tree_to (suc depth) state numbers)
@@ -166,7 +167,7 @@ module _ (rules : List Ruling) (state : State) (edit : EditOf) (t : IsTaken stat
         let was : state.node_at child ≡ Some entry = sym (node_below (suc levels) child further) ∙ here in
         let children : entry.children ≡ children_at now child = sym (ap (λ (o : Option Entry). children_of o) here) in
         let own : Style = style_at rules now child entry.what style in
-        let own_same : own ≡ style_at rules state child entry.what style = same_style child entry.what style (settled_below (suc levels) child further).lines in
+        let own_same : own ≡ style_at rules state child entry.what style = same_style rules state now child entry.what style (settled_below (suc levels) child further).lines in
         ap (λ (o : Option Entry). styled_in rules now style (tree_with o child (tree_to depth now) (tree_to (suc depth) now numbers))) here
         ∙ ap (λ (n : Nodes). styled.node child (kind_of entry.what) own n (styled_in rules now style (tree_to (suc depth) now numbers)))
         (inner (suc levels) child further own entry.children (λ other among. subst (IsIn other) children among))

@@ -1,6 +1,6 @@
 -- Nodes above a node, and the nearest of them that isn't inline.
 use Rattle.std.proofs.Common.{◌≡◌, ◌∙◌, ◌⊎◌, ℕ, zero, suc, ◌+◌, ◌<◌, true, List, [], ◌∷◌, refl, ap, sym, subst, arith, Option, Some, None, option_map, inl, inr}
-use Rattle.std.specs.Prelude.{is_some, map, option_and_then, unwrap_or}
+use Rattle.std.specs.Prelude.{is_some, map, unwrap_or}
 use Rattle.std.specs.List.{Contains}
 use Rattle.std.proofs.lemmas.Option.{none-some}
 use Rattle.style_types.specs.declared.style.Display.{Display}

@@ -33,10 +33,11 @@ use Rattle.edits.specs.Change.{Change, of_tree, metric, retire, rule, unrule}
 use Rattle.edits.specs.Edited.{after, by_tree}
 use Rattle.edits.specs.State.{State}
 use Rattle.edit_scope.specs.Boxes.{body_in, box_of, inside_of}
-use Rattle.edit_scope.specs.Laws.{IsUnscoped, IsUntouched, KeepsBelow, KeepsBox, KeepsLine, Takes, UnscopedLines, UntouchedBelow, UntouchedBoxes, UntouchedLines}
+use Rattle.edit_scope.specs.Laws.{IsUnscoped, IsUntouched, KeepsBelow, KeepsBox, KeepsLine, Takes, UnscopedContent, UnscopedLines, UntouchedBelow, UntouchedBoxes, UntouchedLines}
 use Rattle.edit_scope.specs.Scope.{display_at, element_style, every_element, has_box, is_boxed, reached, scope, tree_scope}
 use Rattle.edit_scope.proofs.BelowLaws.{chain_to, keeps_below, node_below, nodes_same, nodes_stay, outside, settled_below, trees_stay}
 use Rattle.edit_scope.proofs.BoxLaws.{around_stays, body_stays, holder_stays, style_stays}
+use Rattle.edit_scope.proofs.ContentLaws.{content_stays}
 use Rattle.edit_scope.proofs.LeafLaws.{edits_keep_leaves, held_element}
 use Rattle.edit_scope.proofs.LineLaws.{IsTaken, every_in, itself_same}
 
@@ -191,3 +192,13 @@ untouched_boxes state (metric face c upright value) number takes untouched = all
 untouched_boxes state (retire face) number takes untouched = all_reached state (retire face) number takes untouched refl refl
 untouched_boxes state (rule rules) number takes untouched = all_reached state (rule rules) number takes untouched refl refl
 untouched_boxes state (unrule index) number takes untouched = all_reached state (unrule index) number takes untouched refl refl
+
+-- ---- content
+
+pub unscoped_content : UnscopedContent
+unscoped_content state (of_tree edit) number takes unscoped box depth =
+    content_stays state.rules state.tree edit (takes_tree state edit takes) number unscoped.element (box_apart state.rules (tree.after state.tree edit) number box) (λ there. unscoped.outside (contained number (scope state (of_tree edit)) there)) depth
+unscoped_content state (metric face c upright value) number takes unscoped box depth = none_left state.tree takes.reached number unscoped.element unscoped.outside
+unscoped_content state (retire face) number takes unscoped box depth = none_left state.tree takes.reached number unscoped.element unscoped.outside
+unscoped_content state (rule rules) number takes unscoped box depth = none_left state.tree takes.reached number unscoped.element unscoped.outside
+unscoped_content state (unrule index) number takes unscoped box depth = none_left state.tree takes.reached number unscoped.element unscoped.outside

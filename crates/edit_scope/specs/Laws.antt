@@ -10,7 +10,7 @@ use Rattle.tree_laws.specs.Wholeness.{IsWhole}
 use Rattle.edits.specs.Change.{Change, IsFitting}
 use Rattle.edits.specs.Edited.{after, refusal}
 use Rattle.edits.specs.State.{State}
-use Rattle.edit_scope.specs.Boxes.{box_of}
+use Rattle.edit_scope.specs.Boxes.{box_of, own_boxes}
 use Rattle.edit_scope.specs.Leaves.{TextsAreLeaves}
 use Rattle.edit_scope.specs.Scope.{element_style, has_box, holder_above, reached, scope}
 
@@ -70,3 +70,9 @@ pub record KeepsBox (old new : State) (number : ℕ) : Type 0 where
 
 abbrev pub UntouchedBoxes : Type 0
 UntouchedBoxes = (state : State) (change : Change) (number : ℕ) → Takes state change → IsUntouched state change number → KeepsBox state (after state change) number
+
+-- an element with a box of its own that isn't in the scope: its box and the anonymous blocks in it have the names, the styles and the content
+-- that they had. A content names the boxes of others that it holds.
+abbrev pub UnscopedContent : Type 0
+UnscopedContent = (state : State) (change : Change) (number : ℕ) → Takes state change → IsUnscoped state change number → has_box (after state change).rules (after state change).tree number ≡ true
+    → (depth : ℕ) → own_boxes (box_of (after state change).rules (after state change).tree depth number) ≡ own_boxes (box_of state.rules state.tree depth number)

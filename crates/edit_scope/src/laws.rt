@@ -1,6 +1,6 @@
 //! What an edit leaves as it is.
 
-ghost use Rattle.edit_scope.specs.Laws.{UnscopedLines, UntouchedBelow, UntouchedBoxes, UntouchedLines};
+ghost use Rattle.edit_scope.specs.Laws.{UnscopedContent, UnscopedLines, UntouchedBelow, UntouchedBoxes, UntouchedLines};
 ghost use Rattle.edit_scope.specs.Leaves.{EditsKeepLeaves, OpenedTextsAreLeaves};
 
 /// In a document that was opened no text has children.
@@ -31,4 +31,10 @@ pub fn untouched_elements_keep_what_is_below()
 /// It has the style that it had, in a holder of the style that this had, and its box is the one that it was, with all inside it.
 pub fn untouched_elements_keep_their_boxes()
     ensures { UntouchedBoxes }
+{}
+
+/// An element with a box of its own that isn't in the scope of an edit has in its box, and in the anonymous blocks there, the content that it
+/// had; the boxes of others in them may be other ones.
+pub fn elements_outside_the_scope_keep_their_content()
+    ensures { UnscopedContent }
 {}
