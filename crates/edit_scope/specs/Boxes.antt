@@ -1,15 +1,15 @@
 -- The box of an element of an open document. CSS 2, 9.2.1.
-use Rattle.std.specs.Prelude.{ℕ, zero, suc, List, [], ◌∷◌}
+use Rattle.std.specs.Prelude.{◌≡◌, ℕ, zero, suc, List, [], ◌∷◌}
 use Rattle.fragment_types.specs.declared.item.BoxName.{BoxName}
 use Rattle.style_types.specs.declared.style.Style.{Style}
 use Rattle.style_types.specs.Tree as styled
 use Rattle.style_types.specs.Tree.{Nodes}
 use Rattle.css_types.specs.Rule.{Ruling}
 use Rattle.dom_store.specs.State as dom
-use Rattle.dom_store.specs.State.{State, Tree, tree_to}
+use Rattle.dom_store.specs.State.{IsRooted, State, Tree, tree_to}
 use Rattle.dom_store.specs.Standing.{children_at}
-use Rattle.style_tree.specs.Styling.{body_style, kind_of, styled_in}
-use Rattle.box_gen.specs.Boxes.{content, made}
+use Rattle.style_tree.specs.Styling.{body_style, kind_of, styled_document, styled_in}
+use Rattle.box_gen.specs.Boxes.{content, made, root_boxes}
 use Rattle.box_gen.specs.Tree.{Boxes, Content, none, box}
 use Rattle.edit_scope.specs.Scope.{element_style}
 
@@ -49,3 +49,9 @@ anonymous_among (box name style content inner next) = if_anonymous name.ordinal 
 abbrev pub own_boxes : Boxes → List Shell
 own_boxes none = []
 own_boxes (box name style content inner next) = record { name = name; style = style; content = content } ∷ anonymous_among inner
+
+-- ---- a law
+
+-- the boxes of a page are the box of `html`
+abbrev pub PagesAreBoxesOfHtml : Type 0
+PagesAreBoxesOfHtml = (rules : List Ruling) (state : State) → IsRooted state → root_boxes (styled_document rules state) ≡ box_of rules state 63 0

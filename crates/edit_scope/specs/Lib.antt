@@ -1,4 +1,5 @@
 pub mod Boxes
 pub mod Laws
 pub mod Leaves
+pub mod Owed
 pub mod Scope

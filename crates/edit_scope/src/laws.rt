@@ -1,7 +1,9 @@
-//! What an edit leaves as it is.
+//! What an edit leaves as it is, and what is owed to the page after it.
 
+ghost use Rattle.edit_scope.specs.Boxes.{PagesAreBoxesOfHtml};
 ghost use Rattle.edit_scope.specs.Laws.{UnscopedContent, UnscopedLines, UntouchedBelow, UntouchedBoxes, UntouchedLines};
 ghost use Rattle.edit_scope.specs.Leaves.{EditsKeepLeaves, OpenedTextsAreLeaves};
+ghost use Rattle.edit_scope.specs.Owed.{SecondPagesAreOwedNothing};
 
 /// In a document that was opened no text has children.
 pub fn texts_of_opened_documents_are_leaves()
@@ -37,4 +39,14 @@ pub fn untouched_elements_keep_their_boxes()
 /// had; the boxes of others in them may be other ones.
 pub fn elements_outside_the_scope_keep_their_content()
     ensures { UnscopedContent }
+{}
+
+/// The boxes of a page are the box of `html`, with all inside it.
+pub fn pages_are_boxes_of_html()
+    ensures { PagesAreBoxesOfHtml }
+{}
+
+/// No paragraph is owed to a page of a document that wasn't edited after the page before.
+pub fn second_pages_are_owed_nothing()
+    ensures { SecondPagesAreOwedNothing }
 {}
