@@ -15,11 +15,14 @@ use crate::source::FillSource;
 use crate::sums::Place;
 use fragment_types::Breaking;
 
-/// Whether no length is below 0.
+/// Whether no length is below 0. The items are looked at where their source doesn't know it.
 #[inline(never)]
 pub(crate) fn are_forward<S: FillSource>(source: &S) -> bool
     ensures { result ≡ true → All IsForward (S.items source.now) }
 {
+    if source.goes_forward() {
+        return true;
+    }
     for place in 0..source.count() {
         if !is_forward(source.item(place)) {
             return false;

@@ -1,7 +1,9 @@
 //! Where the items of a paragraph are read from.
 
-ghost use Rattle.std.specs.Prelude.{◌≡◌, ◌<◌, List, length, slice_index_or};
+ghost use Rattle.std.specs.Prelude.{◌≡◌, ◌<◌, true, List, length, slice_index_or};
+ghost use Rattle.std.specs.List.{All};
 ghost use Rattle.line_fill.specs.declared.item.FillItem.{FillItem};
+ghost use Rattle.line_fill.specs.Forward.{IsForward};
 
 use crate::FillItem;
 
@@ -18,6 +20,10 @@ pub trait FillSource {
     fn item(&self, place: usize) -> FillItem
         requires { place < length (items self.now) }
         ensures { (d : FillItem) → result ≡ slice_index_or (items self.now) place d };
+
+    /// Whether it is known, without a look at each item, that no length is below 0.
+    fn goes_forward(&self) -> bool
+        ensures { result ≡ true → All IsForward (items self.now) };
 }
 
 /// Items in a list.
@@ -37,5 +43,10 @@ impl FillSource for Listed<'_> {
     #[inline(always)]
     fn item(&self, place: usize) -> FillItem {
         self.items[place]
+    }
+
+    #[inline(always)]
+    fn goes_forward(&self) -> bool {
+        false
     }
 }

@@ -1,15 +1,17 @@
 -- The items of a paragraph on their way to its lines, one by one.
 use Rattle.std.proofs.Common.{◌≡◌, ◌∙◌, refl, sym, ap, arith, subst, ℕ, zero, suc, ◌+◌, ◌-◌, ◌<◌, ◌≤◌, List, [], ◌∷◌, ◌++◌, length, map, get_or, drop, take, append_assoc, append-nil, Option, ℤ, pos}
-use Rattle.std.specs.Prelude.{All, ⊤, min}
+use Rattle.std.specs.Prelude.{All, ⊤, min, ◌≤ℤ◌}
 use Rattle.std.specs.List.{slice_range}
 use Rattle.std.proofs.lemmas.List.Elements.{All-cons}
-use Rattle.std.proofs.lemmas.List.{drop_all, drop_more}
+use Rattle.std.proofs.lemmas.Int.{ints}
+use Rattle.std.proofs.lemmas.List.{drop_all, drop_more, length-drop}
 use Rattle.wm_chars.specs.declared.classes.BidiClass.{BidiClass}
 use Rattle.fragment_types.specs.declared.breaking.Breaking.{Breaking}
 use Rattle.fragment_types.specs.Item.{Entry}
 use Rattle.fragment_types.specs.declared.item.BoxName.{BoxName}
 use Rattle.line_fill.specs.declared.item.FillItem.{FillItem}
-use Rattle.para_prepare.specs.Preparation.{Preparation, atoms_first, atoms_in}
+use Rattle.line_fill.specs.Forward.{IsForward}
+use Rattle.para_prepare.specs.Preparation.{HasBounds, Preparation, atoms_first, atoms_in}
 use Rattle.para_prepare.specs.declared.item.PreparedItem.{PreparedItem}
 use Rattle.para_prepare.specs.declared.item.PreparedContent.{PreparedContent}
 use Rattle.para_prepare.specs.declared.item.PreparedContent.TheVariants.{Unit, Combined, Atom, Break}
@@ -17,7 +19,7 @@ use Rattle.para_lines.specs.Standing as code
 use Rattle.para_lines.specs.Standing.{HasCounts, count_behind, counted, counts, rest_of, standing_with, standings_of}
 use Rattle.para_lines.specs.declared.paragraph.Atom as code_atom
 use Rattle.para_lines.specs.declared.prepared.PreparedLists as code_lists
-use Rattle.para_lines.specs.Alone.{fill_alone}
+use Rattle.para_lines.specs.Alone.{GoForward, fill_alone}
 use Rattle.para_lines.specs.Boxes.{chain_at}
 use Rattle.para_lines.specs.Filling.{advance_of, fill_item, fill_items, fill_items_from, first_chain, item_chains, past}
 use Rattle.para_lines.specs.Line.{HasAtom, IsAble, IsNearAtom, first_atom, standing_of}
@@ -388,3 +390,39 @@ pub standings_able : (count : ℕ) (items : List PreparedItem) (levels : List �
 standings_able count items levels classes bases breaks skipped atoms are sources some near =
     let P : List ℕ → Type 0 = λ s. AreSkipped items s atoms atoms in
     able_by count items levels classes bases breaks skipped atoms atoms (subst P (sym are) (counted_skip items atoms)) sources some near
+
+-- ---- items that go forward
+
+none_left : (skipped : List ℕ) (atoms : List code_atom.Atom) → length atoms ≡ 0 → length (rest_of skipped atoms) ≡ 0
+none_left [] atoms none = none
+none_left (count ∷ skipped) atoms none = let n = length-drop count atoms in omega arith
+
+no_atom_goes : (atoms : List code_atom.Atom) → length atoms ≡ 0 → pos 0 ≤ℤ get_or (atom_extents (map atom_of atoms)) 0 (pos 0)
+no_atom_goes [] none = omega (arith, ints)
+no_atom_goes (atom ∷ atoms) none = absurd (omega arith)
+
+advance_forward : (what : PreparedContent) (atoms : List code_atom.Atom) → HasBounds what → length atoms ≡ 0 → pos 0 ≤ℤ advance_of what (atom_extents (map atom_of atoms))
+advance_forward (Unit form space node first end_ advance glyphs) atoms h none = h.0
+advance_forward (Combined node first end_ advance natural glyphs) atoms h none = h.0
+advance_forward (Atom name) atoms h none = no_atom_goes atoms none
+advance_forward (Break node) atoms h none = omega (arith, ints)
+
+pub standings_forward : (items : List PreparedItem) (levels : List ℕ) (classes : List BidiClass) (bases : List ℕ) (breaks : List Breaking) (skipped : List ℕ) (atoms : List code_atom.Atom)
+    → All (λ item. HasBounds item.what) items → length atoms ≡ 0 → GoForward (standings_of items levels classes bases breaks skipped atoms)
+standings_forward [] levels classes bases breaks skipped atoms bounds none = λ k d lt. absurd (omega arith)
+standings_forward (item ∷ items) [] classes bases breaks skipped atoms bounds none = λ k d lt. absurd (omega arith)
+standings_forward (item ∷ items) (level ∷ levels) [] bases breaks skipped atoms bounds none = λ k d lt. absurd (omega arith)
+standings_forward (item ∷ items) (level ∷ levels) (class ∷ classes) [] breaks skipped atoms bounds none = λ k d lt. absurd (omega arith)
+standings_forward (item ∷ items) (level ∷ levels) (class ∷ classes) (base ∷ bases) [] skipped atoms bounds none = λ k d lt. absurd (omega arith)
+standings_forward (item ∷ items) (level ∷ levels) (class ∷ classes) (base ∷ bases) (end_ ∷ breaks) skipped atoms bounds none =
+    All-cons (λ (standing : code.Standing). pos 0 ≤ℤ standing.extent) (standing_with item level class base end_ (rest_of skipped atoms)) (standings_of items levels classes bases breaks (drop 1 skipped) atoms)
+    (advance_forward item.what (rest_of skipped atoms) (bounds 0 item (omega arith)) (none_left skipped atoms none))
+    (standings_forward items levels classes bases breaks (drop 1 skipped) atoms (λ k d lt. bounds (suc k) d (omega arith)) none)
+
+alone_goes : (standing : code.Standing) → pos 0 ≤ℤ standing.extent → IsForward (fill_alone standing)
+alone_goes standing h = record { advance = h; before = omega (arith, ints); after = omega (arith, ints) }
+
+pub alone_forward : (standings : List code.Standing) → GoForward standings → All IsForward (map fill_alone standings)
+alone_forward [] h = λ k d lt. absurd (omega arith)
+alone_forward (standing ∷ standings) h =
+    All-cons IsForward (fill_alone standing) (map fill_alone standings) (alone_goes standing (h 0 standing (omega arith))) (alone_forward standings (λ k d lt. h (suc k) d (omega arith)))

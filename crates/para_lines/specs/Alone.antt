@@ -1,5 +1,5 @@
 -- The items of a paragraph that is one item, round which no inline box stands.
-use Rattle.std.specs.Prelude.{pos}
+use Rattle.std.specs.Prelude.{All, List, pos, ◌≤ℤ◌}
 use Rattle.line_fill.specs.declared.item.FillItem.{FillItem}
 use Rattle.para_lines.specs.Standing as code
 use Rattle.para_lines.specs.Filling.{is_space}
@@ -13,3 +13,7 @@ fill_alone standing = record {
   space = is_space standing.item.what;
   end = standing.end;
 }
+
+-- none of these items goes back
+abbrev pub GoForward : List code.Standing → Type 0
+GoForward = All (λ standing. pos 0 ≤ℤ standing.extent)

@@ -27,6 +27,7 @@ pub(crate) struct ParagraphInput<'a> {
 }
 
 impl ParagraphInput<'_> {
+    ghost use Rattle.para_lines.specs.Alone.{GoForward};
     ghost use Rattle.para_lines.specs.Filled.{IsFilled, IsReadAlone, fills_in};
 
     /// Where the lines of these items end, which are those that it is made from on their way to lines. Counts one step.
@@ -36,7 +37,8 @@ impl ParagraphInput<'_> {
         standings: &Standings,
         arranged: &mut Steps<L>,
     ) -> Result<Lines, AllocError>
-        requires { IsReadAlone self.now standings.now }
+        requires read { IsReadAlone self.now standings.now }
+        requires forward { length self.now.atoms.now ≡ 0 → GoForward standings.now }
         ensures ticks { OnOk result (arranged.new ≡ arranged.old + 1) }
         ensures most { (arranged.old ≤ arranged.new) × (arranged.new ≤ arranged.old + 1) }
         ensures filled { IfOk result (λ made. IsFilled self.now made) }
@@ -59,11 +61,15 @@ impl ParagraphInput<'_> {
     ) -> Result<Lines, AllocError>
         requires one { length self.now.boxes.now ≡ 1 }
         requires read { IsReadAlone self.now standings.now }
+        requires forward { length self.now.atoms.now ≡ 0 → GoForward standings.now }
         ensures ticks { OnOk result (arranged.new ≡ arranged.old + 1) }
         ensures most { (arranged.old ≤ arranged.new) × (arranged.new ≤ arranged.old + 1) }
         ensures filled { IfOk result (λ made. IsFilled self.now made) }
     {
-        let source = Alone { standings };
+        let source = Alone {
+            standings,
+            forward: self.atoms.is_empty(),
+        };
         let lines = fill_from(alloc, &source, self.container.size, arranged)?;
         Ok(lines)
     }

@@ -3,8 +3,8 @@
 ghost use Rattle.std.specs.List.{slice_range};
 ghost use Rattle.std.specs.Prelude.{◌≡◌, ◌<◌, ◌≤◌, ◌^◌, true, ℕ, suc, All, IfOk, IfSome, List, Option, ℤ, drop, length, map, min, pos, slice_index_or, unsigned_abs};
 ghost use Rattle.fragment_types.specs.Item.{Entry};
-ghost use Rattle.para_prepare.specs.Preparation.{atoms_in};
-ghost use Rattle.para_lines.specs.Alone.{fill_alone};
+ghost use Rattle.para_prepare.specs.Preparation.{HasBounds, atoms_in};
+ghost use Rattle.para_lines.specs.Alone.{GoForward, fill_alone};
 ghost use Rattle.para_lines.specs.Filling.{advance_of, fill_items};
 ghost use Rattle.para_lines.specs.Boxes.{chain_at, innermost};
 ghost use Rattle.line_place.specs.Line.{content_of, item_of};
@@ -79,6 +79,7 @@ impl<'a> Standings<'a> {
         ensures are { (inline : Option ℤ) (entries : List Entry) → map (standing_of entries) result ≡ rule.standings entries (preparation_of lists.now) (map atom_of atoms.now) (map (λ item. item.advance) (fill_items inline entries (preparation_of lists.now) (atom_extents (map atom_of atoms.now)))) }
         ensures fills { (inline : Option ℤ) (entries : List Entry) → length entries ≡ 1 → AreSources 1 lists.now.items.now → map fill_alone result ≡ fill_items inline entries (preparation_of lists.now) (atom_extents (map atom_of atoms.now)) }
         ensures able { (count : ℕ) → AreSources count lists.now.items.now → atoms_in lists.now.items.now ≤ length atoms.now → All IsNearAtom atoms.now → All (IsAble count) result }
+        ensures forward { All (λ item. HasBounds item.what) lists.now.items.now → length atoms.now ≡ 0 → GoForward result }
         ensures count { length result ≡ length lists.now.items.now }
     {
         Standings {

@@ -15,7 +15,7 @@ use crate::letter::Letter;
 use crate::parts::{Part, Parts, Span};
 use crate::place::Place;
 use crate::resources::Resources;
-use crate::text::{Text, add_text};
+use crate::text::{Text, add_text, sets_upright};
 use face_api::Face;
 use fragment_types::Item;
 use std::alloc::{AllocError, Global};
@@ -94,6 +94,7 @@ fn add_item(
                 place,
                 node: *node,
                 style,
+                upright: sets_upright(style),
             };
             add_text(alloc, parts, text, resources)
         }

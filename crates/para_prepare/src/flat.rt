@@ -191,6 +191,7 @@ impl FlatLists<'_> {
                     place,
                     node: *node,
                     style,
+                    upright: sets_upright(style),
                 };
                 self.add_text(alloc, text, resources)
             }
@@ -291,7 +292,7 @@ impl FlatLists<'_> {
         requires unit { IsSize unit }
         ensures { OnOk result (flat_of self.new ≡ grown (flat_of self.old) (item (of_unit text.entry.place.source text.entry.node (parts.sets_upright text.entry.style.now) unit (letter ∷ [])) ∷ [])) }
     {
-        let class = class_in(sets_upright(text.style), letter.char);
+        let class = class_in(text.upright, letter.char);
         self.flat &= is_left_to_right(class);
         self.add(
             text.place.source,

@@ -59,8 +59,9 @@ pub(crate) enum Part {
 /// Parts in scratch memory.
 pub(crate) type Parts<'a> = Vec<Part, &'a Bump>;
 
-/// The class of a character in a text that is set upright, where each is strong from left to right, or not.
-#[inline(never)]
+/// The class of a character in a text that is set upright, where each is strong from left to right, or not. It is asked for each
+/// character of most texts, so it stands where it is called.
+#[inline(always)]
 pub(crate) fn class_in(upright: bool, c: char) -> BidiClass
     ensures { result ≡ parts.class_in upright c }
 {

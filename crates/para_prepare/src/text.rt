@@ -31,13 +31,16 @@ use std::alloc::{AllocError, Global};
 use style_types::{Style, TextOrientation};
 use wm_modes::WritingMode;
 
-/// A text of a paragraph: where its kept characters stand, its node, and its style, whose font size is from 0 to 65,536.
+/// A text of a paragraph: where its kept characters stand, its node, its style, whose font size is from 0 to 65,536, and whether
+/// it is set upright.
 #[derive(Clone, Copy)]
 pub(crate) struct Text<'b> {
     pub(crate) place: Place<'b>,
     pub(crate) node: u32,
     pub(crate) style: &'b Style,
+    pub(crate) upright: bool,
 
+    ghost is_upright: { upright ≡ spec.sets_upright style.now },
     ghost size: { IsFontSize style.now } by { IsFontSize-prop style.now },
 }
 
@@ -99,13 +102,13 @@ fn add_letter(
         Some(unit) => parts.push(Part::Unit {
             source: text.place.source,
             node: text.node,
-            upright: sets_upright(text.style),
+            upright: text.upright,
             unit,
             letters: span_of(text.place.span.from, unit),
         })?,
         None => parts.push(Part::Control {
             char,
-            class: class_in(sets_upright(text.style), char),
+            class: class_in(text.upright, char),
         })?,
     }
     Ok(())

@@ -1,10 +1,11 @@
 use Rattle.std.proofs.Common.{ℕ, ◌+◌, ◌*◌, ◌≤◌, ◌^◌, ◌∙◌, ap, arith, sym, subst, length, map, List, Some}
+use Rattle.std.specs.Prelude.{All}
 use Rattle.std.proofs.lemmas.List.{length-map}
 use Rattle.fragment_types.specs.Item.{Entry, entries_of, entry_of}
 use Rattle.fragment_types.specs.Fragment.{pieces_of}
 use Rattle.line_fill.specs.Filling.{Divide}
 use Rattle.line_place.specs.Spread.{spread}
-use Rattle.para_prepare.specs.Preparation.{Preparation, atoms_in}
+use Rattle.para_prepare.specs.Preparation.{HasBounds, Preparation, atoms_in}
 use Rattle.para_lines.specs.Line.{standing_of}
 use Rattle.para_lines.specs.Lines as rule
 use Rattle.para_lines.specs.Paragraph.{atom_of}
@@ -33,11 +34,16 @@ invariant_of-input g c =
 pub of-standings-requires : goal.of-standings-requires
 of-standings-requires g c = c.deref.ensures.value ∙ c.in_ok-skipped.ensures
 
-pub filled-requires : goal.filled-requires
-filled-requires g c = λ one.
+pub filled-requires-clause-read : goal.filled-requires-clause-read
+filled-requires-clause-read g c = λ one.
     let sources = sources_of c.of-lists.result c.args.prepared.now _ c.args.items.now c.of-lists.ensures c.in_ok-boxes.ensures c.requires.sources in
     let P : ℕ → Type 0 = λ n. AreSources n c.of-lists.result.items.now in
     c.of-standings.ensures.fills (Some c.args.container.now.size) c.in_ok-boxes.boxes one (subst P one sources)
+
+pub filled-requires-clause-forward : goal.filled-requires-clause-forward
+filled-requires-clause-forward g c = λ none.
+    let P : Preparation → Type 0 = λ prepared. All (λ item. HasBounds item.what) prepared.items in
+    c.of-standings.ensures.forward (subst P (sym c.of-lists.ensures) c.requires.lengths) none
 
 pub invariant_of-setting : goal.invariant_of-setting
 invariant_of-setting g c =

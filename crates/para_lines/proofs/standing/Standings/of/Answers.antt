@@ -1,5 +1,5 @@
 use Rattle.para_lines.specs.Prepared.{preparation_of}
-use Rattle.para_lines.proofs.StandLaws.{alone_are, counted_within, standings_able, standings_are, standings_length, whole_lists}
+use Rattle.para_lines.proofs.StandLaws.{alone_are, counted_within, standings_able, standings_are, standings_forward, standings_length, whole_lists}
 use Rattle.para_lines.proofs.standing.Standings.of.Goals as goal
 
 pub invariant_of-result : goal.invariant_of-result
@@ -15,6 +15,11 @@ pub returns-clause-able : goal.returns-clause-able
 returns-clause-able c count sources some near =
     let own = c.args.lists.now in
     standings_able count own.items.now own.levels.now own.classes.now own.bases.now own.breaks.now c.args.skipped.now c.args.atoms.now c.requires sources some near
+
+pub returns-clause-forward : goal.returns-clause-forward
+returns-clause-forward c bounds none =
+    let own = c.args.lists.now in
+    standings_forward own.items.now own.levels.now own.classes.now own.bases.now own.breaks.now c.args.skipped.now c.args.atoms.now bounds none
 
 pub returns-clause-count : goal.returns-clause-count
 returns-clause-count c =
