@@ -1,3 +1,4 @@
+pub mod Bases
 pub mod BidiParagraphs
 pub mod BidiText
 pub mod Boxes

@@ -165,7 +165,9 @@ impl Keeper<'_> {
         ensures follows { OnOk result (self.new.follows ≡ (self.old.follows || not (is_bidi_control c))) }
     {
         self.letters.push(Letter { place, char: c })?;
-        self.follows |= !is_bidi_control(c);
+        if !self.follows {
+            self.follows = !is_bidi_control(c);
+        }
         Ok(())
     }
 }

@@ -61,18 +61,20 @@ pub struct Prepared {
     items: PreparedItems,
     levels: LevelList,
     classes: ClassList,
-    bases: LevelList,
+    // None where they are the levels, as in most paragraphs, where all are 0.
+    bases: Option<LevelList>,
     breaks: BreakList,
 }
 
 impl Model for Prepared {
+    ghost use Rattle.para_prepare.specs.Bases.{bases_in};
     ghost use Rattle.para_prepare.specs.Preparation.{AreWhole, Preparation};
 
     ghost Value = { Preparation };
 
-    ghost view = { λ p. record { items = p.items.items; levels = p.levels.items; classes = p.classes.items; bases = p.bases.items; breaks = p.breaks.items } };
+    ghost view = { λ p. record { items = p.items.items; levels = p.levels.items; classes = p.classes.items; bases = bases_in p.levels.items p.bases; breaks = p.breaks.items } };
 
-    ghost invariant = { λ p. AreWhole p.items.items p.levels.items p.classes.items p.bases.items p.breaks.items };
+    ghost invariant = { λ p. AreWhole p.items.items p.levels.items p.classes.items (bases_in p.levels.items p.bases) p.breaks.items };
 }
 
 impl Prepared {
@@ -106,7 +108,10 @@ impl Prepared {
         ensures length { length self.now.bases ≡ length self.now.items }
         ensures bounds { All (λ base. base ≤ 1) self.now.bases }
     {
-        &self.bases
+        match &self.bases {
+            Some(bases) => bases,
+            None => &self.levels,
+        }
     }
 
     /// For each item whether a line may end behind it (CSS Text 3, 5.1).
@@ -241,13 +246,12 @@ fn at_level_zero(alloc: Global, made: FlatLists<'_>) -> Result<Prepared, AllocEr
     ensures { IfOk result (λ p. p ≡ zero_preparation (flat_of made.entry)) }
 {
     let levels = same_levels(alloc, 0, made.items.len())?;
-    let bases = same_levels(alloc, 0, made.items.len())?;
     let breaks = breaks_of(alloc, &made.breaks)?;
     Ok(Prepared {
         items: made.items,
         levels,
         classes: made.classes,
-        bases,
+        bases: None,
         breaks,
     })
 }
@@ -280,7 +284,7 @@ fn at_own_levels(
         items,
         levels,
         classes,
-        bases,
+        bases: Some(bases),
         breaks,
     })
 }
@@ -367,7 +371,7 @@ fn prepared_by(
         items,
         levels,
         classes,
-        bases,
+        bases: Some(bases),
         breaks,
     })
 }
