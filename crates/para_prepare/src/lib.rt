@@ -26,4 +26,4 @@ mod white;
 
 pub use breaks::BreakList;
 pub use item::{CombinedGlyphs, PreparedContent, PreparedItem, PreparedItems};
-pub use preparation::{Paragraph, Prepared, prepare};
+pub use preparation::{LentParagraph, Paragraph, Prepared, prepare, prepare_lent};

@@ -37,7 +37,7 @@ use bidi_resolve::laws::left_to_right_has_level_zero;
 use bidi_resolve::paragraph_levels;
 use bumpalo::Bump;
 use face_api::{Face, Faces};
-use fragment_types::{Breaking, Items};
+use fragment_types::{Breaking, Item, Items};
 use std::alloc::{AllocError, Global};
 use std::marker::Model;
 use std::sync::ledger::Ledger;
@@ -52,6 +52,14 @@ pub struct Paragraph {
     pub base: Option<u8>,
     pub style: Style,
     pub items: Items,
+}
+
+/// A paragraph that is lent: its base level, the style of its block container, and its items.
+#[derive(Clone, Copy)]
+pub struct LentParagraph<'a> {
+    pub base: Option<u8>,
+    pub style: &'a Style,
+    pub items: &'a [Item],
 }
 
 /// A prepared paragraph: its items, and for each its level, the class by which L1 takes it, the base level of its bidi
@@ -145,6 +153,33 @@ pub fn prepare<L: Ledger>(
     ensures atoms { IfOk result (λ p. atoms_in p.items ≤ atoms_of (entries_of paragraph.now.items.items)) }
     ensures lengths { IfOk result (λ p. All (λ item. HasBounds item.what) p.items) }
 {
+    let lent = LentParagraph {
+        base: paragraph.base,
+        style: &paragraph.style,
+        items: &paragraph.items,
+    };
+    let prepared = prepare_lent(alloc, lent, faces, arena, steps)?;
+    Ok(prepared)
+}
+
+/// Prepares a paragraph that stands elsewhere, as `prepare` does.
+pub fn prepare_lent<L: Ledger>(
+    alloc: Global,
+    paragraph: LentParagraph<'_>,
+    faces: &Faces,
+    arena: &mut Bump,
+    steps: &mut Steps<L>,
+) -> Result<Prepared, AllocError>
+    requires base { IfSome paragraph.base (λ base. base ≤ 1) }
+    requires bytes { text_bytes (entries_of paragraph.items.now) ≤ 1048576 }
+    requires sizes { All HasFontSize (entries_of paragraph.items.now) }
+    ensures ticks { steps.new ≡ steps.old + 1 }
+    ensures prepared { IfOk result (λ p. p ≡ preparation (faces_of ⟦<dyn Face as Face>⟧ faces.now) paragraph.entry.base paragraph.entry.style.now (entries_of paragraph.entry.items.now)) }
+    ensures count { IfOk result (λ p. length p.items ≤ text_bytes (entries_of paragraph.entry.items.now) + length paragraph.entry.items.now) }
+    ensures sources { IfOk result (λ p. AreFrom 0 (length paragraph.entry.items.now) p.items) }
+    ensures atoms { IfOk result (λ p. atoms_in p.items ≤ atoms_of (entries_of paragraph.entry.items.now)) }
+    ensures lengths { IfOk result (λ p. All (λ item. HasBounds item.what) p.items) }
+{
     steps.tick();
     let prepared = scratch(alloc, paragraph, faces, arena);
     let _ = arena.reset();
@@ -153,18 +188,18 @@ pub fn prepare<L: Ledger>(
 
 fn scratch(
     alloc: Global,
-    paragraph: &Paragraph,
+    paragraph: LentParagraph<'_>,
     faces: &Faces,
     arena: &Bump,
 ) -> Result<Prepared, AllocError>
-    requires { CanBePrepared paragraph.now.base (entries_of paragraph.now.items.items) }
-    ensures { IfOk result (IsPreparedFrom (faces_of ⟦<dyn Face as Face>⟧ faces.now) paragraph.now.base paragraph.now.style (entries_of paragraph.now.items.items)) }
+    requires { CanBePrepared paragraph.base (entries_of paragraph.items.now) }
+    ensures { IfOk result (IsPreparedFrom (faces_of ⟦<dyn Face as Face>⟧ faces.now) paragraph.entry.base paragraph.entry.style.now (entries_of paragraph.entry.items.now)) }
 {
     if paragraph.items.len() > u32::MAX as usize {
         return Err(AllocError);
     }
     let resources = Resources { arena, faces };
-    let kept = kept_letters(arena, &paragraph.items)?;
+    let kept = kept_letters(arena, paragraph.items)?;
     match by_lists(alloc, paragraph, &kept, resources)? {
         Some(prepared) => Ok(prepared),
         None => by_all_rules(alloc, paragraph, kept, resources),
@@ -175,12 +210,12 @@ fn scratch(
 // character of the one bidi paragraph that it is.
 fn by_lists(
     alloc: Global,
-    paragraph: &Paragraph,
+    paragraph: LentParagraph<'_>,
     kept: &Kept,
     resources: Resources,
 ) -> Result<Option<Prepared>, AllocError>
-    requires { IfSome paragraph.now.base (λ base. base ≤ 1) }
-    ensures { IfOk result (λ made. IfSome made (IsPreparedFrom (faces_of ⟦<dyn Face as Face>⟧ resources.entry.faces.now) paragraph.now.base paragraph.now.style (entries_of kept.now.items.now))) }
+    requires { IfSome paragraph.base (λ base. base ≤ 1) }
+    ensures { IfOk result (λ made. IfSome made (IsPreparedFrom (faces_of ⟦<dyn Face as Face>⟧ resources.entry.faces.now) paragraph.entry.base paragraph.entry.style.now (entries_of kept.now.items.now))) }
 {
     if !is_tried(paragraph, &kept.letters) {
         return Ok(None);
@@ -222,12 +257,12 @@ fn is_zero(base: Option<u8>) -> bool
 }
 
 // Whether a paragraph with these kept characters looks so.
-fn is_tried(paragraph: &Paragraph, letters: &[Letter]) -> bool
-    ensures { result ≡ true → puts_nothing paragraph.now.style.bidi ≡ true }
+fn is_tried(paragraph: LentParagraph<'_>, letters: &[Letter]) -> bool
+    ensures { result ≡ true → puts_nothing paragraph.entry.style.now.bidi ≡ true }
 {
     puts_nothing(paragraph.style.bidi)
-        && ((is_zero(paragraph.base) && looks_flat(&paragraph.items, letters))
-            || looks_bare(&paragraph.items, letters))
+        && ((is_zero(paragraph.base) && looks_flat(paragraph.items, letters))
+            || looks_bare(paragraph.items, letters))
 }
 
 // Whether a block container with this `unicode-bidi` puts nothing round its bidi paragraphs.
@@ -300,12 +335,12 @@ fn same_levels(alloc: Global, level: u8, count: usize) -> Result<LevelList, Allo
 // Prepares a paragraph with these kept characters by all rules of the bidi algorithm (UAX 9).
 fn by_all_rules<'a>(
     alloc: Global,
-    paragraph: &Paragraph,
+    paragraph: LentParagraph<'_>,
     kept: Kept<'a>,
     resources: Resources<'a>,
 ) -> Result<Prepared, AllocError>
-    requires { IfSome paragraph.now.base (λ base. base ≤ 1) }
-    ensures { IfOk result (IsPreparedFrom (faces_of ⟦<dyn Face as Face>⟧ resources.entry.faces.now) paragraph.now.base paragraph.now.style (entries_of kept.entry.items.now)) }
+    requires { IfSome paragraph.base (λ base. base ≤ 1) }
+    ensures { IfOk result (IsPreparedFrom (faces_of ⟦<dyn Face as Face>⟧ resources.entry.faces.now) paragraph.entry.base paragraph.entry.style.now (entries_of kept.entry.items.now)) }
 {
     let arena = resources.arena;
     let content = content_of(alloc, kept, resources)?;
@@ -318,19 +353,19 @@ fn by_all_rules<'a>(
 fn standings_of<'a>(
     alloc: Global,
     arena: &'a Bump,
-    paragraph: &Paragraph,
+    paragraph: LentParagraph<'_>,
     letters: &[Letter],
     parts: &[Part],
 ) -> Result<Standings<'a>, AllocError>
-    requires base { IfSome paragraph.now.base (λ base. base ≤ 1) }
+    requires base { IfSome paragraph.base (λ base. base ≤ 1) }
     requires parts { All (IsPart (length letters.now)) parts.now }
-    ensures standings { IfOk result (λ out. out.items ≡ spec.standings_of paragraph.now.base paragraph.now.style (parts_of letters.now parts.now)) }
+    ensures standings { IfOk result (λ out. out.items ≡ spec.standings_of paragraph.entry.base paragraph.entry.style.now (parts_of letters.now parts.now)) }
     ensures count { IfOk result (λ out. length out.items ≡ length (raws (parts_of letters.now parts.now))) }
     ensures bounds { IfOk result (λ out. All IsStanding out.items) }
 {
     let reading = Reading {
         given: paragraph.base,
-        container: container_of(&paragraph.style),
+        container: container_of(paragraph.style),
     };
     let marks = taking(arena, parts)?;
     let out = standings(alloc, arena, reading, letters, parts, &marks)?;

@@ -6,11 +6,10 @@ ghost use Rattle.face_api.specs.Faces.{faces_of};
 ghost use Rattle.face_api.specs.Table.{Table};
 ghost use Rattle.fragment_types.specs.declared.fragment.Fragment.{out-Fragment};
 ghost use Rattle.fragment_types.specs.Fragment.{kind_of};
-ghost use Rattle.fragment_types.specs.Item.{entries_of, entry_of};
+ghost use Rattle.fragment_types.specs.Item.{entries_of};
 ghost use Rattle.style_types.specs.declared.style.Style as styles;
 ghost use Rattle.style_types.specs.Style.{IsBounded};
 ghost use Rattle.box_gen.specs.Tree.{content_of};
-ghost use Rattle.para_prepare.specs.Parts as parts;
 ghost use Rattle.relayout.specs.Intrinsic as rule;
 ghost use Rattle.relayout.specs.Intrinsic.{IsTextOf};
 ghost use Rattle.relayout.specs.Near.{IsNearLaid};
@@ -24,11 +23,11 @@ use crate::styled::BasedStyle;
 use box_gen::Content;
 use bumpalo::Bump;
 use face_api::{Face, Faces};
-use fragment_types::{FragmentKind, Item, Items};
+use fragment_types::FragmentKind;
 use line_fill::Intrinsic;
 use ortho_flow::contribution;
 use para_lines::paragraph_sizes;
-use para_prepare::{Paragraph, Prepared, prepare};
+use para_prepare::{LentParagraph, Prepared, prepare_lent};
 use std::alloc::{AllocError, Global};
 use std::sync::ledger::Ledger;
 use style_types::{Style, UnicodeBidi};
@@ -98,57 +97,7 @@ fn base_by(bidi: UnicodeBidi, dir: Direction) -> Option<u8>
     }
 }
 
-// The text of an item, and all else of it, once more.
-fn copy_of(item: &Item) -> Result<Item, AllocError>
-    ensures { IfOk result (λ own. entry_of own ≡ entry_of item.now) }
-{
-    let own = match item {
-        Item::Text { node, text, style } => Item::Text {
-            node: *node,
-            text: text.clone()?,
-            style: style.clone()?,
-        },
-        Item::Open { node, style, opens } => Item::Open {
-            node: *node,
-            style: style.clone()?,
-            opens: *opens,
-        },
-        Item::Close { node, closes } => Item::Close {
-            node: *node,
-            closes: *closes,
-        },
-        Item::Atom { name } => Item::Atom { name: *name },
-        Item::Break { node } => Item::Break { node: *node },
-    };
-    Ok(own)
-}
-
-fn copies_of(alloc: Global, items: &[Item]) -> Result<Items, AllocError>
-    ensures { IfOk result (λ own. entries_of own.items ≡ entries_of items.now) }
-{
-    let mut own = Vec::with_capacity(alloc, items.len())?;
-    for item in items {
-        own.push(copy_of(item)?)?;
-    }
-    Ok(own)
-}
-
 impl HeldParagraph<'_> {
-    // The paragraph as its text is prepared, with items of its own.
-    fn copied_paragraph(&self, alloc: Global) -> Result<Paragraph, AllocError>
-        ensures base { IfOk result (λ own. own.base ≡ rule.base_by self.now.style.now.bidi (parts.used_direction self.now.style.now)) }
-        ensures level { IfOk result (λ own. IfSome own.base (λ base. base ≤ 1)) }
-        ensures style { IfOk result (λ own. own.style ≡ self.now.style.now) }
-        ensures items { IfOk result (λ own. entries_of own.items.items ≡ entries_of self.now.items.now) }
-    {
-        let items = copies_of(alloc, self.items)?;
-        Ok(Paragraph {
-            base: base_by(self.style.bidi, self.style.used_direction()),
-            style: *self.style,
-            items,
-        })
-    }
-
     /// Its prepared text. Counts one step, and none where memory runs out before.
     pub(crate) fn prepared<L: Ledger>(
         &self,
@@ -162,8 +111,12 @@ impl HeldParagraph<'_> {
         ensures text { IfOk result (λ text. text ≡ rule.prepared (faces_of ⟦<dyn Face as Face>⟧ faces.now) self.now.style.now (entries_of self.now.items.now)) }
         ensures ready { IfOk result (λ text. IsReady (entries_of self.now.items.now) text) }
     {
-        let paragraph = self.copied_paragraph(alloc)?;
-        let text = prepare(alloc, &paragraph, faces, scratch, steps)?;
+        let paragraph = LentParagraph {
+            base: base_by(self.style.bidi, self.style.used_direction()),
+            style: self.style,
+            items: self.items,
+        };
+        let text = prepare_lent(alloc, paragraph, faces, scratch, steps)?;
         Ok(text)
     }
 }

@@ -16,8 +16,8 @@ returns g c =
     let parts = c.in_ok-content.ensures.count in
     let lent = ap length c.deref-4.ensures.value in
     let many = length-map c.args.kept.items.now entry_of in
-    is_prepared _ c.args.paragraph.now.base c.args.paragraph.now.style _ _
-    (prepared_from _ c.args.paragraph.now.base c.args.paragraph.now.style c.args.kept.items.now c.args.kept.items.now _ _ _ _ _ _ _ _ c.in_ok-prepared.prepared
+    is_prepared _ c.args.paragraph.base c.args.paragraph.style.now _ _
+    (prepared_from _ c.args.paragraph.base c.args.paragraph.style.now c.args.kept.items.now c.args.kept.items.now _ _ _ _ _ _ _ _ c.in_ok-prepared.prepared
     refl c.deref.ensures.value c.deref-3.ensures.value c.deref-2.ensures.value c.deref-4.ensures.value c.deref-5.ensures.value
     c.in_ok-content.ensures.parts c.in_ok-standings.ensures.standings c.in_ok-prepared.ensures.prepared)
     (omega arith) c.in_ok-prepared.ensures.lengths

@@ -13,8 +13,8 @@ standings-requires-clause-marks c = one_mark_each c.args.parts.now _ (c.deref.en
 pub returns-clause-standings : goal.returns-clause-standings
 returns-clause-standings c =
     c.in_ok-out.ensures.standings
-    ∙ ap (λ container. standings c.args.paragraph.now.base (bidi_texts container (marked c.deref.result.now (parts_of c.args.letters.now c.args.parts.now)))) c.container_of.ensures
-    ∙ ap (λ taken. standings c.args.paragraph.now.base (bidi_texts (container_of c.args.paragraph.now.style) taken))
+    ∙ ap (λ container. standings c.args.paragraph.base (bidi_texts container (marked c.deref.result.now (parts_of c.args.letters.now c.args.parts.now)))) c.container_of.ensures
+    ∙ ap (λ taken. standings c.args.paragraph.base (bidi_texts (container_of c.args.paragraph.style.now) taken))
     (takes_part c.args.letters.now c.args.parts.now _ (c.deref.ensures.value ∙ c.in_ok-marks.ensures))
 
 pub returns-clause-count : goal.returns-clause-count
