@@ -1,3 +1,4 @@
+mod AsksExamples
 pub mod AtomLaws
 pub mod BoxedLaws
 pub mod ContentLaws

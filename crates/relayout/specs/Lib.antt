@@ -1,3 +1,4 @@
+pub mod Asks
 pub mod Atoms
 pub mod Boxed
 pub mod Content
