@@ -47,7 +47,7 @@ use Rattle.relayout.proofs.StepLaws.{step_is}
 -- ---- the text of a paragraph
 
 -- what is kept for a box is right: its text has what every such text has
-ready_in : (outside : Outside) (slots : Slots Preparation) (key : ℕ) (node : Node) → AreRight outside slots → node_at slots key ≡ Some node → IsParagraphIn node.content → (text : Option Preparation) → text_at slots key ≡ text
+pub ready_in : (outside : Outside) (slots : Slots Preparation) (key : ℕ) (node : Node) → AreRight outside slots → node_at slots key ≡ Some node → IsParagraphIn node.content → (text : Option Preparation) → text_at slots key ≡ text
     → IsReadyIn node.content text
 ready_in outside slots key node right is paragraph None at = by node.content paragraph where
   by : (content : Content) → IsParagraphIn content → IsReadyIn content None
@@ -77,7 +77,7 @@ text_on outside old new key node steady is text = text_in outside new.slots key 
 
 -- ---- where the same boxes stand
 
-abbrev box_on : (outside : Outside) (old new : Arena) (own : RowBox) → IsSteady outside old new → HasBox old.slots own → HasBox new.slots own
+abbrev pub box_on : (outside : Outside) (old new : Arena) (own : RowBox) → IsSteady outside old new → HasBox old.slots own → HasBox new.slots own
 box_on outside old new own steady has =
     let P : Option ℕ → Type 0 = λ o. StandFrom new.slots o has.inner in
     record {
@@ -146,10 +146,10 @@ unfolding sizing_of
 sizing_handed containing node c = refl
 
 module _ (slots : Slots Preparation) (own : RowBox) (has : HasBox slots own) where
-  box_is : (node : Node) → node_at slots own.key ≡ Some node → has.node ≡ node
+  pub box_is : (node : Node) → node_at slots own.key ≡ Some node → has.node ≡ node
   box_is node is = same_Some has.node node (sym has.is ∙ is)
 
-  box_stands : StandsIn slots (Some own.key) own.containing
+  pub box_stands : StandsIn slots (Some own.key) own.containing
   box_stands node is = let P : Node → Type 0 = λ n. containing_at slots own.key n.style ≡ own.containing in subst P (box_is node is) has.place
 
   row_within : HasRow slots (first_at slots own.key) (own.depth - 1)
@@ -623,9 +623,12 @@ going_ends outside old now row next i laid going is tree stand = by (going.flowe
   by (no_boxes, stand, lead) = lead
   by (box name style content inner others, (k, there, node, within, behind), lead) = absurd (none-some k (sym is ∙ there))
 
-pub going_ends_late : (outside : Outside) (old now : Arena) (row : Row) (next : Option ℕ) (i : ℕ) (laid : List LaidBox) → Going outside old now row next i laid → 2 ^ 18 ≤ i
-    → AreFlowed outside old.slots row.from row.containing row.c laid
-going_ends_late outside old now row next i laid going late = going_ends outside old now row next i laid going (by going.rest going.stand going.few) where
+pub none_late : (outside : Outside) (old now : Arena) (row : Row) (next : Option ℕ) (i : ℕ) (laid : List LaidBox) → Going outside old now row next i laid → 2 ^ 18 ≤ i → next ≡ None
+none_late outside old now row next i laid going late = by going.rest going.stand going.few where
   by : (rest : Boxes) → StandFrom now.slots next rest → count rest + i ≤ 2 ^ 18 → next ≡ None
   by no_boxes stand few = stand
   by (box name style content inner others) stand few = absurd (omega (arith, few, late))
+
+pub going_ends_late : (outside : Outside) (old now : Arena) (row : Row) (next : Option ℕ) (i : ℕ) (laid : List LaidBox) → Going outside old now row next i laid → 2 ^ 18 ≤ i
+    → AreFlowed outside old.slots row.from row.containing row.c laid
+going_ends_late outside old now row next i laid going late = going_ends outside old now row next i laid going (none_late outside old now row next i laid going late)

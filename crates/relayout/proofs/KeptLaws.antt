@@ -101,7 +101,7 @@ size_cases (Some x) (Some y) = by (int_eq x y) (Decides-int_eq x y) where
 abbrev the : Option ℤ → Option ℤ → Constraint
 the inline block = record { inline = inline; block = block }
 
-constraint_cases : (one other : Constraint) → (one ≡ other) ⊎ (one ≢ other)
+pub constraint_cases : (one other : Constraint) → (one ≡ other) ⊎ (one ≢ other)
 constraint_cases one other = elim (size_cases one.inline other.inline) [
   | inl inline ↦ elim (size_cases one.block other.block) [
     | inl block ↦ inl (ap₂ the inline block)

@@ -1,16 +1,23 @@
 mod AsksExamples
 pub mod AtomLaws
+pub mod BoxCounts
 pub mod BoxedLaws
 pub mod ContentLaws
 pub mod ContributionLaws
+pub mod CountLaws
+pub mod Counting
 mod Examples
+pub mod FlowCounts
 pub mod FlowLaws
 pub mod FlowingLaws
+pub mod Founded
 pub mod InlineLaws
 pub mod KeptLaws
 pub mod LaidLaws
 pub mod LinePieces
+pub mod RootCounts
 pub mod RowLaws
+pub mod SeeingLaws
 pub mod SizedLaws
 pub mod StepLaws
 pub mod TextLaws

@@ -14,7 +14,7 @@ use Rattle.style_types.specs.Style.{IsBounded}
 use Rattle.line_place.proofs.Fragments.{as_piece}
 use Rattle.box_arena.specs.declared.entry.Entry.{Entry}
 use Rattle.box_arena.specs.Arena.{Keeps, KeepsText}
-use Rattle.box_arena.specs.At.{Node, Slots, first_at, links_at, next_at, node_at, node_of, parent_at, text_at}
+use Rattle.box_arena.specs.At.{Node, Slots, first_at, kept_at, links_at, next_at, node_at, node_of, parent_at, text_at}
 use Rattle.box_arena.specs.Boxes.{StandFrom}
 use Rattle.box_arena.specs.Links as linking
 use Rattle.box_arena.specs.Links.{IsLinked}
@@ -34,7 +34,7 @@ use Rattle.relayout.specs.Row.{IsFlowed, IsSteady, Lead, StandsIn}
 use Rattle.relayout.specs.Sizes.{containing_of}
 use Rattle.relayout.specs.Step.{AreUnder, under}
 use Rattle.relayout.proofs.FlowLaws.{flows_near, step_margins}
-use Rattle.relayout.proofs.KeptLaws.{kept_is_right, kept_text_is_right, same_containing, stand_before}
+use Rattle.relayout.proofs.KeptLaws.{constraint_cases, kept_is_right, kept_text_is_right, same_containing, stand_before}
 
 abbrev pub Arena : Type 0
 Arena = Slab (Entry Preparation)
@@ -91,6 +91,7 @@ steady_itself outside boxes right = record {
   live = λ k there. there;
   room = λ n room. room;
   texts = λ k there. there;
+  kept = λ k c there. there;
   right = right;
 }
 
@@ -101,6 +102,7 @@ steady_then outside old mid new one other = record {
   live = λ k there. other.live k (one.live k there);
   room = λ n room. other.room n (one.room n room);
   texts = λ k there. other.texts k (one.texts k there);
+  kept = λ k c there. other.kept k c (one.kept k c there);
   right = other.right;
 }
 
@@ -116,8 +118,25 @@ steady_kept outside old new key c result right is keeps = record {
   live = keeps.live;
   room = keeps.room;
   texts = λ k there. some_of (text_at old.slots k) (text_at new.slots k) (keeps.texts k) there;
+  kept = kept;
   right = kept_is_right outside old new key c result right is keeps;
-}
+} where
+  there_of : (one other : Option Pieces) → other ≡ one → IsSome one → IsSome other
+  there_of one other same there = let P : Option Pieces → Type 0 = λ o. IsSome o in subst P (sym same) there
+
+  here : (d : Constraint) → IsSome (kept_at old.slots key d) → IsSome (kept_at new.slots key d)
+  here d was = elim (constraint_cases d c) [
+    | inl same ↦ there_of (Some result) (kept_at new.slots key d) (ap (kept_at new.slots key) same ∙ keeps.here) refl
+    | inr apart ↦ there_of (kept_at old.slots key d) (kept_at new.slots key d) (keeps.beside d apart) was
+  ]
+
+  kept : (k : ℕ) (d : Constraint) → IsSome (kept_at old.slots k d) → IsSome (kept_at new.slots k d)
+  kept k d was = elim (cases_eq k key) [
+    | inl same ↦
+        let P : ℕ → Type 0 = λ j. IsSome (kept_at old.slots j d) → IsSome (kept_at new.slots j d) in
+        subst P (sym same) (here d) was
+    | inr apart ↦ there_of (kept_at old.slots k d) (kept_at new.slots k d) (keeps.elsewhere k apart d) was
+  ]
 
 -- ---- texts
 
@@ -134,6 +153,7 @@ steady_text outside old new key node text right there is ready keeps = record {
   live = keeps.put.live;
   room = keeps.put.room;
   texts = texts;
+  kept = λ k c there. let P : Option Pieces → Type 0 = λ o. IsSome o in subst P (sym (keeps.kept k c)) there;
   right = kept_text_is_right outside old new key text right own keeps;
 } where
   own : IsTextAt outside old.slots key text

@@ -65,7 +65,7 @@ root_spread style view part reach sizes bounded near deep = by (is_parallel (con
   by false is = absurd (cc)
 
 -- the row of a root is the root alone
-stands_alone : (slots : Slots Preparation) (root : ℕ) (tree : Boxes) → next_at slots root ≡ None → Stands slots root tree → StandFrom slots (Some root) tree
+pub stands_alone : (slots : Slots Preparation) (root : ℕ) (tree : Boxes) → next_at slots root ≡ None → Stands slots root tree → StandFrom slots (Some root) tree
 stands_alone slots root no_boxes alone stands = absurd stands
 stands_alone slots root (box name style content inner next) alone (node, within, last) =
     let P : Boxes → Type 0 = λ t. StandFrom slots (next_at slots root) t in

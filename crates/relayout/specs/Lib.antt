@@ -2,6 +2,7 @@ pub mod Asks
 pub mod Atoms
 pub mod Boxed
 pub mod Content
+pub mod Counts
 pub mod Edges
 pub mod Fit
 pub mod Flow

@@ -9,7 +9,7 @@ use Rattle.fragment_types.specs.declared.item.BoxName.{BoxName}
 use Rattle.style_types.specs.declared.style.Style.{Style}
 use Rattle.box_arena.specs.declared.entry.Entry.{Entry}
 use Rattle.box_arena.specs.Arena.{LiveOn, SameLinks, SameNodes, SameRoom}
-use Rattle.box_arena.specs.At.{Node, Slots, first_at, links_at, node_at, node_of, text_at}
+use Rattle.box_arena.specs.At.{Node, Slots, first_at, kept_at, links_at, node_at, node_of, text_at}
 use Rattle.box_arena.specs.Boxes.{StandFrom}
 use Rattle.box_arena.specs.Links.{IsLinked}
 use Rattle.box_gen.specs.Tree.{Boxes, Content, box, none}
@@ -85,13 +85,14 @@ pub record IsBoxAt (slots : Slots Preparation) (own : RowBox) (code : FlowBox) :
   pub sizes : code.c ≡ own.c
   pub linked : IsLinked (links_at slots)
 
--- the same boxes stand as before, and what is kept is right; a text that was kept still is
+-- the same boxes stand as before, and what is kept is right; for what a result or a text was kept still one is
 pub record IsSteady (outside : Outside) (old new : Slab (Entry Preparation)) : Type 0 where
   pub links : SameLinks old.slots new.slots
   pub nodes : SameNodes old.slots new.slots
   pub live : LiveOn old new
   pub room : SameRoom old new
   pub texts : (k : ℕ) → IsSome (text_at old.slots k) → IsSome (text_at new.slots k)
+  pub kept : (k : ℕ) (c : Constraint) → IsSome (kept_at old.slots k c) → IsSome (kept_at new.slots k c)
   pub right : AreRight outside new.slots
 
 -- a box is laid out under a constraint

@@ -9,6 +9,7 @@ ghost use Rattle.box_arena.specs.Arena.{Keeps};
 ghost use Rattle.box_arena.specs.At.{kept_at, links_at};
 ghost use Rattle.box_arena.specs.Links.{IsLinked};
 ghost use Rattle.box_gen.specs.Tree.{content_of};
+ghost use Rattle.relayout.specs.Counts.{HasSeen, RowCosts, RowDone, SeeingCosts, counted, texts_in};
 ghost use Rattle.relayout.specs.Flowing.{CanFlow, CanFlowBox, IsBegun, IsSeen, IsSized};
 ghost use Rattle.relayout.specs.Inline.{Outside};
 ghost use Rattle.relayout.specs.Intrinsic.{IsTextOf};
@@ -74,7 +75,7 @@ fn text_of<L: Ledger>(
     texts: &mut Steps<L>,
 ) -> Result<Option<Prepared>, AllocError>
     requires { IsParagraphIn (content_of node.now.content) }
-    ensures most { (texts.old ≤ texts.new) × (texts.new ≤ texts.old + 1) }
+    ensures most { (texts.old ≤ texts.new) × (texts.new ≤ texts.old + texts_in (content_of node.now.content)) }
     ensures text { IfOk result (λ text. IsTextOf (faces_of ⟦<dyn Face as Face>⟧ faces.now) node.now.style (content_of node.now.content) text) }
     ensures ready { IfOk result (λ text. IsReadyIn (content_of node.now.content) text) }
 {
@@ -99,8 +100,12 @@ impl<L: Ledger, M: Ledger> Flow<'_, '_, '_, '_, L, M> {
     ) -> Result<LaidBoxes, AllocError>
         requires can { CanFlow (outside_of ⟦<dyn Face as Face>⟧ page) self.old.arena.now.slots row.now }
         ensures arena { self.new.arena.ghost_name ≡ self.old.arena.ghost_name }
+        ensures texts { self.new.texts.ghost_name ≡ self.old.texts.ghost_name }
+        ensures arranged { self.new.arranged.ghost_name ≡ self.old.arranged.ghost_name }
         ensures steady { IsSteady (outside_of ⟦<dyn Face as Face>⟧ page.entry) self.old.arena.now self.new.arena.now }
         ensures flowed { IfOk result (λ laid. AreFlowed (outside_of ⟦<dyn Face as Face>⟧ page.entry) self.old.arena.now.slots row.now.from row.now.containing row.now.c laid.items) }
+        ensures costs { RowCosts (outside_of ⟦<dyn Face as Face>⟧ page.entry) self.old.arena.now.slots self.new.arena.now.slots row.now (counted self.old.texts.now self.old.arranged.now) (counted self.new.texts.now self.new.arranged.now) }
+        ensures done { OnOk result (RowDone (outside_of ⟦<dyn Face as Face>⟧ page.entry) self.old.arena.now.slots self.new.arena.now.slots row.now (counted self.old.texts.now self.old.arranged.now) (counted self.new.texts.now self.new.arranged.now)) }
     {
         let mut laid = Vec::new(alloc);
         let mut next = row.from;
@@ -145,10 +150,14 @@ impl<L: Ledger, M: Ledger> Flow<'_, '_, '_, '_, L, M> {
     fn begin_box(&mut self, alloc: Global, page: Page, own: &RowBox) -> Result<Begun, AllocError>
         requires can { CanFlowBox (outside_of ⟦<dyn Face as Face>⟧ page) self.old.arena.now.slots own.now }
         ensures arena { self.new.arena.ghost_name ≡ self.old.arena.ghost_name }
+        ensures texts { self.new.texts.ghost_name ≡ self.old.texts.ghost_name }
+        ensures arranged { self.new.arranged.ghost_name ≡ self.old.arranged.ghost_name }
         ensures most { (self.old.texts.now ≤ self.new.texts.now) × (self.new.texts.now ≤ self.old.texts.now + 1) }
         ensures steady { IsSteady (outside_of ⟦<dyn Face as Face>⟧ page.entry) self.old.arena.now self.new.arena.now }
         ensures begun { IfOk result (λ begun. IsBegun (outside_of ⟦<dyn Face as Face>⟧ page.entry) self.new.arena.now.slots own.now begun) }
         ensures can { IfOk result (λ begun. CanFlow (outside_of ⟦<dyn Face as Face>⟧ page.entry) self.new.arena.now.slots begun.contributing) }
+        ensures costs { SeeingCosts self.old.arena.now.slots self.new.arena.now.slots own.now.key (counted self.old.texts.now self.old.arranged.now) (counted self.new.texts.now self.new.arranged.now) }
+        ensures done { OnOk result (HasSeen self.old.arena.now.slots self.new.arena.now.slots own.now.key (counted self.old.texts.now self.old.arranged.now) (counted self.new.texts.now self.new.arranged.now)) }
     {
         self.see_text(alloc, page, own)?;
         let sizing = FlowBox::at(self.arena, own).sizing();
@@ -163,9 +172,13 @@ impl<L: Ledger, M: Ledger> Flow<'_, '_, '_, '_, L, M> {
     fn see_text(&mut self, alloc: Global, page: Page, own: &RowBox) -> Result<(), AllocError>
         requires can { CanFlowBox (outside_of ⟦<dyn Face as Face>⟧ page) self.old.arena.now.slots own.now }
         ensures arena { self.new.arena.ghost_name ≡ self.old.arena.ghost_name }
+        ensures texts { self.new.texts.ghost_name ≡ self.old.texts.ghost_name }
+        ensures arranged { self.new.arranged.ghost_name ≡ self.old.arranged.ghost_name }
         ensures most { (self.old.texts.now ≤ self.new.texts.now) × (self.new.texts.now ≤ self.old.texts.now + 1) }
         ensures steady { IsSteady (outside_of ⟦<dyn Face as Face>⟧ page.entry) self.old.arena.now self.new.arena.now }
         ensures seen { OnOk result (IsSeen (outside_of ⟦<dyn Face as Face>⟧ page.entry) self.new.arena.now.slots own.now) }
+        ensures costs { SeeingCosts self.old.arena.now.slots self.new.arena.now.slots own.now.key (counted self.old.texts.now self.old.arranged.now) (counted self.new.texts.now self.new.arranged.now) }
+        ensures done { OnOk result (HasSeen self.old.arena.now.slots self.new.arena.now.slots own.now.key (counted self.old.texts.now self.old.arranged.now) (counted self.new.texts.now self.new.arranged.now)) }
     {
         if self.arena.text(own.key).is_some() {
             return Ok(());
@@ -219,7 +232,10 @@ impl<L: Ledger, M: Ledger> Flow<'_, '_, '_, '_, L, M> {
         requires sized { IsSized (outside_of ⟦<dyn Face as Face>⟧ page) self.old.arena.now.slots own.now sized.now }
         requires flowed { AreFlowed (outside_of ⟦<dyn Face as Face>⟧ page) self.old.arena.now.slots sized.now.inside.from sized.now.inside.containing sized.now.inside.c inside.now }
         ensures arena { self.new.arena.ghost_name ≡ self.old.arena.ghost_name }
+        ensures texts { self.new.texts.ghost_name ≡ self.old.texts.ghost_name }
+        ensures arranged { self.new.arranged.ghost_name ≡ self.old.arranged.ghost_name }
         ensures most { (self.old.arranged.now ≤ self.new.arranged.now) × (self.new.arranged.now ≤ self.old.arranged.now + 1) }
+        ensures no_text { self.new.texts.now ≡ self.old.texts.now }
         ensures keeps { IfOk result (λ laid. Keeps self.old.arena.now self.new.arena.now own.now.key own.now.c (piece_of laid.fragment)) }
         ensures unchanged { OnErr result (self.new.arena.now ≡ self.old.arena.now) }
         ensures steady { IsSteady (outside_of ⟦<dyn Face as Face>⟧ page.entry) self.old.arena.now self.new.arena.now }

@@ -1,12 +1,13 @@
 //! The layout of a document whose boxes lie in an arena (CSS 2, 9.4 and 10.1).
 
-ghost use Rattle.std.specs.Prelude.{◌≡◌, ◌+◌, ◌≤◌, ◌-◌, ◌^◌, List, IfOk, None, Option, Some};
+ghost use Rattle.std.specs.Prelude.{◌≡◌, ◌+◌, ◌≤◌, ◌-◌, ◌^◌, List, IfOk, None, OnOk, Option, Some};
 ghost use Rattle.face_api.specs.Faces.{faces_of};
 ghost use Rattle.face_api.specs.Table.{Table};
 ghost use Rattle.fragment_types.specs.Fragment.{piece_of};
 ghost use Rattle.wm_modes.specs.Mode.{is_horizontal};
 ghost use Rattle.box_arena.specs.At.{parent_at};
 ghost use Rattle.line_place.specs.Spread.{spread};
+ghost use Rattle.relayout.specs.Counts.{AreFoundedUnder, ArrangedRise, IsAllKept, TextsRise};
 ghost use Rattle.relayout.specs.Flow.{on_page};
 ghost use Rattle.relayout.specs.Flowed.{part_of};
 ghost use Rattle.relayout.specs.Near.{IsNearLaid};
@@ -111,6 +112,10 @@ pub fn relayout<L: Ledger, M: Ledger>(
     ensures steady { IsSteadyUnder (faces_of ⟦<dyn Face as Face>⟧ faces.now) view arena.old arena.new root }
     ensures near { IfOk result (λ made. spread (piece_of made) ≤ 2 ^ 60 - 2 ^ 50 + 2 ^ 37) }
     ensures layout { IfOk result (λ made. IsLayout (faces_of ⟦<dyn Face as Face>⟧ faces.now) view arena.old.slots root (piece_of made)) }
+    ensures prepares { TextsRise arena.old.slots root prepared.old prepared.new }
+    ensures arranges { ArrangedRise (faces_of ⟦<dyn Face as Face>⟧ faces.now) view arena.old.slots root arranged.old arranged.new }
+    ensures founded { AreFoundedUnder (faces_of ⟦<dyn Face as Face>⟧ faces.now) view arena.old.slots root → AreFoundedUnder (faces_of ⟦<dyn Face as Face>⟧ faces.now) view arena.new.slots root }
+    ensures kept { OnOk result (AreFoundedUnder (faces_of ⟦<dyn Face as Face>⟧ faces.now) view arena.old.slots root → IsAllKept (faces_of ⟦<dyn Face as Face>⟧ faces.now) view arena.new.slots root) }
 {
     let style = arena.node(root).style;
     let mut scratch = Bump::new(alloc);
