@@ -1,13 +1,10 @@
 -- What flow layout asks for, at small trees, by computation: the pairs of a box and a constraint that are met, and the boxes that hold a paragraph.
 -- An independent implementation gives the same. Lengths are in units of 1/64 px.
-use Rattle.std.specs.Prelude.{◌≡◌, ℕ, refl, Bool, true, false, ◌&&◌, nat_eq, length as count_of, [], ◌∷◌, ◌++◌, ◌+◌, ◌*◌, ◌^◌, List, Option, Some, None, ℤ, pos, neg_ℤ}
+use Rattle.std.specs.Prelude.{◌≡◌, ℕ, refl, Bool, true, ◌&&◌, nat_eq, length as count_of, [], ◌∷◌, ◌*◌, List, Option, Some, None, ℤ, pos}
 use Rattle.fragment_types.specs.declared.item.BoxName.{BoxName}
 use Rattle.style_types.specs.declared.style.Display.TheVariants as displays
 use Rattle.style_types.specs.declared.style.Size.{Size}
 use Rattle.style_types.specs.declared.style.Size.TheVariants as sizes
-use Rattle.style_types.specs.declared.style.UnicodeBidi.TheVariants as bidis
-use Rattle.style_types.specs.declared.style.LineHeight.TheVariants as line_heights
-use Rattle.style_types.specs.declared.style.SideSizes.{SideSizes}
 use Rattle.style_types.specs.declared.style.Style.{Style}
 use Rattle.box_gen.specs.Tree.{Boxes, none as no_boxes, box, blocks, inline}
 use Rattle.size_rules.specs.Equation.{or_zero, rest, start_margin}
@@ -21,13 +18,9 @@ use Rattle.relayout.specs.Intrinsic.{contribution, inner}
 use Rattle.face_api.specs.Kinds.{mono_table, wide_table, first_table}
 use Rattle.face_api.specs.Living.{used_table}
 use Rattle.face_api.specs.Table.{Table, advance_of}
-use Rattle.wm_modes.specs.declared.mode.Direction.TheVariants as directions
 use Rattle.wm_modes.specs.declared.mode.WritingMode.TheVariants as modes
 use Rattle.wm_chars.specs.Repertoire.{row_of, bidi_class, break_class, orientation}
 use Rattle.wm_chars.specs.Pairs.{mirror, bracket}
-use Rattle.style_types.specs.declared.style.Align.TheVariants as aligns
-use Rattle.style_types.specs.declared.style.Combine.TheVariants as combines
-use Rattle.style_types.specs.declared.style.TextOrientation.TheVariants as orientations
 use Rattle.style_types.specs.Initial.{initial}
 use Rattle.fragment_types.specs.Item as item
 use Rattle.fragment_types.specs.Item.{begins, ends, atom}

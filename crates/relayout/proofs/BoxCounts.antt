@@ -1,10 +1,9 @@
 -- What a box has cost so far, call by call.
-use Rattle.std.proofs.Common.{◌≡◌, ◌∙◌, ◌≢◌, ◌⊎◌, refl, sym, ap, subst, arith, ℕ, zero, suc, ◌+◌, ◌≤◌, Bool, true, false, List, Option, Some, None, ℤ, inl, inr}
-use Rattle.std.specs.Prelude.{Contains, IfSome, IsSome}
+use Rattle.std.proofs.Common.{◌≡◌, ◌∙◌, refl, sym, ap, subst, arith, ℕ, zero, ◌+◌, ◌≤◌, Bool, true, false, List, Option, Some, None, ℤ, inl, inr}
+use Rattle.std.specs.Prelude.{IfSome, IsSome}
 use Rattle.std.proofs.lemmas.Bool.{cases_eq}
 use Rattle.std.proofs.lemmas.Option.{same_Some}
 use Rattle.fragment_types.specs.declared.constraint.Constraint.{Constraint}
-use Rattle.style_types.specs.declared.style.Style.{Style}
 use Rattle.fragment_types.specs.Fragment.{Pieces}
 use Rattle.box_arena.specs.Arena.{Keeps}
 use Rattle.box_arena.specs.At.{IsAbove, Node, Slots, first_at, kept_at, links_at, node_at, text_at}
@@ -30,7 +29,7 @@ use Rattle.relayout.specs.Paragraph.{HasText}
 use Rattle.relayout.specs.Row.{StandsIn, row_in}
 use Rattle.relayout.specs.Sizes.{containing_of}
 use Rattle.relayout.specs.Step.{contributing, definite_under, inline_size_by, inline_size_of, is_measured, laid_inside, sizing_of, under, used_in}
-use Rattle.relayout.proofs.CountLaws.{Follows, above_on, covers_on, follows_then, founded_here, founded_same, has_text_on, have_keys_on, if_some_on, is_in_on, lacking_falls, lacking_less, lacking_some, row_kept_on, same_first, stand_on, stood_back}
+use Rattle.relayout.proofs.CountLaws.{Follows, above_on, covers_on, follows_then, founded_here, founded_same, have_keys_on, if_some_on, is_in_on, lacking_falls, lacking_less, lacking_some, row_kept_on, same_first, stand_on, stood_back}
 use Rattle.relayout.proofs.Counting.{BoxCosts, BoxCovered, BoxDone, ChildrenCovered, KeysIn}
 use Rattle.relayout.proofs.KeptLaws.{constraint_cases}
 use Rattle.relayout.proofs.RowLaws.{Arena}

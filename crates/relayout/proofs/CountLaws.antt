@@ -1,27 +1,22 @@
 -- How often boxes are laid out and texts prepared, step by step.
-use Rattle.std.proofs.Common.{◌≡◌, ◌∙◌, ◌≢◌, ◌⊎◌, refl, sym, ap, ap₂, subst, arith, ℕ, zero, suc, ◌+◌, ◌<◌, ◌≤◌, Bool, true, false, List, [], ◌∷◌, length, Option, Some, None, ℤ, inl, inr}
-use Rattle.std.specs.Prelude.{Contains, IfSome, IsSome, ◌&&◌, is_none, option_and_then}
-use Rattle.std.proofs.lemmas.Bool.{cases_eq}
-use Rattle.std.proofs.lemmas.Option.{none-some, same_Some}
+use Rattle.std.proofs.Common.{◌≡◌, ◌∙◌, refl, sym, ap, subst, arith, ℕ, zero, suc, ◌+◌, ◌≤◌, List, [], ◌∷◌, Option, Some, None}
+use Rattle.std.specs.Prelude.{Contains, IfSome, IsSome, option_and_then}
+use Rattle.std.proofs.lemmas.Option.{none-some}
 use Rattle.fragment_types.specs.declared.constraint.Constraint.{Constraint}
-use Rattle.fragment_types.specs.declared.item.BoxName.{BoxName}
 use Rattle.style_types.specs.declared.style.Style.{Style}
 use Rattle.fragment_types.specs.Fragment.{Pieces}
-use Rattle.box_arena.specs.Arena.{Keeps, SameLinks, SameNodes}
+use Rattle.box_arena.specs.Arena.{SameLinks, SameNodes}
 use Rattle.box_arena.specs.At.{IsAbove, Node, Slots, first_at, kept_at, links_at, next_at, node_at, parent_at, text_at}
 use Rattle.box_arena.specs.Boxes.{StandFrom}
-use Rattle.box_arena.specs.Links.{Climbs, IsIn, IsLinked, Linking, Reaches, first_of, next_of, parent_of}
+use Rattle.box_arena.specs.Links.{Climbs, IsIn, first_of, next_of, parent_of}
 use Rattle.box_gen.specs.Tree.{Boxes, Content, blocks, box, inline, none as no_boxes}
 use Rattle.para_prepare.specs.Preparation.{Preparation}
-use Rattle.relayout.specs.declared.row.Row.{Row}
-use Rattle.relayout.specs.declared.row.RowBox.{RowBox}
 use Rattle.relayout.specs.declared.sizes.Containing.{Containing}
 use Rattle.relayout.specs.Asks.{contributes_under, put_under}
-use Rattle.relayout.specs.Counts.{AreFounded, Ask, Counters, Covers, EachMet, HasKey, HasSeen, HaveKeys, IsFounded, IsRowKept, RowCosts, RowDone, SameAbove, SeeingCosts, kept_for, lacking, missing, one_if_none, textless}
+use Rattle.relayout.specs.Counts.{AreFounded, Ask, Covers, EachMet, HaveKeys, IsFounded, IsRowKept, lacking, one_if_none}
 use Rattle.relayout.specs.Inline.{Outside}
 use Rattle.relayout.specs.Kept.{containing_at, containing_by}
 use Rattle.relayout.specs.Paragraph.{HasText}
-use Rattle.relayout.specs.Row.{box_in}
 use Rattle.relayout.specs.Sizes.{containing_of}
 
 -- ---- what is lacking

@@ -1,26 +1,23 @@
 -- What a row has cost so far, box by box.
-use Rattle.std.proofs.Common.{◌≡◌, ◌∙◌, ◌≢◌, ◌⊎◌, refl, sym, ap, ap₂, subst, arith, ℕ, zero, suc, ◌+◌, ◌<◌, ◌≤◌, Bool, true, false, List, [], ◌∷◌, length, Option, Some, None, ℤ, inl, inr}
+use Rattle.std.proofs.Common.{◌≡◌, ◌∙◌, ◌≢◌, refl, sym, ap, subst, arith, ℕ, suc, ◌+◌, ◌≤◌, List, Option, Some, None}
 use Rattle.std.specs.Prelude.{Contains, IfSome, IsSome}
-use Rattle.std.proofs.lemmas.Bool.{cases_eq}
 use Rattle.std.proofs.lemmas.Option.{none-some, same_Some}
 use Rattle.fragment_types.specs.declared.constraint.Constraint.{Constraint}
 use Rattle.fragment_types.specs.declared.item.BoxName.{BoxName}
 use Rattle.style_types.specs.declared.style.Style.{Style}
-use Rattle.fragment_types.specs.Fragment.{Pieces}
-use Rattle.box_arena.specs.At.{IsAbove, Node, Slots, first_at, kept_at, links_at, next_at, node_at, parent_at, text_at}
+use Rattle.box_arena.specs.At.{IsAbove, Node, Slots, first_at, kept_at, links_at, next_at, node_at, parent_at}
 use Rattle.box_arena.specs.Boxes.{StandFrom}
-use Rattle.box_arena.specs.Links.{Climbs, IsIn, IsLinked, first_of, next_of, parent_of}
-use Rattle.box_gen.specs.Tree.{Boxes, Content, blocks, box, inline, none as no_boxes}
+use Rattle.box_arena.specs.Links.{Climbs, IsIn, IsLinked, next_of}
+use Rattle.box_gen.specs.Tree.{Boxes, Content, box, none as no_boxes}
 use Rattle.para_prepare.specs.Preparation.{Preparation}
 use Rattle.relayout.specs.declared.row.Row.{Row}
 use Rattle.relayout.specs.declared.row.RowBox.{RowBox}
-use Rattle.relayout.specs.declared.sizes.Containing.{Containing}
 use Rattle.relayout.specs.Asks.{contributes_under, put_under}
-use Rattle.relayout.specs.Counts.{AreFounded, Ask, Counters, Covers, HasKey, HasSeen, HaveKeys, IsFounded, IsRowKept, RowCosts, RowDone, SameAbove, SeeingCosts, kept_for, lacking, missing, textless}
+use Rattle.relayout.specs.Counts.{AreFounded, Ask, Counters, Covers, HasKey, HaveKeys, IsRowKept, RowCosts, RowDone, SameAbove, missing, textless}
 use Rattle.relayout.specs.Inline.{Outside}
 use Rattle.relayout.specs.Row.{box_in}
 use Rattle.relayout.specs.Sizes.{containing_of}
-use Rattle.relayout.proofs.CountLaws.{Follows, above_on, covers_on, follows_itself, follows_then, founded_same, have_keys_on, if_some_on, is_in_on, lacking_falls, lacking_less, lacking_some, none_before, row_kept_on, same_first, stand_on}
+use Rattle.relayout.proofs.CountLaws.{Follows, above_on, covers_on, have_keys_on, if_some_on, is_in_on, none_before, same_first, stand_on}
 
 -- ---- a box
 

@@ -3,10 +3,8 @@ use Rattle.std.proofs.Common.{◌≡◌, ◌∙◌, ◌+◌, ◌≤◌, refl, sy
 use Rattle.std.specs.Prelude.{IsSome, option_map}
 use Rattle.fragment_types.specs.Fragment.{Pieces, piece_of}
 use Rattle.box_arena.specs.Arena.{Keeps}
-use Rattle.box_arena.specs.At.{Node, Slots, first_at, kept_at, links_at, next_at, node_at, text_at}
-use Rattle.box_arena.specs.Boxes.{StandFrom}
+use Rattle.box_arena.specs.At.{Node, Slots, kept_at, links_at, next_at, node_at, text_at}
 use Rattle.box_arena.specs.Links.{IsLinked}
-use Rattle.box_gen.specs.Tree.{Boxes}
 use Rattle.para_prepare.specs.Preparation.{Preparation}
 use Rattle.relayout.specs.declared.flowed.LaidBox.{LaidBox}
 use Rattle.relayout.specs.declared.flowing.Begun.{Begun}
@@ -18,7 +16,7 @@ use Rattle.relayout.specs.Flowing.{CanFlowBox, IsBegun, IsSeen, IsSized}
 use Rattle.relayout.specs.Inline.{Outside}
 use Rattle.relayout.specs.Paragraph.{HasText}
 use Rattle.relayout.specs.Row.{IsSteady, StandsIn, box_in}
-use Rattle.relayout.proofs.BoxCounts.{SoFar, begun_inside, finish_breaks, finish_costs, finish_done, first_inside, own_founded, row_added, row_breaks, seeing_costs, sized_inside, so_far_costs, so_far_seen}
+use Rattle.relayout.proofs.BoxCounts.{SoFar, begun_inside, finish_breaks, finish_costs, finish_done, first_inside, own_founded, row_added, row_breaks, seeing_costs, sized_inside, so_far_seen}
 use Rattle.relayout.proofs.CountLaws.{Follows, has_text_on}
 use Rattle.relayout.proofs.Counting.{BoxCosts, BoxDone, Counting, counting_breaks, counting_next}
 use Rattle.relayout.proofs.FlowingLaws.{box_is, box_on, box_stands}

@@ -1,8 +1,8 @@
 -- Where with each result stands all that was met where its box was laid out, all stands that is met from a box that is kept.
-use Rattle.std.proofs.Common.{◌≡◌, refl, subst, ℕ, Bool, true, false, Option, Some, None, ℤ}
+use Rattle.std.proofs.Common.{◌≡◌, refl, subst, ℕ, Bool, true, false, Option, Some, ℤ}
 use Rattle.std.specs.Prelude.{IfSome, ◌&&◌}
 use Rattle.fragment_types.specs.declared.constraint.Constraint.{Constraint}
-use Rattle.box_arena.specs.At.{Node, Slots, first_at, links_at, next_at, node_at}
+use Rattle.box_arena.specs.At.{Node, Slots, first_at, links_at, next_at}
 use Rattle.box_arena.specs.Boxes.{StandFrom}
 use Rattle.box_arena.specs.Links.{IsLinked}
 use Rattle.box_gen.specs.Tree.{Boxes, box, none as no_boxes}
@@ -14,7 +14,7 @@ use Rattle.relayout.specs.Counts.{AreAllKept, AreFounded, HaveTexts, IsFounded, 
 use Rattle.relayout.specs.Inline.{Outside}
 use Rattle.relayout.specs.Row.{StandsIn}
 use Rattle.relayout.specs.Sizes.{containing_of, is_parallel}
-use Rattle.relayout.specs.Step.{is_measured, under}
+use Rattle.relayout.specs.Step.{under}
 use Rattle.relayout.proofs.CountLaws.{if_some_on}
 use Rattle.relayout.proofs.Counting.{stands_head}
 use Rattle.relayout.proofs.RowLaws.{inside_first, inside_next}

@@ -1,6 +1,6 @@
 -- What flow layout asks for: which boxes of a tree are laid out, and under which sizes of their containing blocks. A box is met once for each
 -- way that leads to it, and is laid out once for each pair of its name and a constraint.
-use Rattle.std.specs.Prelude.{ℕ, Bool, true, false, ◌&&◌, List, [], ◌∷◌, ◌++◌, nat_eq, if◌then◌else◌, Option, Some, None, ℤ}
+use Rattle.std.specs.Prelude.{Bool, true, false, ◌&&◌, List, [], ◌∷◌, ◌++◌, nat_eq, if◌then◌else◌, Option, Some, None, ℤ}
 use Rattle.std.specs.Option.{option_cmp}
 use Rattle.std.specs.Ordering.{int_cmp, is_eq}
 use Rattle.face_api.specs.Table.{Table}
@@ -8,7 +8,6 @@ use Rattle.wm_modes.specs.Mode.{is_horizontal}
 use Rattle.wm_units.specs.declared.view.View.{View}
 use Rattle.fragment_types.specs.declared.constraint.Constraint.{Constraint}
 use Rattle.fragment_types.specs.declared.item.BoxName.{BoxName}
-use Rattle.style_types.specs.declared.style.Style.{Style}
 use Rattle.box_arena.specs.At.{Node}
 use Rattle.box_gen.specs.Tree.{Boxes, Content, blocks, box, inline, none as no_boxes}
 use Rattle.relayout.specs.declared.sizes.Containing.{Containing}

@@ -4,8 +4,6 @@ use Rattle.face_api.specs.Table.{Table}
 use Rattle.wm_modes.specs.Mode.{is_horizontal}
 use Rattle.wm_units.specs.declared.view.View.{View}
 use Rattle.fragment_types.specs.declared.constraint.Constraint.{Constraint}
-use Rattle.fragment_types.specs.declared.item.BoxName.{BoxName}
-use Rattle.style_types.specs.declared.style.Style.{Style}
 use Rattle.fragment_types.specs.Fragment.{Pieces}
 use Rattle.box_arena.specs.At.{IsAbove, Node, Slots, first_at, kept_at, links_at, next_at, node_at, text_at}
 use Rattle.box_arena.specs.Boxes.{StandFrom, Stands}
@@ -13,7 +11,6 @@ use Rattle.box_arena.specs.Links as linking
 use Rattle.box_gen.specs.Tree.{Boxes, Content, blocks, box, inline, none as no_boxes}
 use Rattle.para_prepare.specs.Preparation.{Preparation}
 use Rattle.relayout.specs.declared.row.Row.{Row}
-use Rattle.relayout.specs.declared.row.RowBox.{RowBox}
 use Rattle.relayout.specs.declared.sizes.Containing.{Containing}
 use Rattle.relayout.specs.Asks.{contributes_under, put_under}
 use Rattle.relayout.specs.Flow.{on_page}
