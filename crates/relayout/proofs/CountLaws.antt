@@ -72,9 +72,6 @@ pub record Follows (old new : Slots Preparation) : Type 0 where
   pub texts : (k : ℕ) → IsSome (text_at old k) → IsSome (text_at new k)
   pub kept : (k : ℕ) (c : Constraint) → IsSome (kept_at old k c) → IsSome (kept_at new k c)
 
-pub follows_itself : (slots : Slots Preparation) → Follows slots slots
-follows_itself slots = record { links = λ k. refl; nodes = λ k. refl; texts = λ k there. there; kept = λ k c there. there }
-
 pub follows_then : (old mid new : Slots Preparation) → Follows old mid → Follows mid new → Follows old new
 follows_then old mid new one other = record {
   links = λ k. other.links k ∙ one.links k;
