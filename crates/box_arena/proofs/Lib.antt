@@ -3,6 +3,8 @@ pub mod CallLemmas
 pub mod Chains
 pub mod Climbs
 pub mod Firsts
+pub mod Handed
+pub mod Handovers
 pub mod Joined
 pub mod LinkSteps
 pub mod Planted

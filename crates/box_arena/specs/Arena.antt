@@ -101,6 +101,22 @@ module _ {T : Type 0} where
     pub marks : (k : ℕ) → marked_at new.slots k ≡ marked_at old.slots k
     pub kept : (k : ℕ) (c : Constraint) → kept_at new.slots k c ≡ kept_at old.slots k c
 
+  -- a box's text is taken, and all else stays
+  pub record LosesText (old new : Slab (Entry T)) (key : ℕ) : Type 0 where
+    pub put : PutsText old new key None
+    pub marks : (k : ℕ) → marked_at new.slots k ≡ marked_at old.slots k
+    pub kept : (k : ℕ) (c : Constraint) → kept_at new.slots k c ≡ kept_at old.slots k c
+
+  -- for a box these results are kept, by the constraint, and no others, and all else stays
+  pub record PutsResults (old new : Slab (Entry T)) (key : ℕ) (results : Constraint → Option Pieces) : Type 0 where
+    pub here : (c : Constraint) → kept_at new.slots key c ≡ results c
+    pub elsewhere : (k : ℕ) → k ≢ key → (c : Constraint) → kept_at new.slots k c ≡ kept_at old.slots k c
+    pub nodes : SameNodes old.slots new.slots
+    pub texts : SameTexts old.slots new.slots
+    pub links : SameLinks old.slots new.slots
+    pub live : LiveOn old new
+    pub room : SameRoom old new
+
   -- a box's text is dropped, and the box and all above it are marked
   pub record DropsText (old new : Slab (Entry T)) (key : ℕ) : Type 0 where
     pub put : PutsText old new key None

@@ -12,7 +12,7 @@ use Rattle.box_arena.specs.Arena.{SameLinks, SameMarks, SameHeld, SameRoom}
 use Rattle.box_arena.specs.Climb.{seen_count, unseen_count}
 use Rattle.box_arena.specs.Weight.{links_weight, weight}
 use Rattle.box_arena.specs.Marks.{is_seen}
-use Rattle.box_arena.specs.Results.{result_for}
+use Rattle.box_arena.specs.Results.{Results, result_for}
 
 -- this one has a value now, each other is as it was
 pub record Puts {X : Type 0} (old new : ℕ → Option X) (key : ℕ) (x : X) : Type 0 where
@@ -55,6 +55,19 @@ module _ {T : Type 0} where
     pub put : Entry T
     pub keeps : EntryKeeps entry put c fragment
     pub is : new ≡ with_value old key put
+
+  -- at one key all that is kept is taken, where it isn't marked
+  pub record TakesResults (old new : Slab (Entry T)) (key : ℕ) (taken : Results) : Type 0 where
+    pub entry : Entry T
+    pub was : slice_index_or old.slots key None ≡ Some entry
+    pub gives : taken ≡ (if entry.mark.marked then [] else entry.held.results)
+    pub is : new ≡ with_value old key (record entry { held = record entry.held { results = [] } })
+
+  -- at one key results are put in the place of all that is kept, and the box is marked no more
+  pub record ReplacesResults (old new : Slab (Entry T)) (key : ℕ) (results : Results) : Type 0 where
+    pub entry : Entry T
+    pub was : slice_index_or old.slots key None ≡ Some entry
+    pub is : new ≡ with_value old key (record entry { mark = record entry.mark { marked = false }; held = record entry.held { results = results } })
 
   -- nothing but links differs
   pub record OnlyLinks (old new : Slab (Entry T)) : Type 0 where

@@ -15,8 +15,8 @@ use std::marker::Model;
 /// Boxes under their keys, each with its place among the others, whether it is marked, and what is kept for it.
 #[derive(Drop)]
 pub struct BoxArena<T> {
-    boxes: Slab<Entry<T>>,
-    alloc: Global,
+    pub(crate) boxes: Slab<Entry<T>>,
+    pub(crate) alloc: Global,
 }
 
 impl<T> Model for BoxArena<T> {

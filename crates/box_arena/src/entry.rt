@@ -104,6 +104,29 @@ impl<T> Entry<T> {
     }
 }
 
+impl<T> Entry<T> {
+    /// Takes what is kept, where it isn't marked; then nothing is kept.
+    pub(crate) fn take_results(&mut self, alloc: Global) -> Results
+        ensures taken { result ≡ (if self.old.mark.marked then [] else self.old.held.results) }
+        ensures rest { self.new ≡ record self.old { held = record self.old.held { results = [] } } }
+    {
+        let results = mem::replace(&mut self.held.results, Results::new(alloc));
+        if self.mark.marked {
+            Results::new(alloc)
+        } else {
+            results
+        }
+    }
+
+    /// Puts results in the place of all that is kept. The box is marked no more.
+    pub(crate) fn put_results(&mut self, results: Results)
+        ensures { self.new ≡ record self.old { mark = record self.old.mark { marked = false }; held = record self.old.held { results = results } } }
+    {
+        self.held.results = results;
+        self.mark.marked = false;
+    }
+}
+
 impl<T: Drop> Held<T> {
     /// Puts the box anew and drops its text; gives the old one back.
     pub(crate) fn replace_node(&mut self, node: BoxNode) -> BoxNode

@@ -5,15 +5,19 @@
 mod arena;
 mod climb;
 mod entry;
+mod equality;
 mod free;
+mod handing;
 mod key;
 pub mod laws;
 mod links;
 mod planting;
 mod results;
+mod reusing;
 mod write;
 
 pub use arena::BoxArena;
 pub use fragment_types::Constraint;
 pub use key::BoxKey;
 pub use planting::count;
+pub use reusing::reuse;

@@ -2,11 +2,12 @@
 
 ghost use Rattle.std.specs.Prelude.{◌≡◌, ◌≤◌, ◌<◌, ℕ, [], Some, None, length, option_map, OnOk, OnErr};
 ghost use Rattle.slab.specs.Slab.{ContainsKey, get, with_value};
-ghost use Rattle.box_arena.specs.At.{held_at, links_at, mark_at};
+ghost use Rattle.box_arena.specs.At.{held_at, links_at, mark_at, text_at};
 ghost use Rattle.box_arena.specs.Free.{Removes};
-ghost use Rattle.box_arena.specs.Write.{ForgetsBelow, WritesHeld, WritesKept, WritesLinks, WritesMark};
+ghost use Rattle.box_arena.specs.Write.{ForgetsBelow, ReplacesResults, TakesResults, WritesHeld, WritesKept, WritesLinks, WritesMark};
 
 use crate::entry::{Entry, Links, Mark};
+use crate::results::Results;
 use box_gen::BoxNode;
 use fragment_types::{Constraint, Fragment};
 use slab::Slab;
@@ -92,6 +93,35 @@ pub(crate) fn drop_text<T: Drop>(boxes: &mut Slab<Entry<T>>, key: usize)
 {
     let entry = &mut boxes[key];
     entry.held.text = None;
+}
+
+/// Takes the text of a box.
+#[tactic(auto, using(crate::proofs::Writes::writes_held))]
+pub(crate) fn take_text_at<T: Drop>(boxes: &mut Slab<Entry<T>>, key: usize) -> Option<T>
+    requires { ContainsKey boxes.old key }
+    ensures text { result ≡ text_at boxes.old.slots key }
+    ensures rest { (held : _) → held_at boxes.old.slots key ≡ Some held → WritesHeld boxes.old boxes.new key (record held { text = None }) }
+{
+    let entry = &mut boxes[key];
+    entry.held.text.take()
+}
+
+/// Takes what is kept for a box, where it isn't marked; then nothing is kept for it.
+pub(crate) fn take_results_at<T>(boxes: &mut Slab<Entry<T>>, alloc: Global, key: usize) -> Results
+    requires { ContainsKey boxes.old key }
+    ensures taken { TakesResults boxes.old boxes.new key result }
+{
+    let entry = &mut boxes[key];
+    entry.take_results(alloc)
+}
+
+/// Puts results in the place of all that is kept for a box, which is marked no more.
+pub(crate) fn put_results_at<T>(boxes: &mut Slab<Entry<T>>, key: usize, results: Results)
+    requires { ContainsKey boxes.old key }
+    ensures { ReplacesResults boxes.old boxes.new key results }
+{
+    let entry = &mut boxes[key];
+    entry.put_results(results);
 }
 
 /// Puts a box anew and drops its text; gives the old one back.

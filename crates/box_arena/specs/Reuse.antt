@@ -1,0 +1,98 @@
+-- What is kept of boxes, handed from an arena to another one in which they stand as they did.
+use Rattle.std.specs.Prelude.{◌≡◌, ℕ, Option, Some, None, option_and_then, nat_eq, if◌then◌else◌, ◌⊎◌, ⊤}
+use Rattle.slab.specs.Slab.{Slab}
+use Rattle.fragment_types.specs.declared.constraint.Constraint.{Constraint}
+use Rattle.fragment_types.specs.Fragment.{Pieces}
+use Rattle.style_types.specs.declared.style.Style.{Style}
+use Rattle.box_gen.specs.Tree.{Boxes}
+use Rattle.box_arena.specs.declared.entry.Entry.{Entry}
+use Rattle.box_arena.specs.declared.reusing.Stood.{Stood}
+use Rattle.box_arena.specs.declared.reusing.Stood.TheVariants.{At, Elsewhere}
+use Rattle.box_arena.specs.Arena.{LiveOn, SameLinks, SameNodes, SameRoom}
+use Rattle.box_arena.specs.At.{Node, Slots, first_at, kept_at, next_at, node_at, parent_at, text_at}
+use Rattle.box_arena.specs.Boxes.{StandFrom, Stands}
+
+-- the lines of both run alike
+pub record RunAlike (one other : Style) : Type 0 where
+  pub mode : one.mode ≡ other.mode
+  pub direction : one.direction ≡ other.direction
+  pub orientation : one.orientation ≡ other.orientation
+
+-- both are in no box, or in boxes whose lines run alike
+abbrev pub AreAround : (one other : Option Node) → Type 0
+AreAround None None = ⊤
+AreAround None (Some other) = ⊥
+AreAround (Some one) None = ⊥
+AreAround (Some one) (Some other) = RunAlike one.style other.style
+
+module _ {T : Type 0} where
+  -- the box that a box stands in
+  abbrev pub around_at : Slots T → (key : ℕ) → Option Node
+  around_at slots key = option_and_then (node_at slots) (parent_at slots key)
+
+  -- a box stands under a key, with those inside it
+  pub record IsTree (slots : Slots T) (key : ℕ) : Type 0 where
+    pub node : Node
+    pub inner : Boxes
+    pub is : node_at slots key ≡ Some node
+    pub inside : StandFrom slots (first_at slots key) inner
+
+  -- the boxes that stand from there on in the new arena stand from there on in the old one
+  abbrev pub StoodFrom : (old new : Slots T) → (from at : Option ℕ) → Type 0
+  StoodFrom old new from at = (boxes : Boxes) → StandFrom new at boxes → StandFrom old from boxes
+
+  -- the tree that stands under a key of the new arena stands under that one of the old
+  abbrev pub StoodUnder : (old new : Slots T) → (from key : ℕ) → Type 0
+  StoodUnder old new from key = (tree : Boxes) → Stands new key tree → Stands old from tree
+
+  -- a result was kept for that constraint where the same tree stood, in a box whose lines run alike
+  pub record IsResultFrom (old new : Slots T) (key : ℕ) (c : Constraint) (result : Pieces) : Type 0 where
+    pub from : ℕ
+    pub was : kept_at old from c ≡ Some result
+    pub tree : StoodUnder old new from key
+    pub around : AreAround (around_at old from) (around_at new key)
+
+  -- a text was kept for the same box
+  pub record IsTextFrom (old new : Slots T) (key : ℕ) (text : T) : Type 0 where
+    pub from : ℕ
+    pub was : text_at old from ≡ Some text
+    pub node : node_at old from ≡ node_at new key
+
+  -- the same boxes stand, and nothing is kept that wasn't
+  pub record Gives (old new : Slab (Entry T)) : Type 0 where
+    pub results : (k : ℕ) (c : Constraint) (result : Pieces) → kept_at new.slots k c ≡ Some result → kept_at old.slots k c ≡ Some result
+    pub texts : (k : ℕ) (text : T) → text_at new.slots k ≡ Some text → text_at old.slots k ≡ Some text
+    pub nodes : SameNodes old.slots new.slots
+    pub links : SameLinks old.slots new.slots
+    pub live : LiveOn old new
+
+  -- the same boxes stand in both arenas, and what is kept in the second was kept there, or in the first where the same stood
+  pub record Reuses (giver given old new : Slab (Entry T)) : Type 0 where
+    pub gives : Gives giver given
+    pub results : (k : ℕ) (c : Constraint) (result : Pieces) → kept_at new.slots k c ≡ Some result → (kept_at old.slots k c ≡ Some result) ⊎ IsResultFrom giver.slots old.slots k c result
+    pub texts : (k : ℕ) (text : T) → text_at new.slots k ≡ Some text → (text_at old.slots k ≡ Some text) ⊎ IsTextFrom giver.slots old.slots k text
+    pub nodes : SameNodes old.slots new.slots
+    pub links : SameLinks old.slots new.slots
+    pub live : LiveOn old new
+    pub room : SameRoom old new
+
+  -- the boxes from there on tell whether those of a whole row stood in a row
+  abbrev pub TellsRow : (old new : Slots T) → (from first : Option ℕ) → (stood : Stood) → (next : Option ℕ) → Type 0
+  TellsRow old new from first (At here) next = StoodFrom old new here next → StoodFrom old new from first
+  TellsRow old new from first Elsewhere next = ⊤
+
+  -- so do they of the boxes inside one, where it stood somewhere
+  abbrev pub TellsInside : (old new : Slots T) → (from : Option ℕ) (key : ℕ) → (stood : Stood) → (next : Option ℕ) → Type 0
+  TellsInside old new None key stood next = ⊤
+  TellsInside old new (Some from) key stood next = TellsRow old new (first_at old from) (first_at new key) stood next
+
+  -- where the box behind one stood, which was found under that key
+  abbrev pub stood_behind : Slots T → (stood : Stood) → (found : Option ℕ) → Stood
+  stood_behind old (At (Some expected)) (Some found) = if nat_eq expected found then At (next_at old found) else Elsewhere
+  stood_behind old (At (Some expected)) None = Elsewhere
+  stood_behind old (At None) found = Elsewhere
+  stood_behind old Elsewhere found = Elsewhere
+
+  -- the boxes inside one stood inside the other
+  abbrev pub StoodInside : (old new : Slots T) → (from key : ℕ) → Type 0
+  StoodInside old new from key = StoodFrom old new (first_at old from) (first_at new key)
