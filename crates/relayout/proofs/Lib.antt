@@ -15,6 +15,7 @@ pub mod InlineLaws
 pub mod KeptLaws
 pub mod LaidLaws
 pub mod LinePieces
+pub mod ReuseLaws
 pub mod RootCounts
 pub mod RowLaws
 pub mod SeeingLaws

@@ -8,6 +8,7 @@ use Rattle.box_arena.specs.declared.entry.Entry.{Entry}
 use Rattle.box_arena.specs.Arena.{Attaches, Detaches, DropsText, Forgets, Keeps, KeepsText, Marks, Restyles}
 use Rattle.box_arena.specs.At.{IsAbove, Node, Slots, kept_at, links_at, node_at, text_at}
 use Rattle.box_arena.specs.Links.{IsLinked}
+use Rattle.box_arena.specs.Reuse.{Reuses}
 use Rattle.para_prepare.specs.Preparation.{Preparation}
 use Rattle.relayout.specs.Inline.{Outside}
 use Rattle.relayout.specs.Kept.{AreRight, HasRightResults, HasRightText, IsResultAt, IsRightAt, IsTextAt, SameContaining}
@@ -69,3 +70,8 @@ AttachedIsRight = (outside : Outside) (old new : Arena) (parent : ℕ) (before :
 abbrev pub DetachedIsRight : Type 0
 DetachedIsRight = (outside : Outside) (old new : Arena) (parent key : ℕ) → IsLinked (links_at old.slots) → AreRight outside old.slots
     → Detaches old new parent key → AreRightWhereSame outside old.slots new.slots
+
+-- what is kept goes from an arena to another one, for the boxes that stand there as they did
+abbrev pub ReusedIsRight : Type 0
+ReusedIsRight = (outside : Outside) (giver given old new : Arena) → AreRight outside giver.slots → AreRight outside old.slots → Reuses giver given old new
+    → AreRight outside new.slots

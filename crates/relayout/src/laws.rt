@@ -1,6 +1,6 @@
 //! Laws of what is kept in an arena of boxes. These functions do nothing: their contracts are the laws.
 
-ghost use Rattle.relayout.specs.Laws.{AttachedIsRight, BareIsRight, DetachedIsRight, DroppedIsRight, ForgottenIsRight, KeptIsRight, KeptTextIsRight, MarkedIsRight, RestyledAlikeIsRight, RestyledIsRight};
+ghost use Rattle.relayout.specs.Laws.{AttachedIsRight, BareIsRight, DetachedIsRight, DroppedIsRight, ForgottenIsRight, KeptIsRight, KeptTextIsRight, MarkedIsRight, RestyledAlikeIsRight, RestyledIsRight, ReusedIsRight};
 ghost use Rattle.relayout.specs.Sized.{LayoutsAreSized};
 
 /// Where nothing is kept, all that is kept is right; so it is where all is forgotten.
@@ -35,6 +35,11 @@ pub fn what_is_kept_is_right_after_an_attach()
 /// A box is detached: what is kept is right but for that box itself, where the mode or the direction around it changes.
 pub fn what_is_kept_is_right_after_a_detach()
     ensures { DetachedIsRight }
+{}
+
+/// What is kept of boxes goes to another arena, for those that stand there as they did: it is right there too.
+pub fn what_is_reused_is_right()
+    ensures { ReusedIsRight }
 {}
 
 /// In a view whose block size is from 0 to 2^32 units of 1/64 px, so are the sizes of all content areas, and each block size that is
