@@ -1,6 +1,7 @@
 pub mod Answering
 mod Examples
 pub mod FaceEdits
+pub mod Former
 pub mod Fresh
 pub mod Holding
 pub mod Limiting

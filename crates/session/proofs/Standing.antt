@@ -28,7 +28,8 @@ use Rattle.face_api.specs.Table.{Table}
 use Rattle.face_api.specs.declared.faces.Faces.{Faces}
 use Rattle.para_prepare.specs.Preparation.{Preparation}
 use Rattle.relayout.specs.Relayout.{AreRightUnder, IsSteadyUnder}
-use Rattle.session.specs.State.{AreReady, IsSound, rules_in, styled_in}
+use Rattle.session.specs.State.{AreKept, AreReady, IsSound, rules_in, styled_in}
+use Rattle.session.specs.declared.keeping.KeptBoxes.{KeptBoxes}
 use Rattle.session.specs.declared.planting.Rooted.{Rooted}
 use Rattle.session.specs.declared.session.Session.{Session}
 use Rattle.slab.specs.Slab.{Slab}
@@ -86,7 +87,7 @@ indexed_by index one rules is indexed = subst (λ (o : Option RuleIndex). IfSome
 
 module _ {I : Type 0} {D : I → Type 0} where
   -- a session with other boxes is sound where those are ready
-  pub sound_on : (faces : List (Option Table)) (session : Session I D) (boxes : Option Rooted) → IsSound faces session → IfSome boxes (AreReady faces session.view (styled_in session)) → IsSound faces (record session { boxes = boxes })
+  pub sound_on : (faces : List (Option Table)) (session : Session I D) (boxes : Option KeptBoxes) → IsSound faces session → IfSome boxes (AreKept faces session.view (styled_in session)) → IsSound faces (record session { boxes = boxes })
   sound_on faces session boxes sound ready = record {
     rooted = sound.rooted;
     said = sound.said;
@@ -133,7 +134,7 @@ module _ {I : Type 0} {D : I → Type 0} where
         index = sound.index;
         within = subst (λ (state : State). IsWithinLimits (styled state)) (sym same) sound.within;
         view = sound.view;
-        ready = subst (λ (state : State). IfSome session.boxes (AreReady faces session.view (styled state))) (sym same) sound.ready;
+        ready = subst (λ (state : State). IfSome session.boxes (AreKept faces session.view (styled state))) (sym same) sound.ready;
       }
 
   -- and where its faces have the same tables
@@ -149,7 +150,7 @@ module _ {I : Type 0} {D : I → Type 0} where
     index = sound.index;
     within = sound.within;
     view = sound.view;
-    ready = subst (λ (tables : List (Option Table)). IfSome session.boxes (AreReady tables session.view (styled_in session))) (sym same) sound.ready;
+    ready = subst (λ (tables : List (Option Table)). IfSome session.boxes (AreKept tables session.view (styled_in session))) (sym same) sound.ready;
   }
 
   -- with other faces it is sound where no boxes are kept
@@ -200,5 +201,5 @@ module _ {I : Type 0} {D : I → Type 0} where
         index = subst (λ (items : List Rule). IfSome session.index (λ index. index_rules index ≡ rulings_of items)) (sym same) sound.index;
         within = subst (λ (items : List Rule). IsWithinLimits (styled_document (rulings_of items) (state_of session.document))) (sym same) sound.within;
         view = sound.view;
-        ready = subst (λ (items : List Rule). IfSome session.boxes (AreReady faces session.view (styled_document (rulings_of items) (state_of session.document)))) (sym same) sound.ready;
+        ready = subst (λ (items : List Rule). IfSome session.boxes (AreKept faces session.view (styled_document (rulings_of items) (state_of session.document)))) (sym same) sound.ready;
       }

@@ -21,6 +21,7 @@ use Rattle.box_gen.specs.Boxes.{root_boxes}
 use Rattle.box_gen.specs.Limit.{IsWithinLimits}
 use Rattle.box_arena.specs.At.{parent_at}
 use Rattle.box_arena.specs.Boxes.{Stands}
+use Rattle.box_arena.specs.Reuse.{IsTree}
 use Rattle.relayout.specs.Flow.{layout}
 use Rattle.relayout.specs.Relayout.{AreRightUnder}
 use Rattle.place_map.specs.Placed.{Page}
@@ -29,6 +30,8 @@ use Rattle.rel_shift.specs.Positions.{positions_of}
 use Rattle.rel_shift.specs.Shifting.{shift}
 use Rattle.session.specs.declared.error.OpenError.{OpenError}
 use Rattle.session.specs.declared.error.OpenError.TheVariants.{Memory}
+use Rattle.session.specs.declared.keeping.KeptBoxes.{KeptBoxes}
+use Rattle.session.specs.declared.keeping.KeptBoxes.TheVariants.{Current, Former}
 use Rattle.session.specs.declared.planting.Rooted.{Rooted}
 use Rattle.session.specs.declared.session.Session.{Session}
 use Rattle.session.specs.Kept.{ArePositions}
@@ -51,6 +54,16 @@ pub record AreReady (faces : List (Option Table)) (view : View) (nodes : Nodes) 
   pub right : AreRightUnder faces view made.arena.slots made.root
   pub within : IsWithin nodes
   pub positions : ArePositions made.positions nodes
+
+-- boxes of a document that was stand in their arena, and what is kept there is right for what stands there
+pub record IsFormer (faces : List (Option Table)) (view : View) (made : Rooted) : Type 0 where
+  pub tree : IsTree made.arena.slots made.root
+  pub right : AreRightUnder faces view made.arena.slots made.root
+
+-- the boxes of this styled tree, or those of one that was
+abbrev pub AreKept : (faces : List (Option Table)) → View → Nodes → KeptBoxes → Type 0
+AreKept faces view nodes (Current made) = AreReady faces view nodes made
+AreKept faces view nodes (Former made) = IsFormer faces view made
 
 -- the document of a state as a styled tree
 abbrev pub styled_of : edited.State → Nodes
@@ -75,7 +88,7 @@ module _ {I : Type 0} {D : I → Type 0} where
   abbrev pub page_in : (faces : List (Option Table)) → Session I D → Page
   page_in faces session = page_of faces session.view (styled_in session)
 
-  -- what holds of a session with these faces: its boxes can be made, and those that were made are ready
+  -- what holds of a session with these faces: its boxes can be made, and those that were made are ready, or of a document that it was
   pub record IsSound (faces : List (Option Table)) (session : Session I D) : Type 0 where
     pub rooted : IsRooted (state_of session.document)
     pub said : IsSaidState (state_of session.document)
@@ -87,7 +100,7 @@ module _ {I : Type 0} {D : I → Type 0} where
     pub index : IfSome session.index (λ index. index_rules index ≡ rules_in session)
     pub within : IsWithinLimits (styled_in session)
     pub view : IsView session.view
-    pub ready : IfSome session.boxes (AreReady faces session.view (styled_in session))
+    pub ready : IfSome session.boxes (AreKept faces session.view (styled_in session))
 
   -- the session of a document, or why there is none
   abbrev pub Opens : List Node → List (List Declaration) → List Ruling → Result (Session I D) OpenError → Type 0

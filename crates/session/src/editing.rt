@@ -16,6 +16,7 @@ ghost use Rattle.session.specs.State.{IsSound, state_in};
 
 use crate::boxes::check_boxes_after;
 use crate::error::ApplyError;
+use crate::keeping::outdated;
 use crate::rules::{
     are_too_many, check_rules, put_behind, rules_behind, rules_without, turns_none,
 };
@@ -37,7 +38,8 @@ impl Session {
     /// `Faces::retire`), or what its rules do: more than 4,096 rules of the author or 65,536 declarations in them, or a rule that isn't
     /// there; then a state with more than six boxes on a line of ancestors that are orthogonal to their containing blocks, with the
     /// least number of the node of such a box. A refused edit changes nothing: the state of the document, the rules, the faces and all
-    /// that is kept of boxes stay as they were. After one that is accepted nothing is kept. A face that is retired is dropped at once.
+    /// that is kept of boxes stay as they were. After an accepted edit of the tree the next page uses what is kept of boxes that stand
+    /// as they did; after one of the rules or of a face nothing is kept. A face that is retired is dropped at once.
     /// Where the edit can be applied the texts of the next state together hold at most 1,048,576 bytes. An edit of the tree costs what
     /// it costs the document (`Document::apply`), and the styles of the nodes on which the boxes depend that it makes or changes, of all
     /// below these and of those above; one of the rules that names `display` or `writing-mode` costs the styles of all nodes, and any
@@ -95,7 +97,7 @@ impl Session {
             edit,
         ) {
             Ok(()) => {
-                self.boxes = None;
+                self.boxes = outdated(self.boxes.take());
                 Ok(())
             }
             Err(error) => {

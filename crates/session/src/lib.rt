@@ -6,6 +6,7 @@ mod editing;
 mod error;
 mod generated;
 mod indexed;
+mod keeping;
 pub mod laws;
 mod planting;
 mod rules;

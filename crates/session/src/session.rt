@@ -20,6 +20,7 @@ ghost use Rattle.session.specs.State.{AreReady, IsSound, Opens, flow_page_in, pa
 use crate::boxes::{boxes_in, made_boxes};
 use crate::error::OpenError;
 use crate::indexed::{listed_positions, made_index, make_index};
+use crate::keeping::{KeptBoxes, reuse_former};
 use crate::laws::{
     boxes_within_limits_fit, documents_within_limits_fit, what_does_not_spread_is_near,
 };
@@ -57,8 +58,8 @@ pub struct Session {
     pub(crate) faces: Faces,
     /// The sizes of the view, told in the root's mode.
     pub(crate) view: View,
-    /// The boxes, with what is kept of them and the positions of the nodes; none where they are still to be made.
-    pub(crate) boxes: Option<Rooted>,
+    /// The boxes, with what is kept of them and the positions of the nodes; none where nothing is kept.
+    pub(crate) boxes: Option<KeptBoxes>,
 }
 
 impl Session {
@@ -104,7 +105,7 @@ impl Session {
             index: Some(index),
             faces,
             view,
-            boxes: Some(grown),
+            boxes: Some(KeptBoxes::Current(grown)),
         })
     }
 
@@ -127,7 +128,7 @@ impl Session {
     {
         let mut made = self.take_boxes()?;
         let placed = self.flow_page(&mut made, prepared, arranged)?;
-        self.boxes = Some(made);
+        self.boxes = Some(KeptBoxes::Current(made));
         Ok(placed)
     }
 
@@ -152,7 +153,7 @@ impl Session {
         let mut made = self.take_boxes()?;
         let placed = self.flow_page(&mut made, prepared, arranged)?;
         let page = shifted(self.alloc, placed, &made.positions)?;
-        self.boxes = Some(made);
+        self.boxes = Some(KeptBoxes::Current(made));
         Ok(page)
     }
 
@@ -180,8 +181,8 @@ impl Session {
         ensures { IfSome result (λ kept. kept.now.items ≡ positions_of (styled_in self.now)) }
     {
         match &self.boxes {
-            Some(made) => made.positions.as_ref(),
-            None => None,
+            Some(KeptBoxes::Current(made)) => made.positions.as_ref(),
+            Some(KeptBoxes::Former(_)) | None => None,
         }
     }
 
@@ -216,21 +217,37 @@ impl Session {
         Ok(placed)
     }
 
-    // Takes its boxes out; makes them where there are none.
+    // Takes its boxes out. Where there are none they are made, with what was kept of them before edits of the tree and still holds.
     fn take_boxes(&mut self) -> Result<Rooted, AllocError>
         requires sound { IsSound (faces_of ⟦<dyn Face as Face>⟧ self.old.faces) self.old }
         ensures rest { self.new ≡ record self.old { index = self.new.index; boxes = None } }
         ensures sound { IsSound (faces_of ⟦<dyn Face as Face>⟧ self.new.faces) self.new }
         ensures ready { IfOk result (λ made. AreReady (faces_of ⟦<dyn Face as Face>⟧ self.new.faces) self.new.view (styled_in self.new) made) }
     {
-        what_is_not_kept_is_right();
         match self.boxes.take() {
-            Some(made) => Ok(made),
+            Some(KeptBoxes::Current(made)) => Ok(made),
+            Some(KeptBoxes::Former(former)) => {
+                let mut made = self.new_boxes()?;
+                reuse_former(self.alloc, former, &mut made)?;
+                Ok(made)
+            }
             None => {
-                make_index(self.alloc, &mut self.index, &self.rules)?;
-                let made = made_boxes(self.alloc, &self.document, made_index(&self.index))?;
+                let made = self.new_boxes()?;
                 Ok(made)
             }
         }
+    }
+
+    // The boxes of its document, of which nothing is kept.
+    fn new_boxes(&mut self) -> Result<Rooted, AllocError>
+        requires sound { IsSound (faces_of ⟦<dyn Face as Face>⟧ self.old.faces) self.old }
+        ensures rest { self.new ≡ record self.old { index = self.new.index } }
+        ensures sound { IsSound (faces_of ⟦<dyn Face as Face>⟧ self.new.faces) self.new }
+        ensures ready { IfOk result (λ made. AreReady (faces_of ⟦<dyn Face as Face>⟧ self.new.faces) self.new.view (styled_in self.new) made) }
+    {
+        what_is_not_kept_is_right();
+        make_index(self.alloc, &mut self.index, &self.rules)?;
+        let made = made_boxes(self.alloc, &self.document, made_index(&self.index))?;
+        Ok(made)
     }
 }

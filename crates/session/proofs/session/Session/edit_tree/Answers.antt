@@ -1,4 +1,4 @@
-use Rattle.std.proofs.Common.{◌≡◌, ◌∙◌, ◌≤◌, refl, sym, ap, subst, arith, List, IfSome, Err}
+use Rattle.std.proofs.Common.{◌≡◌, ◌∙◌, ◌≤◌, refl, sym, ap, subst, arith, List, Option, IfSome, Err}
 use Rattle.std.proofs.lemmas.Result.{err_from_is_err_and}
 use Rattle.face_api.specs.Faces.{faces_of}
 use Rattle.css_types.specs.Rule.{Ruling, rulings_of}
@@ -11,7 +11,8 @@ use Rattle.dom_store.specs.Edits.{after}
 use Rattle.dom_store.specs.State.{State, state_of}
 use Rattle.dom_store.specs.Taking.{before_of}
 use Rattle.tree_laws.specs.Weight.{bytes, total}
-use Rattle.session.specs.State.{rules_in, state_in}
+use Rattle.session.specs.State.{AreKept, rules_in, state_in}
+use Rattle.session.specs.declared.keeping.KeptBoxes.{KeptBoxes}
 use Rattle.session.proofs.Outcomes.{boxes_refuse, bytes_after, can_apply, edited_from, few_after, is_after, reached_after, refused_edit, rooted_after, said_after, state_after, whole_after, with_tree}
 use Rattle.session.proofs.Standing.{sound_by, sound_in}
 use Rattle.session.proofs.Within.{leads_back}
@@ -108,7 +109,7 @@ returns-in-Ok-clause-sound g c =
       index = subst (λ (r : List Ruling). IfSome c.check_boxes_after.new.index (λ index. index_rules index ≡ r)) ruled c.in-Ok.ensures.index;
       within = within;
       view = sound.view;
-      ready = tt;
+      ready = c.outdated.ensures tables c.args.self.now.view (styled_document rules old) (styled_document rules next) (subst (λ (boxes : Option KeptBoxes). IfSome boxes (AreKept tables c.args.self.now.view (styled_document rules old))) (sym c.take.ensures.value) sound.ready);
     }
 
 pub returns-in-Err-clause-applies : goal.returns-in-Err-clause-applies

@@ -5,6 +5,7 @@ use Rattle.session.specs.Kept.{shifted_by}
 use Rattle.session.specs.State.{page_in, styled_in}
 use Rattle.session.specs.declared.session.Session.{Session}
 use Rattle.session.proofs.Shifts.{kept_bounded, kept_few, page_is, within_more}
+use Rattle.session.specs.declared.keeping.KeptBoxes.TheVariants.{Current}
 use Rattle.session.proofs.Standing.{sound_on}
 use Rattle.session.proofs.session.Session.page.Goals as goal
 
@@ -27,4 +28,4 @@ returns-clause-page g c =
 
 pub returns-clause-sound : goal.returns-clause-sound
 returns-clause-sound g c =
-    sound_on (faces_of (λ vtable. (g.dyn-1.0.entry vtable).1) c.take_boxes.new.self.faces) c.take_boxes.new.self (Some c.flow_page.new.made) c.take_boxes.ensures.sound c.flow_page.ensures.ready
+    sound_on (faces_of (λ vtable. (g.dyn-1.0.entry vtable).1) c.take_boxes.new.self.faces) c.take_boxes.new.self (Some (Current c.flow_page.new.made)) c.take_boxes.ensures.sound c.flow_page.ensures.ready
