@@ -1,11 +1,11 @@
 //! A document that is shown twice, the second time with its shifts, with a face that counts how often it is asked.
 
 ghost use Rattle.std.specs.Prelude.{◌≡◌, ◌≤◌, ◌<◌, length};
-ghost use Rattle.face_api.specs.Kinds.{wide_table};
 
+use crate::asked::AskedFace;
 use cascade::laws::what_is_read_is_said;
 use css_sheet::read_styled;
-use face_api::{Face, FaceError, Faces, Metrics, WideFace};
+use face_api::{Face, Faces};
 use html_read::read_document;
 use io_edge::SteadySink;
 use listing::write_listing;
@@ -29,37 +29,6 @@ const VIEW: View = View {
     inline: 20480,
     block: 38400,
 };
-
-/// A face of squares that counts how often it is asked.
-#[derive(Drop)]
-struct AskedFace {
-    face: WideFace,
-    asked: Rc<Cell<u32>>,
-}
-
-impl AskedFace {
-    fn count(&self) {
-        self.asked.set(self.asked.get().wrapping_add(1));
-    }
-}
-
-impl Face for AskedFace {
-    ghost table = { λ _. wide_table };
-
-    fn metrics(&self) -> Metrics {
-        self.count();
-        self.face.metrics()
-    }
-
-    fn advance(&self, c: char, upright: bool) -> u32 {
-        self.count();
-        self.face.advance(c, upright)
-    }
-
-    fn set(&mut self, c: char, upright: bool, value: u32) -> Result<(), FaceError> {
-        self.face.set(c, upright, value)
-    }
-}
 
 /// Two listings, one after the other, how often the face had been asked when each was laid out, and how many positions there are.
 #[derive(Drop)]
@@ -92,10 +61,7 @@ fn shown_twice<L: Ledger, M: Ledger>(
 {
     what_is_read_is_said();
     let asked = Rc::new(alloc, Cell::new(0))?;
-    let face = AskedFace {
-        face: WideFace::new(),
-        asked: asked.clone()?,
-    };
+    let face = AskedFace::new(asked.clone()?);
     let mut own: Vec<Box<dyn Face>> = Vec::new(alloc);
     own.push(Box::new(alloc, face)?)?;
     let faces = Faces::new(alloc, own)?;
