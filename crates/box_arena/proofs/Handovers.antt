@@ -14,18 +14,10 @@ use Rattle.box_arena.specs.At.{Node, Slots, first_at, kept_at, links_at, next_at
 use Rattle.box_arena.specs.Arena.{PutsResults, SameLinks, SameNodes}
 use Rattle.box_arena.specs.Boxes.{StandFrom, Stands}
 use Rattle.box_arena.specs.Links.{IsLinked, first_of, next_of, parent_of}
-use Rattle.box_arena.specs.Reuse.{AreAround, Gives, IsResultFrom, IsTextFrom, IsTree, Reuses, StoodFrom, StoodInside, StoodUnder, TellsInside, TellsRow, around_at, stood_behind}
+use Rattle.box_arena.specs.Reusing.{AreAround, Gives, IsResultFrom, IsTextFrom, IsTree, Reuses, StoodFrom, StoodInside, StoodUnder, TellsInside, TellsRow, around_at, stood_behind}
 use Rattle.box_arena.proofs.Chains.{eq_true}
 
 module _ {T : Type 0} where
-  -- what has a box lives
-  pub lives : (boxes : Slab (Entry T)) (key : ℕ) (node : Node) → node_at boxes.slots key ≡ Some node → ContainsKey boxes key
-  lives boxes key node is = by (get boxes key) is
-    where
-      by : (o : Option (Entry T)) → option_map (λ held. Rattle.box_arena.specs.At.node_of held.node) (option_map (λ entry. entry.held) o) ≡ Some node → IsSome o
-      by None absent = absurd (cc)
-      by (Some entry) there = refl
-
   -- what stands in a box stands in one that lives
   pub parent_lives : (boxes : Slab (Entry T)) (key parent : ℕ) (entry : Entry T) → IsLinked (links_at boxes.slots) → get boxes key ≡ Some entry → entry.links.parent ≡ Some parent → ContainsKey boxes parent
   parent_lives boxes key parent entry linked is inside = by (get boxes parent) (linked.live key parent (ap (λ (o : Option (Entry T)). parent_of (option_map (λ e. e.links) o)) is ∙ inside))
@@ -36,33 +28,22 @@ module _ {T : Type 0} where
 
   -- ---- the same boxes stand
 
+  module _ (old new : Slots T) (links : SameLinks old new) (nodes : SameNodes old new) where
+    -- the boxes that stand after stood before
+    pub stand_before : (from : Option ℕ) (boxes : Boxes) → StandFrom new from boxes → StandFrom old from boxes
+    stand_before from none is = is
+    stand_before from (box name style content inner next) (key, at, is, inside, behind) =
+        let P : Option ℕ → Type 0 = λ o. StandFrom new o inner in
+        let Q : Option ℕ → Type 0 = λ o. StandFrom new o next in
+        (key, at, sym (nodes key) ∙ is, stand_before (first_at old key) inner (subst P (ap first_of (links key)) inside), stand_before (next_at old key) next (subst Q (ap next_of (links key)) behind))
+
+    pub stood : (key : ℕ) (tree : Boxes) → Stands new key tree → Stands old key tree
+    stood key none is = is
+    stood key (box name style content inner next) (is, inside, alone) =
+        let P : Option ℕ → Type 0 = λ o. StandFrom new o inner in
+        (sym (nodes key) ∙ is, stand_before (first_at old key) inner (subst P (ap first_of (links key)) inside), alone)
+
   module _ (old new : Slots T) (nodes : SameNodes old new) (links : SameLinks old new) where
-    pub stands_on : (from : Option ℕ) (boxes : Boxes) → StandFrom old from boxes → StandFrom new from boxes
-    stands_on from none is = is
-    stands_on from (box name style content inner next) (key, at, is, inside, behind) =
-        let P : Option ℕ → Type 0 = λ o. StandFrom new o inner in
-        let Q : Option ℕ → Type 0 = λ o. StandFrom new o next in
-        (key, at, nodes key ∙ is, subst P (sym (ap first_of (links key))) (stands_on (first_at old key) inner inside), subst Q (sym (ap next_of (links key))) (stands_on (next_at old key) next behind))
-
-    pub stood_on : (from : Option ℕ) (boxes : Boxes) → StandFrom new from boxes → StandFrom old from boxes
-    stood_on from none is = is
-    stood_on from (box name style content inner next) (key, at, is, inside, behind) =
-        let P : Option ℕ → Type 0 = λ o. StandFrom new o inner in
-        let Q : Option ℕ → Type 0 = λ o. StandFrom new o next in
-        (key, at, sym (nodes key) ∙ is, stood_on (first_at old key) inner (subst P (ap first_of (links key)) inside), stood_on (next_at old key) next (subst Q (ap next_of (links key)) behind))
-
-    pub tree_on : (key : ℕ) (tree : Boxes) → Stands old key tree → Stands new key tree
-    tree_on key none is = is
-    tree_on key (box name style content inner next) (is, inside, alone) =
-        let P : Option ℕ → Type 0 = λ o. StandFrom new o inner in
-        (nodes key ∙ is, subst P (sym (ap first_of (links key))) (stands_on (first_at old key) inner inside), alone)
-
-    pub tree_back : (key : ℕ) (tree : Boxes) → Stands new key tree → Stands old key tree
-    tree_back key none is = is
-    tree_back key (box name style content inner next) (is, inside, alone) =
-        let P : Option ℕ → Type 0 = λ o. StandFrom new o inner in
-        (sym (nodes key) ∙ is, stood_on (first_at old key) inner (subst P (ap first_of (links key)) inside), alone)
-
     pub same_around : (key : ℕ) → around_at new key ≡ around_at old key
     same_around key = by (parent_at old key) (ap parent_of (links key))
       where
@@ -76,7 +57,7 @@ module _ {T : Type 0} where
       node = tree.node;
       inner = tree.inner;
       is = nodes key ∙ tree.is;
-      inside = let P : Option ℕ → Type 0 = λ o. StandFrom new o tree.inner in subst P (sym (ap first_of (links key))) (stands_on (first_at old key) tree.inner tree.inside);
+      inside = let P : Option ℕ → Type 0 = λ o. StandFrom new o tree.inner in subst P (sym (ap first_of (links key))) (stand_before new old (λ k. sym (links k)) (λ k. sym (nodes k)) (first_at old key) tree.inner tree.inside);
     }
 
   -- ---- nothing, and one thing after the other
@@ -100,7 +81,7 @@ module _ {T : Type 0} where
     result_before k c result is = record {
       from = is.from;
       was = one.gives.results is.from c result is.was;
-      tree = λ tree stands. tree_back giver.slots given.slots one.gives.nodes one.gives.links is.from tree (is.tree tree (tree_on old.slots mid.slots one.nodes one.links k tree stands));
+      tree = λ tree stands. stood giver.slots given.slots one.gives.links one.gives.nodes is.from tree (is.tree tree (stood mid.slots old.slots (λ j. sym (one.links j)) (λ j. sym (one.nodes j)) k tree stands));
       around =
           let P : Option Node → Type 0 = λ o. AreAround o (around_at mid.slots k) in
           let Q : Option Node → Type 0 = λ o. AreAround (around_at giver.slots is.from) o in
@@ -182,7 +163,7 @@ module _ {T : Type 0} where
       → StoodUnder giver.slots old.slots from key → AreAround (around_at given.slots from) (around_at mid.slots key) → Reuses giver gone old new
   reuses_box giver given gone old mid new from key text gives takes tree around =
       reuses_then _ _ _ _ _ _ text
-      (reuses_results given gone mid new from key gives takes (λ t is. tree_on giver.slots given.slots text.gives.nodes text.gives.links from t (tree t (tree_back old.slots mid.slots text.nodes text.links key t is))) around)
+      (reuses_results given gone mid new from key gives takes (λ t is. stood given.slots giver.slots (λ j. sym (text.gives.links j)) (λ j. sym (text.gives.nodes j)) from t (tree t (stood old.slots mid.slots text.links text.nodes key t is))) around)
 
   -- ---- rows of boxes
 
@@ -266,7 +247,7 @@ module _ {T : Type 0} where
 
       was_under : (found : Option ℕ) → IfSome found (λ found. StoodUnder given.slots taken.slots found child) → IfSome found (λ found. StoodUnder giver.slots taker.slots found child)
       was_under None under = under
-      was_under (Some found) under = λ tree stands. tree_back giver.slots given.slots handing.reuses.gives.nodes handing.reuses.gives.links found tree (under tree (tree_on taker.slots taken.slots handing.reuses.nodes handing.reuses.links child tree stands))
+      was_under (Some found) under = λ tree stands. stood giver.slots given.slots handing.reuses.gives.links handing.reuses.gives.nodes found tree (under tree (stood taken.slots taker.slots (λ j. sym (handing.reuses.links j)) (λ j. sym (handing.reuses.nodes j)) child tree stands))
 
       on : (from : Option ℕ) → TellsInside giver.slots taker.slots from key stood (Some child) → TellsInside giver.slots taker.slots from key (stood_behind giver.slots stood found) (next_at taker.slots child)
       on None tells = tells
@@ -285,8 +266,8 @@ module _ {T : Type 0} where
       let P : Option ℕ → Type 0 = λ o. StandFrom taken.slots o boxes in
       let Q : Option ℕ → Type 0 = λ o. StandFrom given.slots o boxes in
       subst Q (sym (ap first_of (reuses.gives.links from)))
-      (stands_on giver.slots given.slots reuses.gives.nodes reuses.gives.links (first_at giver.slots from) boxes
-      (inside boxes (stood_on taker.slots taken.slots reuses.nodes reuses.links (first_at taker.slots key) boxes (subst P (ap first_of (reuses.links key)) is))))
+      (stand_before given.slots giver.slots (λ j. sym (reuses.gives.links j)) (λ j. sym (reuses.gives.nodes j)) (first_at giver.slots from) boxes
+      (inside boxes (stand_before taker.slots taken.slots reuses.links reuses.nodes (first_at taker.slots key) boxes (subst P (ap first_of (reuses.links key)) is))))
 
   -- the next one stands as it stood
   pub child_tree : (giver given taker taken : Slab (Entry T)) (from : Option ℕ) (key child : ℕ) (stood : Stood) (next : Option ℕ) → Handing giver given taker taken from key stood next → next ≡ Some child → IsTree taken.slots child

@@ -69,7 +69,7 @@ module _ {T : Type 0} where
   stand_more slots key (k ∷ ks) none c name style content inner all one = absurd all
   stand_more slots key (k ∷ ks) (box n s co i next) c name style content inner (here, all) one = (here, stand_more slots key ks next c name style content inner all one)
 
-  lives : (boxes : Slab (Entry T)) (k : ℕ) (node : Node) → node_at boxes.slots k ≡ Some node → ContainsKey boxes k
+  pub lives : (boxes : Slab (Entry T)) (k : ℕ) (node : Node) → node_at boxes.slots k ≡ Some node → ContainsKey boxes k
   lives boxes k node is = by_slot (get boxes k) is
     where
       by_slot : (o : Option (Entry T)) → node_in (option_map (λ entry. entry.held) o) ≡ Some node → IsSome o

@@ -9,6 +9,6 @@ pub mod Links
 pub mod Marks
 pub mod Planting
 pub mod Results
-pub mod Reuse
+pub mod Reusing
 pub mod Weight
 pub mod Write

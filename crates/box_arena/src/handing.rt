@@ -9,7 +9,7 @@ impl<T> BoxArena<T> {
     ghost use Rattle.std.specs.Prelude.{◌≡◌, IfSome, Some, option_map};
     ghost use Rattle.slab.specs.Slab.{ContainsKey};
     ghost use Rattle.box_arena.specs.At.{node_at, node_of};
-    ghost use Rattle.box_arena.specs.Reuse.{around_at};
+    ghost use Rattle.box_arena.specs.Reusing.{around_at};
 
     /// The box under a number, if there is one.
     pub(crate) fn box_at(&self, index: usize) -> Option<&BoxNode>

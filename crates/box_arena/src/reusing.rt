@@ -3,7 +3,7 @@
 ghost use Rattle.std.specs.Prelude.{◌≡◌, ℕ, IfSome, IsTrue, None};
 ghost use Rattle.slab.specs.Slab.{ContainsKey};
 ghost use Rattle.box_arena.specs.At.{first_at, node_at};
-ghost use Rattle.box_arena.specs.Reuse.{AreAround, IsTree, Reuses, StoodInside, StoodUnder, TellsInside, around_at, stood_behind};
+ghost use Rattle.box_arena.specs.Reusing.{AreAround, IsTree, Reuses, StoodInside, StoodUnder, TellsInside, around_at, stood_behind};
 ghost use Rattle.box_arena.specs.declared.reusing.Stood.TheVariants.{At};
 
 use crate::arena::BoxArena;

@@ -14,6 +14,7 @@ use Rattle.box_arena.specs.Arena.{SameLinks, SameNodes}
 use Rattle.box_arena.specs.At.{IsAbove, Node, Slots, first_at, kept_at, marked_at, next_at, node_at, parent_at, result_at, text_at}
 use Rattle.box_arena.specs.Boxes.{StandFrom, Stands}
 use Rattle.box_arena.specs.Links.{first_of, next_of, parent_of}
+use Rattle.box_arena.proofs.Handovers.{stood}
 use Rattle.box_arena.proofs.Survival.{survive_attach, survive_detach, survive_restyle}
 use Rattle.para_prepare.specs.Preparation.{Preparation}
 use Rattle.relayout.specs.declared.sizes.Containing.{Containing}
@@ -24,25 +25,6 @@ use Rattle.relayout.specs.Laws.{AttachedIsRight, BareIsRight, DetachedIsRight, D
 -- ---- where links and nodes stay
 
 module _ (old new : Slots Preparation) (links : SameLinks old new) (nodes : SameNodes old new) where
-  -- the trees that stand after stood before
-  pub stand_before : (o : Option ℕ) (tree : Boxes) → StandFrom new o tree → StandFrom old o tree
-  stand_before o none is = is
-  stand_before o (box name style content inner next) (c, is, node, within, behind) =
-      let P : Option ℕ → Type 0 = λ n. StandFrom new n inner in
-      let Q : Option ℕ → Type 0 = λ n. StandFrom new n next in (
-        c,
-        is,
-        sym (nodes c) ∙ node,
-        stand_before (first_at old c) inner (subst P (ap first_of (links c)) within),
-        stand_before (next_at old c) next (subst Q (ap next_of (links c)) behind),
-      )
-
-  pub stood : (k : ℕ) (tree : Boxes) → Stands new k tree → Stands old k tree
-  stood k none is = is
-  stood k (box name style content inner next) (node, within, alone) =
-      let P : Option ℕ → Type 0 = λ n. StandFrom new n inner in
-      (sym (nodes k) ∙ node, stand_before (first_at old k) inner (subst P (ap first_of (links k)) within), alone)
-
   same_parent : (parent : Option ℕ) → option_and_then (node_at new) parent ≡ option_and_then (node_at old) parent
   same_parent None = refl
   same_parent (Some p) = nodes p

@@ -7,14 +7,15 @@ use Rattle.fragment_types.specs.Fragment.{Pieces}
 use Rattle.box_gen.specs.Tree.{box, none}
 use Rattle.box_arena.specs.declared.entry.Entry.{Entry}
 use Rattle.box_arena.specs.At.{Node, kept_at, text_at}
-use Rattle.box_arena.specs.Reuse.{AreAround, IsResultFrom, IsTextFrom, Reuses, RunAlike, around_at}
+use Rattle.box_arena.specs.Reusing.{AreAround, IsResultFrom, IsTextFrom, Reuses, RunAlike, around_at}
+use Rattle.box_arena.proofs.Handovers.{stood}
 use Rattle.para_prepare.specs.Preparation.{Preparation}
 use Rattle.relayout.specs.declared.sizes.Containing.{Containing}
 use Rattle.relayout.specs.Inline.{Outside}
 use Rattle.relayout.specs.Kept.{AreRight, IsResultAt, IsResultOf, IsTextAt, containing_by}
 use Rattle.relayout.specs.Laws.{ReusedIsRight}
 use Rattle.relayout.specs.Sizes.{containing_of}
-use Rattle.relayout.proofs.KeptLaws.{result_stays, same_containing, stood}
+use Rattle.relayout.proofs.KeptLaws.{result_stays, same_containing}
 
 -- boxes whose lines run alike are to those inside them the same containing block
 same_by_lines : (one other : Style) → RunAlike one other → containing_of one ≡ containing_of other

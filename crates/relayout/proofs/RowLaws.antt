@@ -34,7 +34,8 @@ use Rattle.relayout.specs.Row.{IsFlowed, IsSteady, Lead, StandsIn}
 use Rattle.relayout.specs.Sizes.{containing_of}
 use Rattle.relayout.specs.Step.{AreUnder, under}
 use Rattle.relayout.proofs.FlowLaws.{flows_near, step_margins}
-use Rattle.relayout.proofs.KeptLaws.{constraint_cases, kept_is_right, kept_text_is_right, same_containing, stand_before}
+use Rattle.box_arena.proofs.Handovers.{stand_before}
+use Rattle.relayout.proofs.KeptLaws.{constraint_cases, kept_is_right, kept_text_is_right, same_containing}
 
 abbrev pub Arena : Type 0
 Arena = Slab (Entry Preparation)

@@ -8,7 +8,7 @@ use Rattle.box_arena.specs.declared.entry.Entry.{Entry}
 use Rattle.box_arena.specs.Arena.{Attaches, Detaches, DropsText, Forgets, Keeps, KeepsText, Marks, Restyles}
 use Rattle.box_arena.specs.At.{IsAbove, Node, Slots, kept_at, links_at, node_at, text_at}
 use Rattle.box_arena.specs.Links.{IsLinked}
-use Rattle.box_arena.specs.Reuse.{Reuses}
+use Rattle.box_arena.specs.Reusing.{Reuses}
 use Rattle.para_prepare.specs.Preparation.{Preparation}
 use Rattle.relayout.specs.Inline.{Outside}
 use Rattle.relayout.specs.Kept.{AreRight, HasRightResults, HasRightText, IsResultAt, IsRightAt, IsTextAt, SameContaining}

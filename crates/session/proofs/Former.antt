@@ -11,7 +11,7 @@ use Rattle.box_gen.specs.Boxes.{root_boxes}
 use Rattle.box_gen.specs.Tree.{Boxes, box, none}
 use Rattle.box_arena.specs.At.{Node, Slots, node_at}
 use Rattle.box_arena.specs.Boxes.{Stands}
-use Rattle.box_arena.specs.Reuse.{IsTree, Reuses}
+use Rattle.box_arena.specs.Reusing.{IsTree, Reuses}
 use Rattle.box_arena.specs.declared.entry.Entry.{Entry}
 use Rattle.para_prepare.specs.Preparation.{Preparation}
 use Rattle.relayout.specs.Flow.{on_page}

@@ -21,7 +21,7 @@ use Rattle.box_gen.specs.Boxes.{root_boxes}
 use Rattle.box_gen.specs.Limit.{IsWithinLimits}
 use Rattle.box_arena.specs.At.{parent_at}
 use Rattle.box_arena.specs.Boxes.{Stands}
-use Rattle.box_arena.specs.Reuse.{IsTree}
+use Rattle.box_arena.specs.Reusing.{IsTree}
 use Rattle.relayout.specs.Flow.{layout}
 use Rattle.relayout.specs.Relayout.{AreRightUnder}
 use Rattle.place_map.specs.Placed.{Page}

@@ -5,7 +5,7 @@ ghost use Rattle.std.specs.Prelude.{◌≡◌, IfSome, IsTrue, List, OnOk, Optio
 ghost use Rattle.face_api.specs.Table.{Table};
 ghost use Rattle.wm_units.specs.declared.view.View.{View};
 ghost use Rattle.style_types.specs.Tree.{Nodes};
-ghost use Rattle.box_arena.specs.Reuse.{IsTree};
+ghost use Rattle.box_arena.specs.Reusing.{IsTree};
 ghost use Rattle.session.specs.State.{AreKept, AreReady, IsFormer};
 
 use crate::planting::Rooted;

@@ -2,8 +2,9 @@ use Rattle.std.proofs.Common.{◌≡◌, ◌∙◌, arith, sym, subst, Option, �
 use Rattle.std.specs.Prelude.{IfSome}
 use Rattle.box_arena.specs.At.{node_at}
 use Rattle.box_arena.specs.declared.reusing.Stood.{Stood}
-use Rattle.box_arena.specs.Reuse.{stood_behind}
-use Rattle.box_arena.proofs.Handovers.{Handing, child_tree, handing_ends, handing_next, inside_still, lives, reuses_then, still_tree, tree_stood}
+use Rattle.box_arena.specs.Reusing.{stood_behind}
+use Rattle.box_arena.proofs.Handovers.{Handing, child_tree, handing_ends, handing_next, inside_still, reuses_then, still_tree, tree_stood}
+use Rattle.box_arena.proofs.Planted.{lives}
 use Rattle.box_arena.proofs.reusing.Handover.+reuse_box.Goals as goal
 
 pub next-next-requires : goal.next-next-requires
