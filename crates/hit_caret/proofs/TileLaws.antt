@@ -1,10 +1,9 @@
 -- The cells of a run tile its rectangle.
-use Rattle.std.proofs.Common.{◌≡◌, refl, sym, ap, ◌∙◌, ℕ, ◌+◌, Bool, true, false, cond, not, ◌&&◌, List, [], ◌∷◌, length, filter, All, ℤ, pos, ◌+ℤ◌, ◌-ℤ◌, ◌≤ℤ◌, ◌<ℤ◌, int_lt, int_le, arith}
-use Rattle.std.proofs.lemmas.Int.{ints}
+use Rattle.std.proofs.Common.{◌≡◌, refl, sym, ap, subst, ◌∙◌, ℕ, ◌+◌, Bool, true, false, cond, not, ◌&&◌, List, [], ◌∷◌, length, filter, All, ℤ, pos, ◌+ℤ◌, ◌-ℤ◌, ◌≤ℤ◌, ◌<ℤ◌, int_lt, int_le, arith}
+use Rattle.std.proofs.lemmas.Int.{clamps, ints}
 use Rattle.std.proofs.lemmas.List.Elements.{All-head, All-tail}
 use Rattle.std.proofs.lemmas.List.Sums.{length-filter}
 use Rattle.wm_modes.proofs.MapLaws.{rect_is}
-use Rattle.wm_modes.specs.Near.{IsNear}
 use Rattle.wm_modes.specs.declared.rects.Rect.{Rect}
 use Rattle.wm_modes.specs.declared.sides.Side.{Side}
 use Rattle.wm_modes.specs.declared.sides.Side.TheVariants.{Top, Right, Bottom, Left}
@@ -13,9 +12,8 @@ use Rattle.fragment_types.specs.RunUnit.{RunUnit}
 use Rattle.hit_caret.specs.declared.cells.Cell.{Cell}
 use Rattle.hit_caret.specs.declared.cells.Run.{Run}
 use Rattle.hit_caret.specs.declared.rects.Point.{Point}
-use Rattle.hit_caret.specs.Cells.{cell_of, cells_from, line_side}
-use Rattle.hit_caret.specs.Laws.{CellsTileRuns, FilledRunsAreNear, end_from}
-use Rattle.hit_caret.specs.Near.{AreNearUnits, IsNearNumber}
+use Rattle.hit_caret.specs.Cells.{cell_of, cells_from, line_side, taken}
+use Rattle.hit_caret.specs.Laws.{CellsTileRuns, FilledRunsAreTaken, end_from, whole_cells_from}
 use Rattle.hit_caret.specs.Rects.{distance_from, extent_from, holds, is_within, part_from}
 use Rattle.hit_caret.proofs.Tests.{is_at_most, is_below, is_false, is_true}
 
@@ -135,6 +133,25 @@ leads_on distance (unit ∷ units) all =
     let later = leads_on (distance +ℤ unit.extent) units (others_from_zero unit units all) in
     omega (arith, ints, first, later)
 
+-- ---- units that fill their run
+
+-- a unit takes its whole extent where that much is left
+all_taken : (r : Run) (distance extent : ℤ) → pos 0 ≤ℤ extent → (distance +ℤ extent) ≤ℤ extent_from (line_side r.mode LineLeft) r.rect → taken r distance extent ≡ extent
+all_taken r distance extent from left = omega (arith, ints, clamps)
+
+taken_whole : (r : Run) (distance : ℤ) (units : List RunUnit) → AreFromZero units → end_from distance units ≡ extent_from (line_side r.mode LineLeft) r.rect
+    → cells_from r distance units ≡ whole_cells_from r distance units
+taken_whole r distance [] all whole = refl
+taken_whole r distance (unit ∷ units) all whole =
+    let first = first_from_zero unit units all in
+    let later = leads_on (distance +ℤ unit.extent) units (others_from_zero unit units all) in
+    let here : taken r distance unit.extent ≡ unit.extent = all_taken r distance unit.extent first (subst (λ (z : ℤ). (distance +ℤ unit.extent) ≤ℤ z) whole later) in
+    ap (λ (z : ℤ). cell_of r distance z unit ∷ cells_from r (distance +ℤ z) units) here
+    ∙ ap (λ (cs : List Cell). cell_of r distance unit.extent unit ∷ cs) (taken_whole r (distance +ℤ unit.extent) units (others_from_zero unit units all) whole)
+
+pub filled_runs_are_taken : FilledRunsAreTaken
+filled_runs_are_taken r units fill = taken_whole r (pos 0) units fill.extents fill.whole
+
 module _ (r : Run) (p : Point) where
   abbrev holds_it : Cell → Bool
   holds_it c = holds c.rect p
@@ -147,7 +164,7 @@ module _ (r : Run) (p : Point) where
   still_before a b le e = is_below (distance_from (line_side r.mode LineLeft) r.rect p) b (omega (arith, ints))
 
   held_once : (distance : ℤ) (units : List RunUnit) → AreFromZero units
-      → length (filter holds_it (cells_from r distance units))
+      → length (filter holds_it (whole_cells_from r distance units))
       ≡ once (is_between (is_across (line_side r.mode LineLeft) r.rect p) (is_before (line_side r.mode LineLeft) r.rect p distance) (is_before (line_side r.mode LineLeft) r.rect p (end_from distance units)))
   held_once distance [] none = sym (never_between (is_across (line_side r.mode LineLeft) r.rect p) (is_before (line_side r.mode LineLeft) r.rect p distance))
   held_once distance (unit ∷ units) all =
@@ -155,7 +172,7 @@ module _ (r : Run) (p : Point) where
       let next : ℤ = distance +ℤ unit.extent in
       let first = first_from_zero unit units all in
       let others = others_from_zero unit units all in
-      once_more (cell_of r distance unit) (cells_from r next units) (holds (part_from s r.rect distance unit.extent) p)
+      once_more (cell_of r distance unit.extent unit) (whole_cells_from r next units) (holds (part_from s r.rect distance unit.extent) p)
       ∙ ap (λ (n : ℕ). once (holds (part_from s r.rect distance unit.extent) p) + n) (held_once next units others)
       ∙ ap (λ (b : Bool). once b + once (is_between (is_across s r.rect p) (is_before s r.rect p next) (is_before s r.rect p (end_from next units)))) (part_holds s r.rect p distance unit.extent)
       ∙ once_together (is_across s r.rect p) (is_before s r.rect p distance) (is_before s r.rect p next) (is_before s r.rect p (end_from next units))
@@ -165,29 +182,10 @@ pub cells_tile_runs : CellsTileRuns
 cells_tile_runs r units fill p =
     let s = line_side r.mode LineLeft in
     sym (length-filter (λ c. holds c.rect p) (cells_from r (pos 0) units))
+    ∙ ap (λ (cs : List Cell). length (filter (λ c. holds c.rect p) cs)) (filled_runs_are_taken r units fill)
     ∙ held_once r p (pos 0) units fill.extents
     ∙ ap (λ (z : ℤ). once (is_between (is_across s r.rect p) (is_before s r.rect p (pos 0)) (is_before s r.rect p z))) (fill.whole ∙ sum_same (extent_from s r.rect))
     ∙ ap once (sym (part_holds s r.rect p (pos 0) (extent_from s r.rect)) ∙ ap (λ (q : Rect). holds q p) (whole_part s r.rect))
   where
     sum_same : (z : ℤ) → z ≡ pos 0 +ℤ z
     sum_same z = omega (arith, ints)
-
--- ---- what fills a run that is near is near
-
-near_extent : (side : Side) (r : Rect) → IsNear r → IsNearNumber (extent_from side r)
-near_extent Left r near = near.w
-near_extent Right r near = near.w
-near_extent Top r near = near.h
-near_extent Bottom r near = near.h
-
-near_up_to : (distance end_ : ℤ) (units : List RunUnit) → AreFromZero units → pos 0 ≤ℤ distance → end_from distance units ≡ end_ → IsNearNumber end_ → AreNearUnits distance units
-near_up_to distance end_ [] none from is near = omega (arith, ints)
-near_up_to distance end_ (unit ∷ units) all from is near =
-    let first = first_from_zero unit units all in
-    let others = others_from_zero unit units all in
-    let later = leads_on (distance +ℤ unit.extent) units others in
-    (omega (arith, ints, first, later), omega (arith, ints, first, later), near_up_to (distance +ℤ unit.extent) end_ units others (omega (arith, ints, first)) is near)
-
-pub filled_runs_are_near : FilledRunsAreNear
-filled_runs_are_near r units fill near =
-    near_up_to (pos 0) (extent_from (line_side r.mode LineLeft) r.rect) units fill.extents (omega (arith, ints)) fill.whole (near_extent (line_side r.mode LineLeft) r.rect near)

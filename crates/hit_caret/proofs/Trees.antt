@@ -11,7 +11,6 @@ use Rattle.place_map.specs.declared.placed.PlacedPart.{PlacedPart, out-PlacedPar
 use Rattle.place_map.specs.declared.placed.PlacedPart.TheFolds.{fold_out-PlacedPart}
 use Rattle.hit_caret.specs.declared.cells.Cell.{Cell}
 use Rattle.hit_caret.specs.Cells.{cells_in, mode_inside, own_cells}
-use Rattle.hit_caret.specs.Near.{AreNearRuns, IsNearRun}
 
 -- a fragment stands before what follows it
 opened : (p : PlacedPart) (next : Parts)
@@ -41,12 +40,6 @@ near_get [] k d lt near = absurd (omega arith)
 near_get (p ∷ ps) zero d lt near = let all = subst AreNearParts (opened p (parts_of ps)) near in (all.0, all.2)
 near_get (p ∷ ps) (suc k) d lt near = let all = subst AreNearParts (opened p (parts_of ps)) near in near_get ps k d (omega arith) all.3
 
-runs_get : (ps : List PlacedPart) (k : ℕ) (d : PlacedPart) → k < length ps → AreNearRuns (parts_of ps)
-    → IsNearRun (kind_of (out-PlacedPart (get_or ps k d)).kind) × AreNearRuns (parts_of (out-PlacedPart (get_or ps k d)).children.items)
-runs_get [] k d lt near = absurd (omega arith)
-runs_get (p ∷ ps) zero d lt near = let all = subst AreNearRuns (opened p (parts_of ps)) near in (all.0, all.1)
-runs_get (p ∷ ps) (suc k) d lt near = let all = subst AreNearRuns (opened p (parts_of ps)) near in runs_get ps k d (omega arith) all.2
-
 -- ---- one of them
 
 module _ (ps : List PlacedPart) (k : ℕ) (p : PlacedPart) (lt : k < length ps) (is : p ≡ get_or ps k p) where
@@ -59,12 +52,6 @@ module _ (ps : List PlacedPart) (k : ℕ) (p : PlacedPart) (lt : k < length ps) 
 
   pub near_below : (below : List PlacedPart) → below ≡ (out-PlacedPart p).children.items → AreNearParts (parts_of ps) → AreNearParts (parts_of below)
   near_below below inner near = rw inner (subst (λ (q : PlacedPart). AreNearParts (parts_of (out-PlacedPart q).children.items)) (sym is) (near_get ps k p lt near).1)
-
-  pub near_run : AreNearRuns (parts_of ps) → IsNearRun (kind_of (out-PlacedPart p).kind)
-  near_run near = subst (λ (q : PlacedPart). IsNearRun (kind_of (out-PlacedPart q).kind)) (sym is) (runs_get ps k p lt near).0
-
-  pub runs_below : (below : List PlacedPart) → below ≡ (out-PlacedPart p).children.items → AreNearRuns (parts_of ps) → AreNearRuns (parts_of below)
-  runs_below below inner near = rw inner (subst (λ (q : PlacedPart). AreNearRuns (parts_of (out-PlacedPart q).children.items)) (sym is) (runs_get ps k p lt near).1)
 
   module _ (mode own : WritingMode) (below : List PlacedPart) (within : own ≡ mode_inside mode (kind_of (out-PlacedPart p).kind)) (inner : below ≡ (out-PlacedPart p).children.items) where
     cells_here : cells_in mode (parts_of (drop k ps))

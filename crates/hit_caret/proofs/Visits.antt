@@ -1,5 +1,5 @@
 -- What a visitor is that has seen cells one after the other.
-use Rattle.std.proofs.Common.{◌≡◌, refl, sym, ap, subst, ◌∙◌, ℕ, ◌+◌, ◌<◌, Bool, true, false, cond, List, [], ◌∷◌, length, drop, get_or, fold, filter, find, Option, Some, None, option_map, ℤ, ◌+ℤ◌}
+use Rattle.std.proofs.Common.{◌≡◌, refl, sym, ap, ◌∙◌, ℕ, ◌+◌, ◌<◌, Bool, true, false, cond, List, [], ◌∷◌, length, drop, get_or, fold, filter, find, Option, Some, None, option_map, ℤ, ◌+ℤ◌}
 use Rattle.std.specs.List.{last_or}
 use Rattle.std.specs.Option.{option_or}
 use Rattle.std.proofs.lemmas.List.{drop_more}
@@ -11,9 +11,8 @@ use Rattle.hit_caret.specs.declared.finding.LastHit.{LastHit}
 use Rattle.hit_caret.specs.declared.hits.Hit.{Hit}
 use Rattle.hit_caret.specs.declared.rects.Point.{Point}
 use Rattle.hit_caret.specs.Carets.{begins_at, ends_at, found_first}
-use Rattle.hit_caret.specs.Cells.{cell_of, cells_from}
+use Rattle.hit_caret.specs.Cells.{cell_of, cells_from, taken}
 use Rattle.hit_caret.specs.Hits.{hit_in}
-use Rattle.hit_caret.specs.Near.{AreNearUnits, IsNearNumber}
 use Rattle.hit_caret.specs.Rects.{holds}
 
 -- ---- the units of a run
@@ -22,23 +21,11 @@ module _ (run : Run) (units : List RunUnit) (k : ℕ) (unit : RunUnit) (distance
   units_here : drop k units ≡ unit ∷ drop (k + 1) units
   units_here = drop_more units k unit lt ∙ ap (λ (u : RunUnit). u ∷ drop (k + 1) units) (sym is)
 
-  near_here : AreNearUnits distance (drop k units) → AreNearUnits distance (unit ∷ drop (k + 1) units)
-  near_here near = subst (AreNearUnits distance) units_here near
-
-  pub near_distance : AreNearUnits distance (drop k units) → IsNearNumber distance
-  near_distance near = (near_here near).0
-
-  pub near_extent : AreNearUnits distance (drop k units) → IsNearNumber unit.extent
-  near_extent near = (near_here near).1
-
-  pub near_rest : (next : ℤ) → next ≡ distance +ℤ unit.extent → AreNearUnits distance (drop k units) → AreNearUnits next (drop (k + 1) units)
-  near_rest next moved near = rw moved (near_here near).2
-
   -- one unit more is seen
-  pub one_unit : {V : Type 0} (seen : V → Cell → V) (v w all : V) (c : Cell) (next : ℤ) → fold seen v (cells_from run distance (drop k units)) ≡ all
-      → c ≡ cell_of run distance unit → w ≡ seen v c → next ≡ distance +ℤ unit.extent → fold seen w (cells_from run next (drop (k + 1) units)) ≡ all
-  one_unit seen v w all c next so_far cell sees moved =
-      rw (sees, cell, moved) (sym (ap (λ (us : List RunUnit). fold seen v (cells_from run distance us)) units_here) ∙ so_far)
+  pub one_unit : {V : Type 0} (seen : V → Cell → V) (v w all : V) (c : Cell) (extent next : ℤ) → fold seen v (cells_from run distance (drop k units)) ≡ all
+      → extent ≡ taken run distance unit.extent → c ≡ cell_of run distance extent unit → w ≡ seen v c → next ≡ distance +ℤ extent → fold seen w (cells_from run next (drop (k + 1) units)) ≡ all
+  one_unit seen v w all c extent next so_far takes cell sees moved =
+      rw (sees, cell, moved, takes) (sym (ap (λ (us : List RunUnit). fold seen v (cells_from run distance us)) units_here) ∙ so_far)
 
 -- ---- the last hit
 

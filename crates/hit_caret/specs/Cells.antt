@@ -1,5 +1,6 @@
 -- The cells of a page: what its units of text take of it, in the order of the listing. CSS Writing Modes 4, 6.2.
-use Rattle.std.specs.Prelude.{ℕ, ◌%◌, ◌==◌, Bool, true, false, min, max, map, List, [], ◌∷◌, ◌++◌, ℤ, pos, ◌+ℤ◌}
+use Rattle.std.specs.Prelude.{ℕ, ◌%◌, ◌==◌, Bool, true, false, min, max, map, List, [], ◌∷◌, ◌++◌, ℤ, pos, ◌+ℤ◌, ◌-ℤ◌}
+use Rattle.std.specs.Int.{int_max, int_min}
 use Rattle.std.specs.List.{reduce}
 use Rattle.std.specs.Option.{unwrap_or}
 use Rattle.wm_modes.specs.Sides.{side_of}
@@ -16,7 +17,7 @@ use Rattle.fragment_types.specs.declared.unit_kind.UnitKind.TheVariants.{Along, 
 use Rattle.place_map.specs.Placed.{Page, Parts, none, part, mode_of}
 use Rattle.hit_caret.specs.declared.cells.Cell.{Cell}
 use Rattle.hit_caret.specs.declared.cells.Run.{Run}
-use Rattle.hit_caret.specs.Rects.{part_from}
+use Rattle.hit_caret.specs.Rects.{extent_from, part_from}
 
 -- which side of the page a side of a line is; no direction changes it
 abbrev pub line_side : WritingMode → FlowSide → Side
@@ -24,21 +25,25 @@ line_side mode side = side_of mode Ltr side
 
 -- ---- the cells of a run
 
--- what a unit takes of its run: its extent, from this distance from line-left on
-abbrev pub cell_of : Run → (distance : ℤ) → RunUnit → Cell
-cell_of r distance unit = record {
+-- how much of a run a unit of this extent takes, from this distance from line-left on: no more than is left there
+abbrev pub taken : Run → (distance extent : ℤ) → ℤ
+taken r distance extent = int_max (int_min extent (extent_from (line_side r.mode LineLeft) r.rect -ℤ distance)) (pos 0)
+
+-- the part of its run that a unit takes
+abbrev pub cell_of : Run → (distance extent : ℤ) → RunUnit → Cell
+cell_of r distance extent unit = record {
   node = r.node;
   first = unit.first;
   end = unit.end;
   level = r.level;
   mode = r.mode;
-  rect = part_from (line_side r.mode LineLeft) r.rect distance unit.extent;
+  rect = part_from (line_side r.mode LineLeft) r.rect distance extent;
 }
 
 -- units one after the other
 abbrev pub cells_from : Run → (distance : ℤ) → List RunUnit → List Cell
 cells_from r distance [] = []
-cells_from r distance (unit ∷ units) = cell_of r distance unit ∷ cells_from r (distance +ℤ unit.extent) units
+cells_from r distance (unit ∷ units) = cell_of r distance (taken r distance unit.extent) unit ∷ cells_from r (distance +ℤ taken r distance unit.extent) units
 
 -- the least place at which a unit begins, and the greatest at which one ends; 0 where there is none
 abbrev pub first_of : List RunUnit → ℕ

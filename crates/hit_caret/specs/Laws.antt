@@ -1,6 +1,5 @@
 -- What holds of the cells, the hits and the carets of every page.
-use Rattle.std.specs.Prelude.{◌≡◌, ◌⊎◌, ℕ, true, false, cond, List, ◌∷◌, ◌++◌, count_by, find, fold, Contains, All, Some, None, ℤ, pos, ◌+ℤ◌, ◌≤ℤ◌, ◌<ℤ◌, int_div}
-use Rattle.wm_modes.specs.Near.{IsNear}
+use Rattle.std.specs.Prelude.{◌≡◌, ◌⊎◌, ℕ, true, false, cond, List, [], ◌∷◌, ◌++◌, count_by, find, fold, Contains, All, Some, None, ℤ, pos, ◌+ℤ◌, ◌≤ℤ◌, ◌<ℤ◌, int_div}
 use Rattle.wm_modes.specs.declared.rects.Rect.{Rect}
 use Rattle.wm_modes.specs.declared.sides.FlowSide.TheVariants.{LineLeft}
 use Rattle.fragment_types.specs.RunUnit.{RunUnit}
@@ -10,9 +9,8 @@ use Rattle.hit_caret.specs.declared.cells.Run.{Run}
 use Rattle.hit_caret.specs.declared.hits.Hit.{Hit}
 use Rattle.hit_caret.specs.declared.rects.Point.{Point}
 use Rattle.hit_caret.specs.Carets.{begins_at, caret, caret_point, leading_edge, trailing_edge}
-use Rattle.hit_caret.specs.Cells.{cells, cells_from, line_side}
+use Rattle.hit_caret.specs.Cells.{cell_of, cells, cells_from, line_side}
 use Rattle.hit_caret.specs.Hits.{hit, hit_in}
-use Rattle.hit_caret.specs.Near.{AreNearUnits}
 use Rattle.hit_caret.specs.Rects.{extent_from, holds}
 
 abbrev pub NoneHolds : Point → List Cell → Type 0
@@ -66,9 +64,14 @@ abbrev pub CellsTileRuns : Type 0
 CellsTileRuns = (r : Run) (units : List RunUnit) → FillTheirRun r units → (p : Point)
     → count_by (λ c. holds c.rect p) (cells_from r (pos 0) units) ≡ cond (holds r.rect p) 1 0
 
--- and their extents and distances are near where the run is
-abbrev pub FilledRunsAreNear : Type 0
-FilledRunsAreNear = (r : Run) (units : List RunUnit) → FillTheirRun r units → IsNear r.rect → AreNearUnits (pos 0) units
+-- units one after the other, each with its whole extent
+abbrev pub whole_cells_from : Run → (distance : ℤ) → List RunUnit → List Cell
+whole_cells_from r distance [] = []
+whole_cells_from r distance (unit ∷ units) = cell_of r distance unit.extent unit ∷ whole_cells_from r (distance +ℤ unit.extent) units
+
+-- and each unit takes its whole extent
+abbrev pub FilledRunsAreTaken : Type 0
+FilledRunsAreTaken = (r : Run) (units : List RunUnit) → FillTheirRun r units → cells_from r (pos 0) units ≡ whole_cells_from r (pos 0) units
 
 -- ---- carets
 

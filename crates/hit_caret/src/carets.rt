@@ -2,7 +2,8 @@
 
 ghost use Rattle.std.specs.Prelude.{◌≡◌, IfSome};
 ghost use Rattle.hit_caret.specs.Carets as spec;
-ghost use Rattle.hit_caret.specs.Near.{IsNearCell, IsNearPage};
+ghost use Rattle.hit_caret.specs.Near.{IsNearCell};
+ghost use Rattle.place_map.specs.Near.{AreNearParts};
 ghost use Rattle.place_map.specs.Placed.{placed_of};
 
 use crate::cells::Cell;
@@ -15,7 +16,7 @@ use wm_modes::{FlowSide, Rect};
 /// that begins there, else the trailing edge of the first one that ends there, or none where no cell does either. The page
 /// is as `visit_cells` wants it. Takes no memory.
 pub fn caret(placed: &Placed, node: u32, place: u32) -> Option<Rect>
-    requires near { IsNearPage (placed_of placed.now) }
+    requires near { AreNearParts (placed_of placed.now).parts }
     ensures { result ≡ spec.caret (placed_of placed.now) node place }
 {
     let found = first_cells(placed, node, place);
@@ -30,7 +31,7 @@ pub fn caret(placed: &Placed, node: u32, place: u32) -> Option<Rect>
 /// caret's cell that touches the edge and is nearest to line-over. None where there is no such caret, or the cell has an
 /// extent below 2 along its line or below 1 across it. The page is as `visit_cells` wants it. Takes no memory.
 pub fn caret_point(placed: &Placed, node: u32, place: u32) -> Option<Point>
-    requires near { IsNearPage (placed_of placed.now) }
+    requires near { AreNearParts (placed_of placed.now).parts }
     ensures { result ≡ spec.caret_point (placed_of placed.now) node place }
 {
     match first_cells(placed, node, place).beginning {
@@ -69,7 +70,7 @@ struct FirstCells {
 }
 
 fn first_cells(placed: &Placed, node: u32, place: u32) -> FirstCells
-    requires near { IsNearPage (placed_of placed.now) }
+    requires near { AreNearParts (placed_of placed.now).parts }
     ensures beginning { result.beginning ≡ spec.first_beginning (placed_of placed.now) node place }
     ensures ending { result.ending ≡ spec.first_ending (placed_of placed.now) node place }
     ensures near_beginning { IfSome result.beginning (λ c. IsNearCell c.rect) }

@@ -1,12 +1,12 @@
 //! The cells of a page: what its units of text take of it.
 
-ghost use Rattle.std.specs.Prelude.{◌≡◌, pos};
+ghost use Rattle.std.specs.Prelude.{◌≡◌, ◌+ℤ◌};
 ghost use Rattle.hit_caret.specs.Carets as carets;
 ghost use Rattle.hit_caret.specs.Cells as spec;
-ghost use Rattle.hit_caret.specs.Near.{IsNearCell, IsNearNumber};
+ghost use Rattle.hit_caret.specs.Near.{IsDistance, IsNearCell};
 ghost use Rattle.wm_modes.specs.Near.{IsNear};
 
-use crate::rects::{edge, part_from};
+use crate::rects::{edge, extent_from, part_from};
 use fragment_types::RunUnit;
 use wm_modes::{Direction, FlowSide, Rect, Side, WritingMode, side_of};
 
@@ -32,12 +32,25 @@ pub(crate) struct Run {
 }
 
 impl Run {
-    /// What a unit takes of its run, from this distance from line-left on.
-    pub(crate) fn cell_of(&self, distance: i64, unit: &RunUnit) -> Cell
+    /// How much of the run a unit of this extent takes, from this distance from line-left on: no more than is left there.
+    pub(crate) fn taken(&self, distance: i64, extent: i64) -> i64
         requires rect { IsNear self.now.rect }
-        requires distance { IsNearNumber distance }
-        requires extent { IsNearNumber unit.now.extent }
-        ensures value { result ≡ spec.cell_of self.now distance unit.now }
+        requires distance { IsDistance distance }
+        ensures value { result ≡ spec.taken self.now distance extent }
+        ensures extent { IsDistance result }
+        ensures next { IsDistance (distance +ℤ result) }
+    {
+        let line_left = line_side(self.mode, FlowSide::LineLeft);
+        let left = extent_from(line_left, &self.rect) - distance;
+        extent.min(left).max(0)
+    }
+
+    /// The part of its run that a unit takes, from this distance from line-left on.
+    pub(crate) fn cell_of(&self, distance: i64, extent: i64, unit: &RunUnit) -> Cell
+        requires rect { IsNear self.now.rect }
+        requires distance { IsDistance distance }
+        requires extent { IsDistance extent }
+        ensures value { result ≡ spec.cell_of self.now distance extent unit.now }
         ensures near { IsNearCell result.rect }
     {
         let line_left = line_side(self.mode, FlowSide::LineLeft);
@@ -47,7 +60,7 @@ impl Run {
             end: unit.end(),
             level: self.level,
             mode: self.mode,
-            rect: part_from(line_left, &self.rect, distance, unit.extent()),
+            rect: part_from(line_left, &self.rect, distance, extent),
         }
     }
 

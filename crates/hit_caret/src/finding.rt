@@ -2,7 +2,7 @@
 
 ghost use Rattle.std.specs.Prelude.{◌≡◌};
 ghost use Rattle.hit_caret.specs.Hits as spec;
-ghost use Rattle.hit_caret.specs.Near.{IsNearPage};
+ghost use Rattle.place_map.specs.Near.{AreNearParts};
 ghost use Rattle.place_map.specs.Placed.{placed_of};
 
 use crate::cells::Cell;
@@ -14,7 +14,7 @@ use place_map::Placed;
 /// The hit of a point, in units of 1/64 px from the page's left and top edges: of the last cell that holds it, or none where
 /// no cell does. The page is as `visit_cells` wants it. Takes no memory.
 pub fn hit(placed: &Placed, x: i64, y: i64) -> Option<Hit>
-    requires near { IsNearPage (placed_of placed.now) }
+    requires near { AreNearParts (placed_of placed.now).parts }
     ensures { result ≡ spec.hit (placed_of placed.now) (record { x = x; y = y }) }
 {
     let mut last = LastHit {

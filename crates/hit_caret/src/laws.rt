@@ -1,6 +1,6 @@
 //! Laws of cells, hits and carets. These functions do nothing: their contracts are the laws.
 
-ghost use Rattle.hit_caret.specs.Laws.{CaretPointsHit, CaretsStandOnEdges, CellsTileRuns, FilledRunsAreNear, HeldPointsAreHit, HitsAreHeld, MiddlesAreHit};
+ghost use Rattle.hit_caret.specs.Laws.{CaretPointsHit, CaretsStandOnEdges, CellsTileRuns, FilledRunsAreTaken, HeldPointsAreHit, HitsAreHeld, MiddlesAreHit};
 
 /// A hit is of a cell that holds the point; no later cell holds it.
 pub fn hits_are_held()
@@ -23,9 +23,9 @@ pub fn cells_tile_runs()
     ensures { CellsTileRuns }
 {}
 
-/// Where units fill their run, all their extents and distances are within 2^60 of 0, as the calls on a page want it.
-pub fn filled_runs_are_near()
-    ensures { FilledRunsAreNear }
+/// Where units fill their run, each of them takes its whole extent of it.
+pub fn filled_runs_are_taken()
+    ensures { FilledRunsAreTaken }
 {}
 
 /// A caret is an edge of a cell of its text.

@@ -3,7 +3,7 @@
 ghost use Rattle.std.specs.Prelude.{◌≡◌, fold, pos};
 ghost use Rattle.fragment_types.specs.Fragment.{kind_of};
 ghost use Rattle.hit_caret.specs.Cells as spec;
-ghost use Rattle.hit_caret.specs.Near.{AreNearRuns, AreNearUnits, IsNearCell, IsNearPage, IsNearRun};
+ghost use Rattle.hit_caret.specs.Near.{IsNearCell};
 ghost use Rattle.place_map.specs.Near.{AreNearParts};
 ghost use Rattle.place_map.specs.Placed.{parts_of, placed_of};
 ghost use Rattle.place_map.specs.declared.placed.PlacedPart.{out-PlacedPart};
@@ -29,9 +29,9 @@ pub trait CellVisitor {
 }
 
 /// Shows all cells of a page to a visitor, in the order of the listing. All coordinates of the page lie within 2^60 units of
-/// 0, and so do the extents and the distances from line-left of the units of its runs. Takes no memory.
+/// 0. Takes no memory.
 pub fn visit_cells<V: CellVisitor>(placed: &Placed, visitor: &mut V)
-    requires near { IsNearPage (placed_of placed.now) }
+    requires near { AreNearParts (placed_of placed.now).parts }
     ensures { visitor.new ≡ fold V.seen visitor.old (spec.cells (placed_of placed.now)) }
 {
     visit_parts(placed.mode(), slice::from_ref(&placed.root), visitor);
@@ -40,7 +40,6 @@ pub fn visit_cells<V: CellVisitor>(placed: &Placed, visitor: &mut V)
 // The cells of fragments one after the other, each before those inside it, in text of this mode.
 fn visit_parts<V: CellVisitor>(mode: WritingMode, parts: &[PlacedPart], visitor: &mut V)
     requires near { AreNearParts (parts_of parts.now) }
-    requires units { AreNearRuns (parts_of parts.now) }
     ensures { visitor.new ≡ fold V.seen visitor.old (spec.cells_in mode (parts_of parts.now)) }
 {
     for part in parts {
@@ -52,7 +51,6 @@ fn visit_parts<V: CellVisitor>(mode: WritingMode, parts: &[PlacedPart], visitor:
 // The cells of a fragment itself.
 fn visit_part<V: CellVisitor>(mode: WritingMode, part: &PlacedPart, visitor: &mut V)
     requires rect { IsNear (out-PlacedPart part.now).rect }
-    requires units { IsNearRun (kind_of (out-PlacedPart part.now).kind) }
     ensures { visitor.new ≡ fold V.seen visitor.old (spec.own_cells mode (out-PlacedPart part.now).name.node (out-PlacedPart part.now).rect (kind_of (out-PlacedPart part.now).kind)) }
 {
     match &part.kind {
@@ -80,7 +78,6 @@ fn visit_part<V: CellVisitor>(mode: WritingMode, part: &PlacedPart, visitor: &mu
 // The cells of a run: one for each unit, but a single one of a combined run.
 fn visit_run<V: CellVisitor>(form: UnitKind, run: &Run, units: &[RunUnit], visitor: &mut V)
     requires rect { IsNear run.now.rect }
-    requires units { AreNearUnits (pos 0) units.now }
     ensures { visitor.new ≡ fold V.seen visitor.old (spec.run_cells form run.now units.now) }
 {
     match form {
@@ -92,13 +89,13 @@ fn visit_run<V: CellVisitor>(form: UnitKind, run: &Run, units: &[RunUnit], visit
 // The cells of units one after the other.
 fn visit_units<V: CellVisitor>(run: &Run, units: &[RunUnit], visitor: &mut V)
     requires rect { IsNear run.now.rect }
-    requires units { AreNearUnits (pos 0) units.now }
     ensures { visitor.new ≡ fold V.seen visitor.old (spec.cells_from run.now (pos 0) units.now) }
 {
     let mut distance = 0;
     for unit in units {
-        visitor.see(run.cell_of(distance, unit));
-        distance += unit.extent();
+        let taken = run.taken(distance, unit.extent());
+        visitor.see(run.cell_of(distance, taken, unit));
+        distance += taken;
     }
 }
 

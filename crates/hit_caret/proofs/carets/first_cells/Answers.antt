@@ -18,10 +18,10 @@ pub returns-clause-near_beginning : goal.returns-clause-near_beginning
 returns-clause-near_beginning c =
     let page = placed_of c.args.placed.now in
     subst (λ (o : Option Cell). IfSome o (λ c. IsNearCell c.rect)) (sym (beginning_seen c.args.node c.args.place (cells page) c.visit_cells.new.visitor c.visit_cells.ensures))
-    (find_near (begins_at c.args.node c.args.place) (cells page) (near_cells (mode_of page) page.parts c.requires.near.parts c.requires.near.units))
+    (find_near (begins_at c.args.node c.args.place) (cells page) (near_cells (mode_of page) page.parts c.requires.near))
 
 pub returns-clause-near_ending : goal.returns-clause-near_ending
 returns-clause-near_ending c =
     let page = placed_of c.args.placed.now in
     subst (λ (o : Option Cell). IfSome o (λ c. IsNearCell c.rect)) (sym (ending_seen c.args.node c.args.place (cells page) c.visit_cells.new.visitor c.visit_cells.ensures))
-    (find_near (ends_at c.args.node c.args.place) (cells page) (near_cells (mode_of page) page.parts c.requires.near.parts c.requires.near.units))
+    (find_near (ends_at c.args.node c.args.place) (cells page) (near_cells (mode_of page) page.parts c.requires.near))

@@ -1,5 +1,0 @@
-use Rattle.hit_caret.proofs.TileLaws.{filled_runs_are_near}
-use Rattle.hit_caret.proofs.laws.filled_runs_are_near.Goals as goal
-
-pub returns : goal.returns
-returns c = filled_runs_are_near
