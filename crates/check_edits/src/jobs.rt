@@ -1,5 +1,5 @@
-//! An input with a script after its document, and what is written for it. Other scripts are compared with outside listings by
-//! tools/document-cases.
+//! An input with a script after its document, one with a probe, and what is written for them. Others are compared with outside
+//! answers by tools/document-cases.
 
 ghost use Rattle.std.specs.Prelude.{◌≡◌, ◌<◌};
 
@@ -7,6 +7,7 @@ use edit_job::{refusal_line, tell_steps};
 use face_api::{Face, Faces, MonoFace};
 use input_due::{Due, Follows, due_of_document};
 use io_edge::{SteadySink, write_all_of};
+use probe_job::tell_answers;
 use std::alloc::Global;
 use std::marker::Brand;
 use std::sync::ledger::{Blank, Ledger};
@@ -43,10 +44,23 @@ run 5 0 1 512 2560 512 1024 h 0 0063
 end
 ";
 
+/// A document with a probe behind it, and the answers that are due for it.
+const PROBED: &[u8] =
+    b"<html><body><span>a</span></body></html>\npoint 512 512\npoint 1023 1535\n# past the text\npoint 1024 512\ncaret 3 1\ncaret 2 0\n";
+
+const ANSWERS: &str = "\
+hit 3 0 1 0
+hit 3 0 1 1
+miss
+caret 1024 512 0 1024
+nocaret
+";
+
 // What is written for an input.
 fn written<L: Ledger, M: Ledger>(
     alloc: Global,
     input: &[u8],
+    follows: Follows,
     first: Blank,
     second: Blank,
 ) -> Result<SteadySink, Fail>
@@ -64,7 +78,7 @@ fn written<L: Ledger, M: Ledger>(
     own.push(Box::new(alloc, MonoFace::new())?)?;
     let faces = Faces::new(alloc, own)?;
     let mut sink = SteadySink::new(alloc);
-    match due_of_document(alloc, VIEW, faces, input, Follows::Script)? {
+    match due_of_document(alloc, VIEW, faces, input, follows)? {
         Due::Steps {
             mut session,
             script,
@@ -79,6 +93,15 @@ fn written<L: Ledger, M: Ledger>(
                 &mut arranged,
             )?;
         }
+        Due::Answers {
+            mut session,
+            probes,
+        } => {
+            let mut prepared = Steps::<L>::open(first);
+            let mut arranged = Steps::<M>::open(second);
+            let placed = session.page(&mut prepared, &mut arranged)?;
+            tell_answers(&placed, &probes, &mut sink)?;
+        }
         Due::Refused { cause, place } => {
             write_all_of(&mut sink, refusal_line(cause.word(), place).as_bytes())?;
         }
@@ -88,7 +111,26 @@ fn written<L: Ledger, M: Ledger>(
 
 #[test]
 fn edits_are_listed(rt: HostRuntime) -> Result<(), Fail> {
-    let sink = written::<Brand, Brand>(rt.alloc(), INPUT, Blank::new(1), Blank::new(1))?;
+    let sink = written::<Brand, Brand>(
+        rt.alloc(),
+        INPUT,
+        Follows::Script,
+        Blank::new(1),
+        Blank::new(1),
+    )?;
     assert_eq!(rt; sink.bytes(), DUE.as_bytes());
+    Ok(())
+}
+
+#[test]
+fn probes_are_answered(rt: HostRuntime) -> Result<(), Fail> {
+    let sink = written::<Brand, Brand>(
+        rt.alloc(),
+        PROBED,
+        Follows::Probe,
+        Blank::new(1),
+        Blank::new(1),
+    )?;
+    assert_eq!(rt; sink.bytes(), ANSWERS.as_bytes());
     Ok(())
 }

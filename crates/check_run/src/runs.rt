@@ -14,6 +14,8 @@ const DOCUMENT: &[u8] = b"<html><body></body></html>";
 
 const LAYOUT: &[&str] = &["layout"];
 
+const PROBE: &[&str] = &["probe"];
+
 const GEN: &[&str] = &["gen", "--count", "1"];
 
 /// A run: the words, the call of the source that fails, how many bytes each other call gives, the call of the sink that fails,
@@ -31,7 +33,7 @@ type Run = (
 /// A call that isn't reached.
 const NEVER: u64 = 1_000;
 
-static RUNS: [Run; 10] = [
+static RUNS: [Run; 12] = [
     (LAYOUT, 0, 4_096, NEVER, 4_096, Status::ReadFault, 0),
     (LAYOUT, 1, 4_096, NEVER, 4_096, Status::ReadFault, 0),
     (LAYOUT, 5, 1, NEVER, 4_096, Status::ReadFault, 0),
@@ -41,6 +43,9 @@ static RUNS: [Run; 10] = [
     (LAYOUT, NEVER, 4_096, 2, 7, Status::WriteFault, 14),
     (LAYOUT, NEVER, 4_096, 12, 7, Status::WriteFault, 84),
     (LAYOUT, NEVER, 1, NEVER, 1, Status::Done, 85),
+    // Nothing is asked.
+    (PROBE, NEVER, 1, NEVER, 1, Status::Done, 0),
+    (PROBE, 5, 1, NEVER, 1, Status::ReadFault, 0),
     // Nothing is read.
     (GEN, 0, 1, NEVER, 4_096, Status::Done, 25),
 ];

@@ -6,10 +6,17 @@ use std::test::*;
 use wm_units::View;
 
 /// Words that give a job: the command, the sizes of the view in pixels, and the count.
-const JOBS: [(&[&str], Command, i64, i64, u32); 8] = [
+const JOBS: [(&[&str], Command, i64, i64, u32); 9] = [
     (&["layout"], Command::Layout, 800, 600, 100),
     (&["edit", "--"], Command::Edit, 800, 600, 100),
     (&["--", "gen"], Command::Gen, 800, 600, 100),
+    (
+        &["probe", "--view-inline=200"],
+        Command::Probe,
+        200,
+        600,
+        100,
+    ),
     (
         &["--view-inline", "16384", "layout"],
         Command::Layout,

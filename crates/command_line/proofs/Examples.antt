@@ -4,7 +4,7 @@ use Rattle.clap.proofs.OnLiterals.{clap_on_literals}
 use Rattle.reading.specs.Readers.{one_of}
 use Rattle.reading.specs.Decimals.{number, more_digits}
 use Rattle.command_line.specs.declared.job.Command.{Command}
-use Rattle.command_line.specs.declared.job.Command.TheVariants.{Layout, Edit, Gen}
+use Rattle.command_line.specs.declared.job.Command.TheVariants.{Layout, Edit, Gen, Probe}
 use Rattle.command_line.specs.declared.job.Job.{Job}
 use Rattle.command_line.specs.Reading.{job_of}
 
@@ -30,6 +30,10 @@ ending_before_the_command = refl
 ending_behind_the_command : job_of (codes "edit" ∷ codes "--view-block=1" ∷ codes "--" ∷ []) ≡ Some (job Edit 51200 64 100)
 unfolding clap_on_literals one_of number more_digits
 ending_behind_the_command = refl
+
+points : job_of (codes "--view-inline=200" ∷ codes "probe" ∷ []) ≡ Some (job Probe 12800 38400 100)
+unfolding clap_on_literals one_of number more_digits
+points = refl
 
 nothing : job_of ([]) ≡ None
 unfolding clap_on_literals one_of number more_digits

@@ -4,7 +4,7 @@ use Rattle.std.specs.Prelude.{◌≡◌, ◌⊎◌, ℕ, ◌*◌, ◌≤◌, Boo
 use Rattle.wm_units.specs.Numbers.{fixed}
 use Rattle.reading.specs.Decimals.{IsDecimal}
 use Rattle.command_line.specs.declared.job.Command.{Command}
-use Rattle.command_line.specs.declared.job.Command.TheVariants.{Layout, Edit, Gen}
+use Rattle.command_line.specs.declared.job.Command.TheVariants.{Layout, Edit, Gen, Probe}
 use Rattle.command_line.specs.declared.job.Job.{Job}
 
 -- what a part of the line gives: the command, or the value of an option
@@ -54,6 +54,7 @@ abbrev pub command_name : Command → List ℕ
 command_name Layout = codes "layout"
 command_name Edit = codes "edit"
 command_name Gen = codes "gen"
+command_name Probe = codes "probe"
 
 -- one to five digits, for a number from 1 to `most`
 abbrev pub IsNumberTo : ℕ → List ℕ → ℕ → Type 0

@@ -11,6 +11,8 @@ pub enum Command {
     Edit,
     /// The edits of the generated input are run, and what they write is counted.
     Gen,
+    /// A document and the lines of a probe are read, and each line is answered over the page.
+    Probe,
 }
 
 /// A command with its options.

@@ -9,10 +9,11 @@ use reading::decimal;
 use wm_units::fixed;
 
 /// The commands with their words.
-pub(crate) static COMMANDS: [(&str, Command); 3] = [
+pub(crate) static COMMANDS: [(&str, Command); 4] = [
     ("layout", Command::Layout),
     ("edit", Command::Edit),
     ("gen", Command::Gen),
+    ("probe", Command::Probe),
 ];
 
 /// The greatest size of the view on either axis, in pixels.

@@ -1,5 +1,5 @@
 -- What is due for a document, by what was read of it.
-use Rattle.std.proofs.Common.{◌≡◌, ◌↔◌, ◌⊎◌, ◌∙◌, refl, sym, ap, subst, arith, inl, inr, ℕ, ◌-◌, ◌<◌, ◌≤◌, List, length, drop, Option, Some, Ok, Err}
+use Rattle.std.proofs.Common.{◌≡◌, ◌↔◌, ◌⊎◌, ◌∙◌, refl, sym, ap, subst, arith, inl, inr, ℕ, ◌+◌, ◌-◌, ◌<◌, ◌≤◌, List, length, drop, Option, Some, Ok, Err}
 use Rattle.std.specs.Prelude.{IfOk, Result, codes, ⊤}
 use Rattle.std.proofs.lemmas.List.{length-drop}
 use Rattle.std.proofs.lemmas.Option.{same_Some}
@@ -25,12 +25,9 @@ use Rattle.html_read.specs.Values.{Node, Whole, nodes_of, whole_of}
 use Rattle.dom_store.specs.Opening.{opened}
 use Rattle.dom_store.specs.State.{State, state_of}
 use Rattle.edits.specs.State as edited
-use Rattle.session.specs.State.{rules_in, state_in}
-use Rattle.std.specs.Global.{Vec}
-use Rattle.edit_script.specs.Error.{kind_word as script_word}
-use Rattle.edit_script.specs.declared.error.Refusal as script
-use Rattle.edit_script.specs.declared.step.ScriptLine.{ScriptLine}
-use Rattle.edit_script.specs.Script as scripts
+use Rattle.hit_caret.specs.declared.probes.Probe.{Probe}
+use Rattle.probe_job.specs.Answers.{answers}
+use Rattle.session.specs.State.{IsSound, page_in, page_of, rules_in, state_in, styled_of}
 use Rattle.edit_script.specs.Script.{StepAt}
 use Rattle.edit_script.specs.Views.{steps_of}
 use Rattle.session.specs.Error.{open_word}
@@ -40,13 +37,17 @@ use Rattle.session.specs.declared.error.OpenError.TheVariants as open_errors
 use Rattle.session.specs.declared.session.Session.{Session}
 use Rattle.edit_job.specs.Refusal.{refusal}
 use Rattle.edit_job.specs.Steps.{AreSteps, AreStepsIn}
-use Rattle.input_due.specs.Due.{End, Done, Refused, IsDueBy, IsOf, cause_word, node_of, not_opened}
+use Rattle.input_due.specs.Due.{End, Done, Refused, IsDueBy, IsOf, IsReady, cause_word, node_of, not_opened}
 use Rattle.input_due.specs.declared.follows.Follows.{Follows}
-use Rattle.input_due.specs.declared.follows.Follows.TheVariants.{Nothing, Script}
-use Rattle.input_due.specs.Input.{IsDueOfDocument, IsDueOfInput, IsDueOfOpened, IsDueOfRead, IsDueOfSteps, IsDueOfStyling, IsDueOfTail, IsDueOfWhole, longest_input, opened_with, placed_from, steps_behind}
-use Rattle.input_due.specs.Document.{read_at}
+use Rattle.tree_laws.specs.Weight as weight
+use Rattle.input_due.specs.Asked.{Asked, AskedOr, FitsAsked, asked_at, asked_behind, bytes_asked, probes, steps}
+use Rattle.input_due.specs.Input.{IsDueOfAsked, IsDueOfDocument, IsDueOfInput, IsDueOfOpened, IsDueOfRead, IsDueOfStyling, IsDueOfTail, IsDueOfWhole, IsDueOver, longest_input, opened_with}
+use Rattle.input_due.specs.Document.{asked_of, due_over}
+use Rattle.input_due.specs.declared.lines.Lines.{Lines}
+use Rattle.input_due.specs.declared.lines.Lines.TheVariants as code
 use Rattle.input_due.specs.declared.due.Due.{Due}
 use Rattle.input_due.specs.declared.due.Due.TheVariants as dues
+use Rattle.input_due.specs.declared.due.Cause.{Cause}
 use Rattle.input_due.specs.declared.due.Cause.TheVariants as causes
 
 -- lines of refusal that are one
@@ -58,55 +59,90 @@ same_line kind word place at is here end_ due =
 module _ {I : Type 0} {D : I → Type 0} (members : (x : I) → Ghosts (D x)) (faces : List (Option Table)) (view : View) where
   -- ---- a document that can be opened, or not
 
+  -- what steps lead to, and what they lead to as what is due
+  steps_lead : (state : edited.State) (said : List StepAt) (due : List ℕ) → IsDueOver faces view state (steps said) due → (last : edited.State) × AreSteps view state said last due
+  steps_lead state said due led = led
+
+  steps_led : (state : edited.State) (said : List StepAt) (due : List ℕ) → (last : edited.State) × AreSteps view state said last due → IsDueOver faces view state (steps said) due
+  steps_led state said due led = led
+
   -- the steps over a session are those over its document
   same_steps : (session : Session I D) (nodes : List Node) (styles : Styling) → faces_of members session.faces ≡ faces → session.view ≡ view → state_of session.document ≡ opened nodes styles.own → rules_in session ≡ styles.rules
-      → (steps : List StepAt) (last : edited.State) (due : List ℕ)
-      → AreStepsIn (faces_of members session.faces) session steps last due ≡ AreSteps view (opened_with faces nodes styles) steps last due
-  same_steps session nodes styles own sees state rules steps last due =
-      ap (λ (v : View). AreSteps v (state_in (faces_of members session.faces) session) steps last due) sees
-      ∙ ap (λ (f : List (Option Table)). AreSteps view (state_in f session) steps last due) own
-      ∙ ap (λ (r : List Ruling). AreSteps view (record { tree = state_of session.document; rules = r; faces = faces }) steps last due) rules
-      ∙ ap (λ (tree : State). AreSteps view (record { tree = tree; rules = styles.rules; faces = faces }) steps last due) state
+      → (said : List StepAt) (last : edited.State) (due : List ℕ)
+      → AreStepsIn (faces_of members session.faces) session said last due ≡ AreSteps view (opened_with faces nodes styles) said last due
+  same_steps session nodes styles own sees state rules said last due =
+      ap (λ (v : View). AreSteps v (state_in (faces_of members session.faces) session) said last due) sees
+      ∙ ap (λ (f : List (Option Table)). AreSteps view (state_in f session) said last due) own
+      ∙ ap (λ (r : List Ruling). AreSteps view (record { tree = state_of session.document; rules = r; faces = faces }) said last due) rules
+      ∙ ap (λ (tree : State). AreSteps view (record { tree = tree; rules = styles.rules; faces = faces }) said last due) state
 
-  pub due_of_opened : (session : Session I D) (script : Vec ScriptLine) (nodes : List Node) (styles : Styling) → faces_of members session.faces ≡ faces → session.view ≡ view → state_of session.document ≡ opened nodes styles.own → rules_in session ≡ styles.rules
-      → CanOpen nodes styles.own styles.rules → HasOneAnswer → IsDueBy members (IsDueOfOpened faces view nodes styles (steps_of script.items)) (dues.Steps session script)
-  due_of_opened session script nodes styles own sees state rules can one = both where
+  -- what is due over a session is what is due over its document, to each end
+  due_of_session : (nodes : List Node) (styles : Styling) (asked : Asked) (due : Due I D) → CanOpen nodes styles.own styles.rules → HasOneAnswer
+      → ((end_ : End) (bytes : List ℕ) → IsOf members due end_ bytes ↔ ((end_ ≡ Done) × IsDueOver faces view (opened_with faces nodes styles) asked bytes)) → IsDueBy members (IsDueOfOpened faces view nodes styles asked) due
+  due_of_session nodes styles asked due can one over = both where
+    there : (end_ : End) (bytes : List ℕ) → IsDueOfOpened faces view nodes styles asked end_ bytes → IsOf members due end_ bytes
+    there Done bytes q = (over Done bytes).1 (refl, q.1)
+    there Refused bytes q = absurd ((one.only nodes styles.own styles.rules q.0 q.1).0 can)
+
+    back : (end_ : End) (bytes : List ℕ) → (end_ ≡ Done) × IsDueOver faces view (opened_with faces nodes styles) asked bytes → IsDueOfOpened faces view nodes styles asked end_ bytes
+    back end_ bytes q = subst (λ (s : End). IsDueOfOpened faces view nodes styles asked s bytes) (sym q.0) (can, q.1)
+
+    both : (end_ : End) (bytes : List ℕ) → IsDueOfOpened faces view nodes styles asked end_ bytes ↔ IsOf members due end_ bytes
+    both end_ bytes = (there end_ bytes, λ q. back end_ bytes ((over end_ bytes).0 q))
+
+  abbrev answers_over : List Probe → edited.State → List ℕ
+  answers_over asked state = answers (page_of state.faces view (styled_of state)) asked
+
+  -- the answers over the page of a session are those over the page of its document
+  same_answers : (session : Session I D) (nodes : List Node) (styles : Styling) → faces_of members session.faces ≡ faces → session.view ≡ view → state_of session.document ≡ opened nodes styles.own → rules_in session ≡ styles.rules
+      → (asked : List Probe) → answers (page_in (faces_of members session.faces) session) asked ≡ answers (page_of faces view (styled_of (opened_with faces nodes styles))) asked
+  same_answers session nodes styles own sees state rules asked =
+      ap (λ (v : View). answers (page_of (faces_of members session.faces) v (styled_of (state_in (faces_of members session.faces) session))) asked) sees
+      ∙ ap (λ (f : List (Option Table)). answers_over asked (state_in f session)) own
+      ∙ ap (λ (r : List Ruling). answers_over asked (record { tree = state_of session.document; rules = r; faces = faces })) rules
+      ∙ ap (λ (tree : State). answers_over asked (record { tree = tree; rules = styles.rules; faces = faces })) state
+
+  pub due_of_opened : (session : Session I D) (lines : Lines) (nodes : List Node) (styles : Styling) → faces_of members session.faces ≡ faces → session.view ≡ view → state_of session.document ≡ opened nodes styles.own → rules_in session ≡ styles.rules
+      → CanOpen nodes styles.own styles.rules → HasOneAnswer → IsDueBy members (IsDueOfOpened faces view nodes styles (asked_of lines)) (due_over session lines)
+  due_of_opened session (code.Steps script) nodes styles own sees state rules can one = due_of_session nodes styles (steps (steps_of script.items)) (dues.Steps session script) can one over where
     same : (last : edited.State) (due : List ℕ) → AreStepsIn (faces_of members session.faces) session (steps_of script.items) last due ≡ AreSteps view (opened_with faces nodes styles) (steps_of script.items) last due
     same last due = same_steps session nodes styles own sees state rules (steps_of script.items) last due
 
-    there : (end_ : End) (due : List ℕ) → IsDueOfOpened faces view nodes styles (steps_of script.items) end_ due → IsOf members (dues.Steps session script) end_ due
-    there Done due q = (refl, q.1, subst (λ (X : Type 0). X) (sym (same q.1 due)) q.2)
-    there Refused due q = absurd ((one.only nodes styles.own styles.rules q.0 q.1).0 can)
+    over : (end_ : End) (bytes : List ℕ) → IsOf members (dues.Steps session script) end_ bytes ↔ ((end_ ≡ Done) × IsDueOver faces view (opened_with faces nodes styles) (steps (steps_of script.items)) bytes)
+    over end_ bytes = (
+      λ q. (q.0, steps_led (opened_with faces nodes styles) (steps_of script.items) bytes (q.1, subst (λ (X : Type 0). X) (same q.1 bytes) q.2)),
+      λ q. let led = steps_lead (opened_with faces nodes styles) (steps_of script.items) bytes q.1 in (q.0, led.0, subst (λ (X : Type 0). X) (sym (same led.0 bytes)) led.1),
+    )
+  due_of_opened session (code.Probes asked) nodes styles own sees state rules can one = due_of_session nodes styles (probes asked.items) (dues.Answers session asked) can one over where
+    same : answers (page_in (faces_of members session.faces) session) asked.items ≡ answers (page_of faces view (styled_of (opened_with faces nodes styles))) asked.items
+    same = same_answers session nodes styles own sees state rules asked.items
 
-    back : (end_ : End) (due : List ℕ) → IsOf members (dues.Steps session script) end_ due → IsDueOfOpened faces view nodes styles (steps_of script.items) end_ due
-    back end_ due q = subst (λ (s : End). IsDueOfOpened faces view nodes styles (steps_of script.items) s due) (sym q.0) (can, q.1, subst (λ (X : Type 0). X) (same q.1 due) q.2)
+    over : (end_ : End) (bytes : List ℕ) → IsOf members (dues.Answers session asked) end_ bytes ↔ ((end_ ≡ Done) × IsDueOver faces view (opened_with faces nodes styles) (probes asked.items) bytes)
+    over end_ bytes = (λ q. (q.0, q.1 ∙ same), λ q. (q.0, q.1 ∙ sym same))
 
-    both : (end_ : End) (due : List ℕ) → IsDueOfOpened faces view nodes styles (steps_of script.items) end_ due ↔ IsOf members (dues.Steps session script) end_ due
-    both end_ due = (there end_ due, back end_ due)
-
-  told_not_opened : (nodes : List Node) (styles : Styling) (steps : List StepAt) (error : OpenError) → IsRefused nodes styles.own styles.rules error → HasOneAnswer
-      → IsDueBy members (IsDueOfOpened faces view nodes styles steps) (dues.Refused (causes.Opening error) (node_of error))
+  told_not_opened : (nodes : List Node) (styles : Styling) (asked : Asked) (error : OpenError) → IsRefused nodes styles.own styles.rules error → HasOneAnswer
+      → IsDueBy members (IsDueOfOpened faces view nodes styles asked) (dues.Refused (causes.Opening error) (node_of error))
   unfolding cause_word
-  told_not_opened nodes styles steps error refused one = both where
-    there : (end_ : End) (due : List ℕ) → IsDueOfOpened faces view nodes styles steps end_ due → (end_ ≡ Refused) × (due ≡ refusal (open_word error) (node_of error))
+  told_not_opened nodes styles asked error refused one = both where
+    there : (end_ : End) (due : List ℕ) → IsDueOfOpened faces view nodes styles asked end_ due → (end_ ≡ Refused) × (due ≡ refusal (open_word error) (node_of error))
     there Done due q = absurd ((one.only nodes styles.own styles.rules error refused).0 q.0)
     there Refused due q = (refl, q.2 ∙ ap (λ (e : OpenError). refusal (open_word e) (node_of e)) ((one.only nodes styles.own styles.rules error refused).1 q.0 q.1))
 
-    back : (end_ : End) (due : List ℕ) → (end_ ≡ Refused) × (due ≡ refusal (open_word error) (node_of error)) → IsDueOfOpened faces view nodes styles steps end_ due
-    back end_ due q = subst (λ (s : End). IsDueOfOpened faces view nodes styles steps s due) (sym q.0) (error, refused, q.1)
+    back : (end_ : End) (due : List ℕ) → (end_ ≡ Refused) × (due ≡ refusal (open_word error) (node_of error)) → IsDueOfOpened faces view nodes styles asked end_ due
+    back end_ due q = subst (λ (s : End). IsDueOfOpened faces view nodes styles asked s due) (sym q.0) (error, refused, q.1)
 
-    both : (end_ : End) (due : List ℕ) → IsDueOfOpened faces view nodes styles steps end_ due ↔ ((end_ ≡ Refused) × (due ≡ refusal (open_word error) (node_of error)))
+    both : (end_ : End) (due : List ℕ) → IsDueOfOpened faces view nodes styles asked end_ due ↔ ((end_ ≡ Refused) × (due ≡ refusal (open_word error) (node_of error)))
     both end_ due = (there end_ due, back end_ due)
 
   -- what is told of a document that can't be opened is due for it
-  pub due_of_error : (nodes : List Node) (styles : Styling) (steps : List StepAt) (error : OpenError) (due : Due I D) → not_opened error ≡ Some due
-      → (error ≡ open_errors.Memory) ⊎ IsRefused nodes styles.own styles.rules error → HasOneAnswer → IsDueBy members (IsDueOfOpened faces view nodes styles steps) due
-  due_of_error nodes styles steps error due is opens one = by error is opens
+  pub due_of_error : (nodes : List Node) (styles : Styling) (asked : Asked) (error : OpenError) (due : Due I D) → not_opened error ≡ Some due
+      → (error ≡ open_errors.Memory) ⊎ IsRefused nodes styles.own styles.rules error → HasOneAnswer → IsDueBy members (IsDueOfOpened faces view nodes styles asked) due
+  due_of_error nodes styles asked error due is opens one = by error is opens
     where
-      told : (e : OpenError) → dues.Refused (causes.Opening e) (node_of e) ≡ due → IsRefused nodes styles.own styles.rules e → IsDueBy members (IsDueOfOpened faces view nodes styles steps) due
-      told e same refused = subst (λ (d : Due I D). IsDueBy members (IsDueOfOpened faces view nodes styles steps) d) same (told_not_opened nodes styles steps e refused one)
+      told : (e : OpenError) → dues.Refused (causes.Opening e) (node_of e) ≡ due → IsRefused nodes styles.own styles.rules e → IsDueBy members (IsDueOfOpened faces view nodes styles asked) due
+      told e same refused = subst (λ (d : Due I D). IsDueBy members (IsDueOfOpened faces view nodes styles asked) d) same (told_not_opened nodes styles asked e refused one)
 
-      by : (e : OpenError) → not_opened e ≡ Some due → (e ≡ open_errors.Memory) ⊎ IsRefused nodes styles.own styles.rules e → IsDueBy members (IsDueOfOpened faces view nodes styles steps) due
+      by : (e : OpenError) → not_opened e ≡ Some due → (e ≡ open_errors.Memory) ⊎ IsRefused nodes styles.own styles.rules e → IsDueBy members (IsDueOfOpened faces view nodes styles asked) due
       by open_errors.Memory is' opens' = absurd cc
       by (open_errors.TooManyNodes n) is' (inl memory) = absurd cc
       by (open_errors.TooManyNodes n) is' (inr refused) = told (open_errors.TooManyNodes n) (same_Some _ due is') refused
@@ -115,33 +151,32 @@ module _ {I : Type 0} {D : I → Type 0} (members : (x : I) → Ghosts (D x)) (f
       by (open_errors.Limit limit) is' (inl memory) = absurd cc
       by (open_errors.Limit limit) is' (inr refused) = told (open_errors.Limit limit) (same_Some _ due is') refused
 
-  -- ---- its steps and its styles
+  -- ---- the lines behind it and its styles
 
-  pub steps_read : (nodes : List Node) (styles : Styling) (read : Result (List StepAt) (script.Refusal × ℕ)) (steps : List StepAt) (due : Due I D) → read ≡ Ok steps → IsDueBy members (IsDueOfOpened faces view nodes styles steps) due
-      → IsDueBy members (IsDueOfSteps faces view nodes styles read) due
-  steps_read nodes styles read steps due is by = subst (λ (r : Result (List StepAt) (script.Refusal × ℕ)). IsDueBy members (IsDueOfSteps faces view nodes styles r) due) (sym is) by
+  pub lines_read : (nodes : List Node) (styles : Styling) (read : AskedOr) (asked : Asked) (due : Due I D) → read ≡ Ok asked → IsDueBy members (IsDueOfOpened faces view nodes styles asked) due
+      → IsDueBy members (IsDueOfAsked faces view nodes styles read) due
+  lines_read nodes styles read asked due is by = subst (λ (r : AskedOr). IsDueBy members (IsDueOfAsked faces view nodes styles r) due) (sym is) by
 
-  pub no_steps : (nodes : List Node) (styles : Styling) (read : Result (List StepAt) (script.Refusal × ℕ)) (kind k : script.Refusal) (place p : ℕ) → read ≡ Err (k, p) → kind ≡ k → place ≡ p
-      → IsDueBy members (IsDueOfSteps faces view nodes styles read) (dues.Refused (causes.Script kind) place)
+  pub no_lines : (nodes : List Node) (styles : Styling) (read : AskedOr) (cause c : Cause) (place p : ℕ) → read ≡ Err (cause_word c, p) → cause ≡ c → place ≡ p
+      → IsDueBy members (IsDueOfAsked faces view nodes styles read) (dues.Refused cause place)
+  no_lines nodes styles read cause c place p is what at =
+      subst (λ (r : AskedOr). (end_ : End) (due : List ℕ) → IsDueOfAsked faces view nodes styles r end_ due ↔ ((end_ ≡ Refused) × (due ≡ refusal (cause_word cause) place))) (sym is)
+      (same_line (cause_word c) (cause_word cause) p place (ap (λ (w : Cause). cause_word w) (sym what)) (sym at))
+
+  pub styles_read : (document : Whole) (asked : AskedOr) (styles : Styling) (due : Due I D) → styling document ≡ Ok styles → IsDueBy members (IsDueOfAsked faces view document.nodes styles asked) due
+      → IsDueBy members (IsDueOfWhole faces view document asked) due
+  styles_read document asked styles due is by = subst (λ (p : Placed Styling). IsDueBy members (IsDueOfStyling faces view document.nodes p asked) due) (sym is) by
+
+  pub no_styles : (document : Whole) (asked : AskedOr) (kind k : css.Refusal) (place p : ℕ) → styling document ≡ Err (k, p) → kind ≡ k → place ≡ p
+      → IsDueBy members (IsDueOfWhole faces view document asked) (dues.Refused (causes.Style kind) place)
   unfolding cause_word
-  no_steps nodes styles read kind k place p is what at =
-      subst (λ (r : Result (List StepAt) (script.Refusal × ℕ)). (end_ : End) (due : List ℕ) → IsDueOfSteps faces view nodes styles r end_ due ↔ ((end_ ≡ Refused) × (due ≡ refusal (script_word kind) place))) (sym is)
-      (same_line (script_word k) (script_word kind) p place (ap (λ (w : script.Refusal). script_word w) (sym what)) (sym at))
-
-  pub styles_read : (document : Whole) (steps : Result (List StepAt) (script.Refusal × ℕ)) (styles : Styling) (due : Due I D) → styling document ≡ Ok styles → IsDueBy members (IsDueOfSteps faces view document.nodes styles steps) due
-      → IsDueBy members (IsDueOfWhole faces view document steps) due
-  styles_read document steps styles due is by = subst (λ (p : Placed Styling). IsDueBy members (IsDueOfStyling faces view document.nodes p steps) due) (sym is) by
-
-  pub no_styles : (document : Whole) (steps : Result (List StepAt) (script.Refusal × ℕ)) (kind k : css.Refusal) (place p : ℕ) → styling document ≡ Err (k, p) → kind ≡ k → place ≡ p
-      → IsDueBy members (IsDueOfWhole faces view document steps) (dues.Refused (causes.Style kind) place)
-  unfolding cause_word
-  no_styles document steps kind k place p is what at =
-      subst (λ (r : Placed Styling). (end_ : End) (due : List ℕ) → IsDueOfStyling faces view document.nodes r steps end_ due ↔ ((end_ ≡ Refused) × (due ≡ refusal (style_word kind) place))) (sym is)
+  no_styles document asked kind k place p is what at =
+      subst (λ (r : Placed Styling). (end_ : End) (due : List ℕ) → IsDueOfStyling faces view document.nodes r asked end_ due ↔ ((end_ ≡ Refused) × (due ≡ refusal (style_word kind) place))) (sym is)
       (same_line (style_word k) (style_word kind) p place (ap (λ (w : css.Refusal). style_word w) (sym what)) (sym at))
 
   -- ---- what stands behind it, and the input
 
-  pub tail_read : (follows : Follows) (size : ℕ) (document : Whole) (read : Read ⊤) (rest : List ℕ) (due : Due I D) → read ≡ Ok (tt, rest) → IsDueBy members (IsDueOfWhole faces view document (steps_behind follows size rest)) due
+  pub tail_read : (follows : Follows) (size : ℕ) (document : Whole) (read : Read ⊤) (rest : List ℕ) (due : Due I D) → read ≡ Ok (tt, rest) → IsDueBy members (IsDueOfWhole faces view document (asked_behind follows size rest)) due
       → IsDueBy members (IsDueOfTail faces view follows size document read) due
   tail_read follows size document read rest due is by = subst (λ (r : Read ⊤). IsDueBy members (IsDueOfTail faces view follows size document r) due) (sym is) by
 
@@ -184,19 +219,26 @@ module _ {I : Type 0} {D : I → Type 0} (members : (x : I) → Ghosts (D x)) (f
     both : (end_ : End) (bytes : List ℕ) → IsDueOfInput faces view follows input end_ bytes ↔ IsOf members due end_ bytes
     both end_ bytes = (there end_ bytes, λ q. inr (short, (by end_ bytes).1 q))
 
+-- ---- what can be told
+
+module _ {I : Type 0} {D : I → Type 0} (members : (x : I) → Ghosts (D x)) where
+  pub ready_over : (session : Session I D) (lines : Lines) → IsSound (faces_of members session.faces) session → FitsAsked (asked_of lines)
+      → weight.total weight.bytes (state_of session.document) + bytes_asked (asked_of lines) ≤ 1048576 → IsReady members (due_over session lines)
+  ready_over session (code.Steps script) sound fits room = record { sound = sound; fit = fits; room = room }
+  ready_over session (code.Probes asked) sound fits room = sound
+
 -- ---- answers
 
 pub if_ok : {X E : Type 0} {P Q : X → Type 0} (r : Result X E) → ((x : X) → P x → Q x) → IfOk r P → IfOk r Q
 if_ok (Ok x) more p = more x p
 if_ok (Err error) more p = tt
 
--- a script at its place in the input
-pub steps_here : (follows : Follows) (input text : List ℕ) (place : ℕ) → place ≤ length input → text ≡ drop place input → steps_behind follows (length input) (drop place input) ≡ read_at follows text place
-steps_here Nothing input text place within is = refl
-steps_here Script input text place within is =
+-- lines at their place in the input
+pub lines_here : (follows : Follows) (input text : List ℕ) (place : ℕ) → place ≤ length input → text ≡ drop place input → asked_behind follows (length input) (drop place input) ≡ asked_at follows place text
+lines_here follows input text place within is =
     let long = length-drop place input in
     let at : length input - length (drop place input) ≡ place = omega (arith, long, within) in
-    ap (λ (n : ℕ). placed_from n (scripts.script (drop place input))) at ∙ ap (λ (t : List ℕ). placed_from place (scripts.script t)) (sym is)
+    ap (λ (n : ℕ). asked_at follows n (drop place input)) at ∙ ap (λ (t : List ℕ). asked_at follows place t) (sym is)
 
 -- the texts of a document have no more bytes than it
 pub read_before : ((text behind : List ℕ) (whole : Whole) → IsDocument text behind whole → text_bytes whole.nodes ≤ length text) → (bytes : List ℕ) (read : ReadDocument) → IsTheDocument bytes (whole_of read) → text_bytes (nodes_of read.nodes.items) ≤ read.end

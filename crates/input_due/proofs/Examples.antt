@@ -8,13 +8,16 @@ use Rattle.css_values.specs.declared.error.Refusal.TheVariants.{CssSyntax}
 use Rattle.edit_script.specs.Error as script_errors
 use Rattle.edit_script.specs.declared.error.Refusal.TheVariants.{ScriptSyntax}
 use Rattle.edit_script.specs.Meaning.{show}
+use Rattle.hit_caret.specs.Error as probe_errors
+use Rattle.hit_caret.specs.declared.error.Refusal.TheVariants.{TooManyEdits, ScriptSyntax as NoLine}
 use Rattle.session.specs.Error.{open_word}
 use Rattle.session.specs.declared.error.OpenError.TheVariants.{TooDeep}
 use Rattle.edit_job.specs.Refusal.{refusal}
 use Rattle.input_due.specs.Due.{cause_word, node_of}
 use Rattle.input_due.specs.declared.due.Cause.TheVariants as causes
 use Rattle.input_due.specs.declared.follows.Follows.TheVariants.{Nothing}
-use Rattle.input_due.specs.Input.{longest_input, placed_from, steps_behind}
+use Rattle.input_due.specs.Asked.{asked_behind, probes_at, steps, steps_at}
+use Rattle.input_due.specs.Input.{longest_input}
 
 too_long : refusal (cause_word causes.TooLong) longest_input ≡ codes "refused TooLong 1048576\n"
 unfolding refusal cause_word digits
@@ -37,9 +40,19 @@ unfolding refusal cause_word open_word digits
 not_opened = refl
 
 -- the page is listed once, whatever stands there
-the_page_alone : steps_behind Nothing 30 (codes "\nshow\n") ≡ Ok (record { line = 1; what = show } ∷ [])
+the_page_alone : asked_behind Nothing 30 (codes "\nshow\n") ≡ Ok (steps (record { line = 1; what = show } ∷ []))
 the_page_alone = refl
 
 -- a place in a script becomes one in the input
-a_place_in_the_input : placed_from 24 (Err (ScriptSyntax, 5)) ≡ Err (ScriptSyntax, 29)
+a_place_in_the_input : steps_at 24 (Err (ScriptSyntax, 5)) ≡ Err (codes "ScriptSyntax", 29)
+unfolding script_errors.kind_word
 a_place_in_the_input = refl
+
+-- so does one in a probe
+a_place_of_a_probe : probes_at 24 (Err (TooManyEdits, 5)) ≡ Err (codes "TooManyEdits", 29)
+unfolding probe_errors.kind_word
+a_place_of_a_probe = refl
+
+no_probe : refusal (cause_word (causes.Probe NoLine)) 69 ≡ codes "refused ScriptSyntax 69\n"
+unfolding refusal cause_word probe_errors.kind_word digits
+no_probe = refl

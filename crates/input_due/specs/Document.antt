@@ -1,20 +1,24 @@
 -- What stands behind a document that was read, and how much of it there is.
-use Rattle.std.specs.Prelude.{◌≡◌, ◌≤◌, ℕ, List, length, Option, Some, None, Result, Ok, Err, ⊤}
+use Rattle.std.specs.Prelude.{◌≡◌, ◌≤◌, ℕ, Result, Ok, Err, ⊤}
 use Rattle.html_read.specs.declared.node.ReadDocument.{ReadDocument}
 use Rattle.html_read.specs.Shape.{IsInDocumentOrder, IsShaped, text_bytes}
 use Rattle.html_read.specs.Values.{nodes_of}
-use Rattle.edit_script.specs.declared.error.Refusal as script_faults
 use Rattle.edit_script.specs.declared.error.ScriptError.{ScriptError}
-use Rattle.edit_script.specs.declared.error.ScriptError.TheVariants as errors
-use Rattle.edit_script.specs.declared.step.ScriptLine.{ScriptLine}
-use Rattle.edit_script.specs.Script as scripts
-use Rattle.edit_script.specs.Script.{StepAt}
+use Rattle.edit_script.specs.declared.error.ScriptError.TheVariants as script_errors
 use Rattle.edit_script.specs.Views.{steps_of}
-use Rattle.std.specs.Global.{Vec}
-use Rattle.input_due.specs.declared.document.Behind.{Behind}
-use Rattle.input_due.specs.declared.follows.Follows.{Follows}
-use Rattle.input_due.specs.declared.follows.Follows.TheVariants.{Nothing, Script}
-use Rattle.input_due.specs.Input.{one_page, placed_from}
+use Rattle.hit_caret.specs.declared.error.ProbeError.{ProbeError}
+use Rattle.hit_caret.specs.declared.error.ProbeError.TheVariants as probe_errors
+use Rattle.input_due.specs.declared.due.Cause.TheVariants as causes
+use Rattle.input_due.specs.declared.due.Due.{Due}
+use Rattle.input_due.specs.declared.due.Due.TheVariants as dues
+use Rattle.input_due.specs.declared.lines.Behind.{Behind}
+use Rattle.input_due.specs.declared.lines.Halt.{Halt}
+use Rattle.input_due.specs.declared.lines.Halt.TheVariants as halts
+use Rattle.input_due.specs.declared.lines.Lines as code_lines
+use Rattle.input_due.specs.declared.lines.Lines.TheVariants as code
+use Rattle.input_due.specs.Asked.{Asked, AskedOr, steps, probes, asked_at}
+use Rattle.input_due.specs.Due.{cause_word}
+use Rattle.session.specs.declared.session.Session.{Session}
 
 -- what every document that was read has, with at most so many bytes of text
 pub record IsReadBefore (read : ReadDocument) (most : ℕ) : Type 0 where
@@ -22,23 +26,32 @@ pub record IsReadBefore (read : ReadDocument) (most : ℕ) : Type 0 where
   pub ordered : IsInDocumentOrder (nodes_of read.nodes.items)
   pub bytes : text_bytes (nodes_of read.nodes.items) ≤ most
 
--- the steps behind it, or what is wrong with them and where
-abbrev pub stands_behind : Option Behind → Result (List StepAt) (script_faults.Refusal × ℕ)
-stands_behind None = Ok one_page
-stands_behind (Some behind) = placed_from behind.start (scripts.script behind.text.now)
+-- what is asked there, or what is wrong with it and where
+abbrev pub asked_in : Behind → AskedOr
+asked_in behind = asked_at behind.follows behind.start behind.text.now
 
--- the steps that stand in a text from a place on
-abbrev pub read_at : Follows → (text : List ℕ) → (start : ℕ) → Result (List StepAt) (script_faults.Refusal × ℕ)
-read_at Nothing text start = Ok one_page
-read_at Script text start = placed_from start (scripts.script text)
+-- what lines ask that were read
+abbrev pub asked_of : code_lines.Lines → Asked
+asked_of (code.Steps script) = steps (steps_of script.items)
+asked_of (code.Probes asked) = probes asked.items
 
--- how many bytes of text they may bring
-abbrev pub room_for : Option Behind → ℕ
-room_for None = 0
-room_for (Some behind) = length behind.text.now
+-- why they were not read
+abbrev pub of_script_error : ScriptError → Halt
+of_script_error (script_errors.Refused kind place) = halts.Refused (causes.Script kind) place
+of_script_error script_errors.Memory = halts.Memory
 
--- the steps were read, unless memory ran out
-abbrev pub ReadsSteps : Result (Vec ScriptLine) ScriptError → Result (List StepAt) (script_faults.Refusal × ℕ) → Type 0
-ReadsSteps (Ok script) read = read ≡ Ok (steps_of script.items)
-ReadsSteps (Err (errors.Refused kind place)) read = read ≡ Err (kind, place)
-ReadsSteps (Err errors.Memory) read = ⊤
+abbrev pub of_probe_error : ProbeError → Halt
+of_probe_error (probe_errors.Refused kind place) = halts.Refused (causes.Probe kind) place
+of_probe_error probe_errors.Memory = halts.Memory
+
+-- the lines were read, or the refusal is theirs, unless memory ran out
+abbrev pub ReadsLines : Result code_lines.Lines Halt → AskedOr → Type 0
+ReadsLines (Ok lines) read = read ≡ Ok (asked_of lines)
+ReadsLines (Err (halts.Refused cause place)) read = read ≡ Err (cause_word cause, place)
+ReadsLines (Err halts.Memory) read = ⊤
+
+module _ {I : Type 0} {D : I → Type 0} where
+  -- what is due for them over a session
+  abbrev pub due_over : Session I D → code_lines.Lines → Due I D
+  due_over session (code.Steps script) = dues.Steps session script
+  due_over session (code.Probes asked) = dues.Answers session asked

@@ -15,9 +15,11 @@ use Rattle.edit_script.specs.Views.{steps_of}
 use Rattle.session.specs.declared.error.OpenError.{OpenError}
 use Rattle.session.specs.declared.session.Session.{Session}
 use Rattle.session.specs.Error.{open_node, open_word}
-use Rattle.session.specs.State.{IsSound}
+use Rattle.session.specs.State.{IsSound, page_in}
 use Rattle.edit_job.specs.Refusal.{refusal}
 use Rattle.edit_job.specs.Steps.{AreStepsIn}
+use Rattle.hit_caret.specs.Error.{kind_word as probe_word}
+use Rattle.probe_job.specs.Answers.{answers}
 use Rattle.input_due.specs.declared.due.Due.{Due}
 use Rattle.input_due.specs.declared.due.Due.TheVariants as dues
 use Rattle.input_due.specs.declared.due.Cause.{Cause}
@@ -38,16 +40,18 @@ cause_word causes.TooLong = codes "TooLong"
 cause_word (causes.Document kind) = kind_word kind
 cause_word (causes.Style kind) = style_word kind
 cause_word (causes.Script kind) = script_word kind
+cause_word (causes.Probe kind) = probe_word kind
 cause_word (causes.Opening error) = open_word error
 
 module _ {I : Type 0} {D : I → Type 0} where
   abbrev pub not_opened : OpenError → Option (Due I D)
   not_opened error = option_map (λ node. dues.Refused (causes.Opening error) node) (open_node error)
 
-  -- steps are due, and no refusal
-  abbrev pub HasSteps : Due I D → Type 0
-  HasSteps (dues.Steps session script) = ⊤
-  HasSteps (dues.Refused cause place) = ⊥
+  -- its document is open, and no refusal is due
+  abbrev pub IsOpen : Due I D → Type 0
+  IsOpen (dues.Steps session script) = ⊤
+  IsOpen (dues.Answers session probes) = ⊤
+  IsOpen (dues.Refused cause place) = ⊥
 
   -- steps can be gone through over a session
   pub record AreReady (faces : List (Option Table)) (session : Session I D) (steps : List StepAt) : Type 0 where
@@ -59,11 +63,13 @@ module _ {I : Type 0} {D : I → Type 0} (members : (x : I) → Ghosts (D x)) wh
   -- these bytes are those of what is due, with its end
   abbrev pub IsOf : Due I D → End → (due : List ℕ) → Type 0
   IsOf (dues.Steps session script) end_ due = (end_ ≡ Done) × (last : State) × AreStepsIn (faces_of members session.faces) session (steps_of script.items) last due
+  IsOf (dues.Answers session probes) end_ due = (end_ ≡ Done) × (due ≡ answers (page_in (faces_of members session.faces) session) probes.items)
   IsOf (dues.Refused cause place) end_ due = (end_ ≡ Refused) × (due ≡ refusal (cause_word cause) place)
 
   -- what is due can be told
   abbrev pub IsReady : Due I D → Type 0
   IsReady (dues.Steps session script) = AreReady (faces_of members session.faces) session (steps_of script.items)
+  IsReady (dues.Answers session probes) = IsSound (faces_of members session.faces) session
   IsReady (dues.Refused cause place) = ⊤
 
   -- what is due is this, where the other says which bytes are due with which end

@@ -1,3 +1,4 @@
+pub mod Asked
 pub mod Document
 pub mod Due
 pub mod Input

@@ -1,6 +1,6 @@
-//! An input to what is due for it: the steps over its document, or its refusal. No stream is touched here.
+//! An input to what is due for it: its document, opened, with what is asked of it, or its refusal. No stream is touched here.
 
-ghost use Rattle.std.specs.Prelude.{◌≡◌, ◌+◌, ◌-◌, ◌≤◌, List, length, drop, IfErr, IfOk, Some, None};
+ghost use Rattle.std.specs.Prelude.{◌≡◌, ◌-◌, ◌≤◌, length, drop, IfOk};
 ghost use Rattle.std.specs.List.{All};
 ghost use Rattle.std.specs.Str.{IsUtf8};
 ghost use Rattle.wm_units.specs.View.{IsView};
@@ -10,19 +10,18 @@ ghost use Rattle.html_read.specs.Reading as reading;
 ghost use Rattle.html_read.specs.Values.{nodes_of, whole_of};
 ghost use Rattle.dom_store.specs.State.{AreSaid};
 ghost use Rattle.cascade.specs.Winners.{AreSaidRules};
-ghost use Rattle.edit_script.specs.Fitting.{AllFit, bytes_of};
-ghost use Rattle.edit_script.specs.Views.{steps_of};
-ghost use Rattle.input_due.specs.Document.{IsReadBefore, ReadsSteps, read_at, room_for, stands_behind};
+ghost use Rattle.input_due.specs.Asked.{FitsAsked, bytes_asked, has_lines};
+ghost use Rattle.input_due.specs.Document.{IsReadBefore, asked_in, asked_of};
 ghost use Rattle.input_due.specs.Due.{IsDueBy, IsReady};
-ghost use Rattle.input_due.specs.Input.{IsDueOfDocument, IsDueOfOpened, IsDueOfSteps, IsDueOfTail, IsDueOfWhole, has_script, one_page};
+ghost use Rattle.input_due.specs.Input.{IsDueOfAsked, IsDueOfDocument, IsDueOfOpened, IsDueOfTail, IsDueOfWhole};
 
 use crate::due::Due;
 use crate::follows::Follows;
+use crate::lines::{Behind, Halt, Lines, read_lines};
 use cascade::laws::what_is_read_is_said;
 use css_sheet::read_styled;
 use css_types::Styled;
 use css_values::CssError;
-use edit_script::{Script, ScriptError, ScriptLine, ScriptStep, read_script};
 use face_api::{Face, Faces};
 use html_read::laws::{documents_spell, texts_stand_apart};
 use html_read::{HtmlError, ReadDocument, read_document, read_tail};
@@ -32,14 +31,8 @@ use std::alloc::{AllocError, Global};
 use std::str;
 use wm_units::View;
 
-/// The text of a script, and the place of its first byte in the input.
-#[derive(Clone, Copy)]
-struct Behind<'a> {
-    text: &'a str,
-    start: usize,
-}
-
-/// What is due for an input that isn't too long. Where no script may follow the document, the page is listed once.
+/// What is due for an input that isn't too long: a script or the lines of a probe may follow its document, or neither; then the
+/// page is listed once.
 pub fn due_of_document(
     alloc: Global,
     view: View,
@@ -75,17 +68,21 @@ fn with_tail(
     requires end { read.now.end ≤ length input.now }
     requires utf8 { IsUtf8 (drop read.now.end input.now) }
     requires read { IsReadBefore read.now read.now.end }
-    ensures due { IfOk result (λ due. IsDueBy ⟦<dyn Face as Face>⟧ (IsDueOfTail (faces_of ⟦<dyn Face as Face>⟧ faces) view follows (length input.now) (whole_of read.now) (reading.tail (has_script follows) (drop read.now.end input.now))) due) }
+    ensures due { IfOk result (λ due. IsDueBy ⟦<dyn Face as Face>⟧ (IsDueOfTail (faces_of ⟦<dyn Face as Face>⟧ faces) view follows (length input.now) (whole_of read.now) (reading.tail (has_lines follows) (drop read.now.end input.now))) due) }
     ensures ready { IfOk result (λ due. IsReady ⟦<dyn Face as Face>⟧ due) }
 {
-    match read_tail(input, read.end, follows.is_script()) {
+    match read_tail(input, read.end, follows.has_lines()) {
         Ok(place) => match str::from_utf8(input.split_at(place).1) {
             Ok(text) => with_styles(
                 alloc,
                 view,
                 faces,
                 read,
-                script_behind(follows, text, place),
+                Behind {
+                    follows,
+                    text,
+                    start: place,
+                },
             ),
             // What is left behind a document is a text.
             Err(_) => Err(AllocError),
@@ -95,89 +92,51 @@ fn with_tail(
     }
 }
 
-// The text of a script where one is asked for.
-fn script_behind<'a>(follows: Follows, text: &'a str, start: usize) -> Option<Behind<'a>>
-    ensures read { stands_behind result ≡ read_at follows text.now start }
-    ensures room { room_for result ≤ length text.now }
-{
-    match follows {
-        Follows::Nothing => None,
-        Follows::Script => Some(Behind { text, start }),
-    }
-}
-
 // By its style sheets and style attributes.
 fn with_styles(
     alloc: Global,
     view: View,
     faces: Faces,
     read: &ReadDocument,
-    behind: Option<Behind<'_>>,
+    behind: Behind<'_>,
 ) -> Result<Due, AllocError>
     requires view { IsView view }
-    requires read { IsReadBefore read.now (1048576 - room_for behind) }
-    requires short { room_for behind ≤ 1048576 }
-    ensures due { IfOk result (λ due. IsDueBy ⟦<dyn Face as Face>⟧ (IsDueOfWhole (faces_of ⟦<dyn Face as Face>⟧ faces) view (whole_of read.now) (stands_behind behind.entry)) due) }
+    requires read { IsReadBefore read.now (1048576 - length behind.text.now) }
+    requires short { length behind.text.now ≤ 1048576 }
+    ensures due { IfOk result (λ due. IsDueBy ⟦<dyn Face as Face>⟧ (IsDueOfWhole (faces_of ⟦<dyn Face as Face>⟧ faces) view (whole_of read.now) (asked_in behind.entry)) due) }
     ensures ready { IfOk result (λ due. IsReady ⟦<dyn Face as Face>⟧ due) }
 {
     what_is_read_is_said();
     match read_styled(alloc, read) {
-        Ok(styles) => with_steps(alloc, view, faces, read, &styles, behind),
+        Ok(styles) => with_lines(alloc, view, faces, read, &styles, behind),
         Err(CssError::Refused { kind, place }) => Ok(Due::no_styles(kind, place)),
         Err(CssError::Memory) => Err(AllocError),
     }
 }
 
-// By the steps over it.
-fn with_steps(
+// By the lines behind it.
+fn with_lines(
     alloc: Global,
     view: View,
     faces: Faces,
     read: &ReadDocument,
     styles: &Styled,
-    behind: Option<Behind<'_>>,
+    behind: Behind<'_>,
 ) -> Result<Due, AllocError>
     requires view { IsView view }
-    requires read { IsReadBefore read.now (1048576 - room_for behind) }
-    requires short { room_for behind ≤ 1048576 }
+    requires read { IsReadBefore read.now (1048576 - length behind.text.now) }
+    requires short { length behind.text.now ≤ 1048576 }
     requires each { length styles.now.styles.items ≡ length read.now.nodes.items }
     requires rules { AreSaidRules (rulings_of styles.now.rules.items) }
     requires own { All (λ own. AreSaid own.items) styles.now.styles.items }
-    ensures due { IfOk result (λ due. IsDueBy ⟦<dyn Face as Face>⟧ (IsDueOfSteps (faces_of ⟦<dyn Face as Face>⟧ faces) view (nodes_of read.now.nodes.items) (styled_of styles.now) (stands_behind behind.entry)) due) }
+    ensures due { IfOk result (λ due. IsDueBy ⟦<dyn Face as Face>⟧ (IsDueOfAsked (faces_of ⟦<dyn Face as Face>⟧ faces) view (nodes_of read.now.nodes.items) (styled_of styles.now) (asked_in behind.entry)) due) }
     ensures ready { IfOk result (λ due. IsReady ⟦<dyn Face as Face>⟧ due) }
 {
-    match steps(alloc, behind) {
-        Ok(script) => opened(alloc, view, faces, read, styles, script),
-        Err(ScriptError::Refused { kind, place }) => Ok(Due::no_script(kind, place)),
-        Err(ScriptError::Memory) => Err(AllocError),
+    match read_lines(alloc, behind) {
+        Ok(lines) => opened(alloc, view, faces, read, styles, lines),
+        Err(Halt::Refused { cause, place }) => Ok(Due::Refused { cause, place }),
+        Err(Halt::Memory) => Err(AllocError),
     }
-}
-
-// The steps of the script, or the page once where none is asked for.
-fn steps(alloc: Global, behind: Option<Behind<'_>>) -> Result<Script, ScriptError>
-    ensures read { ReadsSteps result (stands_behind behind.entry) }
-    ensures fit { IfOk result (λ script. AllFit (steps_of script.items)) }
-    ensures bytes { IfOk result (λ script. bytes_of (steps_of script.items) ≤ room_for behind.entry) }
-{
-    match behind {
-        Some(Behind { text, start }) => read_script(alloc, text, start),
-        None => match one_page(alloc) {
-            Ok(script) => Ok(script),
-            Err(_) => Err(ScriptError::Memory),
-        },
-    }
-}
-
-// The page once.
-fn one_page(alloc: Global) -> Result<Script, AllocError>
-    ensures { IfOk result (λ script. steps_of script.items ≡ one_page) }
-{
-    let mut script = Script::new(alloc);
-    script.push(ScriptLine {
-        line: 1,
-        what: ScriptStep::Show,
-    })?;
-    Ok(script)
 }
 
 // The document, where it can be opened.
@@ -187,21 +146,21 @@ fn opened(
     faces: Faces,
     read: &ReadDocument,
     styles: &Styled,
-    script: Script,
+    lines: Lines,
 ) -> Result<Due, AllocError>
     requires view { IsView view }
-    requires read { IsReadBefore read.now (1048576 - bytes_of (steps_of script.items)) }
-    requires short { bytes_of (steps_of script.items) ≤ 1048576 }
-    requires fit { AllFit (steps_of script.items) }
+    requires read { IsReadBefore read.now (1048576 - bytes_asked (asked_of lines)) }
+    requires short { bytes_asked (asked_of lines) ≤ 1048576 }
+    requires fits { FitsAsked (asked_of lines) }
     requires each { length styles.now.styles.items ≡ length read.now.nodes.items }
     requires rules { AreSaidRules (rulings_of styles.now.rules.items) }
     requires own { All (λ own. AreSaid own.items) styles.now.styles.items }
-    ensures due { IfOk result (λ due. IsDueBy ⟦<dyn Face as Face>⟧ (IsDueOfOpened (faces_of ⟦<dyn Face as Face>⟧ faces) view (nodes_of read.now.nodes.items) (styled_of styles.now) (steps_of script.items)) due) }
+    ensures due { IfOk result (λ due. IsDueBy ⟦<dyn Face as Face>⟧ (IsDueOfOpened (faces_of ⟦<dyn Face as Face>⟧ faces) view (nodes_of read.now.nodes.items) (styled_of styles.now) (asked_of lines)) due) }
     ensures ready { IfOk result (λ due. IsReady ⟦<dyn Face as Face>⟧ due) }
 {
     one_answer();
     match Session::open(alloc, read, styles, faces, view) {
-        Ok(session) => Ok(Due::Steps { session, script }),
+        Ok(session) => Ok(lines.over(session)),
         Err(error) => match Due::not_opened(error) {
             Some(due) => Ok(due),
             None => Err(AllocError),

@@ -1,4 +1,4 @@
-//! What is due for an input: the steps over its document, or its refusal.
+//! What is due for an input: the steps over its document, the answers over its page, or its refusal.
 
 ghost use Rattle.std.specs.Prelude.{◌≡◌, ◌≤◌, length};
 ghost use Rattle.input_due.specs.Due.{cause_word, not_opened};
@@ -6,6 +6,7 @@ ghost use Rattle.input_due.specs.declared.due.Cause.TheVariants as Causes;
 ghost use Rattle.input_due.specs.declared.due.Due.TheVariants as Dues;
 
 use edit_script::Script;
+use hit_caret::Probes;
 use html_read::Refusal;
 use session::{OpenError, Session};
 
@@ -14,6 +15,8 @@ use session::{OpenError, Session};
 pub enum Due {
     /// What the steps of a script write over a document.
     Steps { session: Session, script: Script },
+    /// The answers to the lines of a probe over the page of a document.
+    Answers { session: Session, probes: Probes },
     /// A line of refusal, with its cause, and its place in bytes or the number of its node.
     Refused { cause: Cause, place: usize },
 }
@@ -35,16 +38,6 @@ impl Due {
     {
         Due::Refused {
             cause: Cause::Style(kind),
-            place,
-        }
-    }
-
-    /// The refusal of a script.
-    pub(crate) fn no_script(kind: edit_script::Refusal, place: usize) -> Due
-        ensures { result ≡ Dues.Refused (Causes.Script kind) place }
-    {
-        Due::Refused {
-            cause: Cause::Script(kind),
             place,
         }
     }
@@ -72,6 +65,8 @@ pub enum Cause {
     Style(css_values::Refusal),
     /// What stands behind its document is no script.
     Script(edit_script::Refusal),
+    /// What stands behind its document are no lines of a probe.
+    Probe(hit_caret::Refusal),
     /// Its document can't be opened.
     Opening(OpenError),
 }
@@ -88,6 +83,7 @@ impl Cause {
             Cause::Document(kind) => kind.word(),
             Cause::Style(kind) => kind.word(),
             Cause::Script(kind) => kind.word(),
+            Cause::Probe(kind) => kind.word(),
             Cause::Opening(error) => error.word(),
         }
     }

@@ -1,7 +1,7 @@
 //! What may stand after a document in an input.
 
 ghost use Rattle.std.specs.Prelude.{◌≡◌};
-ghost use Rattle.input_due.specs.Input.{has_script};
+ghost use Rattle.input_due.specs.Asked.{has_lines};
 
 /// What stands after the document in an input.
 #[derive(Clone, Copy, Debug, PartialEq, Eq)]
@@ -10,16 +10,18 @@ pub enum Follows {
     Nothing,
     /// A script of edits, from the next line on, which may be empty: then nothing is listed.
     Script,
+    /// The lines of a probe, from the next line on, of which there may be none.
+    Probe,
 }
 
 impl Follows {
-    /// Whether a script is read.
-    pub(crate) fn is_script(self) -> bool
-        ensures { result ≡ has_script self }
+    /// Whether lines are read.
+    pub(crate) fn has_lines(self) -> bool
+        ensures { result ≡ has_lines self }
     {
         match self {
             Follows::Nothing => false,
-            Follows::Script => true,
+            Follows::Script | Follows::Probe => true,
         }
     }
 }

@@ -5,7 +5,7 @@ ghost use Rattle.std.specs.Io.KnownBytes.{IsAtEnd};
 ghost use Rattle.face_api.specs.Faces.{faces_of};
 ghost use Rattle.wm_units.specs.View.{IsView};
 ghost use Rattle.io_edge.specs.Edge.{Rose};
-ghost use Rattle.input_due.specs.Due.{HasSteps, IsDueBy, IsReady};
+ghost use Rattle.input_due.specs.Due.{IsOpen, IsDueBy, IsReady};
 ghost use Rattle.input_due.specs.Input.{IsDueOfInput, longest_input};
 
 use crate::document::due_of_document;
@@ -21,8 +21,8 @@ use wm_units::View;
 const LONGEST_INPUT: usize = 1_048_576;
 
 /// Reads an input to its end, and finds out what is due for it: of more than 1,048,576 bytes its refusal. Behind the document
-/// stands a script, or no script may stand; then the page is listed once. `ReadFault` comes only where the source's count
-/// of faults rose in this call. The source has none left where steps are due, and where a shorter input is refused.
+/// stand a script or the lines of a probe, or neither may stand; then the page is listed once. `ReadFault` comes only where the source's count
+/// of faults rose in this call. The source has none left where its document is open, and where a shorter input is refused.
 pub fn due_of_input<S: Source>(
     alloc: Global,
     view: View,
@@ -33,7 +33,7 @@ pub fn due_of_input<S: Source>(
     requires view { IsView view }
     ensures due { IfOk result (λ due. (input : List ℕ) → S.left source.old ≡ Some input → IsDueBy ⟦<dyn Face as Face>⟧ (IsDueOfInput (faces_of ⟦<dyn Face as Face>⟧ faces) view follows input) due) }
     ensures ready { IfOk result (λ due. IsReady ⟦<dyn Face as Face>⟧ due) }
-    ensures done { IfOk result (λ due. HasSteps due → IsAtEnd (S.left source.new)) }
+    ensures done { IfOk result (λ due. IsOpen due → IsAtEnd (S.left source.new)) }
     ensures short { IfOk result (λ due. (input : List ℕ) → S.left source.old ≡ Some input → length input ≤ longest_input → IsAtEnd (S.left source.new)) }
     ensures fault { IsErrOf result InputError.ReadFault → Rose (S.faults source.old) (S.faults source.new) }
 {

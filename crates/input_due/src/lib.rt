@@ -1,4 +1,5 @@
-//! What is due for an input: the steps of a script over its document, or its refusal (docs/PROFILE/commands.md).
+//! What is due for an input: the steps of a script over its document, the answers over its page, or its refusal
+//! (docs/PROFILE/commands.md).
 #![tactic(auto)]
 
 mod document;
@@ -7,6 +8,7 @@ mod error;
 mod follows;
 mod input;
 pub mod laws;
+mod lines;
 
 pub use document::due_of_document;
 pub use due::{Cause, Due};

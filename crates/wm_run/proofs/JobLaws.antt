@@ -10,7 +10,9 @@ use Rattle.face_api.specs.Faces.{faces_of}
 use Rattle.face_api.specs.declared.face.Face.{Ghosts}
 use Rattle.wm_units.specs.declared.view.View.{View}
 use Rattle.edits.specs.State.{State}
-use Rattle.session.specs.State.{state_in}
+use Rattle.hit_caret.specs.declared.probes.Probe.{Probe}
+use Rattle.probe_job.specs.Answers.{answers}
+use Rattle.session.specs.State.{page_in, state_in}
 use Rattle.edit_script.specs.declared.step.ScriptLine.{ScriptLine}
 use Rattle.edit_script.specs.Views.{steps_of}
 use Rattle.edit_job.specs.Steps.{AreStepsIn, HaveOneEnd}
@@ -36,6 +38,7 @@ module _ {I : Type 0} {D : I → Type 0} (members : (x : I) → Ghosts (D x)) wh
   pub one_text : HaveOneEnd → (due : Due I D) (end_ other_end : End) (one other : List ℕ) → IsOf members due end_ one → IsOf members due other_end other → other ≡ one
   one_text ends (dues.Steps session script) end_ other_end one other (is, last, steps) (is', last', steps') =
       (ends session.view (state_in (faces_of members session.faces) session) (steps_of script.items) last last' one other steps steps').1
+  one_text ends (dues.Answers session probes) end_ other_end one other (is, d) (is', d') = d' ∙ sym d
   one_text ends (dues.Refused cause place) end_ other_end one other (is, d) (is', d') = d' ∙ sym d
 
   -- what was told of it is that
@@ -54,6 +57,19 @@ module _ {I : Type 0} {D : I → Type 0} (members : (x : I) → Ghosts (D x)) wh
       (stands_told (IsOf members (dues.Steps session script)) old new
       (λ end_ told q. front q.1 told (subst (λ (l : List ScriptLine). AreStepsIn (faces_of members session.faces) session (steps_of l) q.1 told) (sym same) q.2)) written
       (on_ok written whole (λ w. (w.0, (refl, state, subst (λ (l : List ScriptLine). AreStepsIn (faces_of members session.faces) session (steps_of l) state w.0) same w.1), w.2))))
+
+  -- a run that answered a probe stands
+  pub stands_answers : (due : Due I D) (session : Session I D) (asked : Vec Probe) (lines : List Probe) (old new : Option (List ℕ)) (written : Result ⊤ WriteError)
+      → due ≡ dues.Answers session asked → lines ≡ asked.items
+      → OnOk written (Appends old new (answers (page_in (faces_of members session.faces) session) lines)) → AppendsFront old new (answers (page_in (faces_of members session.faces) session) lines)
+      → Stands (with_status (IsOf members due)) old new (ended written Done)
+  stands_answers due session asked lines old new written is same whole front =
+      let text = answers (page_in (faces_of members session.faces) session) in
+      let told : text lines ≡ text asked.items = ap text same in
+      subst (λ (d : Due I D). Stands (with_status (IsOf members d)) old new (ended written Done)) (sym is)
+      (stands_told (IsOf members (dues.Answers session asked)) old new
+      (λ end_ bytes q. subst (λ (b : List ℕ). AppendsFront old new b) (told ∙ sym q.1) front) written
+      (on_ok written whole (λ w. (text lines, (refl, told), w))))
 
 -- the line of counts
 pub only_counted : (faces : List (Option Table)) (view : View) (count : ℕ) (written line : List ℕ) → (end_ : End) × IsDueOfDocument faces view Script (gen_input count) end_ written

@@ -5,9 +5,9 @@ use Rattle.face_api.specs.Table.{Table}
 use Rattle.generator.specs.Generator.{gen_input}
 use Rattle.command_line.specs.Command.{IsJob}
 use Rattle.command_line.specs.declared.job.Command.{Command}
-use Rattle.command_line.specs.declared.job.Command.TheVariants.{Layout, Edit, Gen}
+use Rattle.command_line.specs.declared.job.Command.TheVariants.{Layout, Edit, Gen, Probe}
 use Rattle.command_line.specs.declared.job.Job.{Job}
-use Rattle.input_due.specs.declared.follows.Follows.TheVariants.{Nothing, Script}
+use Rattle.input_due.specs.declared.follows.Follows.TheVariants.{Nothing, Script, Probe as Points}
 use Rattle.input_due.specs.Due.{End}
 use Rattle.input_due.specs.Due as ends
 use Rattle.input_due.specs.Input.{IsDueOfDocument, IsDueOfInput}
@@ -16,7 +16,7 @@ use Rattle.wm_run.specs.declared.status.Status.TheVariants.{Done, Usage, Refused
 
 -- the line that tells of the commands
 unfoldable pub usage_line : List ℕ
-usage_line = codes "usage: wm_layout layout|edit|modes|gen [--view-inline N] [--view-block N] [--count N]\n"
+usage_line = codes "usage: wm_layout layout|edit|modes|gen|probe [--view-inline N] [--view-block N] [--count N]\n"
 
 -- ---- an input
 
@@ -46,12 +46,15 @@ abbrev pub Reads : Command → Type 0
 Reads Layout = ⊤
 Reads Edit = ⊤
 Reads Gen = ⊥
+Reads Probe = ⊤
 
--- `layout` lists the page of a document, `edit` goes through the script that stands behind it
+-- `layout` lists the page of a document, `edit` goes through the script that stands behind it, `probe` answers over its page the
+-- lines that stand there
 abbrev pub IsDueOfCommand : Command → (faces : List (Option Table)) → View → (count : ℕ) → (input : List ℕ) → Status → List ℕ → Type 0
 IsDueOfCommand Layout faces view count input status due = with_status (IsDueOfInput faces view Nothing input) status due
 IsDueOfCommand Edit faces view count input status due = with_status (IsDueOfInput faces view Script input) status due
 IsDueOfCommand Gen faces view count input status due = IsDueOfGenerated faces view count status due
+IsDueOfCommand Probe faces view count input status due = with_status (IsDueOfInput faces view Points input) status due
 
 abbrev pub IsDueOfJob : (faces : List (Option Table)) → Job → (input : List ℕ) → Status → List ℕ → Type 0
 IsDueOfJob faces job input status due = IsDueOfCommand job.command faces job.view job.count input status due

@@ -25,9 +25,10 @@ use wm_units::{Steps, View};
 ///
 /// The words are those of a command with its options (docs/PROFILE/commands.md); with other words the usage line is written.
 /// `layout` lists the page of a document, `edit` goes through the script that stands behind a document, `gen` does the same
-/// with the generated input, of which it reads nothing, and counts what would be written. An input has at most 1,048,576
-/// bytes: a longer one is refused as `TooLong`, bytes that are no document by the kind and the place of what is wrong,
-/// styles and scripts that are none by theirs, and a document past a limit by the number of a node.
+/// with the generated input, of which it reads nothing, and counts what would be written. `probe` answers the lines that stand
+/// behind a document: what its page has at a point, and where the caret stands at a place of a text. An input has at most
+/// 1,048,576 bytes: a longer one is refused as `TooLong`, bytes that are no document by the kind and the place of what is
+/// wrong, styles, scripts and probes that are none by theirs, and a document past a limit by the number of a node.
 ///
 /// The faces are one to eight, by numbers from 0 in the order of the list. The run owns them, and drops them when
 /// it ends. `prepared` counts paragraphs whose text is prepared, `arranged` lists of lines and of blocks that are put down.
@@ -118,6 +119,16 @@ fn tell_job<S: Source, K: Sink, L: Ledger, M: Ledger>(
             job.view,
             faces,
             Follows::Script,
+            source,
+            sink,
+            prepared,
+            arranged,
+        ),
+        Command::Probe => tell_input(
+            alloc,
+            job.view,
+            faces,
+            Follows::Probe,
             source,
             sink,
             prepared,

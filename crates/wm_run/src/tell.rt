@@ -1,21 +1,28 @@
 //! What is due, written to a sink. Nothing else in this crate writes.
 
-ghost use Rattle.std.specs.Prelude.{◌≡◌, ◌⊎◌};
-ghost use Rattle.io_edge.specs.Edge.{Rose};
-ghost use Rattle.input_due.specs.Due.{HasSteps, IsOf, IsReady};
+ghost use Rattle.std.specs.Prelude.{◌≡◌, ◌⊎◌, OnOk, IsErrOf};
+ghost use Rattle.std.specs.Io.KnownBytes.{Appends};
+ghost use Rattle.face_api.specs.Faces.{faces_of};
+ghost use Rattle.io_edge.specs.Edge.{AppendsFront, Rose};
+ghost use Rattle.probe_job.specs.Answers.{answers};
+ghost use Rattle.session.specs.State.{IsSound, page_in};
+ghost use Rattle.input_due.specs.Due.{IsOf, IsOpen, IsReady};
 ghost use Rattle.wm_run.specs.Job.{usage_line, with_status};
 ghost use Rattle.wm_run.specs.Standing.{Gives, IsBroken, IsSettled, Stands, ended};
 
 use crate::status::Status;
 use edit_job::{refusal_line, tell_steps};
 use face_api::Face;
+use hit_caret::Probe;
 use input_due::Due;
 use io_edge::{Sink, WriteError, write_all_of};
+use probe_job::tell_answers;
+use session::Session;
 use std::sync::ledger::Ledger;
 use wm_units::Steps;
 
 const USAGE: &[u8] =
-    b"usage: wm_layout layout|edit|modes|gen [--view-inline N] [--view-block N] [--count N]\n";
+    b"usage: wm_layout layout|edit|modes|gen|probe [--view-inline N] [--view-block N] [--count N]\n";
 
 /// Writes what is due, and answers how the run ends.
 pub(crate) fn tell<K: Sink, L: Ledger, M: Ledger>(
@@ -28,7 +35,7 @@ pub(crate) fn tell<K: Sink, L: Ledger, M: Ledger>(
     ensures stands { Stands (with_status (IsOf ⟦<dyn Face as Face>⟧ due)) (K.held sink.old) (K.held sink.new) result }
     ensures no_usage { result ≡ Status.Usage → ⊥ }
     ensures no_read_fault { result ≡ Status.ReadFault → ⊥ }
-    ensures done { result ≡ Status.Done → HasSteps due }
+    ensures done { result ≡ Status.Done → IsOpen due }
     ensures write_fault { result ≡ Status.WriteFault → Rose (K.faults sink.old) (K.faults sink.new) }
 {
     match due {
@@ -39,12 +46,36 @@ pub(crate) fn tell<K: Sink, L: Ledger, M: Ledger>(
             let written = tell_steps(&mut session, &script, sink, prepared, arranged);
             ended(written, Status::Done)
         }
+        Due::Answers {
+            mut session,
+            probes,
+        } => {
+            let written = tell_probes(&mut session, &probes, sink, prepared, arranged);
+            ended(written, Status::Done)
+        }
         Due::Refused { cause, place } => tell_line(
             refusal_line(cause.word(), place).as_bytes(),
             sink,
             Status::Refused,
         ),
     }
+}
+
+// Answers the lines of a probe over the page of a session.
+fn tell_probes<K: Sink, L: Ledger, M: Ledger>(
+    session: &mut Session,
+    probes: &[Probe],
+    sink: &mut K,
+    prepared: &mut Steps<L>,
+    arranged: &mut Steps<M>,
+) -> Result<(), WriteError>
+    requires sound { IsSound (faces_of ⟦<dyn Face as Face>⟧ session.old.faces) session.old }
+    ensures whole { OnOk result (Appends (K.held sink.old) (K.held sink.new) (answers (page_in (faces_of ⟦<dyn Face as Face>⟧ session.old.faces) session.old) probes.now)) }
+    ensures front { AppendsFront (K.held sink.old) (K.held sink.new) (answers (page_in (faces_of ⟦<dyn Face as Face>⟧ session.old.faces) session.old) probes.now) }
+    ensures fault { IsErrOf result WriteError.WriteFault → Rose (K.faults sink.old) (K.faults sink.new) }
+{
+    let placed = session.page(prepared, arranged)?;
+    tell_answers(&placed, probes, sink)
 }
 
 /// Writes the line that tells of the commands.

@@ -17,6 +17,12 @@ returns-in-Edit-clause-stands g c = λ input told.
     let P : Command → Type 0 = λ command. Stands (IsDueOfCommand command faces c.args.job.view c.args.job.count input) (g.K.Sink.held c.args.sink.now) (g.K.Sink.held c.tell_input-in-Edit.new.sink) c.tell_input-in-Edit.result in
     subst P (sym c.in-Edit.is) (c.tell_input-in-Edit.ensures.stands input told)
 
+pub returns-in-Probe-clause-stands : goal.returns-in-Probe-clause-stands
+returns-in-Probe-clause-stands g c = λ input told.
+    let faces = faces_of (λ vtable. (g.dyn-1.0.entry vtable).1) c.args.faces in
+    let P : Command → Type 0 = λ command. Stands (IsDueOfCommand command faces c.args.job.view c.args.job.count input) (g.K.Sink.held c.args.sink.now) (g.K.Sink.held c.tell_input-in-Probe.new.sink) c.tell_input-in-Probe.result in
+    subst P (sym c.in-Probe.is) (c.tell_input-in-Probe.ensures.stands input told)
+
 pub returns-in-Gen-clause-stands : goal.returns-in-Gen-clause-stands
 returns-in-Gen-clause-stands g c = λ input told.
     let faces = faces_of (λ vtable. (g.dyn-1.0.entry vtable).1) c.args.faces in

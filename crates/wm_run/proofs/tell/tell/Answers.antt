@@ -5,7 +5,7 @@ use Rattle.input_due.specs.Due.{IsOf}
 use Rattle.wm_run.specs.Job.{with_status}
 use Rattle.wm_run.specs.Standing.{Stands}
 use Rattle.wm_run.specs.declared.status.Status.{Status}
-use Rattle.wm_run.proofs.JobLaws.{stands_steps}
+use Rattle.wm_run.proofs.JobLaws.{stands_answers, stands_steps}
 use Rattle.wm_run.proofs.tell.tell.Goals as goal
 
 pub returns-in-Steps-clause-stands : goal.returns-in-Steps-clause-stands
@@ -17,3 +17,12 @@ returns-in-Steps-clause-stands g c =
     subst (λ (s : Status). Stands (with_status (IsOf (λ vtable. (g.dyn-1.0.entry vtable).1) c.args.due)) old new s) (sym c.ended.ensures)
     (stands_steps (λ vtable. (g.dyn-1.0.entry vtable).1) c.args.due c.in-Steps.session c.in-Steps.script c.deref.result.now (state_in (faces_of (λ vtable. (g.dyn-1.0.entry vtable).1) last.faces) last) old new c.tell_steps-written.result
     c.in-Steps.is c.deref.ensures.value steps.whole steps.front)
+
+pub returns-in-Answers-clause-stands : goal.returns-in-Answers-clause-stands
+returns-in-Answers-clause-stands g c =
+    let old = g.K.Sink.held c.args.sink.now in
+    let new = g.K.Sink.held c.tell_probes-written.new.sink in
+    let told = c.tell_probes-written.ensures in
+    subst (λ (s : Status). Stands (with_status (IsOf (λ vtable. (g.dyn-1.0.entry vtable).1) c.args.due)) old new s) (sym c.ended-in-Answers.ensures)
+    (stands_answers (λ vtable. (g.dyn-1.0.entry vtable).1) c.args.due c.in-Answers.session c.in-Answers.probes c.deref-in-Answers.result.now old new c.tell_probes-written.result
+    c.in-Answers.is c.deref-in-Answers.ensures.value told.whole told.front)
