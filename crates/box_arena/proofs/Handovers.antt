@@ -225,21 +225,21 @@ module _ {T : Type 0} where
       (next, subst P (sym (same_Some _ _ at)) behind)
 
   -- one box more
-  pub handing_next : (giver given gone taker taken got : Slab (Entry T)) (from : Option ℕ) (key : ℕ) (stood : Stood) (next found : Option ℕ) (child : ℕ) → Handing giver given taker taken from key stood next → next ≡ Some child
-      → Reuses given gone taken got → IfSome found (λ found. StoodUnder given.slots taken.slots found child) → Handing giver gone taker got from key (stood_behind gone.slots stood found) (next_at taken.slots child)
-  handing_next giver given gone taker taken got from key stood next found child handing is reuses under =
-      let P : Option ℕ → Type 0 = λ o. Handing giver gone taker got from key (stood_behind gone.slots stood found) o in
+  pub handing_next : (giver given gone taker taken got : Slab (Entry T)) (from : Option ℕ) (key : ℕ) (place : Stood) (next found : Option ℕ) (child : ℕ) → Handing giver given taker taken from key place next → next ≡ Some child
+      → Reuses given gone taken got → IfSome found (λ found. StoodUnder given.slots taken.slots found child) → Handing giver gone taker got from key (stood_behind gone.slots place found) (next_at taken.slots child)
+  handing_next giver given gone taker taken got from key place next found child handing is reuses under =
+      let P : Option ℕ → Type 0 = λ o. Handing giver gone taker got from key (stood_behind gone.slots place found) o in
       let Q : Stood → Type 0 = λ s. Handing giver gone taker got from key s (next_at taker.slots child) in
-      subst P (sym (ap next_of (handing.reuses.links child))) (subst Q (sym (same_behind stood found)) (record {
+      subst P (sym (ap next_of (handing.reuses.links child))) (subst Q (sym (same_behind place found)) (record {
         reuses = reuses_then _ _ _ _ _ _ handing.reuses reuses;
         rest = next_rest taker.slots child (let R : Option ℕ → Type 0 = λ o. (boxes : Boxes) × StandFrom taker.slots o boxes in subst R is handing.rest);
-        tells = on from (let R : Option ℕ → Type 0 = λ o. TellsInside giver.slots taker.slots from key stood o in subst R is handing.tells);
+        tells = on from (let R : Option ℕ → Type 0 = λ o. TellsInside giver.slots taker.slots from key place o in subst R is handing.tells);
       }))
     where
       both : (k : ℕ) → next_at gone.slots k ≡ next_at giver.slots k
       both k = ap next_of (reuses.gives.links k ∙ handing.reuses.gives.links k)
 
-      same_behind : (stood : Stood) (found : Option ℕ) → stood_behind gone.slots stood found ≡ stood_behind giver.slots stood found
+      same_behind : (place : Stood) (found : Option ℕ) → stood_behind gone.slots place found ≡ stood_behind giver.slots place found
       same_behind Elsewhere found = refl
       same_behind (At None) found = refl
       same_behind (At (Some expected)) None = refl
@@ -249,9 +249,9 @@ module _ {T : Type 0} where
       was_under None under = under
       was_under (Some found) under = λ tree stands. stood giver.slots given.slots handing.reuses.gives.links handing.reuses.gives.nodes found tree (under tree (stood taken.slots taker.slots (λ j. sym (handing.reuses.links j)) (λ j. sym (handing.reuses.nodes j)) child tree stands))
 
-      on : (from : Option ℕ) → TellsInside giver.slots taker.slots from key stood (Some child) → TellsInside giver.slots taker.slots from key (stood_behind giver.slots stood found) (next_at taker.slots child)
+      on : (from : Option ℕ) → TellsInside giver.slots taker.slots from key place (Some child) → TellsInside giver.slots taker.slots from key (stood_behind giver.slots place found) (next_at taker.slots child)
       on None tells = tells
-      on (Some from) tells = row_behind giver.slots taker.slots (first_at giver.slots from) (first_at taker.slots key) stood found child tells (was_under found under)
+      on (Some from) tells = row_behind giver.slots taker.slots (first_at giver.slots from) (first_at taker.slots key) place found child tells (was_under found under)
 
   -- where the row has ended and what stood there too, the boxes inside one stood inside the other
   pub handing_ends : (giver given taker taken : Slab (Entry T)) (from : Option ℕ) (key there : ℕ) (stood : Stood) (next : Option ℕ) → Handing giver given taker taken from key stood next → from ≡ Some there → stood ≡ At None → next ≡ None
