@@ -12,7 +12,7 @@ from fuzz_grammar import EDGES, TOP, Maker
 from fuzz_trees import Edit, Tree, script_of
 from stored import bytes_of, lines_of
 
-COMMANDS = ("layout", "edit", "gen")
+COMMANDS = ("layout", "edit", "probe", "gen")
 OPTIONS = {"--view-inline": 16_384, "--view-block": 16_384, "--count": 1_000}
 # Each makes that good words give no job, where it stands before them.
 BAD_WORDS = (
@@ -28,8 +28,8 @@ DECLARATION, LINE = rb"([a-z-]+:[^;\"{}<>]+)", rb"(\n[^\n]*)"
 
 
 class Job(NamedTuple):
-    """A job: its words and its input; and where it is of the grammar, its document, the script behind it, and edits that undo one
-    another. Where a stream is to fail is told by a number from 0 to 1."""
+    """A job: its words and its input; and where it is of the grammar, its document, the script behind it, edits that undo one
+    another, and how many points and places of a text are asked for. Where a stream is to fail is told by a number from 0 to 1."""
 
     kind: str
     words: list[str]
@@ -38,6 +38,7 @@ class Job(NamedTuple):
     tree: Tree | None = None
     steps: tuple[Edit, ...] = ()
     undone: tuple[Edit, ...] = ()
+    asked: int = 0
     failing: float = 0.0
 
     @property
@@ -62,7 +63,7 @@ def corpus() -> list[Job]:
         for _, line in lines_of(os.path.join(TOP, "tools", name)):
             words, data, status = line.split("\t")[:3]
             found.append(Job(status, json.loads(words) if words.startswith("[") else words.split(), bytes_of(data), status == "1"))
-    for command, end in ("layout", "html"), ("edit", "script"):
+    for command, end in ("layout", "html"), ("edit", "script"), ("probe", "probe"):
         for path in sorted(glob.glob(os.path.join(TOP, "examples", f"*.{end}"))):
             with open(path, "rb") as file:
                 found.append(Job("", [command], file.read()))
@@ -151,6 +152,19 @@ class JobMaker(Maker):
         steps = tuple(self.script(tree))
         return Job("script", self.good_words("edit"), tree.written() + script_of(steps), tree=tree, steps=steps)
 
+    def asked_line(self, tree: Tree) -> str:
+        """A line of a probe: mostly of a point on the page or a place of a text that there is."""
+        numbers, many = self.random, self.choice((12_800, 51_200, 9_999_999_999))
+        if self.is_so(0.5):
+            return f"point {numbers.randint(-many // 8, many)} {numbers.randint(-many // 8, many)}"
+        return f"caret {numbers.randint(0, max(tree.living()) + 2)} {numbers.randint(0, 12)}"
+
+    def probe_job(self) -> Job:
+        tree = self.tree()
+        lines = [self.asked_line(tree) for _ in range(self.random.randint(1, 12))]
+        asked = "".join(f"\n{line}" for line in lines).encode()
+        return Job("probe", self.good_words("probe"), tree.written() + asked, tree=tree, asked=len(lines))
+
     def words_job(self) -> Job:
         words = [self.choice(BAD_WORDS), *self.good_words(self.choice(COMMANDS))]
         return Job("words", words if self.is_so(0.95) else [], self.stored().input, is_usage=True)
@@ -165,6 +179,7 @@ KINDS = {
     JobMaker.spliced: 12,
     JobMaker.document_job: 22,
     JobMaker.script_job: 18,
+    JobMaker.probe_job: 6,
     JobMaker.words_job: 5,
     JobMaker.made_job: 3,
 }

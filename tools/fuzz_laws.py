@@ -19,6 +19,8 @@ FACTS = refusals.read_facts(refusals.read_page())
 BYTES, NODES, LINES = ({fact.kind for fact in FACTS if fact.number == number} for number in ("byte", "node", "line"))
 OF_SCRIPTS = {"ScriptSyntax", "TooManyEdits", "TooManyShows"}
 USAGE = b"".join(re.findall(rb"^usage: .*\n", read_page("commands.md").encode(), re.MULTILINE))
+# The answer to a line of a probe, with the text node and two places of a hit.
+ANSWER = re.compile(rb"(?:hit ([0-9]+) ([0-9]+) ([0-9]+) [0-9]+|miss|caret(?: -?[0-9]+){4}|nocaret)\n")
 COUNTED = re.compile(rb"gen [0-9]+ bytes [0-9]+ lines [0-9]+\n")
 DOCUMENT_ENDS = re.compile(rb"</html[ \t\n\f\r]*>[ \t\n\f\r]*\Z", re.IGNORECASE)
 # After how many seconds by the clock a run is ended, whatever it did in them.
@@ -134,6 +136,9 @@ class Trial:
             if status or not COUNTED.fullmatch(self.due.out):
                 yield f"`gen` ended with {self.due.told()}"
             return
+        if self.job.command == "probe" and not status:
+            yield from self.wrong_answers()
+            return
         self.parts, last = self.due.parts(), 0
         shape = "".join("p" if isinstance(part, listing.Page) else "r" for part in self.parts)
         due = {0: "[pr]*" if is_edit else "p", 2: "r"}.get(status, "nothing")
@@ -144,13 +149,24 @@ class Trial:
                 yield from self.wrong_page(part)
             elif status == 2:
                 # What the grammar made can be refused by its nodes alone.
-                kinds = NODES if self.job.tree else NODES | BYTES if is_edit else NODES | BYTES - OF_SCRIPTS
+                kinds = NODES if self.job.tree else NODES | BYTES if self.job.command in ("edit", "probe") else NODES | BYTES - OF_SCRIPTS
                 if part.kind not in kinds or part.number > len(self.job.input):
                     yield f"no such input is refused so: {part}"
             elif part.kind not in LINES or not last < part.number <= self.job.input.count(b"\n"):
                 yield f"no line of a script is refused so: {part}"
             else:
                 last = part.number
+
+    def wrong_answers(self) -> Iterator[str]:
+        """What is wrong with the answers to the lines of a probe: their form, how many there are, and the texts that are hit."""
+        answers = self.due.out.splitlines(keepends=True)
+        if any(not ANSWER.fullmatch(answer) for answer in answers) or self.job.asked not in (0, len(answers)):
+            yield f"these aren't the answers to {self.job.asked} lines: {self.due.out[:80]!r}"
+        living = self.job.tree.living() if self.job.tree else {}
+        for hit in filter(None, (living and re.fullmatch(ANSWER, answer) for answer in answers)):
+            node, first, end = map(int, hit.groups(default=0)) if hit[1] else (0, 0, 0)
+            if hit[1] and not (node in living and not living[node].tag and first < end <= len(living[node].text)):
+                yield f"no text has what is hit: {hit[0]!r}"
 
     def wrong_page(self, page: listing.Page) -> Iterator[str]:
         """What is wrong with a page by itself: its size, and what stands before what."""
@@ -205,7 +221,7 @@ class Trial:
         if again[:3] != due:
             yield f"with one byte a read it ended with {again.told()}"
         failed = 1 + int(chance * (len(data) + 1))
-        if self.job.command in ("layout", "edit") and len(data) <= listing.MOST_INPUT:
+        if self.job.command in ("layout", "edit", "probe") and len(data) <= listing.MOST_INPUT:
             again = self.program.run(words, data, SHORT_READ=1, FAILED_READ=failed)
             if again[:3] != (4, b"", b""):
                 yield f"where read {failed} fails it ended with {again.told()}"

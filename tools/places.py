@@ -194,10 +194,12 @@ def place_in_attribute(given: Input, kind: str, rows: Facts, known: Known, at: i
 
 
 def place_behind_document(given: Input, refusal: listing.Refusal, rows: Facts, known: Known, at: int) -> Place:
-    """A place behind `</html>`: in a script, or where there should be none."""
-    if known.command != "edit" and (known.command or at < given.script_begin()):
-        return Place(at, tuple(rows), ("this stands behind the document; a script is read by the command edit alone",))
-    note = f"line {given.script_line_number(at)} of the script"
+    """A place behind `</html>`: in a script or a probe, or where there should be neither."""
+    if known.command not in ("edit", "probe") and (known.command or at < given.script_begin()):
+        return Place(at, tuple(rows), ("this stands behind the document; lines there are read by the commands edit and probe alone",))
+    note = f"line {given.script_line_number(at)} of the {'probe' if known.command == 'probe' else 'script'}"
+    if known.command == "probe":
+        return Place(at, tuple(rows), (note,))
     if refusal.kind == "ScriptSyntax" and not LONG_NUMBER.search(script_line(given, at)):
         rows = without_limits(rows)
     if refusal.kind in WHOLE_LINES:
