@@ -12,7 +12,7 @@ use Rattle.fragment_types.specs.Fragment.{Pieces}
 use Rattle.box_gen.specs.declared.tree.BoxTree.{BoxTree, out-BoxTree}
 use Rattle.box_gen.specs.declared.tree.BoxTree.TheFolds.{fold_out-BoxTree}
 use Rattle.box_gen.specs.Boxes.{join}
-use Rattle.box_gen.specs.Tree.{Boxes, Content, none, box, box_step, boxes_of, all_boxes_of}
+use Rattle.box_gen.specs.Tree.{Boxes, Content, none, box, box_step, boxes_of, all_boxes_of, count}
 use Rattle.box_gen.proofs.BoxLines.{before_is, join_assoc, join_none}
 use Rattle.box_arena.specs.declared.entry.Entry.{Entry}
 use Rattle.box_arena.specs.declared.entry.Links.{Links}
@@ -21,7 +21,7 @@ use Rattle.box_arena.specs.Arena.{Attaches, Inserts, LiveOn}
 use Rattle.box_arena.specs.Boxes.{Stands, StandFrom}
 use Rattle.box_arena.specs.Links.{Chain, Climbs, IsLinked, first_of, next_of, parent_of, put_before}
 use Rattle.box_arena.specs.Marks.{is_marked}
-use Rattle.box_arena.specs.Planting.{AreBare, AreLeft, IsBare, IsLeft, Plants, count}
+use Rattle.box_arena.specs.Planting.{AreBare, AreLeft, IsBare, IsLeft, Plants}
 use Rattle.box_arena.proofs.CallLemmas.{kept_in, node_in, text_in}
 use Rattle.box_arena.proofs.Climbs.{reaches_itself}
 use Rattle.box_arena.proofs.Survival.{survive_attach}

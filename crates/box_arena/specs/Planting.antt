@@ -1,17 +1,12 @@
 -- A whole tree of boxes that is put into an arena.
-use Rattle.std.specs.Prelude.{◌≡◌, ℕ, suc, ◌+◌, None}
+use Rattle.std.specs.Prelude.{◌≡◌, ℕ, ◌+◌, None}
 use Rattle.slab.specs.Slab.{Slab, get, ContainsKey, HasRoomFor}
 use Rattle.fragment_types.specs.declared.constraint.Constraint.{Constraint}
-use Rattle.box_gen.specs.Tree.{Boxes, none, box}
+use Rattle.box_gen.specs.Tree.{Boxes, none, box, count}
 use Rattle.box_arena.specs.declared.entry.Entry.{Entry}
 use Rattle.box_arena.specs.At.{Slots, first_at, kept_at, next_at, node_at, parent_at, text_at}
 use Rattle.box_arena.specs.Arena.{LiveOn}
 use Rattle.box_arena.specs.Boxes.{Stands}
-
--- how many boxes there are
-abbrev pub count : Boxes → ℕ
-count none = 0
-count (box name style content inner next) = suc (count inner + count next)
 
 module _ {T : Type 0} where
   -- nothing is kept for a box

@@ -1,22 +1,16 @@
 -- What is kept of boxes, handed from an arena to another one in which they stand as they did.
-use Rattle.std.specs.Prelude.{◌≡◌, ℕ, Option, Some, None, option_and_then, nat_eq, if◌then◌else◌, ◌⊎◌, ⊤}
+use Rattle.std.specs.Prelude.{◌≡◌, ℕ, ◌≤◌, ◌^◌, Option, Some, None, option_and_then, nat_eq, if◌then◌else◌, ◌⊎◌, ⊤}
 use Rattle.slab.specs.Slab.{Slab}
 use Rattle.fragment_types.specs.declared.constraint.Constraint.{Constraint}
 use Rattle.fragment_types.specs.Fragment.{Pieces}
-use Rattle.style_types.specs.declared.style.Style.{Style}
-use Rattle.box_gen.specs.Tree.{Boxes}
+use Rattle.box_gen.specs.Places.{RunAlike}
+use Rattle.box_gen.specs.Tree.{Boxes, count, height}
 use Rattle.box_arena.specs.declared.entry.Entry.{Entry}
 use Rattle.box_arena.specs.declared.reusing.Stood.{Stood}
 use Rattle.box_arena.specs.declared.reusing.Stood.TheVariants.{At, Elsewhere}
 use Rattle.box_arena.specs.Arena.{LiveOn, SameLinks, SameNodes, SameRoom}
-use Rattle.box_arena.specs.At.{Node, Slots, first_at, kept_at, next_at, node_at, parent_at, text_at}
+use Rattle.box_arena.specs.At.{IsAbove, Node, Slots, first_at, kept_at, next_at, node_at, parent_at, text_at}
 use Rattle.box_arena.specs.Boxes.{StandFrom, Stands}
-
--- the lines of both run alike
-pub record RunAlike (one other : Style) : Type 0 where
-  pub mode : one.mode ≡ other.mode
-  pub direction : one.direction ≡ other.direction
-  pub orientation : one.orientation ≡ other.orientation
 
 -- both are in no box, or in boxes whose lines run alike
 abbrev pub AreAround : (one other : Option Node) → Type 0
@@ -75,6 +69,24 @@ module _ {T : Type 0} where
     pub links : SameLinks old.slots new.slots
     pub live : LiveOn old new
     pub room : SameRoom old new
+
+  -- no two boxes of an arena have one name
+  abbrev pub AreNamedOnce : Slots T → Type 0
+  AreNamedOnce slots = (one other : ℕ) (node same : Node) → node_at slots one ≡ Some node → node_at slots other ≡ Some same → node.name ≡ same.name → one ≡ other
+
+  -- Nothing is lost of what was kept for boxes that stand under a root as they did: neither the text of a box that is what it was, nor a
+  -- result where the same tree stands in a box whose lines run alike.
+  pub record LosesNothing (giver old new : Slots T) (root : ℕ) : Type 0 where
+    pub texts : (key from : ℕ) (node : Node) (text : T) → IsAbove old root key → node_at old key ≡ Some node → node_at giver from ≡ Some node
+        → text_at giver from ≡ Some text → text_at new key ≡ Some text
+    pub results : (key from : ℕ) (tree : Boxes) (c : Constraint) (result : Pieces) → IsAbove old root key → Stands old key tree → Stands giver from tree
+        → AreAround (around_at giver from) (around_at old key) → kept_at giver from c ≡ Some result → kept_at new key c ≡ Some result
+    pub elsewhere : (key : ℕ) (c : Constraint) (result : Pieces) → kept_at new key c ≡ Some result → (kept_at old key c ≡ Some result) ⊎ IsAbove old root key
+
+  -- so it is where each box is told by its name, and no tree is too great
+  abbrev pub ReusesAll : (giver old new : Slots T) (root : ℕ) → Type 0
+  ReusesAll giver old new root = AreNamedOnce giver → AreNamedOnce old → (tree : Boxes) → Stands old root tree → height tree ≤ 130 → count tree ≤ 2 ^ 18
+      → LosesNothing giver old new root
 
   -- the boxes from there on tell whether those of a whole row stood in a row
   abbrev pub TellsRow : (old new : Slots T) → (from first : Option ℕ) → (stood : Stood) → (next : Option ℕ) → Type 0

@@ -4,7 +4,7 @@ ghost use Rattle.std.specs.Prelude.{◌≡◌, IsTrue};
 ghost use Rattle.fragment_types.specs.Item.{entries_of, entry_of};
 ghost use Rattle.box_gen.specs.Tree.{content_of};
 ghost use Rattle.box_arena.specs.At.{node_of};
-ghost use Rattle.box_arena.specs.Reusing.{RunAlike};
+ghost use Rattle.box_gen.specs.Places.{RunAlike};
 
 use box_gen::{BoxNode, Content};
 use fragment_types::{BoxName, Item};

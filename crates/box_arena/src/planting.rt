@@ -1,7 +1,7 @@
 //! A whole tree of boxes that is put into an arena.
 
 ghost use Rattle.std.specs.Prelude.{◌≡◌, ◌≤◌, ◌^◌};
-ghost use Rattle.box_gen.specs.Tree.{boxes_of};
+ghost use Rattle.box_gen.specs.Tree.{boxes_of, count};
 ghost use Rattle.box_arena.specs.Planting as rule;
 
 use crate::arena::BoxArena;
@@ -10,8 +10,8 @@ use box_gen::BoxTree;
 
 impl<T> BoxArena<T> {
     ghost use Rattle.slab.specs.Slab.{HasRoomFor};
-    ghost use Rattle.box_gen.specs.Tree.{boxes_of};
-    ghost use Rattle.box_arena.specs.Planting.{Plants, count};
+    ghost use Rattle.box_gen.specs.Tree.{boxes_of, count};
+    ghost use Rattle.box_arena.specs.Planting.{Plants};
 
     /// Puts a box and all boxes inside it under free keys, for which there must be room: not attached, with nothing kept. All
     /// other boxes stay as they were. Takes no memory; the recursion is as deep as the tree.

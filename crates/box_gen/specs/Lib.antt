@@ -5,5 +5,6 @@ pub mod Laws
 pub mod Limit
 pub mod Orthogonal
 pub mod Parts
+pub mod Places
 pub mod Site
 pub mod Tree

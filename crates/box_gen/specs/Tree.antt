@@ -1,5 +1,5 @@
 -- Box trees, without where they lie in memory.
-use Rattle.std.specs.Prelude.{List, [], ◌∷◌, map}
+use Rattle.std.specs.Prelude.{ℕ, suc, ◌+◌, max, List, [], ◌∷◌, map}
 use Rattle.fragment_types.specs.declared.item.BoxName.{BoxName}
 use Rattle.style_types.specs.declared.style.Style.{Style}
 use Rattle.fragment_types.specs.Item.{Entry, entries_of}
@@ -41,3 +41,20 @@ boxes_of root = before root none
 -- the trees of boxes that stand one after the other
 abbrev pub all_boxes_of : List BoxTree → Boxes
 all_boxes_of roots = in_line (map before roots)
+
+-- ---- sizes of trees
+
+-- how many boxes there are, with all inside them
+abbrev pub count : Boxes → ℕ
+count none = 0
+count (box name style content inner next) = suc (count inner + count next)
+
+-- how many stand side by side
+abbrev pub siblings : Boxes → ℕ
+siblings none = 0
+siblings (box name style content inner next) = suc (siblings next)
+
+-- how many stand one inside the other, at most
+abbrev pub height : Boxes → ℕ
+height none = 0
+height (box name style content inner next) = max (suc (height inner)) (height next)

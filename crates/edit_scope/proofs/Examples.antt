@@ -34,7 +34,8 @@ use Rattle.edits.specs.Change.{Change, of_tree, retire, rule}
 use Rattle.edits.specs.Edited.{after}
 use Rattle.edits.specs.State as whole
 use Rattle.edit_scope.specs.Boxes.{anonymous_among, box_of, own_boxes}
-use Rattle.edit_scope.specs.Owed.{after_edit, after_page, at_first, paragraphs}
+use Rattle.box_gen.specs.Places.{paragraphs}
+use Rattle.edit_scope.specs.Owed.{after_edit, after_page, at_first}
 use Rattle.edit_scope.specs.Scope.{holder_in, reached, scope}
 
 abbrev all_of : (one other : List ℕ) → Bool

@@ -5,23 +5,14 @@ use Rattle.std.specs.List.{list_any}
 use Rattle.fragment_types.specs.declared.item.BoxName.{BoxName}
 use Rattle.style_tree.specs.Styling.{styled_document}
 use Rattle.box_gen.specs.Boxes.{root_boxes}
-use Rattle.box_gen.specs.Tree.{Boxes, Content, none, box, blocks, inline}
+use Rattle.box_gen.specs.Places.{paragraphs}
 use Rattle.edits.specs.Change.{Change}
 use Rattle.edits.specs.State.{State}
 use Rattle.edit_scope.specs.Scope.{every_element, scope}
 
 -- ---- paragraphs
 
-abbrev pub if_inline : Content → BoxName → List BoxName → List BoxName
-if_inline blocks name others = others
-if_inline (inline items) name others = name ∷ others
-
--- the names of the boxes that hold a paragraph, in tree order
-unfoldable pub paragraphs : Boxes → List BoxName
-paragraphs none = []
-paragraphs (box name style content inner next) = if_inline content name (paragraphs inner ++ paragraphs next)
-
--- those of the page of a document
+-- those of the page of a document, in tree order
 abbrev pub paragraphs_in : State → List BoxName
 paragraphs_in state = paragraphs (root_boxes (styled_document state.rules state.tree))
 

@@ -44,7 +44,8 @@ use Rattle.para_prepare.specs.White.{marks}
 use Rattle.para_lines.specs.Around.{box_at, chains}
 use Rattle.para_lines.specs.Filling.{fill_items}
 use Rattle.unicode_segmentation.proofs.Computing.{unicode_segmentation}
-use Rattle.relayout.specs.Asks.{Pair, asks, is_among, paragraphs}
+use Rattle.box_gen.specs.Places.{paragraphs}
+use Rattle.relayout.specs.Asks.{Pair, asks, is_among}
 
 abbrev faces : List (Option Table)
 faces = Some mono_table ∷ Some wide_table ∷ Some first_table ∷ []

@@ -13,7 +13,7 @@ use Rattle.box_arena.specs.Arena.{Keeps, KeepsText}
 use Rattle.box_arena.specs.At.{Node, Slots, first_at, kept_at, links_at, next_at, node_at, node_of, text_at}
 use Rattle.box_arena.specs.Boxes.{StandFrom}
 use Rattle.box_arena.specs.Links.{IsLinked, first_of, next_of}
-use Rattle.box_gen.specs.Tree.{Boxes, Content, blocks, box, inline, none as no_boxes}
+use Rattle.box_gen.specs.Tree.{Boxes, Content, blocks, box, inline, none as no_boxes, count, height, siblings}
 use Rattle.para_prepare.specs.Preparation.{Preparation}
 use Rattle.relayout.specs.declared.flowed.LaidBox.{LaidBox}
 use Rattle.relayout.specs.declared.flowing.Begun.{Begun}
@@ -27,7 +27,7 @@ use Rattle.relayout.specs.declared.sizing.InlineSize.TheVariants.{MinMax, Used}
 use Rattle.relayout.specs.declared.sizing.Sizing.{Sizing}
 use Rattle.relayout.specs.Boxed.{block_size, border_across, border_along, border_box, boxed, handed_on, measured, turned}
 use Rattle.relayout.specs.Content.{Filled}
-use Rattle.relayout.specs.Fit.{AreFit, count, heaviest, height, reach_of, room_in, siblings, weight}
+use Rattle.relayout.specs.Fit.{AreFit, heaviest, reach_of, room_in, weight}
 use Rattle.relayout.specs.Flow.{flow_step, laid_under, members}
 use Rattle.relayout.specs.Flowed.{AreLaid, Flowed, Laid, Member, Part, at, part_of}
 use Rattle.relayout.specs.Flowing.{CanFlow, CanFlowBox, IsBegun, IsSeen, IsSized}

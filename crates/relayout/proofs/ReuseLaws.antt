@@ -7,7 +7,8 @@ use Rattle.fragment_types.specs.Fragment.{Pieces}
 use Rattle.box_gen.specs.Tree.{box, none}
 use Rattle.box_arena.specs.declared.entry.Entry.{Entry}
 use Rattle.box_arena.specs.At.{Node, kept_at, text_at}
-use Rattle.box_arena.specs.Reusing.{AreAround, IsResultFrom, IsTextFrom, Reuses, RunAlike, around_at}
+use Rattle.box_arena.specs.Reusing.{AreAround, IsResultFrom, IsTextFrom, Reuses, around_at}
+use Rattle.box_gen.specs.Places.{RunAlike}
 use Rattle.box_arena.proofs.Handovers.{stood}
 use Rattle.para_prepare.specs.Preparation.{Preparation}
 use Rattle.relayout.specs.declared.sizes.Containing.{Containing}

@@ -18,11 +18,11 @@ use Rattle.box_arena.specs.At.{Node, Slots, first_at, kept_at, links_at, next_at
 use Rattle.box_arena.specs.Boxes.{StandFrom}
 use Rattle.box_arena.specs.Links as linking
 use Rattle.box_arena.specs.Links.{IsLinked}
-use Rattle.box_gen.specs.Tree.{Boxes, Content, blocks, box, inline, none as no_boxes}
+use Rattle.box_gen.specs.Tree.{Boxes, Content, blocks, box, inline, none as no_boxes, count, siblings}
 use Rattle.para_prepare.specs.Preparation.{Preparation}
 use Rattle.relayout.specs.declared.flowed.LaidBox.{LaidBox}
 use Rattle.relayout.specs.declared.sizes.Containing.{Containing}
-use Rattle.relayout.specs.Fit.{AreFit, count, heaviest, reach_of, room_in, siblings, weight}
+use Rattle.relayout.specs.Fit.{AreFit, heaviest, reach_of, room_in, weight}
 use Rattle.relayout.specs.Flow.{flow_step, laid_under, members}
 use Rattle.relayout.specs.Flowed.{AreLaid, Member, Part, at, part_of}
 use Rattle.relayout.specs.Inline.{Outside}

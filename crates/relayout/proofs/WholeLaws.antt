@@ -14,13 +14,13 @@ use Rattle.line_place.specs.Spread.{spread}
 use Rattle.wm_modes.specs.Sides.{block_start}
 use Rattle.box_arena.specs.At.{Node, Slots, next_at, node_at, parent_at}
 use Rattle.box_arena.specs.Boxes.{StandFrom, Stands}
-use Rattle.box_gen.specs.Tree.{Boxes, box, none as no_boxes}
+use Rattle.box_gen.specs.Tree.{Boxes, box, none as no_boxes, siblings}
 use Rattle.para_prepare.specs.Preparation.{Preparation}
 use Rattle.relayout.specs.declared.flowed.LaidBox.{LaidBox}
 use Rattle.relayout.specs.declared.inline.PageView.{PageView}
 use Rattle.relayout.specs.declared.row.Row.{Row}
 use Rattle.relayout.specs.Edges.{margin_or_zero}
-use Rattle.relayout.specs.Fit.{heaviest, reach_of, room_in, siblings, weight}
+use Rattle.relayout.specs.Fit.{heaviest, reach_of, room_in, weight}
 use Rattle.relayout.specs.Flow.{layout, on_page}
 use Rattle.relayout.specs.Flowed.{Part, at, part_of}
 use Rattle.relayout.specs.Flowing.{CanFlow}

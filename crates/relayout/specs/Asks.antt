@@ -9,7 +9,7 @@ use Rattle.wm_units.specs.declared.view.View.{View}
 use Rattle.fragment_types.specs.declared.constraint.Constraint.{Constraint}
 use Rattle.fragment_types.specs.declared.item.BoxName.{BoxName}
 use Rattle.box_arena.specs.At.{Node}
-use Rattle.box_gen.specs.Tree.{Boxes, Content, blocks, box, inline, none as no_boxes}
+use Rattle.box_gen.specs.Tree.{Boxes, box, none as no_boxes}
 use Rattle.relayout.specs.declared.sizes.Containing.{Containing}
 use Rattle.relayout.specs.Boxed.{handed_on}
 use Rattle.relayout.specs.Flow.{members, on_page}
@@ -80,14 +80,3 @@ abbrev pub asks : (faces : List (Option Table)) → View → Boxes → List Pair
 asks faces view no_boxes = []
 asks faces view (box name style content inner next) =
     each_once (met (on_page (is_horizontal style.mode) faces view.inline view.block) (containing_of style) (box name style content inner no_boxes) (under (Some view.inline) (Some view.block)))
-
--- ---- the paragraphs of a tree
-
-abbrev pub with_paragraph : BoxName → Content → List BoxName → List BoxName
-with_paragraph name blocks others = others
-with_paragraph name (inline items) others = name ∷ others
-
--- the boxes that hold a paragraph
-abbrev pub paragraphs : Boxes → List BoxName
-paragraphs no_boxes = []
-paragraphs (box name style content inner next) = with_paragraph name content (paragraphs inner ++ paragraphs next)

@@ -1,26 +1,11 @@
 -- Trees of boxes that can be laid out.
-use Rattle.std.specs.Prelude.{ℕ, suc, ◌+◌, ◌*◌, ◌^◌, max, ⊤, length}
-use Rattle.box_gen.specs.Tree.{Boxes, Content, none, box, blocks, inline}
+use Rattle.std.specs.Prelude.{ℕ, ◌+◌, ◌*◌, ◌^◌, max, ⊤, length}
+use Rattle.box_gen.specs.Tree.{Boxes, Content, none, box, blocks, inline, siblings}
 use Rattle.style_types.specs.declared.style.Style.{Style}
 use Rattle.style_types.specs.Style.{IsBounded}
 use Rattle.para_prepare.specs.Limits.{text_bytes}
 use Rattle.para_prepare.specs.Preparation.{atoms_of}
 use Rattle.relayout.specs.Paragraph.{HasAtoms, IsParagraphIn}
-
--- how many boxes there are, with all inside them
-abbrev pub count : Boxes → ℕ
-count none = 0
-count (box name style content inner next) = suc (count inner + count next)
-
--- how many stand side by side
-abbrev pub siblings : Boxes → ℕ
-siblings none = 0
-siblings (box name style content inner next) = suc (siblings next)
-
--- how many stand one inside the other, at most
-abbrev pub height : Boxes → ℕ
-height none = 0
-height (box name style content inner next) = max (suc (height inner)) (height next)
 
 -- the numbers of its style are those of computed styles, and its paragraph can be prepared and has its inline-blocks' boxes
 pub record IsFit (style : Style) (content : Content) (inner : Boxes) : Type 0 where

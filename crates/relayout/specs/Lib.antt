@@ -12,6 +12,7 @@ pub mod Inline
 pub mod Intrinsic
 pub mod Kept
 pub mod Laws
+pub mod Named
 pub mod Near
 pub mod Paragraph
 pub mod Props

@@ -10,11 +10,11 @@ use Rattle.fragment_types.specs.Fragment.{Pieces, none}
 use Rattle.box_arena.specs.declared.entry.Entry.{Entry}
 use Rattle.box_arena.specs.At.{Node, Slots, node_at}
 use Rattle.box_arena.specs.Boxes.{Stands}
-use Rattle.box_gen.specs.Tree.{Boxes}
+use Rattle.box_gen.specs.Tree.{Boxes, count, height}
 use Rattle.para_prepare.specs.Preparation.{Preparation}
 use Rattle.relayout.specs.declared.row.Row.{Row}
 use Rattle.relayout.specs.Edges.{margin_or_zero}
-use Rattle.relayout.specs.Fit.{AreFit, count, height, weight}
+use Rattle.relayout.specs.Fit.{AreFit, weight}
 use Rattle.relayout.specs.Flow.{layout, on_page}
 use Rattle.relayout.specs.Flowed.{Part, at}
 use Rattle.relayout.specs.Inline.{inline_place}

@@ -12,7 +12,7 @@ use Rattle.box_arena.specs.Arena.{LiveOn, SameLinks, SameNodes, SameRoom}
 use Rattle.box_arena.specs.At.{Node, Slots, first_at, kept_at, links_at, node_at, node_of, text_at}
 use Rattle.box_arena.specs.Boxes.{StandFrom}
 use Rattle.box_arena.specs.Links.{IsLinked}
-use Rattle.box_gen.specs.Tree.{Boxes, Content, box, none}
+use Rattle.box_gen.specs.Tree.{Boxes, Content, box, none, count, height}
 use Rattle.para_prepare.specs.Preparation.{Preparation}
 use Rattle.relayout.specs.declared.flowed.LaidBox.{LaidBox}
 use Rattle.relayout.specs.declared.inline.PageView.{PageView}
@@ -22,7 +22,7 @@ use Rattle.relayout.specs.declared.row.RowBox.{RowBox}
 use Rattle.relayout.specs.declared.sizes.Containing.{Containing}
 use Rattle.relayout.specs.declared.flow_box.FlowBox.{FlowBox}
 use Rattle.relayout.specs.declared.sizing.Sizing.{Sizing}
-use Rattle.relayout.specs.Fit.{AreFit, IsFit, count, height, reach_of, weight}
+use Rattle.relayout.specs.Fit.{AreFit, IsFit, reach_of, weight}
 use Rattle.relayout.specs.Flow.{flow_step, members}
 use Rattle.relayout.specs.Flowed.{part_of}
 use Rattle.relayout.specs.Inline.{Outside}

@@ -16,8 +16,8 @@ use Rattle.style_types.specs.declared.style.Display.{Display}
 use Rattle.para_prepare.specs.Preparation.{atoms_of}
 use Rattle.box_gen.specs.declared.opened.Opened.{Opened}
 use Rattle.box_gen.specs.Boxes.{Blocks, Held, Role, Run, anonymous, atom, before_run, block_level, closed, container, element_role, inline_box, join, line_break, no_more, no_run, nothing, opened_again, role_by, role_of, stacked, then, words, wrapped}
-use Rattle.box_gen.specs.Tree.{Boxes, box, inline, none}
-use Rattle.relayout.specs.Fit.{AreFit, count, heaviest, height, room_in, siblings}
+use Rattle.box_gen.specs.Tree.{Boxes, box, inline, none, count, height, siblings}
+use Rattle.relayout.specs.Fit.{AreFit, heaviest, room_in}
 use Rattle.session.specs.Limits.{bytes_of}
 
 -- ---- boxes side by side

@@ -13,8 +13,8 @@ use Rattle.box_gen.specs.declared.opened.Opened.{Opened}
 use Rattle.box_gen.specs.Parts as part
 use Rattle.box_gen.specs.Parts.{Part, has_block}
 use Rattle.box_gen.specs.Boxes.{Held, Role, atom, before_run, block_level, closed, content, in_front, inline_box, is_blank, join, line_break, made, no_run, nothing, opened_again, own_name, parts_by, role_of, runs, then, words}
-use Rattle.box_gen.specs.Tree.{Boxes, inline, none}
-use Rattle.relayout.specs.Fit.{AreFit, count, heaviest, height, room_in, siblings}
+use Rattle.box_gen.specs.Tree.{Boxes, inline, none, count, height, siblings}
+use Rattle.relayout.specs.Fit.{AreFit, heaviest, room_in}
 use Rattle.session.specs.Limits.{BoxesFit, bytes_in, depth}
 use Rattle.para_prepare.specs.Preparation.{atoms_of}
 use Rattle.session.proofs.Holding.{AreOpenBounded, IsHeld, IsOwn, again_pieces, bytes_in_role, closed_pieces, container_own, count_join, font_size, most_of, none_run, of_piece, of_pieces, one_all, pieces, role_bytes, run_before, runs_more, weaker}

@@ -9,9 +9,9 @@ use Rattle.dom_store.specs.State.{State}
 use Rattle.tree_laws.specs.Weight.{bytes, total}
 use Rattle.tree_laws.specs.Wholeness.{IsWhole}
 use Rattle.style_tree.specs.Styling.{AreBounded, styled_document}
-use Rattle.box_gen.specs.Tree.{Boxes}
+use Rattle.box_gen.specs.Tree.{Boxes, count, height}
 use Rattle.box_gen.specs.Boxes.{root_boxes}
-use Rattle.relayout.specs.Fit.{AreFit, count, height, weight}
+use Rattle.relayout.specs.Fit.{AreFit, weight}
 
 -- the bytes of a text
 abbrev pub bytes_of : NodeKind → ℕ

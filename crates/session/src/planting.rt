@@ -1,10 +1,9 @@
 //! Boxes in an arena of their own (docs/PROFILE/boxes.md).
 
 ghost use Rattle.std.specs.Prelude.{◌≡◌, ◌≤◌, ◌^◌, ℕ, IfOk, None};
-ghost use Rattle.box_gen.specs.Tree.{boxes_of};
+ghost use Rattle.box_gen.specs.Tree.{boxes_of, count};
 ghost use Rattle.box_arena.specs.At.{parent_at};
 ghost use Rattle.box_arena.specs.Boxes.{Stands};
-ghost use Rattle.box_arena.specs.Planting as rule;
 ghost use Rattle.box_arena.specs.Planting.{IsBare};
 
 use crate::generated::Generated;
@@ -24,7 +23,7 @@ pub(crate) struct Rooted {
 
 /// These boxes in an arena, where nothing is kept, and these positions.
 pub(crate) fn grown(alloc: Global, generated: Generated) -> Result<Rooted, AllocError>
-    requires few { rule.count (boxes_of generated.tree) ≤ 2 ^ 18 }
+    requires few { count (boxes_of generated.tree) ≤ 2 ^ 18 }
     ensures stands { IfOk result (λ made. Stands made.arena.slots made.root (boxes_of generated.tree)) }
     ensures positions { IfOk result (λ made. made.positions ≡ generated.positions) }
     ensures free { IfOk result (λ made. parent_at made.arena.slots made.root ≡ None) }

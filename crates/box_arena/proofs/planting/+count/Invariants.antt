@@ -1,6 +1,5 @@
 use Rattle.std.proofs.Common.{◌≡◌, ◌≤◌, ◌+◌, suc, drop}
-use Rattle.box_gen.specs.Tree.{all_boxes_of, boxes_of}
-use Rattle.box_arena.specs.Planting.{count}
+use Rattle.box_gen.specs.Tree.{all_boxes_of, boxes_of, count}
 use Rattle.box_arena.proofs.planting.+count.Given as goal
 
 abbrev pub decreases-count : goal.decreases-count

@@ -1,9 +1,8 @@
 use Rattle.std.proofs.Common.{◌≡◌, ◌∙◌, ◌+◌, suc, List, ap, arith, subst}
 use Rattle.std.proofs.lemmas.List.{nil_from_length}
 use Rattle.box_gen.specs.declared.tree.BoxTree.{BoxTree, out-BoxTree}
-use Rattle.box_gen.specs.Tree.{all_boxes_of, boxes_of}
+use Rattle.box_gen.specs.Tree.{all_boxes_of, boxes_of, count}
 use Rattle.box_arena.specs.At.{node_of}
-use Rattle.box_arena.specs.Planting.{count}
 use Rattle.box_arena.proofs.Planted.{IsUnderWay, begun, count_all, fewer, finished, not_above, one_on, opened}
 use Rattle.box_arena.proofs.arena.BoxArena.+plant.Goals as goal
 

@@ -1,7 +1,6 @@
 use Rattle.box_gen.specs.declared.tree.BoxTree.{out-BoxTree}
-use Rattle.box_gen.specs.Tree.{all_boxes_of, boxes_of}
+use Rattle.box_gen.specs.Tree.{all_boxes_of, boxes_of, count}
 use Rattle.box_arena.specs.At.{node_of}
-use Rattle.box_arena.specs.Planting.{count}
 use Rattle.box_arena.proofs.Planted.{IsUnderWay}
 use Rattle.box_arena.proofs.arena.BoxArena.+plant.Given as goal
 

@@ -4,7 +4,7 @@ use Rattle.box_arena.specs.At.{Node}
 use Rattle.para_prepare.specs.Preparation.{Preparation}
 use Rattle.relayout.specs.declared.row.Row.{Row}
 use Rattle.relayout.specs.declared.sizes.Containing.{Containing}
-use Rattle.relayout.specs.Fit.{height}
+use Rattle.box_gen.specs.Tree.{height}
 use Rattle.relayout.specs.Flowing.{CanFlow}
 use Rattle.relayout.specs.Row.{outside_of}
 use Rattle.relayout.specs.Step.{contributing, sizing_of}

@@ -5,7 +5,7 @@ use Rattle.para_prepare.specs.Preparation.{Preparation}
 use Rattle.relayout.specs.declared.row.Row.{Row}
 use Rattle.relayout.specs.declared.sizes.Containing.{Containing}
 use Rattle.relayout.specs.declared.sizing.Sizing.{Sizing}
-use Rattle.relayout.specs.Fit.{height}
+use Rattle.box_gen.specs.Tree.{height}
 use Rattle.relayout.specs.Flowing.{CanFlow}
 use Rattle.relayout.specs.Row.{outside_of, row_in}
 use Rattle.relayout.specs.Step.{laid_inside, sizing_of, used_in}
