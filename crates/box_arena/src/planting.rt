@@ -1,8 +1,8 @@
 //! A whole tree of boxes that is put into an arena.
 
 ghost use Rattle.std.specs.Prelude.{◌≡◌, ◌≤◌, ◌^◌};
-ghost use Rattle.box_gen.specs.Tree.{boxes_of, count};
-ghost use Rattle.box_arena.specs.Planting as rule;
+ghost use Rattle.box_gen.specs.Tree as rule;
+ghost use Rattle.box_gen.specs.Tree.{boxes_of};
 
 use crate::arena::BoxArena;
 use crate::key::BoxKey;
