@@ -1,16 +1,35 @@
 """Tests of tools/picture and tools/listing-pictures."""
 import collections
+import html
+import json
 import os
+import random
+import re
 import shutil
 import struct
+import subprocess
 from xml.etree.ElementTree import Element, fromstring
 
+import listing
 import raster
 
 from tools.tests import support
 from tools.tests.support import SCRIPT, TOP, all_listings, example, held, page_of, tried
 
 SVG = "{http://www.w3.org/2000/svg}"
+# Documents of each mode and of both directions, by their names in examples/.
+POINTED = ("signs", "isolate_in_a_line", "text_in_vertical_rl", "text_in_sideways_lr", "four_digits_combined")
+# Moves the pointer to some points of the page, in 1/64 px, and tells what the page says at each, and the caret that it shows.
+POINTER = """\
+const points = POINTS, seen = [];
+for (const [x, y] of points) {
+  const at = new DOMPoint((x + 0.5) / 64, (y + 0.5) / 64).matrixTransform(page.getScreenCTM());
+  page.dispatchEvent(new PointerEvent("pointermove", { clientX: at.x, clientY: at.y, bubbles: true }));
+  const edges = ["x1", "y1", "x2", "y2"].map(name => Math.round(64 * caret.getAttribute(name)));
+  seen.push([told.textContent, ...edges]);
+}
+document.body.dataset.seen = JSON.stringify(seen);
+"""
 
 
 class Pictures(support.ToolCase):
@@ -56,12 +75,42 @@ class Pictures(support.ToolCase):
             self.hold(data.startswith(raster.PNG), "picture --png is a PNG")
             self.same(struct.unpack(">II", data[16:24]), due, "the size of a PNG")
 
+    def test_carets(self) -> None:
+        """A page of HTML says at each point what the program says, and shows its caret, in a browser."""
+        self.needs(self.program, "what stands under a pointer")
+        browser = raster.find_browser()
+        if browser is None:
+            self.skipTest("carets: there is no chromium")
+        chance = random.Random(41)
+        for name in POINTED:
+            document = example(name).replace(".listing", ".html")
+            words = ["layout", *options_of(name)]
+            runs = [fragment.rect for fragment in page_of(example(name)).fragments if fragment.kind == "run"]
+            points = [point_near(chance, chance.choice(runs)) for _ in range(40)]
+            page = tried("picture", "--html", "--program", self.program, "--words", " ".join(words), document)
+            self.same((page.status, page.said), (0, ""), f"picture --html of {name}")
+            script = POINTER.replace("POINTS", json.dumps(points), 1)
+            found = seen_in(browser, self.folder(), page.out.replace("</script>", script + "</script>", 1))
+            self.same(found, self.told(document, words[1:], points), f"carets of {name}")
+
+    def told(self, document: str, options: list[str], points: list[tuple[int, int]]) -> list[list[str | int]]:
+        """What the page is to say at each point, by the program: the words, and the edges of the caret."""
+        def answers(lines: list[str]) -> list[list[str]]:
+            probe = "\n".join([held(document).rstrip(), *lines, ""])
+            return [answer.split() for answer in self.ran(" ".join(["probe", *options]), probe.encode("utf-8")).splitlines()]
+
+        hits = answers([f"point {x} {y}" for x, y in points])
+        # Nothing is hit by a miss, and no text has the number 0.
+        carets = answers([f"caret {hit[1]} {hit[4]}" if hit[1:] else "caret 0 0" for hit in hits])
+        return [told_at(hit, caret) for hit, caret in zip(hits, carets)]
+
     def test_documents_and_files(self) -> None:
         """A document goes through the program; here one that writes a stored listing takes its place."""
         folder = self.folder()
         program, new = os.path.join(folder, "program"), os.path.join(folder, "new.svg")
         with open(program, "w", encoding="utf-8") as file:
             file.write(f'#!/bin/sh\n[ "$*" = "layout --view-inline 5" ] && exec cat "{example("signs")}"\n')
+            file.write('[ "$*" = "probe --view-inline 5" ] && exec sed -n "s/^point .*/miss/p; s/^caret .*/nocaret/p"\n')
         os.chmod(program, 0o755)
         document = held(example("signs").replace(".listing", ".html"))
         words = ("--program", program, "--words", "layout --view-inline 5")
@@ -87,6 +136,37 @@ class Pictures(support.ToolCase):
             if os.path.exists(self.program):
                 found = self.ran(held(f"{path}.args"), held(f"{path}.html").encode("utf-8"))
                 self.same(found, held(f"{path}.listing"), f"{path}.listing")
+
+
+def told_at(hit: list[str], caret: list[str]) -> list[str | int]:
+    """What the page says for a hit and its caret."""
+    if hit == ["miss"]:
+        return ["", 0, 0, 0, 0]
+    x, y, width, height = map(int, caret[1:])
+    return [f"text {hit[1]}, characters {hit[2]} to {hit[3]}, caret at {hit[4]}", x, y, x + width, y + height]
+
+
+def options_of(name: str) -> list[str]:
+    """The options of an example, behind the word of the command."""
+    path = example(name).replace(".listing", ".args")
+    return held(path).split()[1:] if os.path.exists(path) else []
+
+
+def point_near(chance: random.Random, rect: listing.Rect) -> tuple[int, int]:
+    """A point in a rectangle, or a little outside."""
+    return chance.randrange(rect.x - 40, rect.right + 40), chance.randrange(rect.y - 40, rect.bottom + 40)
+
+
+def seen_in(browser: str, folder: str, page: str) -> list[list[str | int]]:
+    """What a page wrote into its element `body` in a browser."""
+    path = os.path.join(folder, "page.html")
+    with open(path, "w", encoding="utf-8") as file:
+        file.write(page)
+    words = ["--headless", "--disable-gpu", f"--user-data-dir={folder}/profile", *["--no-sandbox"] * (os.geteuid() == 0)]
+    ran = subprocess.run([browser, *words, "--dump-dom", f"file://{path}"], stdout=subprocess.PIPE, stderr=subprocess.DEVNULL, timeout=120, check=False)
+    found = re.search(r'data-seen="([^"]*)"', ran.stdout.decode("utf-8"))
+    seen: list[list[str | int]] = json.loads(html.unescape(found[1])) if found else []
+    return seen
 
 
 def drawn_kinds(*words: str, given: str | None = None) -> collections.Counter[str]:
