@@ -65,10 +65,10 @@ runs_own opened (part.stops number is_cut ∷ parts) holder = runs_own (without_
 
 -- ---- a run that is white space alone has no atom
 
-abbrev IsSound : Run → Type 0
+abbrev pub IsSound : Run → Type 0
 IsSound run = run.blank ≡ true → run.atoms ≡ none
 
-AreSound : Blocks → Type 0
+unfoldable pub AreSound : Blocks → Type 0
 AreSound no_more = ⊤
 AreSound (then block run others) = IsSound run × AreSound others
 
@@ -80,7 +80,7 @@ front_sound items false run sound = λ e. cc
 atom_sound : (items : List Entry) (own : Boxes) (run : Run) → IsSound (before_run items own false run)
 atom_sound items own run = λ e. cc
 
-runs_sound : (opened : List Opened) (parts : List Part) → IsSound (runs opened parts).first × AreSound (runs opened parts).others
+pub runs_sound : (opened : List Opened) (parts : List Part) → IsSound (runs opened parts).first × AreSound (runs opened parts).others
 unfolding runs join AreSound
 runs_sound opened [] = (λ e. refl, tt)
 runs_sound opened (part.words number letters style ∷ parts) =

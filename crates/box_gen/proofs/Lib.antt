@@ -10,6 +10,7 @@ pub mod Least
 pub mod NodeLines
 pub mod PairLaws
 pub mod Pieces
+pub mod PlaceLaws
 pub mod Puts
 pub mod Results
 pub mod Runs
