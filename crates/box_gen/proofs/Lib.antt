@@ -7,6 +7,7 @@ pub mod Fillings
 pub mod Founds
 pub mod HiddenLaws
 pub mod Least
+pub mod NameLaws
 pub mod NodeLines
 pub mod PairLaws
 pub mod Pieces

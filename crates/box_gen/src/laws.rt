@@ -1,7 +1,7 @@
 //! Laws of boxes. The functions do nothing: their contracts are the laws.
 
 ghost use Rattle.box_gen.specs.Laws.{ContainersStandOnce, HiddenNodesAreNothing, ItemsArePaired, PiecesHaveEdges, TextsStandOnce};
-ghost use Rattle.box_gen.specs.Places.{NamesAreOfPlaces};
+ghost use Rattle.box_gen.specs.Places.{BoxesAreNamedOnce, NamesAreOfPlaces};
 
 /// Each block-level element and each inline-block that is shown has one box of its own, in document order, in a box of its block
 /// container, whatever inline boxes stand between the two.
@@ -27,6 +27,11 @@ pub fn hidden_nodes_are_nothing()
 /// Of the pieces of an inline box the first alone has its inline-start edges, and the last alone its inline-end edges.
 pub fn pieces_have_edges()
     ensures { PiecesHaveEdges }
+{}
+
+/// Where no two nodes have one number, no two boxes have one name.
+pub fn boxes_are_named_once()
+    ensures { BoxesAreNamedOnce }
 {}
 
 /// The names of boxes are those of the places at which they stand, and the names of paragraphs those of the boxes that hold one.
