@@ -17,16 +17,16 @@ use Rattle.box_gen.specs.Tree.{Boxes, box, none}
 
 -- ---- how often something is in a list
 
-abbrev one_if : Bool → ℕ
+abbrev pub one_if : Bool → ℕ
 one_if true = 1
 one_if false = 0
 
 module _ {A : Type 0} (same : A → A → Bool) where
-  pub tally : A → List A → ℕ
+  unfoldable pub tally : A → List A → ℕ
   tally one [] = 0
   tally one (other ∷ others) = one_if (same one other) + tally one others
 
-  tally_both : (one : A) (some others : List A) → tally one (some ++ others) ≡ tally one some + tally one others
+  pub tally_both : (one : A) (some others : List A) → tally one (some ++ others) ≡ tally one some + tally one others
   unfolding tally
   tally_both one [] others = omega arith
   tally_both one (other ∷ some) others = omega (arith, tally_both one some others)

@@ -15,7 +15,7 @@ use Rattle.tree_laws.proofs.Keeping.{children_of}
 
 -- ---- how often a node is met in a tree
 
-abbrev met : (number : ℕ) → Tree → ℕ
+abbrev pub met : (number : ℕ) → Tree → ℕ
 met number none = 0
 met number (node other what inner next) = hit number other + (met number inner + met number next)
 
@@ -91,7 +91,7 @@ module _ (state : State) (whole : IsWhole state) where
   by_parent levels child (Some parent) is apart higher =
       omega (arith, are_met state child (Some parent) (inside_of child (Some parent) is) levels (0 ∷ []), hit_apart child 0 apart, higher parent)
 
-  once : (levels number : ℕ) → met number (tree_to levels state (0 ∷ [])) ≤ 1
+  pub once : (levels number : ℕ) → met number (tree_to levels state (0 ∷ [])) ≤ 1
   once zero number = omega (arith, no_levels state number)
   once (suc levels) number = elim (eqb_tells number 0) [
     | inl (here, same) ↦ subst (λ (n : ℕ). met n (tree_to (suc levels) state (0 ∷ [])) ≤ 1) (sym same) (html_once levels)
