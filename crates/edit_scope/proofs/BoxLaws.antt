@@ -48,10 +48,10 @@ module _ (rules : List Ruling) (state : State) (edit : EditOf) (t : IsTaken stat
       ap (λ (l : List What). unturned (style_of initial (winners rules l initial)) (winners rules (line now 1) (style_of initial (winners rules l initial)))) roots.0
       ∙ ap (λ (l : List What). unturned (style_of initial (winners rules (line state 0) initial)) (winners rules l (style_of initial (winners rules (line state 0) initial)))) roots.1
 
-  root_stays : element_style rules now 0 ≡ element_style rules state 0
+  pub root_stays : element_style rules now 0 ≡ element_style rules state 0
   root_stays = ap (λ (s : Style). root_style s (body_style rules now)) html_stays ∙ ap (root_style (html_style rules state)) body_stays
 
-  style_above : (upper levels : ℕ) → IsBelow now upper levels number → element_style rules now upper ≡ element_style rules state upper
+  pub style_above : (upper levels : ℕ) → IsBelow now upper levels number → element_style rules now upper ≡ element_style rules state upper
   style_above zero levels below = root_stays
   style_above (suc upper) levels below = ap (λ (l : List What). (place_on rules l).style) (line_above levels (suc upper) below)
 

@@ -1,5 +1,5 @@
 -- What is laid out in the box of an element that isn't in the scope of an edit.
-use Rattle.std.proofs.Common.{◌≡◌, ◌∙◌, ℕ, zero, suc, Bool, true, false, List, [], ◌∷◌, refl, ap, sym, subst, arith, Option, Some, option_map, inl, inr}
+use Rattle.std.proofs.Common.{◌≡◌, ◌∙◌, ℕ, zero, suc, true, false, List, [], ◌∷◌, refl, ap, sym, subst, arith, Option, Some, option_map, inl, inr}
 use Rattle.std.proofs.lemmas.Bool.{false≢true}
 use Rattle.std.proofs.lemmas.Option.{none-some, same_Some}
 use Rattle.style_types.specs.declared.style.Display.{Display}
@@ -16,7 +16,7 @@ use Rattle.dom_store.specs.Refusals.{is_element, is_of}
 use Rattle.tree_laws.specs.Reached.{IsAtLevel}
 use Rattle.tree_laws.proofs.Keeping.{children_of}
 use Rattle.style_tree.specs.Styling.{body_style, kind_of, style_at, styled_in}
-use Rattle.box_gen.specs.Boxes.{Role, atom, block_level, content, inline_box, line_break, made, nothing, parts_by, role_of, words}
+use Rattle.box_gen.specs.Boxes.{content, made, parts_by, role_of}
 use Rattle.box_gen.specs.Parts.{Part}
 use Rattle.box_limits.specs.Lines.{place_on, style_on}
 use Rattle.box_limits.proofs.Among.{IsIn, contained}
@@ -29,21 +29,14 @@ use Rattle.edit_scope.specs.Scope.{display_at, element_style, holder, holder_in,
 use Rattle.edit_scope.proofs.BelowLaws.{IsSettled, child_settled, same_style}
 use Rattle.edit_scope.proofs.BoxLaws.{body_stays, style_stays}
 use Rattle.edit_scope.proofs.HolderLaws.{ancestors_are, ancestors_of_child, not_inline}
+use Rattle.edit_scope.proofs.InsideLaws.{is_inline}
 use Rattle.edit_scope.proofs.LineLaws.{IsTaken, element_lives, itself_same}
 use Rattle.edit_scope.proofs.PartLaws.{IsKept, filled_held, kept_by}
 use Rattle.edit_scope.proofs.ShellLaws.{AreLike, like_append, made_like, parts_like}
 
 -- ---- inline boxes
 
-abbrev is_inline : Role → Bool
-is_inline nothing = false
-is_inline (words letters) = false
-is_inline line_break = false
-is_inline inline_box = true
-is_inline atom = false
-is_inline block_level = false
-
-inline_display : (kind : NodeKind) (display : Display) (style : Style) → style.display ≡ display → is_inline (role_of kind style) ≡ true → display ≡ Inline
+pub inline_display : (kind : NodeKind) (display : Display) (style : Style) → style.display ≡ display → is_inline (role_of kind style) ≡ true → display ≡ Inline
 inline_display styled.element Block style is inline = absurd (let no : false ≡ true = sym (rw is refl) ∙ inline in cc)
 inline_display styled.element Inline style is inline = refl
 inline_display styled.element InlineBlock style is inline = absurd (let no : false ≡ true = sym (rw is refl) ∙ inline in cc)
@@ -56,7 +49,7 @@ inline_display styled.line_break FlowRoot style is inline = absurd (let no : fal
 inline_display styled.line_break Hidden style is inline = absurd (let no : false ≡ true = sym (rw is refl) ∙ inline in cc)
 inline_display (styled.text letters) display style is inline = absurd (false≢true inline)
 
-style_below : (rules : List Ruling) (what : What) (above : List What) → HasTwo above → (place_on rules (what ∷ above)).style ≡ style_on rules (what ∷ above) what (place_on rules above).style
+pub style_below : (rules : List Ruling) (what : What) (above : List What) → HasTwo above → (place_on rules (what ∷ above)).style ≡ style_on rules (what ∷ above) what (place_on rules above).style
 unfolding place_on
 style_below rules what [] two = absurd two
 style_below rules what (one ∷ []) two = absurd two
@@ -180,7 +173,7 @@ module _ (rules : List Ruling) (state : State) (edit : EditOf) (t : IsTaken stat
   below_html : number ≡ 0 → IsIn 1 (children_at now number)
   below_html is = subst (λ (n : ℕ). IsIn 1 (children_at now n)) (sym is) (subst (IsIn 1) (sym (html_children rules now t.rooted)) (inl refl))
 
-  body : number ≡ 0 → line now 1 ≡ line state 1
+  pub body : number ≡ 0 → line now 1 ≡ line state 1
   body is = (child_stays number 1 itself (below_html is)).lines
 
   body_like : number ≡ 0 → (depth : ℕ) → AreLike (content (body_in rules now (tree_to depth now (1 ∷ [])))) (content (body_in rules state (tree_to depth state (1 ∷ []))))

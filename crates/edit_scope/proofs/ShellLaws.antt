@@ -21,7 +21,7 @@ if_append : (ordinal : ℕ) (shell : Shell) (one two : List Shell) → if_anonym
 if_append zero shell one two = refl
 if_append (suc ordinal) shell one two = refl
 
-join_among : (boxes others : Boxes) → anonymous_among (join boxes others) ≡ anonymous_among boxes ++ anonymous_among others
+pub join_among : (boxes others : Boxes) → anonymous_among (join boxes others) ≡ anonymous_among boxes ++ anonymous_among others
 unfolding join anonymous_among
 join_among none others = refl
 join_among (box name style content inner next) others =

@@ -43,7 +43,7 @@ use Rattle.edit_scope.proofs.LineLaws.{IsTaken, every_in, itself_same}
 
 -- ---- a document that takes an edit of its tree
 
-takes_tree : (state : State) (edit : EditOf) → Takes state (of_tree edit) → IsTaken state.tree edit
+pub takes_tree : (state : State) (edit : EditOf) → Takes state (of_tree edit) → IsTaken state.tree edit
 takes_tree state edit takes =
     let unrefused = none_unmapped by_tree (tree_refusals.refusal state.tree edit) takes.unrefused in
     record {
@@ -65,7 +65,7 @@ lines_of rules state edit number t element outside =
     record { lived = same.lived; parent = same.parent; ancestors = same.ancestors greatest_depth; line = same.lines greatest_depth }
 
 -- an edit of anything else has every element in its scope
-none_left : {A : Type 0} → (state : dom.State) → IsReached state → (number : ℕ) → is_of is_element state number ≡ true → (Contains (every_element state) number → ⊥) → A
+pub none_left : {A : Type 0} → (state : dom.State) → IsReached state → (number : ℕ) → is_of is_element state number ≡ true → (Contains (every_element state) number → ⊥) → A
 none_left state all number element outside = absurd (outside (contained number (every_element state) (every_in state all number element)))
 
 pub unscoped_lines : UnscopedLines
@@ -84,27 +84,25 @@ box_element rules state number is = held_element (state.node_at number) (and_par
 box_apart : (rules : List Ruling) (state : dom.State) (number : ℕ) → has_box rules state number ≡ true → display_at rules state number ≡ Inline → ⊥
 box_apart rules state number is inline = false≢true (sym (ap is_boxed inline) ∙ (and_parts (is_of may_hold state number) (is_boxed (display_at rules state number)) is).1)
 
-unscoped : (state : State) (change : Change) (number : ℕ) → IsUntouched state change number → IsUnscoped state change number
+-- what is in the scope is touched
+pub scope_reached : (state : State) (change : Change) (number : ℕ) → Contains (scope state change) number → Contains (reached state change) number
 unfolding ancestors_to
+scope_reached state change number there =
+    contained number (reached state change) (in_all (inclusive_ancestors (after state change).tree) number number (scope state change) (found number (scope state change) there) (inl refl))
+
+unscoped : (state : State) (change : Change) (number : ℕ) → IsUntouched state change number → IsUnscoped state change number
 unscoped state change number untouched = record {
   element = box_element (after state change).rules (after state change).tree number untouched.box;
-  outside = λ there. untouched.outside (contained number (reached state change)
-      (in_all (inclusive_ancestors (after state change).tree) number number (scope state change) (found number (scope state change) there) (inl refl)));
+  outside = λ there. untouched.outside (scope_reached state change number there);
 }
 
 pub untouched_lines : UntouchedLines
 untouched_lines state change number takes untouched = unscoped_lines state change number takes (unscoped state change number untouched)
 
-module _ (rules : List Ruling) (state : dom.State) (edit : EditOf) (t : IsTaken state edit) (number : ℕ) (box : has_box rules (tree.after state edit) number ≡ true)
-    (away : IsIn number (flat_map (inclusive_ancestors (tree.after state edit)) (tree_scope rules state edit)) → ⊥) where
+module _ (rules : List Ruling) (state : dom.State) (edit : EditOf) (t : IsTaken state edit) (number : ℕ) (element : is_of is_element (tree.after state edit) number ≡ true)
+    (apart : display_at rules (tree.after state edit) number ≡ Inline → ⊥) (away : IsIn number (flat_map (inclusive_ancestors (tree.after state edit)) (tree_scope rules state edit)) → ⊥) where
   abbrev now : dom.State
   now = tree.after state edit
-
-  element : is_of is_element now number ≡ true
-  element = box_element rules now number box
-
-  apart : display_at rules now number ≡ Inline → ⊥
-  apart = box_apart rules now number box
 
   below_of : KeepsBelow state now number
   below_of = record {
@@ -117,17 +115,17 @@ module _ (rules : List Ruling) (state : dom.State) (edit : EditOf) (t : IsTaken 
     trees = trees_stay rules state edit t number element apart away;
   }
 
-  out : IsIn number (tree_scope rules state edit) → ⊥
+  pub out : IsIn number (tree_scope rules state edit) → ⊥
   out = outside rules state edit t number element apart away
 
   -- `body` is below `html`
   below_body : number ≡ 0 → IsBelow now number 1 1
   below_body is = (number, refl, subst (λ (n : ℕ). Contains (children_at now n) 1) (sym is) (contained 1 (children_at now 0) (subst (IsIn 1) (sym (html_children rules now t.rooted)) (inl refl))))
 
-  body : number ≡ 0 → line now 1 ≡ line state 1
+  pub body : number ≡ 0 → line now 1 ≡ line state 1
   body is = (settled_below rules state edit t number element apart away 1 1 (below_body is)).lines
 
-  same_style : element_style rules now number ≡ element_style rules state number
+  pub same_style : element_style rules now number ≡ element_style rules state number
   same_style = style_stays rules state edit t number element out body
 
   body_inside : number ≡ 0 → (depth : ℕ) → body_in rules now (tree_to depth now (1 ∷ [])) ≡ body_in rules state (tree_to depth state (1 ∷ []))
@@ -157,7 +155,7 @@ module _ (rules : List Ruling) (state : dom.State) (edit : EditOf) (t : IsTaken 
       same
       ∙ ap (λ (s : Style). styled_in rules state s (tree_to depth state (children_at state (suc some)))) (subst (λ (n : ℕ). element_style rules now n ≡ element_style rules state n) (sym is) same_style)
 
-  box_stays : (depth : ℕ) → box_of rules now depth number ≡ box_of rules state depth number
+  pub box_stays : (depth : ℕ) → box_of rules now depth number ≡ box_of rules state depth number
   box_stays depth =
       ap (λ (style : Style). made number style (content (inside_of rules now depth number))) same_style
       ∙ ap (λ (nodes : Nodes). made number (element_style rules state number) (content nodes)) (inside_stays depth number refl)
@@ -180,14 +178,14 @@ all_reached state change number takes untouched same every =
     (contained number (every_element state.tree) (every_in state.tree takes.reached number (subst (λ (s : dom.State). is_of is_element s number ≡ true) same (unscoped state change number untouched).element)))))
 
 pub untouched_below : UntouchedBelow
-untouched_below state (of_tree edit) number takes untouched = below_of state.rules state.tree edit (takes_tree state edit takes) number untouched.box (away_of state (of_tree edit) number untouched)
+untouched_below state (of_tree edit) number takes untouched = below_of state.rules state.tree edit (takes_tree state edit takes) number (box_element state.rules (tree.after state.tree edit) number untouched.box) (box_apart state.rules (tree.after state.tree edit) number untouched.box) (away_of state (of_tree edit) number untouched)
 untouched_below state (metric face c upright value) number takes untouched = all_reached state (metric face c upright value) number takes untouched refl refl
 untouched_below state (retire face) number takes untouched = all_reached state (retire face) number takes untouched refl refl
 untouched_below state (rule rules) number takes untouched = all_reached state (rule rules) number takes untouched refl refl
 untouched_below state (unrule index) number takes untouched = all_reached state (unrule index) number takes untouched refl refl
 
 pub untouched_boxes : UntouchedBoxes
-untouched_boxes state (of_tree edit) number takes untouched = boxes_of state.rules state.tree edit (takes_tree state edit takes) number untouched.box (away_of state (of_tree edit) number untouched) state.faces
+untouched_boxes state (of_tree edit) number takes untouched = boxes_of state.rules state.tree edit (takes_tree state edit takes) number (box_element state.rules (tree.after state.tree edit) number untouched.box) (box_apart state.rules (tree.after state.tree edit) number untouched.box) (away_of state (of_tree edit) number untouched) state.faces
 untouched_boxes state (metric face c upright value) number takes untouched = all_reached state (metric face c upright value) number takes untouched refl refl
 untouched_boxes state (retire face) number takes untouched = all_reached state (retire face) number takes untouched refl refl
 untouched_boxes state (rule rules) number takes untouched = all_reached state (rule rules) number takes untouched refl refl

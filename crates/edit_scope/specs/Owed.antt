@@ -1,6 +1,6 @@
 -- How many texts are to be prepared for the pages of an open document that is edited: for each page those alone that an edit since the page
 -- before can have changed.
-use Rattle.std.specs.Prelude.{◌≡◌, ℕ, ◌+◌, nat_eq, List, [], ◌∷◌, ◌++◌, filter, length}
+use Rattle.std.specs.Prelude.{◌≡◌, ℕ, ◌+◌, nat_eq, List, [], ◌++◌, filter, length}
 use Rattle.std.specs.List.{list_any}
 use Rattle.fragment_types.specs.declared.item.BoxName.{BoxName}
 use Rattle.style_tree.specs.Styling.{styled_document}

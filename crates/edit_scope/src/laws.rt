@@ -4,6 +4,7 @@ ghost use Rattle.edit_scope.specs.Boxes.{PagesAreBoxesOfHtml};
 ghost use Rattle.edit_scope.specs.Laws.{UnscopedContent, UnscopedLines, UntouchedBelow, UntouchedBoxes, UntouchedLines};
 ghost use Rattle.edit_scope.specs.Leaves.{EditsKeepLeaves, OpenedTextsAreLeaves};
 ghost use Rattle.edit_scope.specs.Owed.{SecondPagesAreOwedNothing};
+ghost use Rattle.edit_scope.specs.Pages.{PagesNameBoxesOnce, UnscopedPlaces, UntouchedPlaces};
 
 /// In a document that was opened no text has children.
 pub fn texts_of_opened_documents_are_leaves()
@@ -49,4 +50,20 @@ pub fn pages_are_boxes_of_html()
 /// No paragraph is owed to a page of a document that wasn't edited after the page before.
 pub fn second_pages_are_owed_nothing()
     ensures { SecondPagesAreOwedNothing }
+{}
+
+/// No two boxes of a page have one name.
+pub fn pages_name_boxes_once()
+    ensures { PagesNameBoxesOnce }
+{}
+
+/// A box of an element that isn't in the scope of an edit was there before it, with its name, its style and its content, on a page whose
+/// lines ran alike.
+pub fn boxes_outside_the_scope_were_there()
+    ensures { UnscopedPlaces }
+{}
+
+/// One of an element that isn't touched was there with all inside it, in a box whose lines ran alike.
+pub fn untouched_boxes_were_there()
+    ensures { UntouchedPlaces }
 {}
