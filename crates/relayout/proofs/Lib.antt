@@ -15,6 +15,9 @@ pub mod InlineLaws
 pub mod KeptLaws
 pub mod LaidLaws
 pub mod LinePieces
+pub mod MetPairs
+pub mod NamedLaws
+pub mod PagePlaces
 pub mod ReuseLaws
 pub mod RootCounts
 pub mod RowLaws

@@ -1,6 +1,6 @@
 -- What an arena has for the boxes of a page, told by their names. The page stands in it, or an earlier one does, some of whose boxes are what they
 -- are now.
-use Rattle.std.specs.Prelude.{◌≡◌, ℕ, ◌+◌, ◌≤◌, Bool, false, List, Contains, filter, length, Some, None, IsSome, option_map}
+use Rattle.std.specs.Prelude.{◌≡◌, ℕ, ◌+◌, ◌≤◌, Bool, false, List, Contains, filter, length, Option, Some, None, IsSome, option_map}
 use Rattle.slab.specs.Slab.{Slab}
 use Rattle.face_api.specs.Table.{Table}
 use Rattle.wm_units.specs.declared.view.View.{View}
@@ -85,7 +85,7 @@ pub record CountsAreByName : Type 0 where
 
 -- what is kept of an earlier page goes to an arena in which a page stands and nothing is kept
 pub record HandsOver (giver given old new : Slab (Entry Preparation)) (root : ℕ) (page : Boxes) : Type 0 where
-  pub page : IsPageUnder old.slots root page
+  pub stands : IsPageUnder old.slots root page
   pub bare : IsBare old.slots
   pub reuses : Reuses giver given old new
   pub all : LosesNothing giver.slots old.slots new.slots root

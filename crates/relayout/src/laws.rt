@@ -1,6 +1,7 @@
 //! Laws of what is kept in an arena of boxes. These functions do nothing: their contracts are the laws.
 
 ghost use Rattle.relayout.specs.Laws.{AttachedIsRight, BareIsRight, DetachedIsRight, DroppedIsRight, ForgottenIsRight, KeptIsRight, KeptTextIsRight, MarkedIsRight, RestyledAlikeIsRight, RestyledIsRight, ReusedIsRight};
+ghost use Rattle.relayout.specs.Named.{CountsAreByName};
 ghost use Rattle.relayout.specs.Sized.{LayoutsAreSized};
 
 /// Where nothing is kept, all that is kept is right; so it is where all is forgotten.
@@ -46,4 +47,10 @@ pub fn what_is_reused_is_right()
 /// definite.
 pub fn contents_have_sizes()
     ensures { LayoutsAreSized }
+{}
+
+/// How often texts are prepared and contents arranged, told by the names of boxes in the place of keys; and of each box of a page, by its
+/// name, that all that was met is kept.
+pub fn counts_are_by_name()
+    ensures { CountsAreByName }
 {}
