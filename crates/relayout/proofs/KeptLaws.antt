@@ -11,9 +11,9 @@ use Rattle.style_types.specs.declared.style.Style.{Style}
 use Rattle.fragment_types.specs.Fragment.{Pieces}
 use Rattle.box_gen.specs.Tree.{Boxes, box, none}
 use Rattle.box_arena.specs.Arena.{SameLinks, SameNodes}
-use Rattle.box_arena.specs.At.{IsAbove, Node, Slots, first_at, kept_at, marked_at, next_at, node_at, parent_at, result_at, text_at}
-use Rattle.box_arena.specs.Boxes.{StandFrom, Stands}
-use Rattle.box_arena.specs.Links.{first_of, next_of, parent_of}
+use Rattle.box_arena.specs.At.{IsAbove, Node, Slots, kept_at, marked_at, node_at, parent_at, result_at, text_at}
+use Rattle.box_arena.specs.Boxes.{Stands}
+use Rattle.box_arena.specs.Links.{parent_of}
 use Rattle.box_arena.proofs.Handovers.{stood}
 use Rattle.box_arena.proofs.Survival.{survive_attach, survive_detach, survive_restyle}
 use Rattle.para_prepare.specs.Preparation.{Preparation}
