@@ -41,7 +41,7 @@ module _ {A : Type 0} (same : A → A → Bool) where
   none_same one (other ∷ others) few = let (here, later) = apart_by (same one other) (tally one others) few in (here, none_same one others later)
 
   -- each is there no more than once
-  pub distinct : ((one : A) → same one one ≡ true) → (some : List A) → ((one : A) → tally one some ≤ 1) → IsDistinct same some
+  distinct : ((one : A) → same one one ≡ true) → (some : List A) → ((one : A) → tally one some ≤ 1) → IsDistinct same some
   unfolding tally IsDistinct
   distinct itself [] once = tt
   distinct itself (first ∷ others) once =

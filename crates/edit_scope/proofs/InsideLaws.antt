@@ -1,5 +1,5 @@
 -- What stands in the box of a container: its anonymous blocks, and the boxes of its content, each with all inside it.
-use Rattle.std.proofs.Common.{◌≡◌, ◌⊎◌, ℕ, zero, suc, Bool, true, false, List, [], ◌∷◌, ◌++◌, refl, ap, sym, subst, Option, Some, inl, inr}
+use Rattle.std.proofs.Common.{◌≡◌, ◌⊎◌, ℕ, zero, suc, Bool, true, false, List, [], ◌∷◌, ◌++◌, refl, ap, sym, subst, arith, Option, Some, inl, inr}
 use Rattle.std.proofs.lemmas.Bool.{false≢true}
 use Rattle.style_types.specs.declared.style.Style.{Style}
 use Rattle.box_gen.specs.declared.opened.Opened.{Opened}
@@ -244,6 +244,18 @@ anonymous_there around (box name style content inner next) shell there = elim (i
   | inl is ↦ (record { around = around; name = name; style = style; content = content; inner = inner }, inl refl, is)
   | inr later ↦ let (place, stands, is) = anonymous_there around next shell later in (place, inr (inr stands), is)
 ]
+
+anonymous_later : (ordinal : ℕ) (first shell : Shell) (others : List Shell) → first.name.ordinal ≡ ordinal → shell.name.ordinal ≡ 0 → IsShell shell (if_anonymous ordinal first others) → IsShell shell others
+anonymous_later zero first shell others is own there = there
+anonymous_later (suc ordinal) first shell others is own (inl same) = absurd (omega (arith, is, ap (λ (s : Shell). s.name.ordinal) same, own))
+anonymous_later (suc ordinal) first shell others is own (inr later) = later
+
+-- an anonymous block is no element's own box
+pub no_own : (boxes : Boxes) (shell : Shell) → shell.name.ordinal ≡ 0 → IsShell shell (anonymous_among boxes) → ⊥
+unfolding anonymous_among
+no_own none shell own there = there
+no_own (box name style content inner next) shell own there =
+    no_own next shell own (anonymous_later name.ordinal (record { name = name; style = style; content = content }) shell (anonymous_among next) refl own there)
 
 -- a box and the anonymous blocks right in it stand where it stands
 pub shell_there : (around : Option Style) (boxes : Boxes) (shell : Shell) → IsShell shell (own_boxes boxes) → (place : Place) × IsAmong around boxes place × (shell_of place ≡ shell)

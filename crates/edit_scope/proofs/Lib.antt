@@ -2,6 +2,7 @@ mod Examples
 pub mod BelowLaws
 pub mod BoxLaws
 pub mod ContentLaws
+pub mod DepthLaws
 pub mod EditedPages
 pub mod HolderLaws
 pub mod InsideLaws

@@ -7,7 +7,7 @@ use Rattle.std.proofs.lemmas.Option.{none-some, same_Some}
 use Rattle.style_types.specs.declared.style.Display.TheVariants.{FlowRoot, Inline}
 use Rattle.style_types.specs.declared.style.Style.{Style}
 use Rattle.style_types.specs.Tree as styled
-use Rattle.style_types.specs.Tree.{NodeKind}
+use Rattle.style_types.specs.Tree.{NodeKind, Nodes}
 use Rattle.css_types.specs.Rule.{Ruling}
 use Rattle.dom_store.specs.State as dom
 use Rattle.dom_store.specs.State.{What, Entry, State, IsElement, IsRooted, greatest_depth, line, tree_to, tree_with}
@@ -18,7 +18,7 @@ use Rattle.tree_laws.specs.Wholeness.{IsWhole}
 use Rattle.tree_laws.proofs.Keeping.{children_of}
 use Rattle.tree_laws.proofs.Levels.{parent_of_child}
 use Rattle.style_tree.specs.Styling.{body_style, kind_of, style_at, styled_document, styled_in}
-use Rattle.box_gen.specs.Boxes.{Role, content, nothing, parts_by, role_of, root_boxes}
+use Rattle.box_gen.specs.Boxes.{Role, content, made, nothing, parts_by, role_of, root_boxes}
 use Rattle.box_gen.specs.Parts.{Part}
 use Rattle.box_gen.specs.Places.{IsAmong, IsPlaceOf, Place, RunAlike, tree_of}
 use Rattle.box_gen.specs.Tree.{Boxes}
@@ -29,10 +29,12 @@ use Rattle.box_limits.proofs.Levels.{child_line}
 use Rattle.box_limits.proofs.Parts.{two_at}
 use Rattle.box_limits.proofs.Walks.{HasTwo, style_at_is}
 use Rattle.edit_scope.specs.Boxes.{body_in, box_of, inside_of}
+use Rattle.edit_scope.specs.Pages.{PagesHaveBoxes}
 use Rattle.edit_scope.specs.Scope.{display_at, element_style, holder, holder_above, holder_in, unless_inline}
 use Rattle.edit_scope.proofs.ContentLaws.{inline_display, style_below}
+use Rattle.edit_scope.proofs.DepthLaws.{tree_below}
 use Rattle.edit_scope.proofs.HolderLaws.{ancestors_are, ancestors_of_child, not_inline}
-use Rattle.edit_scope.proofs.InsideLaws.{Hosts, IsOwnOf, IsRightIn, is_box, is_inline, made_hosts, made_split, own_either, own_first, own_inline, own_made, own_of, own_second}
+use Rattle.edit_scope.proofs.InsideLaws.{Hosts, IsOwnOf, IsRightIn, inner_of, is_box, is_inline, made_hosts, made_split, no_own, own_either, own_first, own_inline, own_made, own_of, own_second, shell_of}
 use Rattle.edit_scope.proofs.LineLaws.{what_at}
 use Rattle.edit_scope.proofs.PageLaws.{pages_are_boxes}
 
@@ -82,6 +84,11 @@ element_by (Some entry) what is element = ap is_element (same_Some entry.what wh
 elements_are : (what : What) → IsElement what → is_element what ≡ true
 elements_are (dom.element tag id classes dir own) is = refl
 elements_are (dom.text letters) is = absurd is
+
+inside_deep : (rules : List Ruling) (state : State) (depth number : ℕ) → tree_to depth state (children_at state number) ≡ tree_to 63 state (children_at state number)
+    → inside_of rules state depth number ≡ inside_of rules state 63 number
+inside_deep rules state depth zero same = ap (body_in rules state) same
+inside_deep rules state depth (suc number) same = ap (styled_in rules state (element_style rules state (suc number))) same
 
 module _ (rules : List Ruling) (state : State) where
   abbrev pub role_for : (number : ℕ) → Role
@@ -326,3 +333,17 @@ module _ (rules : List Ruling) (state : State) where
     pub boxed_apart : (number : ℕ) → IsBoxed number → display_at rules state number ≡ Inline → ⊥
     boxed_apart number (inl html) inline = absurd (let both : FlowRoot ≡ Inline = sym (ap (display_at rules state) html) ∙ inline in cc)
     boxed_apart number (inr boxed) inline = apart_in (what_at state number) (element_style rules state number) boxed inline
+
+-- ---- the box that a page has for an element
+
+pub pages_have_boxes : PagesHaveBoxes
+pages_have_boxes rules state place rooted whole reached there own =
+    let is_found = page_found rules state rooted whole reached place there in
+    let number = place.name.node in
+    elim is_found.here [
+      | inl (itself, around) ↦
+          itself
+          ∙ ap (λ (n : Nodes). made number (element_style rules state number) (content n))
+          (inside_deep rules state is_found.depth number (tree_below state whole reached is_found.level is_found.depth number is_found.sum (shown_at rules state is_found.level number is_found.shown)))
+      | inr (anonymous, among) ↦ absurd (no_own (inner_of (box_of rules state is_found.depth number)) (shell_of place) own anonymous.1)
+    ]

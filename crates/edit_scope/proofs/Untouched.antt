@@ -115,17 +115,17 @@ module _ (rules : List Ruling) (state : dom.State) (edit : EditOf) (t : IsTaken 
     trees = trees_stay rules state edit t number element apart away;
   }
 
-  pub out : IsIn number (tree_scope rules state edit) → ⊥
+  out : IsIn number (tree_scope rules state edit) → ⊥
   out = outside rules state edit t number element apart away
 
   -- `body` is below `html`
   below_body : number ≡ 0 → IsBelow now number 1 1
   below_body is = (number, refl, subst (λ (n : ℕ). Contains (children_at now n) 1) (sym is) (contained 1 (children_at now 0) (subst (IsIn 1) (sym (html_children rules now t.rooted)) (inl refl))))
 
-  pub body : number ≡ 0 → line now 1 ≡ line state 1
+  body : number ≡ 0 → line now 1 ≡ line state 1
   body is = (settled_below rules state edit t number element apart away 1 1 (below_body is)).lines
 
-  pub same_style : element_style rules now number ≡ element_style rules state number
+  same_style : element_style rules now number ≡ element_style rules state number
   same_style = style_stays rules state edit t number element out body
 
   body_inside : number ≡ 0 → (depth : ℕ) → body_in rules now (tree_to depth now (1 ∷ [])) ≡ body_in rules state (tree_to depth state (1 ∷ []))

@@ -4,20 +4,27 @@ use Rattle.std.specs.List.{Contains}
 use Rattle.css_types.specs.Rule.{Ruling}
 use Rattle.dom_store.specs.State as dom
 use Rattle.dom_store.specs.State.{IsRooted}
+use Rattle.tree_laws.specs.Reached.{IsReached}
 use Rattle.tree_laws.specs.Wholeness.{IsWhole}
 use Rattle.style_tree.specs.Styling.{styled_document}
 use Rattle.box_gen.specs.Boxes.{root_boxes}
-use Rattle.box_gen.specs.Places.{AreAlike, AreNamedOnce, IsPlaceOf, Place}
+use Rattle.box_gen.specs.Places.{AreAlike, AreNamedOnce, IsPlaceOf, Place, tree_of}
 use Rattle.box_gen.specs.Tree.{Boxes}
 use Rattle.edits.specs.Change.{Change}
 use Rattle.edits.specs.Edited.{after}
 use Rattle.edits.specs.State.{State}
+use Rattle.edit_scope.specs.Boxes.{box_of}
 use Rattle.edit_scope.specs.Laws.{Takes}
 use Rattle.edit_scope.specs.Scope.{element_style, reached, scope}
 
 -- the boxes of the page of a document
 abbrev pub page_boxes : State → Boxes
 page_boxes state = root_boxes (styled_document state.rules state.tree)
+
+-- each of them that is an element's own is the box of that element, with all inside it
+abbrev pub PagesHaveBoxes : Type 0
+PagesHaveBoxes = (rules : List Ruling) (state : dom.State) (place : Place) → IsRooted state → IsWhole state → IsReached state → IsPlaceOf (root_boxes (styled_document rules state)) place
+    → place.name.ordinal ≡ 0 → tree_of place ≡ box_of rules state 63 place.name.node
 
 -- no two of them have one name
 abbrev pub PagesNameBoxesOnce : Type 0

@@ -4,7 +4,7 @@ ghost use Rattle.edit_scope.specs.Boxes.{PagesAreBoxesOfHtml};
 ghost use Rattle.edit_scope.specs.Laws.{UnscopedContent, UnscopedLines, UntouchedBelow, UntouchedBoxes, UntouchedLines};
 ghost use Rattle.edit_scope.specs.Leaves.{EditsKeepLeaves, OpenedTextsAreLeaves};
 ghost use Rattle.edit_scope.specs.Owed.{SecondPagesAreOwedNothing};
-ghost use Rattle.edit_scope.specs.Pages.{PagesNameBoxesOnce, UnscopedPlaces, UntouchedPlaces};
+ghost use Rattle.edit_scope.specs.Pages.{PagesHaveBoxes, PagesNameBoxesOnce, UnscopedPlaces, UntouchedPlaces};
 
 /// In a document that was opened no text has children.
 pub fn texts_of_opened_documents_are_leaves()
@@ -50,6 +50,11 @@ pub fn pages_are_boxes_of_html()
 /// No paragraph is owed to a page of a document that wasn't edited after the page before.
 pub fn second_pages_are_owed_nothing()
     ensures { SecondPagesAreOwedNothing }
+{}
+
+/// A box of a page that is an element's own is the box of that element, with all inside it.
+pub fn pages_have_boxes_of_elements()
+    ensures { PagesHaveBoxes }
 {}
 
 /// No two boxes of a page have one name.
