@@ -24,13 +24,13 @@ use Rattle.edits.specs.Edited.{after}
 use Rattle.edits.specs.State.{State}
 use Rattle.edit_scope.specs.Boxes.{Shell, box_of, inside_of, own_boxes}
 use Rattle.edit_scope.specs.Laws.{Takes}
-use Rattle.edit_scope.specs.Pages.{UnscopedPlaces, UntouchedPlaces, WasBox, WasTree}
+use Rattle.edit_scope.specs.Pages.{BoxesAreOfElements, UnscopedPlaces, UntouchedPlaces, WasBox, WasTree}
 use Rattle.edit_scope.specs.Scope.{display_at, element_style, every_element, holder_above, reached, scope, tree_scope}
 use Rattle.edit_scope.proofs.BoxLaws.{around_stays, root_stays, style_above}
 use Rattle.edit_scope.proofs.ContentLaws.{body, content_stays}
 use Rattle.edit_scope.proofs.HolderLaws.{child_of_parent}
 use Rattle.edit_scope.proofs.InsideLaws.{IsShell, inner_of, inner_there, is_box, is_inline, right_shell, shell_of, shell_there}
-use Rattle.edit_scope.proofs.LineLaws.{IsTaken, same_above, what_at}
+use Rattle.edit_scope.proofs.LineLaws.{IsTaken, every_in, same_above, what_at}
 use Rattle.edit_scope.proofs.PlaceLaws.{IsAround, IsBoxed, IsFound, IsShown, Stands, boxed_apart, boxed_element, page_found, role_for, role_in, stands}
 use Rattle.edit_scope.proofs.Untouched.{box_stays, none_left, scope_reached, takes_tree}
 
@@ -155,6 +155,14 @@ module _ (rules : List Ruling) (state : dom.State) (rooted : IsRooted state) (ed
                 around = alike_all place.around;
               }
         ]
+
+-- ---- each box is of an element
+
+pub boxes_of_elements : BoxesAreOfElements
+boxes_of_elements rules state place rooted whole reached stood =
+    let number = place.name.node in
+    let is_found = page_found rules state rooted whole reached place stood in
+    contained number (every_element state) (every_in state reached number (boxed_element rules state rooted whole reached number is_found.boxed))
 
 -- ---- each edit
 

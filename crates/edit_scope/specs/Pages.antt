@@ -15,7 +15,7 @@ use Rattle.edits.specs.Edited.{after}
 use Rattle.edits.specs.State.{State}
 use Rattle.edit_scope.specs.Boxes.{box_of}
 use Rattle.edit_scope.specs.Laws.{Takes}
-use Rattle.edit_scope.specs.Scope.{element_style, reached, scope}
+use Rattle.edit_scope.specs.Scope.{element_style, every_element, reached, scope}
 
 -- the boxes of the page of a document
 abbrev pub page_boxes : State → Boxes
@@ -29,6 +29,11 @@ PagesHaveBoxes = (rules : List Ruling) (state : dom.State) (place : Place) → I
 -- no two of them have one name
 abbrev pub PagesNameBoxesOnce : Type 0
 PagesNameBoxesOnce = (rules : List Ruling) (state : dom.State) → IsRooted state → IsWhole state → AreNamedOnce (root_boxes (styled_document rules state))
+
+-- each of them is of an element of the document
+abbrev pub BoxesAreOfElements : Type 0
+BoxesAreOfElements = (rules : List Ruling) (state : dom.State) (place : Place) → IsRooted state → IsWhole state → IsReached state
+    → IsPlaceOf (root_boxes (styled_document rules state)) place → Contains (every_element state) place.name.node
 
 -- a box that is after the edit what it was before: it has the name, the style and the content of one that stood then
 pub record WasBox (page : Boxes) (place : Place) : Type 0 where

@@ -4,7 +4,7 @@ ghost use Rattle.edit_scope.specs.Boxes.{PagesAreBoxesOfHtml};
 ghost use Rattle.edit_scope.specs.Laws.{UnscopedContent, UnscopedLines, UntouchedBelow, UntouchedBoxes, UntouchedLines};
 ghost use Rattle.edit_scope.specs.Leaves.{EditsKeepLeaves, OpenedTextsAreLeaves};
 ghost use Rattle.edit_scope.specs.Owed.{SecondPagesAreOwedNothing};
-ghost use Rattle.edit_scope.specs.Pages.{PagesHaveBoxes, PagesNameBoxesOnce, UnscopedPlaces, UntouchedPlaces};
+ghost use Rattle.edit_scope.specs.Pages.{BoxesAreOfElements, PagesHaveBoxes, PagesNameBoxesOnce, UnscopedPlaces, UntouchedPlaces};
 
 /// In a document that was opened no text has children.
 pub fn texts_of_opened_documents_are_leaves()
@@ -60,6 +60,11 @@ pub fn pages_have_boxes_of_elements()
 /// No two boxes of a page have one name.
 pub fn pages_name_boxes_once()
     ensures { PagesNameBoxesOnce }
+{}
+
+/// Each box of a page is of an element of the document.
+pub fn boxes_are_of_elements()
+    ensures { BoxesAreOfElements }
 {}
 
 /// A box of an element that isn't in the scope of an edit was there before it, with its name, its style and its content, on a page whose
