@@ -1,7 +1,8 @@
 -- From a write of what is kept for a box to what the call does.
-use Rattle.std.proofs.Common.{◌≡◌, ◌∙◌, ◌≢◌, ℕ, Bool, true, false, [], Option, Some, None, option_map, IsSome, refl, sym, ap, subst, inl, inr}
+use Rattle.std.proofs.Common.{◌≡◌, ◌∙◌, ◌≢◌, ℕ, Bool, true, false, cond, [], ◌∷◌, Option, Some, None, option_map, IsSome, refl, sym, ap, subst, inl, inr}
 use Rattle.std.specs.Prelude.{if◌then◌else◌}
 use Rattle.std.proofs.lemmas.Bool.{cases_eq}
+use Rattle.std.proofs.lemmas.Option.{none-some}
 use Rattle.slab.specs.Slab.{Slab, get, ContainsKey, with_value}
 use Rattle.slab.proofs.SlabLemmas.{Updates-with_value}
 use Rattle.fragment_types.specs.declared.constraint.Constraint.{Constraint}
@@ -15,7 +16,15 @@ use Rattle.box_arena.specs.Results.{Results, result_for}
 use Rattle.box_arena.specs.Write.{ReplacesResults, TakesResults, WritesHeld}
 use Rattle.box_arena.proofs.CallLemmas.{kept_in, node_in, puts_same, sound_moved, text_in}
 use Rattle.box_arena.proofs.Climbs.{lives_on}
+use Rattle.box_arena.proofs.Sizes.{sizes_tied}
 use Rattle.box_arena.proofs.Writes.{field_stays, same_room}
+
+-- where a box that isn't marked has results, one is kept
+first_kept : (results : Results) → results ≢ [] → ((c : Constraint) → option_map piece_of (result_for results c) ≡ None) → ⊥
+first_kept [] some absent = some refl
+first_kept (((a, b), fragment) ∷ others) some absent =
+    none-some (piece_of fragment)
+    (sym (absent (record { inline = a; block = b })) ∙ ap (λ (is : Bool). option_map piece_of (cond is (Some fragment) (result_for others (record { inline = a; block = b })))) (sizes_tied a b))
 
 module _ {T : Type 0} where
   -- a text that is taken
@@ -124,3 +133,7 @@ module _ {T : Type 0} where
   sound_replaced old new key results puts sound =
       let P : Slab (Entry T) → Type 0 = λ s. IsSound s.slots in
       subst P (sym puts.is) (sound_put old key puts.entry (record puts.entry { mark = record puts.entry.mark { marked = false }; held = record puts.entry.held { results = results } }) puts.was refl refl refl refl sound)
+
+  pub some_kept : (boxes : Slab (Entry T)) (key : ℕ) (entry : Entry T) → get boxes key ≡ Some entry → entry.mark.marked ≡ false → entry.held.results ≢ [] → ((c : Constraint) → kept_at boxes.slots key c ≡ None) → ⊥
+  some_kept boxes key entry is fresh some absent =
+      first_kept entry.held.results some (λ c. sym (ap (λ m. kept_in c m (Some entry.held)) fresh) ∙ sym (ap (kept_of c) is) ∙ absent c)

@@ -1,4 +1,5 @@
 pub mod Alike
+pub mod AllHanded
 pub mod CallLemmas
 pub mod Chains
 pub mod Climbs
@@ -7,6 +8,7 @@ pub mod Handed
 pub mod Handovers
 pub mod Joined
 pub mod LinkSteps
+pub mod Paired
 pub mod Planted
 pub mod Releasing
 pub mod Sizes

@@ -5,7 +5,7 @@ use Rattle.std.specs.Option.{option_cmp}
 use Rattle.std.specs.declared.cmp.Ordering.{Ordering}
 use Rattle.std.specs.declared.cmp.Ordering.TheVariants.{Less, Equal, Greater}
 use Rattle.std.specs.Ordering.{int_cmp, ordering_then, is_eq, MatchOrdering}
-use Rattle.std.proofs.lemmas.Cmp.{int_ranked}
+use Rattle.std.proofs.lemmas.Cmp.{int_cmp_total, int_ranked, tied_itself}
 use Rattle.std.proofs.lemmas.Bool.{false_from_ne_true}
 use Rattle.fragment_types.specs.declared.constraint.Constraint.{Constraint}
 use Rattle.box_arena.specs.Results.{sizes_cmp}
@@ -24,7 +24,7 @@ options_tied None (Some y) tied = absurd (cc)
 options_tied (Some x) None tied = absurd (cc)
 options_tied (Some x) (Some y) tied = ap Some (numbers_tied x y tied)
 
-both_tied : (one other : Ordering) → is_eq (ordering_then one other) ≡ true → (is_eq one ≡ true) × (is_eq other ≡ true)
+pub both_tied : (one other : Ordering) → is_eq (ordering_then one other) ≡ true → (is_eq one ≡ true) × (is_eq other ≡ true)
 both_tied Less other tied = absurd (cc)
 both_tied Equal other tied = (refl, tied)
 both_tied Greater other tied = absurd (cc)
@@ -39,3 +39,11 @@ same_constraint one other tied =
 
 pub sizes_apart : (c other : Constraint) → other ≢ c → is_eq (sizes_cmp (c.inline, c.block) (other.inline, other.block)) ≡ false
 sizes_apart c other apart = false_from_ne_true _ (λ tied. apart (sym (same_constraint c other tied)))
+
+options_same : (x : Option ℤ) → option_cmp int_cmp x x ≡ Equal
+options_same None = refl
+options_same (Some x) = tied_itself int_cmp_total x
+
+-- sizes are tied with themselves
+pub sizes_tied : (a b : Option ℤ) → is_eq (sizes_cmp (a, b) (a, b)) ≡ true
+sizes_tied a b = ap₂ (λ one other. is_eq (ordering_then one other)) (options_same a) (options_same b)

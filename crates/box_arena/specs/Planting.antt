@@ -2,7 +2,7 @@
 use Rattle.std.specs.Prelude.{◌≡◌, ℕ, ◌+◌, None}
 use Rattle.slab.specs.Slab.{Slab, get, ContainsKey, HasRoomFor}
 use Rattle.fragment_types.specs.declared.constraint.Constraint.{Constraint}
-use Rattle.box_gen.specs.Tree.{Boxes, none, box, count}
+use Rattle.box_gen.specs.Tree.{Boxes, count}
 use Rattle.box_arena.specs.declared.entry.Entry.{Entry}
 use Rattle.box_arena.specs.At.{Slots, first_at, kept_at, next_at, node_at, parent_at, text_at}
 use Rattle.box_arena.specs.Arena.{LiveOn}

@@ -1,8 +1,12 @@
 -- What is kept of boxes, handed from an arena to another one in which they stand as they did.
-use Rattle.std.specs.Prelude.{◌≡◌, ℕ, ◌≤◌, ◌^◌, Option, Some, None, option_and_then, nat_eq, if◌then◌else◌, ◌⊎◌, ⊤}
+use Rattle.std.specs.Prelude.{◌≡◌, ℕ, ◌<◌, ◌≤◌, ◌^◌, Option, Some, None, option_and_then, nat_eq, if◌then◌else◌, ◌⊎◌, ⊤}
+use Rattle.std.specs.BTreeMap.{BTreeMap, get}
+use Rattle.std.specs.Ordering.{nat_cmp, ordering_then}
+use Rattle.std.specs.declared.cmp.Ordering.{Ordering}
 use Rattle.slab.specs.Slab.{Slab}
 use Rattle.fragment_types.specs.declared.constraint.Constraint.{Constraint}
 use Rattle.fragment_types.specs.Fragment.{Pieces}
+use Rattle.fragment_types.specs.declared.item.BoxName.{BoxName}
 use Rattle.box_gen.specs.Places.{RunAlike}
 use Rattle.box_gen.specs.Tree.{Boxes, count, height}
 use Rattle.box_arena.specs.declared.entry.Entry.{Entry}
@@ -18,6 +22,19 @@ AreAround None None = ⊤
 AreAround None (Some other) = ⊥
 AreAround (Some one) None = ⊥
 AreAround (Some one) (Some other) = RunAlike one.style other.style
+
+-- the order of two names, by their numbers
+abbrev pub names_cmp : ℕ × ℕ → ℕ × ℕ → Ordering
+names_cmp one other = ordering_then (nat_cmp one.0 other.0) (nat_cmp one.1 other.1)
+
+-- the key that is found under a name
+abbrev pub key_named : BTreeMap (ℕ × ℕ) ℕ → BoxName → Option ℕ
+key_named keys name = get names_cmp keys (name.node, name.ordinal)
+
+-- What is found by one list of questions stays where it is, or goes over whole, if there is any.
+abbrev pub Goes : {I X : Type 0} → (giver given old new : I → Option X) → Type 0
+Goes {I} giver given old new = (((i : I) → given i ≡ giver i) × ((i : I) → new i ≡ old i))
+    ⊎ ((((i : I) → giver i ≡ None) → ⊥) × ((i : I) → given i ≡ None) × ((i : I) → new i ≡ giver i))
 
 module _ {T : Type 0} where
   -- the box that a box stands in
@@ -108,3 +125,36 @@ module _ {T : Type 0} where
   -- the boxes inside one stood inside the other
   abbrev pub StoodInside : (old new : Slots T) → (from key : ℕ) → Type 0
   StoodInside old new from key = StoodFrom old new (first_at old from) (first_at new key)
+
+  -- ---- what a handover does, box by box
+
+  -- each box with a key below this one is found under its name
+  abbrev pub FindsBelow : BTreeMap (ℕ × ℕ) ℕ → Slots T → (end_ : ℕ) → Type 0
+  FindsBelow keys slots end_ = AreNamedOnce slots → (k : ℕ) (node : Node) → k < end_ → node_at slots k ≡ Some node → key_named keys node.name ≡ Some k
+
+  -- each box is found under its name, which no other one has
+  pub record FindsEach (keys : BTreeMap (ℕ × ℕ) ℕ) (slots : Slots T) : Type 0 where
+    pub named : AreNamedOnce slots
+    pub found : (k : ℕ) (node : Node) → node_at slots k ≡ Some node → key_named keys node.name ≡ Some k
+
+  -- what is kept for a box of one arena, and for one of the other that is what it was, stays or goes over whole
+  pub record GoesOver (giver given old new : Slots T) (from key : ℕ) : Type 0 where
+    pub text : Goes (λ (one : ⊤). text_at giver from) (λ one. text_at given from) (λ one. text_at old key) (λ one. text_at new key)
+    pub results : Goes (kept_at giver from) (kept_at given from) (kept_at old key) (kept_at new key)
+
+  -- so it is for all boxes, and nothing comes to one that isn't inside that one
+  pub record HandsUnder (giver given old new : Slots T) (root : ℕ) : Type 0 where
+    pub over : AreNamedOnce giver → AreNamedOnce old → (key from : ℕ) (node : Node) → node_at old key ≡ Some node → node_at giver from ≡ Some node → GoesOver giver given old new from key
+    pub elsewhere : (key : ℕ) (c : Constraint) (result : Pieces) → kept_at new key c ≡ Some result → (kept_at old key c ≡ Some result) ⊎ IsAbove old root key
+
+  -- nothing is kept any more that could go to a box
+  pub record LeavesNothing (giver taker : Slots T) (key : ℕ) : Type 0 where
+    pub texts : (from : ℕ) (node : Node) → node_at taker key ≡ Some node → node_at giver from ≡ Some node → text_at giver from ≡ None
+    pub results : (from : ℕ) (tree : Boxes) (c : Constraint) → Stands taker key tree → Stands giver from tree → AreAround (around_at giver from) (around_at taker key)
+        → kept_at giver from c ≡ None
+
+  -- a tree whose boxes are all gone through, as far as that many stand one inside the other
+  pub record IsGoneThrough (taker : Slots T) (key depth : ℕ) (tree : Boxes) : Type 0 where
+    pub stands : Stands taker key tree
+    pub height : height tree ≤ depth
+    pub count : count tree ≤ 2 ^ 18

@@ -1,6 +1,6 @@
 //! What stands under a key: a box, its place among the others, whether it is marked, and what is kept for it.
 
-ghost use Rattle.std.specs.Prelude.{◌≡◌, [], false, None, Some, option_map, OnOk, OnErr, if◌then◌else◌};
+ghost use Rattle.std.specs.Prelude.{◌≡◌, ◌≢◌, ◌⊎◌, [], IsTrue, false, true, None, Some, option_map, OnOk, OnErr, if◌then◌else◌};
 ghost use Rattle.box_arena.specs.At.{node_of};
 ghost use Rattle.box_arena.specs.Results.{result_for};
 ghost use Rattle.box_arena.specs.Write.{EntryKeeps};
@@ -105,6 +105,14 @@ impl<T> Entry<T> {
 }
 
 impl<T> Entry<T> {
+    /// Whether any result is kept, and the box isn't marked.
+    pub(crate) fn keeps_results(&self) -> bool
+        ensures some { IsTrue result → (self.now.mark.marked ≡ false) × (self.now.held.results ≢ []) }
+        ensures none { result ≡ false → (self.now.mark.marked ≡ true) ⊎ (self.now.held.results ≡ []) }
+    {
+        !self.mark.marked && !self.held.results.is_empty()
+    }
+
     /// Takes what is kept, where it isn't marked; then nothing is kept.
     pub(crate) fn take_results(&mut self, alloc: Global) -> Results
         ensures taken { result ≡ (if self.old.mark.marked then [] else self.old.held.results) }

@@ -12,7 +12,8 @@ use style_types::{Insets, SideSizes, SideWidths, Size, Style};
 
 /// Whether two boxes have one name, one style and one content.
 pub(crate) fn are_equal(one: &BoxNode, other: &BoxNode) -> bool
-    ensures { IsTrue result → node_of one.now ≡ node_of other.now }
+    ensures equal { IsTrue result → node_of one.now ≡ node_of other.now }
+    ensures same { node_of one.now ≡ node_of other.now → IsTrue result }
 {
     equal_name(one.name, other.name)
         && equal_style(&one.style, &other.style)
@@ -21,7 +22,8 @@ pub(crate) fn are_equal(one: &BoxNode, other: &BoxNode) -> bool
 
 // Whether two boxes hold the same.
 fn equal_content(one: &Content, other: &Content) -> bool
-    ensures { IsTrue result → content_of one.now ≡ content_of other.now }
+    ensures equal { IsTrue result → content_of one.now ≡ content_of other.now }
+    ensures same { content_of one.now ≡ content_of other.now → IsTrue result }
 {
     match (one, other) {
         (Content::Blocks, Content::Blocks) => true,
@@ -32,7 +34,8 @@ fn equal_content(one: &Content, other: &Content) -> bool
 
 // Whether two paragraphs have the same items.
 fn equal_items(one: &[Item], other: &[Item]) -> bool
-    ensures { IsTrue result → entries_of one.now ≡ entries_of other.now }
+    ensures equal { IsTrue result → entries_of one.now ≡ entries_of other.now }
+    ensures same { entries_of one.now ≡ entries_of other.now → IsTrue result }
 {
     if one.len() != other.len() {
         return false;
@@ -47,7 +50,8 @@ fn equal_items(one: &[Item], other: &[Item]) -> bool
 
 // Whether two items of paragraphs are one.
 fn equal_item(one: &Item, other: &Item) -> bool
-    ensures { IsTrue result → entry_of one.now ≡ entry_of other.now }
+    ensures equal { IsTrue result → entry_of one.now ≡ entry_of other.now }
+    ensures same { entry_of one.now ≡ entry_of other.now → IsTrue result }
 {
     match (one, other) {
         (
@@ -57,7 +61,7 @@ fn equal_item(one: &Item, other: &Item) -> bool
                 text: other_text,
                 style: other_style,
             },
-        ) => equal_node(*node, *other_node)
+        ) => equal_number(*node, *other_node)
             && equal_text(text, other_text)
             && equal_style(style, other_style),
         (
@@ -67,8 +71,8 @@ fn equal_item(one: &Item, other: &Item) -> bool
                 style: other_style,
                 opens: other_opens,
             },
-        ) => equal_node(*node, *other_node)
-            && equal_edges(*opens, *other_opens)
+        ) => equal_number(*node, *other_node)
+            && equal_edge_flag(*opens, *other_opens)
             && equal_style(style, other_style),
         (
             Item::Close { node, closes },
@@ -76,9 +80,12 @@ fn equal_item(one: &Item, other: &Item) -> bool
                 node: other_node,
                 closes: other_closes,
             },
-        ) => equal_node(*node, *other_node) && equal_edges(*closes, *other_closes),
+        ) => equal_number(*node, *other_node) && equal_edge_flag(*closes, *other_closes),
         (Item::Atom { name }, Item::Atom { name: other_name }) => equal_name(*name, *other_name),
-        (Item::Break { node }, Item::Break { node: other_node }) => equal_node(*node, *other_node),
+        (Item::Break { node }, Item::Break { node: other_node }) => equal_number(
+            *node,
+            *other_node,
+        ),
         (
             Item::Text { .. }
             | Item::Open { .. }
@@ -90,45 +97,51 @@ fn equal_item(one: &Item, other: &Item) -> bool
     }
 }
 
-fn equal_node(one: u32, other: u32) -> bool
-    ensures { IsTrue result → one ≡ other }
+fn equal_number(one: u32, other: u32) -> bool
+    ensures equal { IsTrue result → one ≡ other }
+    ensures same { one ≡ other → IsTrue result }
 {
     one == other
 }
 
-fn equal_edges(one: bool, other: bool) -> bool
-    ensures { IsTrue result → one ≡ other }
+fn equal_edge_flag(one: bool, other: bool) -> bool
+    ensures equal { IsTrue result → one ≡ other }
+    ensures same { one ≡ other → IsTrue result }
 {
     one == other
 }
 
 fn equal_name(one: BoxName, other: BoxName) -> bool
-    ensures { IsTrue result → one ≡ other }
+    ensures equal { IsTrue result → one ≡ other }
+    ensures same { one ≡ other → IsTrue result }
 {
     one == other
 }
 
 fn equal_text(one: &str, other: &str) -> bool
-    ensures { IsTrue result → one.now ≡ other.now }
+    ensures equal { IsTrue result → one.now ≡ other.now }
+    ensures same { one.now ≡ other.now → IsTrue result }
 {
     one == other
 }
 
 fn equal_style(one: &Style, other: &Style) -> bool
-    ensures { IsTrue result → one.now ≡ other.now }
+    ensures equal { IsTrue result → one.now ≡ other.now }
+    ensures same { one.now ≡ other.now → IsTrue result }
 {
     equal_turning(one, other)
         && equal_text_style(one, other)
         && equal_font(one, other)
         && equal_extents(one, other)
         && equal_limits(one, other)
-        && equal_edges_of(one, other)
+        && equal_box_edges(one, other)
         && equal_position(one, other)
 }
 
 /// Whether the lines of boxes of two styles run alike.
 pub(crate) fn equal_lines(one: &Style, other: &Style) -> bool
-    ensures { IsTrue result → RunAlike one.now other.now }
+    ensures equal { IsTrue result → RunAlike one.now other.now }
+    ensures same { RunAlike one.now other.now → IsTrue result }
 {
     one.mode == other.mode
         && one.direction == other.direction
@@ -140,17 +153,16 @@ fn equal_turning(one: &Style, other: &Style) -> bool
     ensures mode { IsTrue result → one.now.mode ≡ other.now.mode }
     ensures direction { IsTrue result → one.now.direction ≡ other.now.direction }
     ensures orientation { IsTrue result → one.now.orientation ≡ other.now.orientation }
+    ensures same { one.now ≡ other.now → IsTrue result }
 {
-    one.display == other.display
-        && one.mode == other.mode
-        && one.direction == other.direction
-        && one.orientation == other.orientation
+    one.display == other.display && equal_lines(one, other)
 }
 
 fn equal_text_style(one: &Style, other: &Style) -> bool
     ensures combine { IsTrue result → one.now.combine ≡ other.now.combine }
     ensures bidi { IsTrue result → one.now.bidi ≡ other.now.bidi }
     ensures align { IsTrue result → one.now.align ≡ other.now.align }
+    ensures same { one.now ≡ other.now → IsTrue result }
 {
     one.combine == other.combine && one.bidi == other.bidi && one.align == other.align
 }
@@ -160,6 +172,7 @@ fn equal_font(one: &Style, other: &Style) -> bool
     ensures face { IsTrue result → one.now.face ≡ other.now.face }
     ensures line_height { IsTrue result → one.now.line_height ≡ other.now.line_height }
     ensures shift { IsTrue result → one.now.shift ≡ other.now.shift }
+    ensures same { one.now ≡ other.now → IsTrue result }
 {
     one.font_size == other.font_size
         && one.face == other.face
@@ -170,6 +183,7 @@ fn equal_font(one: &Style, other: &Style) -> bool
 fn equal_extents(one: &Style, other: &Style) -> bool
     ensures width { IsTrue result → one.now.width ≡ other.now.width }
     ensures height { IsTrue result → one.now.height ≡ other.now.height }
+    ensures same { one.now ≡ other.now → IsTrue result }
 {
     equal_size(one.width, other.width) && equal_size(one.height, other.height)
 }
@@ -179,6 +193,7 @@ fn equal_limits(one: &Style, other: &Style) -> bool
     ensures min_height { IsTrue result → one.now.min_height ≡ other.now.min_height }
     ensures max_width { IsTrue result → one.now.max_width ≡ other.now.max_width }
     ensures max_height { IsTrue result → one.now.max_height ≡ other.now.max_height }
+    ensures same { one.now ≡ other.now → IsTrue result }
 {
     equal_size(one.min_width, other.min_width)
         && equal_size(one.min_height, other.min_height)
@@ -186,10 +201,11 @@ fn equal_limits(one: &Style, other: &Style) -> bool
         && equal_size(one.max_height, other.max_height)
 }
 
-fn equal_edges_of(one: &Style, other: &Style) -> bool
+fn equal_box_edges(one: &Style, other: &Style) -> bool
     ensures margin { IsTrue result → one.now.margin ≡ other.now.margin }
     ensures padding { IsTrue result → one.now.padding ≡ other.now.padding }
     ensures border { IsTrue result → one.now.border ≡ other.now.border }
+    ensures same { one.now ≡ other.now → IsTrue result }
 {
     equal_sides(one.margin, other.margin)
         && equal_sides(one.padding, other.padding)
@@ -199,18 +215,21 @@ fn equal_edges_of(one: &Style, other: &Style) -> bool
 fn equal_position(one: &Style, other: &Style) -> bool
     ensures relative { IsTrue result → one.now.relative ≡ other.now.relative }
     ensures insets { IsTrue result → one.now.insets ≡ other.now.insets }
+    ensures same { one.now ≡ other.now → IsTrue result }
 {
     one.relative == other.relative && equal_insets(one.insets, other.insets)
 }
 
 fn equal_size(one: Size, other: Size) -> bool
-    ensures { IsTrue result → one ≡ other }
+    ensures equal { IsTrue result → one ≡ other }
+    ensures same { one ≡ other → IsTrue result }
 {
     one == other
 }
 
 fn equal_sides(one: SideSizes, other: SideSizes) -> bool
-    ensures { IsTrue result → one ≡ other }
+    ensures equal { IsTrue result → one ≡ other }
+    ensures same { one ≡ other → IsTrue result }
 {
     equal_size(one.top, other.top)
         && equal_size(one.right, other.right)
@@ -219,7 +238,8 @@ fn equal_sides(one: SideSizes, other: SideSizes) -> bool
 }
 
 fn equal_insets(one: Insets, other: Insets) -> bool
-    ensures { IsTrue result → one ≡ other }
+    ensures equal { IsTrue result → one ≡ other }
+    ensures same { one ≡ other → IsTrue result }
 {
     equal_size(one.top, other.top)
         && equal_size(one.right, other.right)
@@ -228,7 +248,8 @@ fn equal_insets(one: Insets, other: Insets) -> bool
 }
 
 fn equal_widths(one: SideWidths, other: SideWidths) -> bool
-    ensures { IsTrue result → one ≡ other }
+    ensures equal { IsTrue result → one ≡ other }
+    ensures same { one ≡ other → IsTrue result }
 {
     one.top == other.top
         && one.right == other.right

@@ -6,20 +6,30 @@ use crate::write::{put_results_at, take_results_at, take_text_at};
 use box_gen::BoxNode;
 
 impl<T> BoxArena<T> {
-    ghost use Rattle.std.specs.Prelude.{◌≡◌, IfSome, Some, option_map};
+    ghost use Rattle.std.specs.Prelude.{◌≡◌, IfSome, IsTrue, None, false, option_map};
     ghost use Rattle.slab.specs.Slab.{ContainsKey};
-    ghost use Rattle.box_arena.specs.At.{node_at, node_of};
+    ghost use Rattle.fragment_types.specs.declared.constraint.Constraint.{Constraint};
+    ghost use Rattle.box_arena.specs.At.{kept_at, node_at, node_of};
     ghost use Rattle.box_arena.specs.Reusing.{around_at};
 
     /// The box under a number, if there is one.
     pub(crate) fn box_at(&self, index: usize) -> Option<&BoxNode>
-        ensures node { IfSome result (λ node. node_at self.now.slots index ≡ Some (node_of node.now)) }
+        ensures node { option_map (λ node. node_of node.now) result ≡ node_at self.now.slots index }
         ensures live { IfSome result (λ node. ContainsKey self.now index) }
     {
         match self.boxes.get(index) {
             Some(entry) => Some(&entry.held.node),
             None => None,
         }
+    }
+
+    /// Whether any result is kept for it: not where it is marked.
+    pub(crate) fn keeps_results(&self, key: BoxKey) -> bool
+        requires { ContainsKey self.now key }
+        ensures some { IsTrue result → ((c : Constraint) → kept_at self.now.slots key c ≡ None) → ⊥ }
+        ensures none { result ≡ false → (c : Constraint) → kept_at self.now.slots key c ≡ None }
+    {
+        self.boxes[key.index].keeps_results()
     }
 
     /// The box that it stands in, if it is attached.

@@ -1,6 +1,6 @@
 //! What was laid out for a box, by the constraint it was laid out for.
 
-ghost use Rattle.std.specs.Prelude.{◌≡◌, ◌≢◌, [], Some, OnOk, OnErr, option_copied};
+ghost use Rattle.std.specs.Prelude.{◌≡◌, ◌≢◌, [], IsTrue, false, Some, OnOk, OnErr, option_copied};
 ghost use Rattle.std.specs.Ordering.{is_eq};
 ghost use Rattle.box_arena.specs.Results as rule;
 ghost use Rattle.box_arena.specs.Results.{result_for, sizes_cmp};
@@ -103,6 +103,14 @@ impl Results {
             self.others.insert(sizes, fragment)?;
         }
         Ok(())
+    }
+
+    /// Whether nothing is kept.
+    pub(crate) fn is_empty(&self) -> bool
+        ensures empty { IsTrue result → self.now ≡ [] }
+        ensures none { result ≡ false → self.now ≢ [] }
+    {
+        self.first.is_none() && self.others.is_empty()
     }
 
     /// Drops all.

@@ -1,9 +1,13 @@
 //! What is kept of the boxes of an arena goes to another one, for the boxes that stand there as they did.
 
-ghost use Rattle.std.specs.Prelude.{◌≡◌, ℕ, IfSome, IsTrue, None};
+ghost use Rattle.std.specs.Prelude.{◌≡◌, ℕ, IfOk, IfSome, IsTrue, None, OnOk, Some};
 ghost use Rattle.slab.specs.Slab.{ContainsKey};
-ghost use Rattle.box_arena.specs.At.{first_at, node_at};
-ghost use Rattle.box_arena.specs.Reusing.{AreAround, IsTree, Reuses, StoodInside, StoodUnder, TellsInside, around_at, stood_behind};
+ghost use Rattle.box_gen.specs.Tree.{Boxes};
+ghost use Rattle.fragment_types.specs.declared.constraint.Constraint.{Constraint};
+ghost use Rattle.box_arena.specs.At.{IsAbove, Node, first_at, kept_at, links_at, node_at, text_at};
+ghost use Rattle.box_arena.specs.Boxes.{Stands};
+ghost use Rattle.box_arena.specs.Links.{IsLinked};
+ghost use Rattle.box_arena.specs.Reusing.{AreAround, AreNamedOnce, FindsEach, HandsUnder, IsGoneThrough, IsTree, LeavesNothing, Reuses, ReusesAll, StoodInside, StoodUnder, TellsInside, around_at, stood_behind};
 ghost use Rattle.box_arena.specs.declared.reusing.Stood.TheVariants.{At};
 
 use crate::arena::BoxArena;
@@ -31,7 +35,8 @@ pub(crate) enum Stood {
 
 // Whether a row has ended, and what stood there has too.
 fn ends_alike(stood: &Stood, next: Option<BoxKey>) -> bool
-    ensures { IsTrue result → (stood.now ≡ At None) × (next ≡ None) }
+    ensures ends { IsTrue result → (stood.now ≡ At None) × (next ≡ None) }
+    ensures alike { stood.now ≡ At None → next ≡ None → IsTrue result }
 {
     match stood {
         Stood::At(None) => next.is_none(),
@@ -57,7 +62,8 @@ pub fn reuse<T: Drop>(
     root: BoxKey,
 ) -> Result<(), AllocError>
     requires { IsTree taker.old.slots root }
-    ensures { Reuses giver.old giver.new taker.old taker.new }
+    ensures reuses { Reuses giver.old giver.new taker.old taker.new }
+    ensures all { OnOk result (ReusesAll giver.old.slots taker.old.slots taker.new.slots root) }
 {
     let keys = keys_of(alloc, giver)?;
     let mut handover = Handover {
@@ -70,11 +76,18 @@ pub fn reuse<T: Drop>(
 }
 
 // The keys of all boxes, by their names.
-fn keys_of<T>(alloc: Global, arena: &BoxArena<T>) -> Result<Keys, AllocError> {
+fn keys_of<T>(alloc: Global, arena: &BoxArena<T>) -> Result<Keys, AllocError>
+    ensures { AreNamedOnce arena.now.slots → IfOk result (λ keys. FindsEach keys arena.now.slots) }
+{
     let mut keys = BTreeMap::new(alloc);
-    for (key, entry) in arena.boxes.iter() {
-        let BoxName { node, ordinal } = entry.held.node.name;
-        keys.insert((node, ordinal), key)?;
+    for key in 0..arena.boxes.capacity() {
+        match arena.box_at(key) {
+            Some(found) => {
+                let BoxName { node, ordinal } = found.name;
+                keys.insert((node, ordinal), key)?;
+            }
+            None => {}
+        }
     }
     Ok(keys)
 }
@@ -84,9 +97,13 @@ impl<T: Drop> Handover<'_, '_, '_, T> {
     fn reuse_box(&mut self, key: BoxKey, depth: u32) -> Option<BoxKey>
         requires tree { IsTree self.old.taker.now.slots key }
         ensures lent { (self.new.giver.ghost_name ≡ self.old.giver.ghost_name) × (self.new.taker.ghost_name ≡ self.old.taker.ghost_name) }
+        ensures keys { self.new.keys ≡ self.old.keys }
         ensures reuses { Reuses self.old.giver.now self.new.giver.now self.old.taker.now self.new.taker.now }
         ensures live { IfSome result (λ from. ContainsKey self.new.giver.now from) }
         ensures stood { IfSome result (λ from. StoodUnder self.old.giver.now.slots self.old.taker.now.slots from key) }
+        ensures hands { HandsUnder self.old.giver.now.slots self.new.giver.now.slots self.old.taker.now.slots self.new.taker.now.slots key }
+        ensures found { FindsEach self.old.keys.now self.old.giver.now.slots → (tree : Boxes) → IsGoneThrough self.old.taker.now.slots key depth tree → (from : ℕ) → Stands self.old.giver.now.slots from tree → result ≡ Some from }
+        ensures leaves { FindsEach self.old.keys.now self.old.giver.now.slots → (tree : Boxes) → IsGoneThrough self.old.taker.now.slots key depth tree → (k : ℕ) → IsAbove self.old.taker.now.slots key k → LeavesNothing self.new.giver.now.slots self.new.taker.now.slots k }
     {
         if depth == 0 {
             return None;
@@ -118,6 +135,8 @@ impl<T: Drop> Handover<'_, '_, '_, T> {
         requires { ContainsKey self.now.taker.now key }
         ensures live { IfSome result (λ from. ContainsKey self.now.giver.now from) }
         ensures same { IfSome result (λ from. node_at self.now.giver.now.slots from ≡ node_at self.now.taker.now.slots key) }
+        ensures linked { IsLinked (links_at self.now.taker.now.slots) }
+        ensures found { FindsEach self.now.keys.now self.now.giver.now.slots → (node : Node) → node_at self.now.taker.now.slots key ≡ Some node → (from : ℕ) → node_at self.now.giver.now.slots from ≡ Some node → result ≡ Some from }
     {
         let node = self.taker.node(key);
         let BoxName {
@@ -136,7 +155,8 @@ impl<T: Drop> Handover<'_, '_, '_, T> {
     // Where the first of the boxes inside a box stood.
     fn inside(&self, from: &Option<BoxKey>) -> Stood
         requires { IfSome from.now (λ from. ContainsKey self.now.giver.now from) }
-        ensures { (key : ℕ) → TellsInside self.now.giver.now.slots self.now.taker.now.slots from.now key result (first_at self.now.taker.now.slots key) }
+        ensures tells { (key : ℕ) → TellsInside self.now.giver.now.slots self.now.taker.now.slots from.now key result (first_at self.now.taker.now.slots key) }
+        ensures at { IfSome from.now (λ from. result ≡ At (first_at self.now.giver.now.slots from)) }
     {
         match from {
             Some(from) => Stood::At(self.giver.first(*from)),
@@ -170,10 +190,14 @@ impl<T: Drop> Handover<'_, '_, '_, T> {
         requires node { node_at self.old.giver.now.slots from ≡ node_at self.old.taker.now.slots key }
         requires inside { IsTrue is_same → StoodInside self.old.giver.now.slots self.old.taker.now.slots from key }
         ensures lent { (self.new.giver.ghost_name ≡ self.old.giver.ghost_name) × (self.new.taker.ghost_name ≡ self.old.taker.ghost_name) }
+        ensures keys { self.new.keys ≡ self.old.keys }
         ensures reuses { Reuses self.old.giver.now self.new.giver.now self.old.taker.now self.new.taker.now }
+        ensures hands { HandsUnder self.old.giver.now.slots self.new.giver.now.slots self.old.taker.now.slots self.new.taker.now.slots key }
+        ensures text { text_at self.new.giver.now.slots from ≡ None }
+        ensures results { IsTrue is_same → AreAround (around_at self.old.giver.now.slots from) (around_at self.old.taker.now.slots key) → (c : Constraint) → kept_at self.new.giver.now.slots from c ≡ None }
     {
         self.take_text(key, from);
-        if is_same && self.stands_alike(from, key) {
+        if is_same && self.stands_alike(from, key) && self.giver.keeps_results(from) {
             self.taker.take_results(key, self.giver, from);
         }
     }
@@ -184,7 +208,10 @@ impl<T: Drop> Handover<'_, '_, '_, T> {
         requires live { ContainsKey self.old.giver.now from }
         requires node { node_at self.old.giver.now.slots from ≡ node_at self.old.taker.now.slots key }
         ensures lent { (self.new.giver.ghost_name ≡ self.old.giver.ghost_name) × (self.new.taker.ghost_name ≡ self.old.taker.ghost_name) }
+        ensures keys { self.new.keys ≡ self.old.keys }
         ensures reuses { Reuses self.old.giver.now self.new.giver.now self.old.taker.now self.new.taker.now }
+        ensures hands { HandsUnder self.old.giver.now.slots self.new.giver.now.slots self.old.taker.now.slots self.new.taker.now.slots key }
+        ensures text { text_at self.new.giver.now.slots from ≡ None }
     {
         if let Some(text) = self.giver.take_text(from) {
             self.taker.keep_text(key, text);
@@ -195,7 +222,8 @@ impl<T: Drop> Handover<'_, '_, '_, T> {
     fn stands_alike(&self, from: BoxKey, key: BoxKey) -> bool
         requires live { ContainsKey self.now.giver.now from }
         requires key { ContainsKey self.now.taker.now key }
-        ensures { IsTrue result → AreAround (around_at self.now.giver.now.slots from) (around_at self.now.taker.now.slots key) }
+        ensures around { IsTrue result → AreAround (around_at self.now.giver.now.slots from) (around_at self.now.taker.now.slots key) }
+        ensures alike { AreAround (around_at self.now.giver.now.slots from) (around_at self.now.taker.now.slots key) → IsTrue result }
     {
         match (self.giver.around(from), self.taker.around(key)) {
             (Some(one), Some(other)) => equal_lines(&one.style, &other.style),
