@@ -7,6 +7,7 @@ mod ProbeExamples
 mod ProbeLineLaws
 mod ProbingLaws
 mod Reading
+mod SkipLaws
 mod Tests
 mod TileLaws
 mod Trees

@@ -20,17 +20,17 @@ use Rattle.hit_caret.proofs.Tests.{is_at_most, is_below, is_false, is_true}
 -- ---- parts of a rectangle side by side
 
 -- whether the rectangle holds the point across its sides
-abbrev is_across : Side → Rect → Point → Bool
+abbrev pub is_across : Side → Rect → Point → Bool
 is_across Left r p = is_within r.y r.h p.y
 is_across Right r p = is_within r.y r.h p.y
 is_across Top r p = is_within r.x r.w p.x
 is_across Bottom r p = is_within r.x r.w p.x
 
 -- whether fewer points than this lie between the point and the side
-abbrev is_before : Side → Rect → Point → ℤ → Bool
+abbrev pub is_before : Side → Rect → Point → ℤ → Bool
 is_before side r p distance = int_lt (distance_from side r p) distance
 
-abbrev is_between : (across before_start before_end : Bool) → Bool
+abbrev pub is_between : (across before_start before_end : Bool) → Bool
 is_between across before_start before_end = across && (not before_start && before_end)
 
 same_test : (a b : Bool) → (a ≡ true → b ≡ true) → (b ≡ true → a ≡ true) → a ≡ b
@@ -83,7 +83,7 @@ from_end origin whole start extent place =
     below_not place (origin +ℤ whole -ℤ start -ℤ extent +ℤ extent) (origin +ℤ whole -ℤ pos 1 -ℤ place) start (λ e. omega (arith, ints)) (λ e. omega (arith, ints)) in
     rw (least, greatest) (swapped (int_lt (origin +ℤ whole -ℤ pos 1 -ℤ place) (start +ℤ extent)) (not (int_lt (origin +ℤ whole -ℤ pos 1 -ℤ place) start)))
 
-part_holds : (side : Side) (r : Rect) (p : Point) (start extent : ℤ)
+pub part_holds : (side : Side) (r : Rect) (p : Point) (start extent : ℤ)
     → holds (part_from side r start extent) p ≡ is_between (is_across side r p) (is_before side r p start) (is_before side r p (start +ℤ extent))
 part_holds Left r p start extent =
     swapped (is_within (r.x +ℤ start) extent p.x) (is_within r.y r.h p.y) ∙ ap (λ (b : Bool). is_within r.y r.h p.y && b) (from_start r.x start extent p.x)
@@ -92,7 +92,7 @@ part_holds Right r p start extent =
 part_holds Top r p start extent = ap (λ (b : Bool). is_within r.x r.w p.x && b) (from_start r.y start extent p.y)
 part_holds Bottom r p start extent = ap (λ (b : Bool). is_within r.x r.w p.x && b) (from_end r.y r.h start extent p.y)
 
-whole_part : (side : Side) (r : Rect) → part_from side r (pos 0) (extent_from side r) ≡ r
+pub whole_part : (side : Side) (r : Rect) → part_from side r (pos 0) (extent_from side r) ≡ r
 whole_part Left r = rect_is _ _ _ _ r (omega (arith, ints)) refl refl refl
 whole_part Right r = rect_is _ _ _ _ r (omega (arith, ints)) refl refl refl
 whole_part Top r = rect_is _ _ _ _ r refl (omega (arith, ints)) refl refl

@@ -9,11 +9,13 @@ use Rattle.hit_caret.specs.declared.cells.Cell.{Cell}
 use Rattle.hit_caret.specs.declared.cells.Run.{Run}
 use Rattle.hit_caret.specs.declared.finding.LastHit.{LastHit}
 use Rattle.hit_caret.specs.declared.hits.Hit.{Hit}
+use Rattle.wm_modes.specs.declared.rects.Rect.{Rect}
 use Rattle.hit_caret.specs.declared.rects.Point.{Point}
 use Rattle.hit_caret.specs.Carets.{begins_at, ends_at, found_first}
 use Rattle.hit_caret.specs.Cells.{cell_of, cells_from, taken}
 use Rattle.hit_caret.specs.Hits.{hit_in}
 use Rattle.hit_caret.specs.Rects.{holds}
+use Rattle.hit_caret.specs.Visiting.{IsInside}
 
 -- ---- the units of a run
 
@@ -28,6 +30,9 @@ module _ (run : Run) (units : List RunUnit) (k : ℕ) (unit : RunUnit) (distance
       rw (sees, cell, moved, takes) (sym (ap (λ (us : List RunUnit). fold seen v (cells_from run distance us)) units_here) ∙ so_far)
 
 -- ---- the last hit
+
+differ : true ≡ false → ⊥
+differ is = cc
 
 abbrev last_hit : Point → Option Cell → LastHit
 last_hit p cell = record { point = p; found = option_map (hit_in p) cell }
@@ -51,6 +56,13 @@ hits_seen p before (c ∷ cs) =
     ap (λ (found : Option Hit). let last : LastHit = record { point = p; found = found } in fold hit_step last cs) (hit_more p before c b)
     ∙ hits_seen p (cond b (Some c) before) cs
     ∙ ap (last_hit p) (last_more before c (filter (λ c. holds c.rect p) cs) b)
+
+-- a run that doesn't hold the point is passed over
+pub passed_over : (last : LastHit) (cell : Cell) (rect : Rect) → holds rect last.point ≡ false → IsInside cell.rect rect → hit_step last cell ≡ last
+passed_over last cell rect away inside = by (holds cell.rect last.point) refl where
+  by : (b : Bool) → holds cell.rect last.point ≡ b → record { point = last.point; found = cond b (Some (hit_in last.point cell)) last.found } ≡ last
+  by true there = absurd (differ (sym (inside last.point there) ∙ away))
+  by false none = refl
 
 pub hit_seen : (x y kept_x kept_y : ℤ) (cs : List Cell) (end_ : LastHit) → kept_x ≡ x → kept_y ≡ y → end_ ≡ fold hit_step (last_hit (record { x = kept_x; y = kept_y }) None) cs
     → end_.found ≡ option_map (hit_in (record { x = x; y = y })) (last_or None (filter (λ c. holds c.rect (record { x = x; y = y })) cs))

@@ -9,3 +9,4 @@ pub mod Near
 pub mod ProbeLine
 pub mod Probing
 pub mod Rects
+pub mod Visiting

@@ -96,6 +96,10 @@ impl CellVisitor for FirstCells {
       ending = found_first s.ending (ends_at s.node s.place c) c;
     } };
 
+    fn looks_at(&self, node: u32, _rect: &Rect) -> bool {
+        node == self.node
+    }
+
     fn see(&mut self, cell: Cell) {
         if self.beginning.is_none() && cell.node == self.node && cell.first == self.place {
             self.beginning = Some(cell);

@@ -10,6 +10,7 @@ use crate::hits::{Hit, hit_in};
 use crate::rects::{Point, holds};
 use crate::visiting::{CellVisitor, visit_cells};
 use place_map::Placed;
+use wm_modes::Rect;
 
 /// The hit of a point, in units of 1/64 px from the page's left and top edges: of the last cell that holds it, or none where
 /// no cell does. The page is as `visit_cells` wants it. Takes no memory.
@@ -38,6 +39,10 @@ impl CellVisitor for LastHit {
     ghost use Rattle.hit_caret.specs.Rects.{holds};
 
     ghost seen = { λ last c. record { point = last.point; found = if holds c.rect last.point then Some (hit_in last.point c) else last.found } };
+
+    fn looks_at(&self, _node: u32, rect: &Rect) -> bool {
+        holds(rect, self.point)
+    }
 
     fn see(&mut self, cell: Cell) {
         if holds(&cell.rect, self.point) {

@@ -13,14 +13,22 @@ use crate::cells::{Cell, Run};
 use fragment_types::{FragmentKind, RunUnit, UnitKind};
 use place_map::{Placed, PlacedPart};
 use std::slice;
-use wm_modes::WritingMode;
+use wm_modes::{Rect, WritingMode};
 
 /// What looks at cells one after the other.
 pub trait CellVisitor {
+    ghost use Rattle.std.specs.Prelude.{false};
     ghost use Rattle.hit_caret.specs.declared.cells.Cell.{Cell};
+    ghost use Rattle.hit_caret.specs.Visiting.{Ignores};
 
     /// What it is after it has seen a cell.
     ghost seen: { Self → Cell → Self };
+
+    /// Whether it is to see the cells of a run of this text node, which lie in this rectangle. Where it isn't, none of them would
+    /// change it.
+    fn looks_at(&self, node: u32, rect: &Rect) -> bool
+        requires near { IsNearCell rect.now }
+        ensures { result ≡ false → Ignores seen self.now node rect.now };
 
     /// Sees a cell. No coordinate of it is further than 2^62 from 0.
     fn see(&mut self, cell: Cell)
@@ -28,8 +36,8 @@ pub trait CellVisitor {
         ensures { self.new ≡ seen self.old cell };
 }
 
-/// Shows all cells of a page to a visitor, in the order of the listing. All coordinates of the page lie within 2^60 units of
-/// 0. Takes no memory.
+/// Shows the cells of a page to a visitor, in the order of the listing, but those of runs that it doesn't look at: so it is what
+/// it would be, if it had seen all. All coordinates of the page lie within 2^60 units of 0. Takes no memory.
 pub fn visit_cells<V: CellVisitor>(placed: &Placed, visitor: &mut V)
     requires near { AreNearParts (placed_of placed.now).parts }
     ensures { visitor.new ≡ fold V.seen visitor.old (spec.cells (placed_of placed.now)) }
@@ -66,7 +74,9 @@ fn visit_part<V: CellVisitor>(mode: WritingMode, part: &PlacedPart, visitor: &mu
                 mode,
                 rect: part.rect,
             };
-            visit_run(*form, &run, units, visitor);
+            if visitor.looks_at(run.node, &run.rect) {
+                visit_run(*form, &run, units, visitor);
+            }
         }
         FragmentKind::Box(_)
         | FragmentKind::Line { .. }
