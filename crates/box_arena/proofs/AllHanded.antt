@@ -42,7 +42,7 @@ gone_over giver given old new i x (inr (some, left, there)) gone was = there i �
 
 -- ---- boxes above a box
 
-above_split : (s : Linking) (n : ℕ) (from : Option ℕ) (key : ℕ) → Climbs (suc n) s from key → (c : ℕ) × Climbs n s from c × (parent_of (s c) ≡ Some key)
+pub above_split : (s : Linking) (n : ℕ) (from : Option ℕ) (key : ℕ) → Climbs (suc n) s from key → (c : ℕ) × Climbs n s from c × (parent_of (s c) ≡ Some key)
 above_split s zero from key (p, is, rest) = (p, is, rest)
 above_split s (suc n) from key (p, is, rest) =
     let (c, climb, inside) = above_split s n (parent_of (s p)) key rest in
@@ -246,11 +246,11 @@ module _ {T : Type 0} where
   -- ---- the boxes of a row
 
   -- it is one of those that stand side by side
-  abbrev IsInRow : Slots T → (from : Option ℕ) → Boxes → ℕ → Type 0
+  abbrev pub IsInRow : Slots T → (from : Option ℕ) → Boxes → ℕ → Type 0
   IsInRow slots from none c = ⊥
   IsInRow slots from (box name style content inner next) c = (key : ℕ) × (from ≡ Some key) × ((key ≡ c) ⊎ IsInRow slots (next_at slots key) next c)
 
-  in_row : (slots : Slots T) (from : Option ℕ) (ks : List ℕ) (boxes : Boxes) (c : ℕ) → Chain (links_at slots) from ks → StandFrom slots from boxes → Has ks c → IsInRow slots from boxes c
+  pub in_row : (slots : Slots T) (from : Option ℕ) (ks : List ℕ) (boxes : Boxes) (c : ℕ) → Chain (links_at slots) from ks → StandFrom slots from boxes → Has ks c → IsInRow slots from boxes c
   in_row slots from [] boxes c chain stands has = absurd has
   in_row slots from (k ∷ ks) none c (is, chain) stands has = absurd (none-some k (sym stands ∙ is))
   in_row slots from (k ∷ ks) (box name style content inner next) c (is, chain) (key, at, node, within, behind) has =

@@ -8,6 +8,7 @@ pub mod Handed
 pub mod Handovers
 pub mod Joined
 pub mod LinkSteps
+pub mod NamedOnce
 pub mod Paired
 pub mod Planted
 pub mod Releasing

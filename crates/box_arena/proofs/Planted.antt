@@ -21,9 +21,9 @@ use Rattle.box_arena.specs.Arena.{Attaches, Inserts, LiveOn}
 use Rattle.box_arena.specs.Boxes.{Stands, StandFrom}
 use Rattle.box_arena.specs.Links.{Chain, Climbs, IsLinked, first_of, next_of, parent_of, put_before}
 use Rattle.box_arena.specs.Marks.{is_marked}
-use Rattle.box_arena.specs.Planting.{AreBare, AreLeft, IsBare, IsLeft, Plants}
-use Rattle.box_arena.proofs.CallLemmas.{kept_in, node_in, text_in}
-use Rattle.box_arena.proofs.Climbs.{reaches_itself}
+use Rattle.box_arena.specs.Planting.{AreBare, AreLeft, AreUnder, IsBare, IsLeft, Plants}
+use Rattle.box_arena.proofs.CallLemmas.{held_there, kept_in, node_in, text_in}
+use Rattle.box_arena.proofs.Climbs.{reaches_itself, reaches_on}
 use Rattle.box_arena.proofs.Survival.{survive_attach}
 
 -- ---- how many boxes
@@ -247,6 +247,40 @@ module _ {T : Type 0} where
       let Q : Option ℕ → Type 0 = λ o. Climbs n (links_at mid.slots) o c in
       absurd (no_climb mid.slots n c (subst Q (subst P same apart) rest))
 
+  -- what was above a box is
+  climbs_left : (now mid : Slab (Entry T)) → AreLeft now mid → (n : ℕ) (from : Option ℕ) (k : ℕ) → Climbs n (links_at now.slots) from k → Climbs n (links_at mid.slots) from k
+  climbs_left now mid left zero from k is = is
+  climbs_left now mid left (suc n) from k (p, is, rest) =
+      let P : Option ℕ → Type 0 = λ o. Climbs n (links_at mid.slots) o k in
+      let Q : Option ℕ → Type 0 = λ o. Climbs n (links_at now.slots) o k in (
+        p,
+        is,
+        in_use now p (Climbs n (links_at mid.slots) (parent_at mid.slots p) k)
+            (λ used. subst P (sym (left p used).parent) (climbs_left now mid left n (parent_at now.slots p) k rest))
+            (λ free. absurd (no_climb now.slots n k (subst Q (ap (λ (o : Option (Entry T)). parent_of (option_map (λ entry. entry.links) o)) free) rest))),
+      )
+
+  above_left : (now mid : Slab (Entry T)) → AreLeft now mid → (key k : ℕ) → IsAbove now.slots key k → IsAbove mid.slots key k
+  above_left now mid left key k (n, climbs) = (n, climbs_left now mid left n (Some k) key climbs)
+
+  climbs_attached : (mid new : Slab (Entry T)) (key c : ℕ) → Attaches mid new key None c → parent_at mid.slots c ≡ None → (n : ℕ) (from : Option ℕ) (k : ℕ) → Climbs n (links_at mid.slots) from k
+      → Climbs n (links_at new.slots) from k
+  climbs_attached mid new key c attaches free zero from k is = is
+  climbs_attached mid new key c attaches free (suc n) from k (p, is, rest) =
+      let P : Option ℕ → Type 0 = λ o. Climbs n (links_at new.slots) o k in
+      let Q : Option ℕ → Type 0 = λ o. Climbs n (links_at mid.slots) o k in
+      let on = climbs_attached mid new key c attaches free n (parent_at mid.slots p) k rest in (
+        p,
+        is,
+        elim (cases_eq p c) [
+          | inl same ↦ absurd (no_climb mid.slots n k (subst Q (ap (parent_at mid.slots) same ∙ free) rest))
+          | inr off ↦ subst P (sym (attaches.parents p off)) on
+        ],
+      )
+
+  above_on : (mid new : Slab (Entry T)) (key c : ℕ) → Attaches mid new key None c → parent_at mid.slots c ≡ None → (j k : ℕ) → IsAbove mid.slots j k → IsAbove new.slots j k
+  above_on mid new key c attaches free j k (n, climbs) = (n, climbs_attached mid new key c attaches free n (Some k) j climbs)
+
   -- ---- a box under way: some of its children are planted
 
   pub record IsUnderWay (old now : Slab (Entry T)) (key : ℕ) (put : Node) (all : Boxes) (rest : List BoxTree) : Type 0 where
@@ -256,6 +290,7 @@ module _ {T : Type 0} where
     pub node : node_at now.slots key ≡ Some put
     pub bare : AreBare old now
     pub left : AreLeft old now
+    pub only : AreUnder old now key
     pub live : LiveOn old now
     pub linked : IsLinked (links_at old.slots)
     pub done : Boxes
@@ -278,6 +313,10 @@ module _ {T : Type 0} where
       | inr off ↦ bare_where now k (inserts.others k off ∙ free)
     ];
     left = λ k used. left_where old now k (inserts.others k (not_free old k key used inserts.free));
+    only = λ k free used. elim (cases_eq k key) [
+      | inl same ↦ let P : ℕ → Type 0 = λ j. IsAbove now.slots key j in subst P (sym same) (reaches_itself (links_at now.slots) key)
+      | inr off ↦ absurd (not_free now k k used (inserts.others k off ∙ free) refl)
+    ];
     live = inserts.live;
     linked = linked;
     done = none;
@@ -314,6 +353,13 @@ module _ {T : Type 0} where
             left_on old.slots mid.slots new.slots k through (left_attached mid new key c linked apart plants.apart other attaches k linked_new
             (not_free old k key used way.free) (not_free now k c used_now plants.free)
             (λ inside. no_links_there old key way.free (way.linked.live k key (sym through.parent ∙ inside))));
+        only = λ k free used.
+            let (held, is) = held_there new k used in
+            let node_there = sym (attaches.nodes k) ∙ ap node_in is in
+            let used_mid = lives mid k (node_of held.node) node_there in
+            in_use now k (IsAbove new.slots key k)
+            (λ used_now. above_on mid new key c attaches plants.apart key k (above_left now mid plants.left key k (way.only k free used_now)))
+            (λ free_now. reaches_on (links_at new.slots) c key k (above_on mid new key c attaches plants.apart c k (plants.only k free_now used_mid)) attaches.inside);
         live = λ k used. attaches.live k (plants.live k (way.live k used));
         linked = way.linked;
         done = join way.done (boxes_of tree);
@@ -341,6 +387,7 @@ module _ {T : Type 0} where
         stands = subst Q (sym is) (way.node, subst P all_done (stand_from new.slots key (first_at new.slots key) way.keys way.done way.children way.stand), refl);
         bare = way.bare;
         left = way.left;
+        only = way.only;
         live = way.live;
         room = λ n fits.
             let size : count tree ≡ suc (count all + 0) = ap count is in

@@ -4,7 +4,7 @@ use Rattle.slab.specs.Slab.{Slab, get, ContainsKey, HasRoomFor}
 use Rattle.fragment_types.specs.declared.constraint.Constraint.{Constraint}
 use Rattle.box_gen.specs.Tree.{Boxes, count}
 use Rattle.box_arena.specs.declared.entry.Entry.{Entry}
-use Rattle.box_arena.specs.At.{Slots, first_at, kept_at, next_at, node_at, parent_at, text_at}
+use Rattle.box_arena.specs.At.{Slots, IsAbove, first_at, kept_at, next_at, node_at, parent_at, text_at}
 use Rattle.box_arena.specs.Arena.{LiveOn}
 use Rattle.box_arena.specs.Boxes.{Stands}
 
@@ -31,7 +31,12 @@ module _ {T : Type 0} where
   abbrev pub AreBare : (old new : Slab (Entry T)) → Type 0
   AreBare old new = (k : ℕ) → get old k ≡ None → IsBare new.slots k
 
-  -- a tree stands under a key that was free. It isn't attached, nothing is kept for it, and all other boxes are as they were
+  -- those that weren't stand under a key
+  abbrev pub AreUnder : (old new : Slab (Entry T)) → (key : ℕ) → Type 0
+  AreUnder old new key = (k : ℕ) → get old k ≡ None → ContainsKey new k → IsAbove new.slots key k
+
+  -- A tree stands under a key that was free. It isn't attached, nothing is kept for it, all other boxes are as they were, and no box is new but
+  -- those of the tree.
   pub record Plants (old new : Slab (Entry T)) (key : ℕ) (tree : Boxes) : Type 0 where
     pub free : get old key ≡ None
     pub alive : ContainsKey new key
@@ -39,5 +44,6 @@ module _ {T : Type 0} where
     pub stands : Stands new.slots key tree
     pub bare : AreBare old new
     pub left : AreLeft old new
+    pub only : AreUnder old new key
     pub live : LiveOn old new
     pub room : (n : ℕ) → HasRoomFor old (count tree + n) → HasRoomFor new n

@@ -1,6 +1,6 @@
 //! Laws of arenas. These functions do nothing: their contracts are the laws.
 
-ghost use Rattle.box_arena.specs.Laws.{SurviveAttach, SurviveDetach, SurviveRestyle};
+ghost use Rattle.box_arena.specs.Laws.{PlantedAreNamedOnce, SurviveAttach, SurviveDetach, SurviveRestyle};
 
 /// Where a box isn't the one that is put anew and not above it, the same tree stands after as before, and the same is kept.
 pub fn what_is_kept_survives_a_restyle<T>()
@@ -17,4 +17,9 @@ pub fn what_is_kept_survives_an_attach<T>()
 /// is kept.
 pub fn what_is_kept_survives_a_detach<T>()
     ensures { SurviveDetach T }
+{}
+
+/// A tree whose boxes have each a name of their own is planted in an arena without boxes: then no two boxes there have one name.
+pub fn planted_boxes_are_named_once<T>()
+    ensures { PlantedAreNamedOnce T }
 {}
