@@ -143,15 +143,15 @@ module _ {T : Type 0} where
       by unlike different apart (inr (inr u)) (inr (inl v)) within later = absurd (both_apart k j other one apart v u also is (sym alike))
 
   -- the tree of a box that isn't attached
-  stand_alone : (slots : Slots T) (key : ℕ) (tree : Boxes) → next_at slots key ≡ None → Stands slots key tree → StandFrom slots (Some key) tree
-  stand_alone slots key none last stands = absurd stands
-  stand_alone slots key (box name style content inner next) last (node, inside, alone) =
+  pub stands_alone : (slots : Slots T) (key : ℕ) (tree : Boxes) → next_at slots key ≡ None → Stands slots key tree → StandFrom slots (Some key) tree
+  stands_alone slots key none last stands = absurd stands
+  stands_alone slots key (box name style content inner next) last (node, inside, alone) =
       let P : Boxes → Type 0 = λ b. StandFrom slots (next_at slots key) b in
       (key, refl, node, inside, subst P (sym alone) last)
 
   pub planted_named_once : PlantedAreNamedOnce T
   planted_named_once old new key tree empty sound names_apart plants one other node same is also alike =
-      named_once new.slots (Some key) tree names_apart (stand_alone new.slots key tree (sound.linked.alone key plants.apart).0 plants.stands) one other (under one node is) (under other same also) node same is also alike
+      named_once new.slots (Some key) tree names_apart (stands_alone new.slots key tree (sound.linked.alone key plants.apart).0 plants.stands) one other (under one node is) (under other same also) node same is also alike
     where
       under : (k : ℕ) (node : Node) → node_at new.slots k ≡ Some node → IsUnder new.slots (Some key) tree k
       under k node at = let (n, climbs) = plants.only k (empty k) (lives new k node at) in above_under new.slots sound.linked n key tree k plants.stands climbs

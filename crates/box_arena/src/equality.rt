@@ -61,7 +61,7 @@ fn equal_item(one: &Item, other: &Item) -> bool
                 text: other_text,
                 style: other_style,
             },
-        ) => equal_number(*node, *other_node)
+        ) => equal_node_number(*node, *other_node)
             && equal_text(text, other_text)
             && equal_style(style, other_style),
         (
@@ -71,7 +71,7 @@ fn equal_item(one: &Item, other: &Item) -> bool
                 style: other_style,
                 opens: other_opens,
             },
-        ) => equal_number(*node, *other_node)
+        ) => equal_node_number(*node, *other_node)
             && equal_edge_flag(*opens, *other_opens)
             && equal_style(style, other_style),
         (
@@ -80,9 +80,9 @@ fn equal_item(one: &Item, other: &Item) -> bool
                 node: other_node,
                 closes: other_closes,
             },
-        ) => equal_number(*node, *other_node) && equal_edge_flag(*closes, *other_closes),
+        ) => equal_node_number(*node, *other_node) && equal_edge_flag(*closes, *other_closes),
         (Item::Atom { name }, Item::Atom { name: other_name }) => equal_name(*name, *other_name),
-        (Item::Break { node }, Item::Break { node: other_node }) => equal_number(
+        (Item::Break { node }, Item::Break { node: other_node }) => equal_node_number(
             *node,
             *other_node,
         ),
@@ -97,7 +97,7 @@ fn equal_item(one: &Item, other: &Item) -> bool
     }
 }
 
-fn equal_number(one: u32, other: u32) -> bool
+fn equal_node_number(one: u32, other: u32) -> bool
     ensures equal { IsTrue result → one ≡ other }
     ensures same { one ≡ other → IsTrue result }
 {
@@ -129,7 +129,7 @@ fn equal_style(one: &Style, other: &Style) -> bool
     ensures equal { IsTrue result → one.now ≡ other.now }
     ensures same { one.now ≡ other.now → IsTrue result }
 {
-    equal_turning(one, other)
+    equal_display_and_lines(one, other)
         && equal_text_style(one, other)
         && equal_font(one, other)
         && equal_extents(one, other)
@@ -148,7 +148,7 @@ pub(crate) fn equal_lines(one: &Style, other: &Style) -> bool
         && one.orientation == other.orientation
 }
 
-fn equal_turning(one: &Style, other: &Style) -> bool
+fn equal_display_and_lines(one: &Style, other: &Style) -> bool
     ensures display { IsTrue result → one.now.display ≡ other.now.display }
     ensures mode { IsTrue result → one.now.mode ≡ other.now.mode }
     ensures direction { IsTrue result → one.now.direction ≡ other.now.direction }

@@ -13,15 +13,10 @@ ghost use Rattle.box_arena.specs.declared.reusing.Stood.TheVariants.{At};
 use crate::arena::BoxArena;
 use crate::equality::{are_equal, equal_lines};
 use crate::key::BoxKey;
+use crate::limits::{MOST_BOXES, MOST_DEEP};
 use fragment_types::BoxName;
 use std::alloc::{AllocError, Global};
 use std::collections::BTreeMap;
-
-/// The greatest count of boxes that stand side by side.
-const MOST_BOXES: u32 = 1 << 18;
-
-/// How many boxes stand one inside the other at most; below that nothing is looked for.
-const MOST_DEEP: u32 = 130;
 
 // The keys of an arena by the names of their boxes: the node, and which of that node's boxes it is.
 type Keys = BTreeMap<(u32, usize), usize>;
@@ -54,7 +49,7 @@ struct Handover<'k, 'o, 'n, T> {
 
 /// Hands what is kept in an arena to another one, for the boxes of the tree under a root there: the text of a box for one that has
 /// its name, style and content, and its results where also the same boxes stand inside it, and the lines of the box around it run
-/// alike.
+/// alike. Where each box is told by its name, none of these is lost.
 pub fn reuse<T: Drop>(
     alloc: Global,
     giver: &mut BoxArena<T>,
