@@ -19,6 +19,7 @@ pub mod MetPairs
 pub mod NamedLaws
 pub mod PagePlaces
 pub mod ReuseLaws
+pub mod ReusedFound
 pub mod RootCounts
 pub mod RowLaws
 pub mod SeeingLaws

@@ -22,18 +22,18 @@ use Rattle.relayout.proofs.KeptLaws.{result_stays, same_containing}
 same_by_lines : (one other : Style) → RunAlike one other → containing_of one ≡ containing_of other
 same_by_lines one other alike = rw (alike.mode, alike.direction, alike.orientation) refl
 
-same_around : (one other : Option Node) (style : Style) → AreAround one other → containing_by one style ≡ containing_by other style
-same_around None None style alike = refl
-same_around None (Some other) style alike = absurd alike
-same_around (Some one) None style alike = absurd alike
-same_around (Some one) (Some other) style alike = same_by_lines one.style other.style alike
+pub same_block : (one other : Option Node) (style : Style) → AreAround one other → containing_by one style ≡ containing_by other style
+same_block None None style alike = refl
+same_block None (Some other) style alike = absurd alike
+same_block (Some one) None style alike = absurd alike
+same_block (Some one) (Some other) style alike = same_by_lines one.style other.style alike
 
 module _ (outside : Outside) (giver given old new : Slab (Entry Preparation)) (there : AreRight outside giver.slots) (here : AreRight outside old.slots) (reuses : Reuses giver given old new) where
   -- a result of the other arena
   result_from : (k : ℕ) (c : Constraint) (result : Pieces) → IsResultFrom giver.slots old.slots k c result → IsResultAt outside old.slots k c result
   result_from k c result from name style content inner stands =
       let P : Containing → Type 0 = λ containing. IsResultOf outside containing name style content inner c result in
-      subst P (same_around (around_at giver.slots from.from) (around_at old.slots k) style from.around)
+      subst P (same_block (around_at giver.slots from.from) (around_at old.slots k) style from.around)
       ((there from.from).results c result from.was name style content inner (from.tree (box name style content inner none) stands))
 
   result_of : (k : ℕ) (c : Constraint) (result : Pieces) → (kept_at old.slots k c ≡ Some result) ⊎ IsResultFrom giver.slots old.slots k c result → IsResultAt outside old.slots k c result

@@ -12,6 +12,7 @@ use Rattle.box_arena.specs.Boxes.{StandFrom}
 use Rattle.box_arena.specs.Links.{IsLinked, Linking, parent_of}
 use Rattle.box_gen.specs.Tree.{Boxes, box, none as no_boxes}
 use Rattle.para_prepare.specs.Preparation.{Preparation}
+use Rattle.box_arena.proofs.NamedOnce.{stands_alone}
 use Rattle.relayout.specs.declared.inline.PageView.{PageView}
 use Rattle.relayout.specs.declared.row.Row.{Row}
 use Rattle.relayout.specs.Counts.{AreFounded, AreFoundedUnder, ArrangedRise, Ask, Counters, Covers, HaveKeys, HaveTexts, IsAllKept, IsRowKept, RowCosts, RowDone, TextsRise, missing, textless}
@@ -24,7 +25,6 @@ use Rattle.relayout.specs.Sizes.{containing_of}
 use Rattle.relayout.specs.Step.{under}
 use Rattle.relayout.proofs.CountLaws.{Follows, row_kept_on, same_next, stood_back}
 use Rattle.relayout.proofs.Founded.{all_kept, have_texts}
-use Rattle.relayout.proofs.WholeLaws.{stands_alone}
 
 module _ (faces : List (Option Table)) (view : View) (page : PageView) (old new : Slots Preparation) (root : ℕ) (own : Node) (there : node_at old root ≡ Some own)
     (is : from_outside faces page ≡ on_page (is_horizontal own.style.mode) faces view.inline view.block) (row : Row) (row_is : row ≡ root_row root own.style view) (alone : next_at old root ≡ None) (was after : Counters)

@@ -13,9 +13,10 @@ use Rattle.style_types.specs.Style.{IsBounded}
 use Rattle.line_place.specs.Spread.{spread}
 use Rattle.wm_modes.specs.Sides.{block_start}
 use Rattle.box_arena.specs.At.{Node, Slots, next_at, node_at, parent_at}
-use Rattle.box_arena.specs.Boxes.{StandFrom, Stands}
+use Rattle.box_arena.specs.Boxes.{Stands}
 use Rattle.box_gen.specs.Tree.{Boxes, box, none as no_boxes, siblings}
 use Rattle.para_prepare.specs.Preparation.{Preparation}
+use Rattle.box_arena.proofs.NamedOnce.{stands_alone}
 use Rattle.relayout.specs.declared.flowed.LaidBox.{LaidBox}
 use Rattle.relayout.specs.declared.inline.PageView.{PageView}
 use Rattle.relayout.specs.declared.row.Row.{Row}
@@ -63,13 +64,6 @@ root_spread style view part reach sizes bounded near deep = by (is_parallel (con
       near.kind along (omega (arith, down)) near.inline near.block in
       omega (arith, deep)
   by false is = absurd (cc)
-
--- the row of a root is the root alone
-pub stands_alone : (slots : Slots Preparation) (root : ℕ) (tree : Boxes) → next_at slots root ≡ None → Stands slots root tree → StandFrom slots (Some root) tree
-stands_alone slots root no_boxes alone stands = absurd stands
-stands_alone slots root (box name style content inner next) alone (node, within, last) =
-    let P : Boxes → Type 0 = λ t. StandFrom slots (next_at slots root) t in
-    (root, refl, node, within, subst P (sym last) alone)
 
 module _ (faces : List (Option Table)) (view : View) (page : PageView) (slots : Slots Preparation) (root : ℕ) (own : Node) (there : node_at slots root ≡ Some own)
     (is : from_outside faces page ≡ on_page (is_horizontal own.style.mode) faces view.inline view.block) where

@@ -85,7 +85,7 @@ pub record CountsAreByName : Type 0 where
 
 -- what is kept of an earlier page goes to an arena in which a page stands and nothing is kept
 pub record HandsOver (giver given old new : Slab (Entry Preparation)) (root : ℕ) (page : Boxes) : Type 0 where
-  pub stands : IsPageUnder old.slots root page
+  pub under : IsPageUnder old.slots root page
   pub bare : IsBare old.slots
   pub reuses : Reuses giver given old new
   pub all : LosesNothing giver.slots old.slots new.slots root

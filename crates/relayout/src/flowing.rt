@@ -21,7 +21,7 @@ use crate::flowed::{LaidBox, LaidBoxes};
 use crate::inside::{HeldParagraph, LaidInside};
 use crate::row::{Page, Row, RowBox};
 use crate::sizing::{InlineSize, Sizing};
-use box_arena::BoxArena;
+use box_arena::{BoxArena, MOST_BOXES};
 use box_gen::{BoxNode, Content};
 use bumpalo::Bump;
 use face_api::{Face, Faces};
@@ -30,9 +30,6 @@ use para_prepare::Prepared;
 use std::alloc::{AllocError, Global};
 use std::sync::ledger::Ledger;
 use wm_units::Steps;
-
-/// The greatest count of boxes under one root.
-const MOST_BOXES: u32 = 1 << 18;
 
 /// What travels along: the arena of the boxes, room for what is made ready of a text, and the counters of texts that are prepared and
 /// of contents that are arranged.

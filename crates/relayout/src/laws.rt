@@ -1,7 +1,7 @@
 //! Laws of what is kept in an arena of boxes. These functions do nothing: their contracts are the laws.
 
 ghost use Rattle.relayout.specs.Laws.{AttachedIsRight, BareIsRight, DetachedIsRight, DroppedIsRight, ForgottenIsRight, KeptIsRight, KeptTextIsRight, MarkedIsRight, RestyledAlikeIsRight, RestyledIsRight, ReusedIsRight};
-ghost use Rattle.relayout.specs.Named.{CountsAreByName};
+ghost use Rattle.relayout.specs.Named.{BareIsFounded, CountsAreByName, ReusedIsFound};
 ghost use Rattle.relayout.specs.Sized.{LayoutsAreSized};
 
 /// Where nothing is kept, all that is kept is right; so it is where all is forgotten.
@@ -53,4 +53,11 @@ pub fn contents_have_sizes()
 /// name, that all that was met is kept.
 pub fn counts_are_by_name()
     ensures { CountsAreByName }
+{}
+
+/// What is kept of the boxes of an earlier page, and goes to those of a page that stand as they did, is found for them, with all on
+/// which it rests.
+pub fn what_is_reused_is_found()
+    ensures reused { ReusedIsFound }
+    ensures bare { BareIsFounded }
 {}

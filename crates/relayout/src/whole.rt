@@ -23,7 +23,7 @@ use crate::inline::PageView;
 use crate::row::{Page, Row};
 use crate::sizes::Containing;
 use crate::styled::ChildStyle;
-use box_arena::{BoxArena, BoxKey};
+use box_arena::{BoxArena, BoxKey, MOST_DEEP};
 use bumpalo::Bump;
 use face_api::{Face, Faces};
 use fragment_types::{Constraint, Fragment};
@@ -33,9 +33,6 @@ use std::sync::ledger::Ledger;
 use style_types::Style;
 use wm_modes::{FlowRect, FlowSide, WritingMode};
 use wm_units::{Steps, View};
-
-/// How many boxes stand one inside the other at most.
-const MOST_DEEP: u32 = 130;
 
 // The view of a page whose root has this mode.
 fn page_of(mode: WritingMode, view: View) -> PageView
