@@ -1,5 +1,5 @@
 -- The pairs that are met in the layout of a page, told by names and by keys.
-use Rattle.std.proofs.Common.{◌≡◌, refl, sym, ap₂, subst, arith, ℕ, zero, suc, Bool, true, false, List, [], ◌∷◌, ◌++◌, Option, Some, None, inl, inr}
+use Rattle.std.proofs.Common.{◌≡◌, refl, sym, ap₂, subst, arith, ℕ, zero, Bool, true, false, List, [], ◌∷◌, ◌++◌, Option, Some, None, inl, inr}
 use Rattle.std.specs.Prelude.{◌⊎◌, ◌&&◌, Contains, IfSome, if◌then◌else◌, nat_eq}
 use Rattle.std.specs.Option.{option_cmp}
 use Rattle.std.specs.Ordering.{int_cmp, is_eq, ordering_then}
@@ -7,6 +7,7 @@ use Rattle.std.specs.declared.cmp.Ordering.{Ordering}
 use Rattle.std.specs.declared.cmp.Ordering.TheVariants.{Less, Equal, Greater}
 use Rattle.std.proofs.lemmas.Bool.{and_parts, eqb-true}
 use Rattle.std.proofs.lemmas.List.Elements.{Contains-append_cases, Contains-append_left, Contains-append_right}
+use Rattle.slab.proofs.SlabLemmas.{Contains-cons, Contains-cons_cases}
 use Rattle.fragment_types.specs.declared.constraint.Constraint.{Constraint}
 use Rattle.fragment_types.specs.declared.item.BoxName.{BoxName}
 use Rattle.box_arena.specs.At.{Node, Slots, first_at, next_at, node_at}
@@ -29,18 +30,11 @@ use Rattle.relayout.proofs.PagePlaces.{node_of_place}
 pub contains_head : {A : Type 0} (x y : A) (xs : List A) → x ≡ y → Contains (x ∷ xs) y
 contains_head x y xs is = (zero, omega arith, is)
 
-pub contains_tail : {A : Type 0} (x y : A) (xs : List A) → Contains xs y → Contains (x ∷ xs) y
-contains_tail x y xs (n, short, is) = (suc n, omega (arith, short), is)
-
-pub contains_cases : {A : Type 0} (x y : A) (xs : List A) → Contains (x ∷ xs) y → (x ≡ y) ⊎ Contains xs y
-contains_cases x y xs (zero, short, is) = inl is
-contains_cases x y xs (suc n, short, is) = inr (n, omega (arith, short), is)
-
 pub contains_none : {A : Type 0} (x : A) → Contains [] x → ⊥
 contains_none x (n, short, is) = absurd (omega (arith, short))
 
 pub one_of_four : {A : Type 0} (x : A) (xs ys zs : List A) (y : A) (R : Type 0) → (x ≡ y → R) → (Contains xs y → R) → (Contains ys y → R) → (Contains zs y → R) → Contains (x ∷ (xs ++ (ys ++ zs))) y → R
-one_of_four {A} x xs ys zs y R first second third fourth there = by (contains_cases x y (xs ++ (ys ++ zs)) there) where
+one_of_four {A} x xs ys zs y R first second third fourth there = by (Contains-cons_cases x y (xs ++ (ys ++ zs)) there) where
   behind : Contains ys y ⊎ Contains zs y → R
   behind (inl in_ys) = third in_ys
   behind (inr in_zs) = fourth in_zs
@@ -83,29 +77,29 @@ among_contained pair [] among = absurd (cc)
 among_contained pair (other ∷ pairs) among = by (same_pair pair other) refl (among_contained pair pairs) among where
   by : (b : Bool) → same_pair pair other ≡ b → (is_among pair pairs ≡ true → Contains pairs pair) → (if b then true else is_among pair pairs) ≡ true → Contains (other ∷ pairs) pair
   by true same below is = contains_head other pair pairs (sym (same_pairs pair other same))
-  by false same below is = contains_tail other pair pairs (below is)
+  by false same below is = Contains-cons other pair pairs (below is)
 
 -- each pair that is met is among those once
 pub contained_once : (pairs : List Pair) (pair : Pair) → Contains pairs pair → Contains (each_once pairs) pair
 contained_once [] pair there = absurd (contains_none pair there)
-contained_once (other ∷ pairs) pair there = by (is_among other (each_once pairs)) refl (contains_cases other pair pairs there) (contained_once pairs pair) where
+contained_once (other ∷ pairs) pair there = by (is_among other (each_once pairs)) refl (Contains-cons_cases other pair pairs there) (contained_once pairs pair) where
   by : (b : Bool) → is_among other (each_once pairs) ≡ b → (other ≡ pair) ⊎ Contains pairs pair → (Contains pairs pair → Contains (each_once pairs) pair)
       → Contains (if b then each_once pairs else other ∷ each_once pairs) pair
   by true among (inl is) below = let P : Pair → Type 0 = λ p. Contains (each_once pairs) p in subst P is (among_contained other (each_once pairs) among)
   by true among (inr behind) below = below behind
   by false among (inl is) below = contains_head other pair (each_once pairs) is
-  by false among (inr behind) below = contains_tail other pair (each_once pairs) (below behind)
+  by false among (inr behind) below = Contains-cons other pair (each_once pairs) (below behind)
 
 -- and no other
 pub contained_often : (pairs : List Pair) (pair : Pair) → Contains (each_once pairs) pair → Contains pairs pair
 contained_often [] pair there = there
 contained_often (other ∷ pairs) pair there = by (is_among other (each_once pairs)) there (contained_often pairs pair) where
   by : (b : Bool) → Contains (if b then each_once pairs else other ∷ each_once pairs) pair → (Contains (each_once pairs) pair → Contains pairs pair) → Contains (other ∷ pairs) pair
-  by true there below = contains_tail other pair pairs (below there)
-  by false there below = at (contains_cases other pair (each_once pairs) there) below where
+  by true there below = Contains-cons other pair pairs (below there)
+  by false there below = at (Contains-cons_cases other pair (each_once pairs) there) below where
     at : (other ≡ pair) ⊎ Contains (each_once pairs) pair → (Contains (each_once pairs) pair → Contains pairs pair) → Contains (other ∷ pairs) pair
     at (inl is) below = contains_head other pair pairs is
-    at (inr behind) below = contains_tail other pair pairs (below behind)
+    at (inr behind) below = Contains-cons other pair pairs (below behind)
 
 -- ---- what holds of all that is met
 
@@ -149,12 +143,12 @@ module _ (slots : Slots Preparation) (outside : Outside) (P Goes : ℕ → Const
       let on : (d : Constraint) → ((pair : Pair) → Contains (below d) pair → HoldsFor slots P pair) → E d = λ d. each_by_name (first_at slots key) (containing_of style) inner d within in (
         each own (contains_head own own (asked ++ (put ++ after)) refl) key node there refl,
         (λ goes. (
-          if_those (contributes_under containing node c) below (HoldsFor slots P) E on (λ pair in_asked. each pair (contains_tail own pair (asked ++ (put ++ after)) (Contains-append_left asked (put ++ after) pair in_asked))),
+          if_those (contributes_under containing node c) below (HoldsFor slots P) E on (λ pair in_asked. each pair (Contains-cons own pair (asked ++ (put ++ after)) (Contains-append_left asked (put ++ after) pair in_asked))),
           if_those (put_under outside containing node c inner) below (HoldsFor slots P) E on
-              (λ pair in_put. each pair (contains_tail own pair (asked ++ (put ++ after)) (Contains-append_right asked (put ++ after) pair (Contains-append_left put after pair in_put)))),
+              (λ pair in_put. each pair (Contains-cons own pair (asked ++ (put ++ after)) (Contains-append_right asked (put ++ after) pair (Contains-append_left put after pair in_put)))),
         )),
         each_by_name (next_at slots key) containing next c behind
-            (λ pair in_after. each pair (contains_tail own pair (asked ++ (put ++ after)) (Contains-append_right asked (put ++ after) pair (Contains-append_right put after pair in_after)))),
+            (λ pair in_after. each pair (Contains-cons own pair (asked ++ (put ++ after)) (Contains-append_right asked (put ++ after) pair (Contains-append_right put after pair in_after)))),
       )
 
   -- what holds of all that is met, holds for each pair at a place of its name

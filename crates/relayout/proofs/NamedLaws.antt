@@ -4,6 +4,7 @@ use Rattle.std.specs.Prelude.{◌⊎◌, ⊤, Contains, IsSome, filter}
 use Rattle.std.proofs.lemmas.List.{length-append}
 use Rattle.std.proofs.lemmas.Option.{same_Some}
 use Rattle.std.proofs.lemmas.List.Elements.{Contains-append_cases, Contains-append_left, Contains-append_right, filter-append}
+use Rattle.slab.proofs.SlabLemmas.{Contains-cons, Contains-cons_cases}
 use Rattle.face_api.specs.Table.{Table}
 use Rattle.wm_modes.specs.Mode.{is_horizontal}
 use Rattle.wm_units.specs.declared.view.View.{View}
@@ -24,7 +25,7 @@ use Rattle.relayout.specs.Named.{ArrangesOwed, CountsAreByName, FindsResult, Fin
 use Rattle.relayout.specs.Paragraph.{HasText}
 use Rattle.relayout.specs.Sizes.{containing_of}
 use Rattle.relayout.specs.Step.{under}
-use Rattle.relayout.proofs.MetPairs.{HoldsFor, MetAt, contained_often, contained_once, contains_cases, contains_head, contains_none, contains_tail, each_by_name, each_has_place}
+use Rattle.relayout.proofs.MetPairs.{HoldsFor, MetAt, contained_often, contained_once, contains_head, contains_none, each_by_name, each_has_place}
 use Rattle.relayout.proofs.PagePlaces.{node_of_place, page_stands, place_stands, style_around}
 
 -- ---- one more that is owed or there
@@ -87,7 +88,7 @@ have_keys_more slots keys all more from (box name style content inner next) have
 -- a paragraph is listed before all others
 listed_before : (name : BoxName) (content : Content) (others : List BoxName) (other : BoxName) → Contains others other → Contains (with_paragraph name content others) other
 listed_before name blocks others other there = there
-listed_before name (inline items) others other there = contains_tail name other others there
+listed_before name (inline items) others other there = Contains-cons name other others there
 
 module _ (slots : Slots Preparation) (root : ℕ) (page : Boxes) (is_page : IsPageUnder slots root page) where
   named_once : (one other : ℕ) (node same : Node) → node_at slots one ≡ Some node → node_at slots other ≡ Some same → node.name ≡ same.name → one ≡ other
@@ -127,8 +128,8 @@ module _ (slots : Slots Preparation) (root : ℕ) (page : Boxes) (is_page : IsPa
           let P : ℕ → Type 0 = λ j. Contains (key ∷ (below.keys ++ behind.keys)) j × HaveKeys (key ∷ (below.keys ++ behind.keys)) slots (first_at slots j) inner × HaveKeys (key ∷ (below.keys ++ behind.keys)) slots (next_at slots j) next in
           subst P (same_Some key k (sym is ∙ at)) (
             contains_head key key (below.keys ++ behind.keys) refl,
-            have_keys_more slots below.keys (key ∷ (below.keys ++ behind.keys)) (λ j in_it. contains_tail key j (below.keys ++ behind.keys) (Contains-append_left below.keys behind.keys j in_it)) (first_at slots key) inner below.have,
-            have_keys_more slots behind.keys (key ∷ (below.keys ++ behind.keys)) (λ j in_it. contains_tail key j (below.keys ++ behind.keys) (Contains-append_right below.keys behind.keys j in_it)) (next_at slots key) next behind.have,
+            have_keys_more slots below.keys (key ∷ (below.keys ++ behind.keys)) (λ j in_it. Contains-cons key j (below.keys ++ behind.keys) (Contains-append_left below.keys behind.keys j in_it)) (first_at slots key) inner below.have,
+            have_keys_more slots behind.keys (key ∷ (below.keys ++ behind.keys)) (λ j in_it. Contains-cons key j (below.keys ++ behind.keys) (Contains-append_right below.keys behind.keys j in_it)) (next_at slots key) next behind.have,
           );
       few =
           let place : Place = record { around = around; name = name; style = style; content = inline items; inner = inner } in
@@ -179,19 +180,19 @@ module _ (slots : Slots Preparation) (root : ℕ) (page : Boxes) (is_page : IsPa
   has_one first pairs at asks has pair (inl same) key node there name =
       let one = named_once at.key key (node_of_place at.place) node at.there there (at.name ∙ ap (λ (p : Pair). p.name) same ∙ sym name) in
       contains_head (ask_of at.key first.constraint) (ask_of key pair.constraint) asks (ap₂ ask_of one (ap (λ (p : Pair). p.constraint) same))
-  has_one first pairs at asks has pair (inr behind) key node there name = contains_tail (ask_of at.key first.constraint) (ask_of key pair.constraint) asks (has pair behind key node there name)
+  has_one first pairs at asks has pair (inr behind) key node there name = Contains-cons (ask_of at.key first.constraint) (ask_of key pair.constraint) asks (has pair behind key node there name)
 
   pair_asks : (owed : Pair → Bool) (pairs : List Pair) → ((pair : Pair) → Contains pairs pair → MetAt slots page (λ key c. ⊤) pair)
       → ((pair : Pair) → Contains pairs pair → owed pair ≡ false → FindsResult slots root page pair) → PairAsks owed pairs
   pair_asks owed [] met_at finds = record { asks = []; has = λ pair there. absurd (contains_none pair there); few = omega arith }
   pair_asks owed (first ∷ pairs) met_at finds =
       let at = met_at first (contains_head first first pairs refl) in
-      let others = pair_asks owed pairs (λ pair there. met_at pair (contains_tail first pair pairs there)) (λ pair there. finds pair (contains_tail first pair pairs there)) in
+      let others = pair_asks owed pairs (λ pair there. met_at pair (Contains-cons first pair pairs there)) (λ pair there. finds pair (Contains-cons first pair pairs there)) in
       let found : owed first ≡ false → IsSome (kept_at slots at.key first.constraint) = λ not_owed.
       result_found at.place at.key first.constraint at.there ((finds first (contains_head first first pairs refl) not_owed).result at.place at.among at.name) in
       record {
         asks = ask_of at.key first.constraint ∷ others.asks;
-        has = λ pair there. has_one first pairs at others.asks others.has pair (contains_cases first pair pairs there);
+        has = λ pair there. has_one first pairs at others.asks others.has pair (Contains-cons_cases first pair pairs there);
         few = one_more owed first pairs (kept_at slots at.key first.constraint) (missing slots others.asks) found others.few;
       }
 
@@ -253,7 +254,7 @@ text_named slots from (box own style content inner next) (key, is, node, within,
       by : (held : Content) → node_at slots key ≡ Some (record { name = own; style = style; content = held }) → HasText held (text_at slots key) → Contains (with_paragraph own held (paragraphs inner ++ paragraphs next)) name
           → (Contains (paragraphs inner) name → HasTextNamed slots name) → (Contains (paragraphs next) name → HasTextNamed slots name) → HasTextNamed slots name
       by blocks there text listed below after = among (Contains-append_cases (paragraphs inner) (paragraphs next) name listed) below after
-      by (inline items) there text listed below after = here items there text (contains_cases own name (paragraphs inner ++ paragraphs next) listed) below after
+      by (inline items) there text listed below after = here items there text (Contains-cons_cases own name (paragraphs inner ++ paragraphs next) listed) below after
 
 alike_itself : (around : Option Style) → AreAlike around around
 alike_itself None = tt
