@@ -33,7 +33,7 @@ contains_head x y xs is = (zero, omega arith, is)
 pub contains_none : {A : Type 0} (x : A) → Contains [] x → ⊥
 contains_none x (n, short, is) = absurd (omega (arith, short))
 
-pub one_of_four : {A : Type 0} (x : A) (xs ys zs : List A) (y : A) (R : Type 0) → (x ≡ y → R) → (Contains xs y → R) → (Contains ys y → R) → (Contains zs y → R) → Contains (x ∷ (xs ++ (ys ++ zs))) y → R
+one_of_four : {A : Type 0} (x : A) (xs ys zs : List A) (y : A) (R : Type 0) → (x ≡ y → R) → (Contains xs y → R) → (Contains ys y → R) → (Contains zs y → R) → Contains (x ∷ (xs ++ (ys ++ zs))) y → R
 one_of_four {A} x xs ys zs y R first second third fourth there = by (Contains-cons_cases x y (xs ++ (ys ++ zs)) there) where
   behind : Contains ys y ⊎ Contains zs y → R
   behind (inl in_ys) = third in_ys

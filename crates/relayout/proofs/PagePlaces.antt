@@ -47,7 +47,7 @@ module _ (slots : Slots Preparation) (linked : IsLinked (links_at slots)) where
         ap (λ (p : Option ℕ). option_map (λ (n : Node). n.style) (option_and_then (node_at slots) p)) (inside ∙ sym own) ∙ stands
 
   -- each place from a box on is under a key
-  pub place_from : (from : Option ℕ) (around : Option Style) (row : Boxes) → StandFrom slots from row → StandsAround slots from around → (place : Place) → IsAmong around row place → HasPlace slots place
+  place_from : (from : Option ℕ) (around : Option Style) (row : Boxes) → StandFrom slots from row → StandsAround slots from around → (place : Place) → IsAmong around row place → HasPlace slots place
   place_from from around no_boxes stand stands place among = absurd among
   place_from from around (box name style content inner next) (key, is, node, within, behind) stands place (inl same) =
       let P : Place → Type 0 = λ p. HasPlace slots p in
