@@ -1,0 +1,86 @@
+//! A caret on a page of one run, moved by arrow keys.
+
+ghost use Rattle.std.specs.Prelude.{IfOk};
+ghost use Rattle.place_map.specs.Near.{AreNearParts};
+ghost use Rattle.place_map.specs.Placed.{placed_of};
+
+use crate::arrows::steps_from;
+use fragment_types::{BoxName, FragmentKind, Glyphs, RunUnit, UnitKind};
+use hit_caret::caret;
+use place_map::{Placed, PlacedPart};
+use std::alloc::{AllocError, Global};
+use std::rc::Rc;
+use std::test::*;
+use wm_modes::Rect;
+use wm_units::View;
+
+const VIEW: View = View {
+    inline: 12_800,
+    block: 6_400,
+};
+
+/// The text node, and its rectangle: three letters of 8 px from right to left.
+const TEXT: u32 = 3;
+
+const RUN: Rect = Rect {
+    x: 0,
+    y: 0,
+    w: 1_536,
+    h: 1_024,
+};
+
+fn page(alloc: Global) -> Result<Placed, AllocError>
+    ensures { IfOk result (λ placed. AreNearParts (placed_of placed).parts) }
+{
+    let mut units = Vec::new(alloc);
+    units.push(RunUnit::new(alloc, 2, 3, 512, &Glyphs::one('ג'))?)?;
+    units.push(RunUnit::new(alloc, 1, 2, 512, &Glyphs::one('ב'))?)?;
+    units.push(RunUnit::new(alloc, 0, 1, 512, &Glyphs::one('א'))?)?;
+    Ok(Placed {
+        view: VIEW,
+        root: PlacedPart {
+            name: BoxName {
+                node: TEXT,
+                ordinal: 0,
+            },
+            rect: RUN,
+            kind: FragmentKind::Run {
+                form: UnitKind::Along,
+                level: 1,
+                natural: None,
+                units: Rc::new(alloc, units)?,
+            },
+            children: Vec::new(alloc),
+        },
+    })
+}
+
+#[test]
+fn carets_go_through_a_text(rt: HostRuntime) -> Result<(), Fail> {
+    let page = page(rt.alloc())?;
+    let first = steps_from(&page, TEXT, 0);
+    assert_eq!(rt; (first.back, first.ahead), (None, Some(1)));
+    let second = steps_from(&page, TEXT, 1);
+    assert_eq!(rt; (second.back, second.ahead), (Some(0), Some(2)));
+    let last = steps_from(&page, TEXT, 3);
+    assert_eq!(rt; (last.back, last.ahead), (Some(2), None));
+    let elsewhere = steps_from(&page, TEXT + 1, 0);
+    assert_eq!(rt; (elsewhere.back, elsewhere.ahead), (None, None));
+    Ok(())
+}
+
+#[test]
+fn carets_stand_to_the_left_of_what_was_passed(rt: HostRuntime) -> Result<(), Fail> {
+    let page = page(rt.alloc())?;
+    let edges = [1_536, 1_024, 512, 0];
+    for (place, x) in (0..4).zip(edges) {
+        let due = Rect {
+            x,
+            y: 0,
+            w: 0,
+            h: 1_024,
+        };
+        assert_eq!(rt; caret(&page, TEXT, place), Some(due));
+    }
+    Ok(())
+}
