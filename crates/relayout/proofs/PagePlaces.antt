@@ -7,11 +7,11 @@ use Rattle.box_arena.specs.At.{Node, Slots, first_at, links_at, next_at, node_at
 use Rattle.box_arena.specs.Boxes.{StandFrom, Stands}
 use Rattle.box_arena.specs.Links.{IsIn, IsLinked}
 use Rattle.box_arena.specs.Reusing.{around_at}
+use Rattle.box_arena.proofs.NamedOnce.{stands_alone}
 use Rattle.box_gen.specs.Places.{IsAmong, Place, tree_of}
 use Rattle.box_gen.specs.Tree.{Boxes, box, none as no_boxes}
 use Rattle.para_prepare.specs.Preparation.{Preparation}
 use Rattle.relayout.specs.Named.{IsPageUnder}
-use Rattle.relayout.proofs.WholeLaws.{stands_alone}
 
 abbrev pub node_of_place : Place → Node
 node_of_place place = record { name = place.name; style = place.style; content = place.content }

@@ -12,12 +12,15 @@ use Rattle.tree_laws.specs.Wholeness.{IsWhole}
 use Rattle.style_tree.specs.Styling.{AreBounded, styled_document}
 use Rattle.box_gen.specs.declared.tree.BoxTree.{BoxTree}
 use Rattle.box_gen.specs.Boxes.{root_boxes}
-use Rattle.box_gen.specs.Tree.{Boxes, boxes_of}
+use Rattle.box_gen.specs.Places.{AreNamedOnce}
+use Rattle.box_gen.specs.Tree.{Boxes, boxes_of, count}
 use Rattle.box_arena.specs.At.{Slots}
 use Rattle.box_arena.specs.Boxes.{Stands}
 use Rattle.box_arena.specs.Planting as planting
 use Rattle.para_prepare.specs.Preparation.{Preparation}
+use Rattle.relayout.specs.Counts.{AreFoundedUnder}
 use Rattle.relayout.specs.Laws.{BareIsRight}
+use Rattle.relayout.specs.Named.{BareIsFounded}
 use Rattle.relayout.specs.Relayout.{AreRightUnder}
 use Rattle.style_types.specs.declared.position.Position.{Position}
 use Rattle.std.specs.declared.vec.Vec.{Vec}
@@ -34,8 +37,8 @@ pub fits : DocumentsFit → BoxesFit → (rules : List Ruling) (state : State) �
 fits documents boxes rules state whole few short bounded = boxes (styled_document rules state) (documents rules state whole few short bounded)
 
 -- so there are few enough
-pub few_boxes : (nodes : Nodes) (tree : BoxTree) → boxes_of tree ≡ root_boxes nodes → CanBeLaidOut (root_boxes nodes) → planting.count (boxes_of tree) ≤ 2 ^ 18
-few_boxes nodes tree makes fits = subst (λ (boxes : Boxes). planting.count boxes ≤ 2 ^ 18) (sym makes) fits.few
+pub few_boxes : (nodes : Nodes) (tree : BoxTree) → boxes_of tree ≡ root_boxes nodes → CanBeLaidOut (root_boxes nodes) → count (boxes_of tree) ≤ 2 ^ 18
+few_boxes nodes tree makes fits = subst (λ (boxes : Boxes). count boxes ≤ 2 ^ 18) (sym makes) fits.few
 
 -- and they stand where they were planted
 pub stand : (nodes : Nodes) (tree : BoxTree) (slots : Slots Preparation) (root : ℕ) → boxes_of tree ≡ root_boxes nodes → Stands slots root (boxes_of tree) → Stands slots root (root_boxes nodes)
@@ -48,3 +51,11 @@ same_positions {A} nodes made kept same are = subst (λ (list : Option (Vec Posi
 -- where nothing is kept all that is kept is right
 pub right : BareIsRight → (faces : List (Option Table)) (view : View) (slots : Slots Preparation) (root : ℕ) → ((key : ℕ) → planting.IsBare slots key) → AreRightUnder faces view slots root
 right bare_is faces view slots root bare = λ node is. bare_is _ slots (record { kept = λ key c. (bare key).kept c; texts = λ key. (bare key).text })
+
+-- and it has all on which it rests
+pub founded : BareIsFounded → (faces : List (Option Table)) (view : View) (slots : Slots Preparation) (root : ℕ) → ((key : ℕ) → planting.IsBare slots key) → AreFoundedUnder faces view slots root
+founded bare_is faces view slots root bare = bare_is faces view slots root (record { kept = λ key c. (bare key).kept c; texts = λ key. (bare key).text })
+
+-- boxes that were made of a styled tree have the names of its boxes
+pub named : (nodes : Nodes) (tree : BoxTree) → boxes_of tree ≡ root_boxes nodes → AreNamedOnce (root_boxes nodes) → AreNamedOnce (boxes_of tree)
+named nodes tree makes once = subst (λ (boxes : Boxes). AreNamedOnce boxes) (sym makes) once

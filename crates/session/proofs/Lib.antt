@@ -1,10 +1,12 @@
 pub mod Answering
 mod Examples
 pub mod FaceEdits
+pub mod Finding
 pub mod Former
 pub mod Fresh
 pub mod Holding
 pub mod Limiting
+pub mod Losing
 pub mod Near
 pub mod Outcomes
 pub mod Refusals

@@ -16,6 +16,7 @@ use Rattle.dom_store.specs.State.{IsRooted, IsSaidState}
 use Rattle.edits.specs.Change.{Change, of_tree}
 use Rattle.edits.specs.Edited.{Reason, after, by_tree, fixed, full, no_face, no_rule, refusal, too_many_rules}
 use Rattle.edits.specs.State.{State}
+use Rattle.edit_scope.specs.Leaves.{EditsKeepLeaves, TextsAreLeaves}
 use Rattle.face_api.specs.Table.{Table}
 use Rattle.tree_laws.specs.Laws.{AcceptedAreDone, ChildrenHaveParents, EditsKeepWhole, EditsWeigh}
 use Rattle.tree_laws.specs.Reached.{EditsKeepReached, IsReached}
@@ -179,6 +180,9 @@ module _ (faces : List (Option Table)) (rules : List Ruling) (old next : dom.Sta
 
   pub reached_after : EditsKeepReached → tree.IsFitting edit → IsRooted old → IsWhole old → IsReached old → IsReached next
   reached_after keep fitting rooted whole reached = subst IsReached (sym done.1) (keep old edit fitting rooted whole reached done.0)
+
+  pub leaves_after : EditsKeepLeaves → tree.IsFitting edit → IsWhole old → TextsAreLeaves old → TextsAreLeaves next
+  leaves_after keep fitting whole leaves = subst TextsAreLeaves (sym done.1) (keep old edit fitting whole done.0 leaves)
 
   pub few_after : EditsWeigh → live_count old ≤ greatest_count → live_count next ≤ greatest_count
   few_after weigh few = subst (λ (s : dom.State). live_count s ≤ greatest_count) (sym done.1) ((weigh old edit done.0).0 few)

@@ -20,13 +20,18 @@ use Rattle.box_gen.specs.Boxes.{root_boxes}
 use Rattle.box_gen.specs.Limit.{IsWithinLimits}
 use Rattle.box_gen.specs.Tree.{Boxes, box, none}
 use Rattle.box_arena.specs.Arena.{SameLinks, SameNodes}
+use Rattle.box_arena.specs.At as arenas
 use Rattle.box_arena.specs.At.{Node, Slots, first_at, next_at, node_at, parent_at}
 use Rattle.box_arena.specs.Links as links
 use Rattle.box_arena.specs.Boxes.{StandFrom, Stands}
+use Rattle.box_arena.specs.Reusing.{AreNamedOnce}
 use Rattle.box_arena.specs.declared.entry.Entry.{Entry}
+use Rattle.edit_scope.specs.Leaves.{TextsAreLeaves}
 use Rattle.face_api.specs.Table.{Table}
 use Rattle.face_api.specs.declared.faces.Faces.{Faces}
 use Rattle.para_prepare.specs.Preparation.{Preparation}
+use Rattle.relayout.specs.Counts.{AreFoundedUnder}
+use Rattle.relayout.specs.Named.{IsPageUnder}
 use Rattle.relayout.specs.Relayout.{AreRightUnder, IsSteadyUnder}
 use Rattle.session.specs.State.{AreKept, AreReady, IsSound, rules_in, styled_in}
 use Rattle.session.specs.declared.keeping.KeptBoxes.{KeptBoxes}
@@ -58,6 +63,9 @@ module _ (old new : Slots Preparation) (same : SameLinks old new) (nodes : SameN
       let P : Option ℕ → Type 0 = λ o. StandFrom new o inner in
       (nodes key ∙ node, subst P (sym (same_first key)) (stand_on (first_at old key) inner inside), last)
 
+  pub named_on : AreNamedOnce old → AreNamedOnce new
+  named_on named one other node also is at same = named one other node also (sym (nodes one) ∙ is) (sym (nodes other) ∙ at) same
+
 -- a tree that stands has a root
 pub root_of : (slots : Slots Preparation) (key : ℕ) (tree : Boxes) → Stands slots key tree → (node : Node) × (node_at slots key ≡ Some node)
 root_of slots key none stands = absurd stands
@@ -65,21 +73,26 @@ root_of slots key (box name style content inner next) stands = (record { name = 
 
 -- after a layout the same tree stands, and what is kept is right
 steady : (faces : List (Option Table)) (view : View) (old new : Slab (Entry Preparation)) (root : ℕ) (tree : Boxes) → Stands old.slots root tree → parent_at old.slots root ≡ None
-    → IsSteadyUnder faces view old new root → Stands new.slots root tree × (parent_at new.slots root ≡ None) × AreRightUnder faces view new.slots root
+    → IsSteadyUnder faces view old new root → Stands new.slots root tree × (parent_at new.slots root ≡ None) × AreRightUnder faces view new.slots root × (AreNamedOnce old.slots → AreNamedOnce new.slots)
 steady faces view old new root tree stands free under =
     let own = root_of old.slots root tree stands in
     let same = under own.0 own.1 in (
       stands_on old.slots new.slots same.links same.nodes root tree stands,
       same_parent old.slots new.slots same.links same.nodes root ∙ free,
       λ node is. (under node (sym (same.nodes root) ∙ is)).right,
+      named_on old.slots new.slots same.links same.nodes,
     )
 
 -- what was ready is ready after a layout
 pub steady_ready : (faces : List (Option Table)) (view : View) (nodes : Nodes) (made : Rooted) (arena : Slab (Entry Preparation)) → AreReady faces view nodes made → IsSteadyUnder faces view made.arena arena made.root
-    → AreReady faces view nodes (record made { arena = arena })
-steady_ready faces view nodes made arena ready under =
+    → (AreFoundedUnder faces view made.arena.slots made.root → AreFoundedUnder faces view arena.slots made.root) → AreReady faces view nodes (record made { arena = arena })
+steady_ready faces view nodes made arena ready under founds =
     let all = steady faces view made.arena arena made.root (root_boxes nodes) ready.stands ready.free under in
-    record { stands = all.0; free = all.1; fit = ready.fit; right = all.2; within = ready.within; positions = ready.positions }
+    record { stands = all.0; free = all.1; fit = ready.fit; named = all.3 ready.named; right = all.2; founded = founds ready.founded; within = ready.within; positions = ready.positions }
+
+-- its page stands in its arena
+pub page_under : {faces : List (Option Table)} {view : View} {nodes : Nodes} {made : Rooted} → AreReady faces view nodes made → arenas.IsSound made.arena.slots → IsPageUnder made.arena.slots made.root (root_boxes nodes)
+page_under ready linked = record { stands = ready.stands; free = ready.free; named = ready.named; sound = linked }
 
 -- the index that is there is one of the rules
 pub indexed_by : (index : Option RuleIndex) (one : RuleIndex) (rules : List Ruling) → Some one ≡ index → IfSome index (λ index. index_rules index ≡ rules) → index_rules one ≡ rules
@@ -93,6 +106,7 @@ module _ {I : Type 0} {D : I → Type 0} where
     said = sound.said;
     whole = sound.whole;
     reached = sound.reached;
+    leaves = sound.leaves;
     few = sound.few;
     short = sound.short;
     rules = sound.rules;
@@ -110,6 +124,7 @@ module _ {I : Type 0} {D : I → Type 0} where
     said = sound.said;
     whole = sound.whole;
     reached = sound.reached;
+    leaves = sound.leaves;
     few = sound.few;
     short = sound.short;
     rules = sound.rules;
@@ -128,6 +143,7 @@ module _ {I : Type 0} {D : I → Type 0} where
         said = subst IsSaidState (sym same) sound.said;
         whole = subst IsWhole (sym same) sound.whole;
         reached = subst IsReached (sym same) sound.reached;
+        leaves = subst TextsAreLeaves (sym same) sound.leaves;
         few = subst (λ (state : State). live_count state ≤ greatest_count) (sym same) sound.few;
         short = subst (λ (state : State). total bytes state ≤ 1048576) (sym same) sound.short;
         rules = sound.rules;
@@ -144,6 +160,7 @@ module _ {I : Type 0} {D : I → Type 0} where
     said = sound.said;
     whole = sound.whole;
     reached = sound.reached;
+    leaves = sound.leaves;
     few = sound.few;
     short = sound.short;
     rules = sound.rules;
@@ -160,6 +177,7 @@ module _ {I : Type 0} {D : I → Type 0} where
     said = sound.said;
     whole = sound.whole;
     reached = sound.reached;
+    leaves = sound.leaves;
     few = sound.few;
     short = sound.short;
     rules = sound.rules;
@@ -178,6 +196,7 @@ module _ {I : Type 0} {D : I → Type 0} where
     said = sound.said;
     whole = sound.whole;
     reached = sound.reached;
+    leaves = sound.leaves;
     few = sound.few;
     short = sound.short;
     rules = said;
@@ -195,6 +214,7 @@ module _ {I : Type 0} {D : I → Type 0} where
         said = sound.said;
         whole = sound.whole;
         reached = sound.reached;
+        leaves = sound.leaves;
         few = sound.few;
         short = sound.short;
         rules = subst (λ (items : List Rule). AreSaidRules (rulings_of items)) (sym same) sound.rules;

@@ -6,7 +6,7 @@ use Rattle.face_api.specs.declared.error.FacesError.TheVariants as faces_errors
 use Rattle.dom_store.specs.declared.error.EditError.{EditError}
 use Rattle.dom_store.specs.declared.error.EditError.TheVariants as refusals
 use Rattle.dom_store.specs.Edits.{EditOf, remove}
-use Rattle.edits.specs.Change.{Change}
+use Rattle.edits.specs.Change.{Change, retire}
 use Rattle.edits.specs.Edited.{after, by_tree, fixed, full, no_face, no_rule, refusal, too_many_rules}
 use Rattle.edits.specs.State.{State}
 use Rattle.style_types.specs.Tree.{Nodes}
@@ -37,6 +37,11 @@ of_limit_error limits.Memory = Memory
 abbrev pub CanBeTakenBack : EditOf → Type 0
 CanBeTakenBack (remove number) = ⊥
 CanBeTakenBack other = ⊤
+
+-- it may want memory: to give a face up takes none
+abbrev pub MayWantMemory : Change → Type 0
+MayWantMemory (retire face) = ⊥
+MayWantMemory other = ⊤
 
 -- the state after the edit as a styled tree
 abbrev pub styled_after : State → Change → Nodes

@@ -1,5 +1,6 @@
 pub mod Editing
 pub mod Error
+pub mod Found
 pub mod Kept
 pub mod Limits
 pub mod Opening

@@ -15,13 +15,15 @@ use Rattle.tree_laws.specs.Weight.{bytes, total}
 use Rattle.tree_laws.specs.Wholeness.{IsWhole}
 use Rattle.cascade.specs.Index.{index_rules}
 use Rattle.edits.specs.State as edited
+use Rattle.edit_scope.specs.Leaves.{TextsAreLeaves}
 use Rattle.cascade.specs.Winners.{AreSaidRules}
 use Rattle.style_tree.specs.Styling.{styled_document}
 use Rattle.box_gen.specs.Boxes.{root_boxes}
 use Rattle.box_gen.specs.Limit.{IsWithinLimits}
 use Rattle.box_arena.specs.At.{parent_at}
 use Rattle.box_arena.specs.Boxes.{Stands}
-use Rattle.box_arena.specs.Reusing.{IsTree}
+use Rattle.box_arena.specs.Reusing.{AreNamedOnce, IsTree}
+use Rattle.relayout.specs.Counts.{AreFoundedUnder}
 use Rattle.relayout.specs.Flow.{layout}
 use Rattle.relayout.specs.Relayout.{AreRightUnder}
 use Rattle.place_map.specs.Placed.{Page}
@@ -46,21 +48,27 @@ flow_page_of faces view nodes = place view (layout faces view.inline view.block 
 abbrev pub page_of : (faces : List (Option Table)) → View → Nodes → Page
 page_of faces view nodes = shift (flow_page_of faces view nodes) (positions_of nodes)
 
--- boxes that were made of a styled tree stand in their arena and can be laid out, and what is kept there and of positions is right
+-- Boxes that were made of a styled tree stand in their arena, each told by its name, and can be laid out. What is kept there and of positions
+-- is right, and with each result that is kept is all on which it rests.
 pub record AreReady (faces : List (Option Table)) (view : View) (nodes : Nodes) (made : Rooted) : Type 0 where
   pub stands : Stands made.arena.slots made.root (root_boxes nodes)
   pub free : parent_at made.arena.slots made.root ≡ None
   pub fit : CanBeLaidOut (root_boxes nodes)
+  pub named : AreNamedOnce made.arena.slots
   pub right : AreRightUnder faces view made.arena.slots made.root
+  pub founded : AreFoundedUnder faces view made.arena.slots made.root
   pub within : IsWithin nodes
   pub positions : ArePositions made.positions nodes
 
--- boxes of a document that was stand in their arena, and what is kept there is right for what stands there
+-- Boxes that stood on an earlier page stand in their arena, each told by its name. What is kept of them is right for them as they stand there,
+-- and with each result that is kept is all on which it rests.
 pub record IsFormer (faces : List (Option Table)) (view : View) (made : Rooted) : Type 0 where
   pub tree : IsTree made.arena.slots made.root
+  pub named : AreNamedOnce made.arena.slots
   pub right : AreRightUnder faces view made.arena.slots made.root
+  pub founded : AreFoundedUnder faces view made.arena.slots made.root
 
--- the boxes of this styled tree, or those of one that was
+-- the boxes of this styled tree, or those of an earlier page, with what is kept of them
 abbrev pub AreKept : (faces : List (Option Table)) → View → Nodes → KeptBoxes → Type 0
 AreKept faces view nodes (Current made) = AreReady faces view nodes made
 AreKept faces view nodes (Former made) = IsFormer faces view made
@@ -88,12 +96,13 @@ module _ {I : Type 0} {D : I → Type 0} where
   abbrev pub page_in : (faces : List (Option Table)) → Session I D → Page
   page_in faces session = page_of faces session.view (styled_in session)
 
-  -- what holds of a session with these faces: its boxes can be made, and those that were made are ready, or of a document that it was
+  -- what holds of a session with these faces: its boxes can be made, and those that were made are ready, or stood on an earlier page
   pub record IsSound (faces : List (Option Table)) (session : Session I D) : Type 0 where
     pub rooted : IsRooted (state_of session.document)
     pub said : IsSaidState (state_of session.document)
     pub whole : IsWhole (state_of session.document)
     pub reached : IsReached (state_of session.document)
+    pub leaves : TextsAreLeaves (state_of session.document)
     pub few : live_count (state_of session.document) ≤ greatest_count
     pub short : total bytes (state_of session.document) ≤ 1048576
     pub rules : AreSaidRules (rules_in session)

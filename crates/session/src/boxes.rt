@@ -15,6 +15,7 @@ ghost use Rattle.box_gen.specs.Boxes.{root_boxes};
 ghost use Rattle.box_arena.specs.At.{parent_at};
 ghost use Rattle.box_arena.specs.Boxes.{Stands};
 ghost use Rattle.box_arena.specs.Planting.{IsBare};
+ghost use Rattle.box_arena.specs.Reusing.{AreNamedOnce};
 ghost use Rattle.box_limits.specs.Limits.{Answers, IsEditedFrom};
 ghost use Rattle.session.specs.Editing.{CanBeTakenBack};
 ghost use Rattle.session.specs.Kept.{ArePositions};
@@ -33,6 +34,7 @@ use cascade::RuleIndex;
 use css_types::Rule;
 use dom_store::Document;
 use dom_store::laws::accepted_edits_keep_roots;
+use edit_scope::laws::pages_name_boxes_once;
 use edits::TreeEdit;
 use std::alloc::{AllocError, Global};
 use style_tree::styled;
@@ -111,12 +113,14 @@ pub(crate) fn made_boxes(
     ensures stands { IfOk result (λ made. Stands made.arena.slots made.root (root_boxes (styled_document (index_rules rules.now) (state_of document.now)))) }
     ensures free { IfOk result (λ made. parent_at made.arena.slots made.root ≡ None) }
     ensures fit { IfOk result (λ _. CanBeLaidOut (root_boxes (styled_document (index_rules rules.now) (state_of document.now)))) }
+    ensures named { IfOk result (λ made. AreNamedOnce made.arena.slots) }
     ensures bare { IfOk result (λ made. (key : ℕ) → IsBare made.arena.slots key) }
     ensures inside { IfOk result (λ _. IsWithin (styled_document (index_rules rules.now) (state_of document.now))) }
     ensures positions { IfOk result (λ made. ArePositions made.positions (styled_document (index_rules rules.now) (state_of document.now))) }
 {
     documents_within_limits_fit();
     boxes_within_limits_fit();
+    pages_name_boxes_once();
     let root = styled(alloc, document, rules)?;
     let parts = generate(alloc, &root)?;
     let made = grown(alloc, parts)?;

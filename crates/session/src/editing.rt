@@ -1,6 +1,6 @@
 //! Edits of a document that is open: each is refused, or done whole (docs/PROFILE/edits.md).
 
-ghost use Rattle.std.specs.Prelude.{◌≡◌, ◌+◌, ◌≤◌, OnErr, OnOk};
+ghost use Rattle.std.specs.Prelude.{◌≡◌, ◌+◌, ◌≤◌, IsErrOf, OnErr, OnOk};
 ghost use Rattle.std.specs.List.{All};
 ghost use Rattle.css_types.specs.Rule.{rulings_of};
 ghost use Rattle.cascade.specs.Winners.{AreSaidRules};
@@ -11,7 +11,9 @@ ghost use Rattle.edits.specs.Change.{IsFitting, IsSaid, bytes_brought, change_of
 ghost use Rattle.edits.specs.Edited.{after};
 ghost use Rattle.face_api.specs.Faces.{faces_of};
 ghost use Rattle.tree_laws.specs.Weight.{bytes, total};
-ghost use Rattle.session.specs.Editing.{Applies, CanApply};
+ghost use Rattle.session.specs.declared.error.ApplyError.TheVariants.{Memory};
+ghost use Rattle.session.specs.Editing.{Applies, CanApply, MayWantMemory};
+ghost use Rattle.session.specs.Found.{LosesTouched};
 ghost use Rattle.session.specs.State.{IsSound, state_in};
 
 use crate::boxes::check_boxes_after;
@@ -21,11 +23,13 @@ use crate::rules::{
     are_too_many, check_rules, put_behind, rules_behind, rules_without, turns_none,
 };
 use crate::session::Session;
+use box_gen::laws::names_are_of_places;
 use box_limits::laws::rules_that_turn_none;
 use box_limits::{LimitError, turn_none};
 use cascade::RuleIndex;
 use css_types::Rules;
 use dom_store::laws::{accepted_edits_keep_roots, accepted_edits_stay_said};
+use edit_scope::laws::{accepted_edits_keep_texts_leaves, boxes_are_of_elements, boxes_outside_the_scope_were_there, pages_are_boxes_of_html, untouched_boxes_were_there};
 use edits::{Edit, TreeEdit};
 use face_api::Face;
 use tree_laws::laws::{
@@ -51,6 +55,8 @@ impl Session {
         requires room { CanApply (state_in (faces_of ⟦<dyn Face as Face>⟧ self.old.faces) self.old) (change_of edit.now)
             → total bytes (after (state_in (faces_of ⟦<dyn Face as Face>⟧ self.old.faces) self.old) (change_of edit.now)).tree ≤ 1048576 }
         ensures applies { Applies (faces_of ⟦<dyn Face as Face>⟧ self.old.faces) (faces_of ⟦<dyn Face as Face>⟧ self.new.faces) self.old self.new (change_of edit.now) result }
+        ensures loses { OnOk result (LosesTouched (faces_of ⟦<dyn Face as Face>⟧ self.old.faces) self.old self.new (change_of edit.now)) }
+        ensures memory { IsErrOf result Memory → MayWantMemory (change_of edit.now) }
         ensures view { self.new.view ≡ self.old.view }
         ensures bytes { total bytes (state_of self.new.document) ≤ total bytes (state_of self.old.document) + bytes_brought (change_of edit.now) }
         ensures sound { IsSound (faces_of ⟦<dyn Face as Face>⟧ self.new.faces) self.new }
@@ -77,6 +83,7 @@ impl Session {
         requires room { CanApply (state_in (faces_of ⟦<dyn Face as Face>⟧ self.old.faces) self.old) (of_tree (tree.edit_of edit.now))
             → total bytes (after (state_in (faces_of ⟦<dyn Face as Face>⟧ self.old.faces) self.old) (of_tree (tree.edit_of edit.now))).tree ≤ 1048576 }
         ensures applies { Applies (faces_of ⟦<dyn Face as Face>⟧ self.old.faces) (faces_of ⟦<dyn Face as Face>⟧ self.new.faces) self.old self.new (of_tree (tree.edit_of edit.now)) result }
+        ensures loses { OnOk result (LosesTouched (faces_of ⟦<dyn Face as Face>⟧ self.old.faces) self.old self.new (of_tree (tree.edit_of edit.now))) }
         ensures view { self.new.view ≡ self.old.view }
         ensures bytes { total bytes (state_of self.new.document) ≤ total bytes (state_of self.old.document) + tree.bytes_brought (tree.edit_of edit.now) }
         ensures sound { IsSound (faces_of ⟦<dyn Face as Face>⟧ self.new.faces) self.new }
@@ -88,6 +95,11 @@ impl Session {
         accepted_edits_keep_roots();
         accepted_edits_stay_said();
         accepted_edits_keep_documents_reached();
+        accepted_edits_keep_texts_leaves();
+        pages_are_boxes_of_html();
+        names_are_of_places();
+        boxes_outside_the_scope_were_there();
+        untouched_boxes_were_there();
         let change = self.document.apply(self.alloc, edit)?;
         match check_boxes_after(
             self.alloc,
@@ -112,9 +124,12 @@ impl Session {
         requires sound { IsSound (faces_of ⟦<dyn Face as Face>⟧ self.old.faces) self.old }
         requires value { value ≤ 10000 }
         ensures applies { Applies (faces_of ⟦<dyn Face as Face>⟧ self.old.faces) (faces_of ⟦<dyn Face as Face>⟧ self.new.faces) self.old self.new (metric face c upright value) result }
+        ensures loses { OnOk result (LosesTouched (faces_of ⟦<dyn Face as Face>⟧ self.old.faces) self.old self.new (metric face c upright value)) }
         ensures rest { self.new ≡ record self.old { faces = self.new.faces; boxes = self.new.boxes } }
         ensures sound { IsSound (faces_of ⟦<dyn Face as Face>⟧ self.new.faces) self.new }
     {
+        names_are_of_places();
+        boxes_are_of_elements();
         self.faces.set(face, c, upright, value)?;
         self.boxes = None;
         Ok(())
@@ -125,9 +140,13 @@ impl Session {
         requires sound { IsSound (faces_of ⟦<dyn Face as Face>⟧ self.old.faces) self.old }
         requires face { 1 ≤ face }
         ensures applies { Applies (faces_of ⟦<dyn Face as Face>⟧ self.old.faces) (faces_of ⟦<dyn Face as Face>⟧ self.new.faces) self.old self.new (retire face) result }
+        ensures loses { OnOk result (LosesTouched (faces_of ⟦<dyn Face as Face>⟧ self.old.faces) self.old self.new (retire face)) }
+        ensures memory { IsErrOf result Memory → ⊥ }
         ensures rest { self.new ≡ record self.old { faces = self.new.faces; boxes = self.new.boxes } }
         ensures sound { IsSound (faces_of ⟦<dyn Face as Face>⟧ self.new.faces) self.new }
     {
+        names_are_of_places();
+        boxes_are_of_elements();
         self.faces.retire(face)?;
         self.boxes = None;
         Ok(())
@@ -138,9 +157,12 @@ impl Session {
         requires sound { IsSound (faces_of ⟦<dyn Face as Face>⟧ self.old.faces) self.old }
         requires said { All (λ rule. AreSaid rule.declarations) (rulings_of more.now.items) }
         ensures applies { Applies (faces_of ⟦<dyn Face as Face>⟧ self.old.faces) (faces_of ⟦<dyn Face as Face>⟧ self.new.faces) self.old self.new (rule (rulings_of more.now.items)) result }
+        ensures loses { OnOk result (LosesTouched (faces_of ⟦<dyn Face as Face>⟧ self.old.faces) self.old self.new (rule (rulings_of more.now.items))) }
         ensures rest { self.new ≡ record self.old { rules = self.new.rules; index = self.new.index; boxes = self.new.boxes } }
         ensures sound { IsSound (faces_of ⟦<dyn Face as Face>⟧ self.new.faces) self.new }
     {
+        names_are_of_places();
+        boxes_are_of_elements();
         rules_that_turn_none();
         if are_too_many(&self.rules, more) {
             return Err(ApplyError::TooManyRules);
@@ -161,9 +183,12 @@ impl Session {
     fn drop_rule(&mut self, number: u32) -> Result<(), ApplyError>
         requires sound { IsSound (faces_of ⟦<dyn Face as Face>⟧ self.old.faces) self.old }
         ensures applies { Applies (faces_of ⟦<dyn Face as Face>⟧ self.old.faces) (faces_of ⟦<dyn Face as Face>⟧ self.new.faces) self.old self.new (unrule number) result }
+        ensures loses { OnOk result (LosesTouched (faces_of ⟦<dyn Face as Face>⟧ self.old.faces) self.old self.new (unrule number)) }
         ensures rest { self.new ≡ record self.old { rules = self.new.rules; index = self.new.index; boxes = self.new.boxes } }
         ensures sound { IsSound (faces_of ⟦<dyn Face as Face>⟧ self.new.faces) self.new }
     {
+        names_are_of_places();
+        boxes_are_of_elements();
         rules_that_turn_none();
         let at = number as usize;
         if at >= self.rules.len() {

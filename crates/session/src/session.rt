@@ -1,6 +1,6 @@
 //! A document that is open: its nodes and styles, its faces, and its boxes with what is kept of them.
 
-ghost use Rattle.std.specs.Prelude.{◌≡◌, ◌-◌, ◌≤◌, ◌^◌, IfErr, IfOk, IfSome, None, length, map};
+ghost use Rattle.std.specs.Prelude.{◌≡◌, ◌-◌, ◌≤◌, ◌^◌, ℕ, IfErr, IfOk, IfSome, None, Some, length, map};
 ghost use Rattle.std.specs.List.{All};
 ghost use Rattle.face_api.specs.Faces.{faces_of};
 ghost use Rattle.css_types.specs.Rule.{rulings_of};
@@ -10,11 +10,15 @@ ghost use Rattle.html_read.specs.Values.{nodes_of};
 ghost use Rattle.dom_store.specs.State.{AreSaid, state_of};
 ghost use Rattle.tree_laws.specs.Weight.{bytes, total};
 ghost use Rattle.cascade.specs.Winners.{AreSaidRules};
+ghost use Rattle.box_arena.specs.Planting.{IsBare};
+ghost use Rattle.relayout.specs.Named.{ArrangesOwed, FindsAll, PreparesOwed};
 ghost use Rattle.place_map.specs.Near.{AreNearParts};
 ghost use Rattle.place_map.specs.Placed.{placed_of};
 ghost use Rattle.rel_shift.specs.Bounds.{AreSized};
 ghost use Rattle.rel_shift.specs.Laws.{ArePlacesWithin};
 ghost use Rattle.rel_shift.specs.Positions.{positions_of};
+ghost use Rattle.session.specs.declared.keeping.KeptBoxes.TheVariants.{Current};
+ghost use Rattle.session.specs.Found.{ArrangesFor, HasAll, KeepsAll, PreparesFor, page_boxes_in};
 ghost use Rattle.session.specs.State.{AreReady, IsSound, Opens, flow_page_in, page_in, styled_in};
 
 use crate::boxes::{boxes_in, made_boxes};
@@ -27,15 +31,17 @@ use crate::laws::{
 use crate::planting::{Rooted, grown};
 use crate::shifted::shifted;
 use crate::stored::stored;
+use box_arena::laws::arenas_are_sound;
 use cascade::RuleIndex;
 use css_types::{Rules, Styled, copy_of_rules};
 use dom_store::Document;
+use edit_scope::laws::{pages_name_boxes_once, texts_of_opened_documents_are_leaves};
 use face_api::{Face, Faces};
 use html_read::ReadDocument;
 use place_map::{Placed, place};
 use rel_shift::laws::{pages_stay_without_insets, positions_are_bounded, sizes_of_boxes_suffice};
 use rel_shift::positions;
-use relayout::laws::{contents_have_sizes, what_is_not_kept_is_right};
+use relayout::laws::{contents_have_sizes, counts_are_by_name, what_is_not_kept_is_right, what_is_reused_is_found};
 use relayout::relayout;
 use std::alloc::{AllocError, Global};
 use std::sync::ledger::Ledger;
@@ -93,6 +99,9 @@ impl Session {
         documents_within_limits_fit();
         boxes_within_limits_fit();
         what_is_not_kept_is_right();
+        what_is_reused_is_found();
+        pages_name_boxes_once();
+        texts_of_opened_documents_are_leaves();
         let document = stored(alloc, read, styled)?;
         let rules = copy_of_rules(alloc, &styled.rules)?;
         let index = RuleIndex::new(alloc, &rules)?;
@@ -124,6 +133,9 @@ impl Session {
         ensures within { IfOk result (λ placed. ArePlacesWithin (2 ^ 60 - 2 ^ 49) (placed_of placed).parts) }
         ensures rest { self.new ≡ record self.old { index = self.new.index; boxes = self.new.boxes } }
         ensures sound { IsSound (faces_of ⟦<dyn Face as Face>⟧ self.new.faces) self.new }
+        ensures prepares { PreparesFor self.old prepared.old prepared.new }
+        ensures arranges { ArrangesFor (faces_of ⟦<dyn Face as Face>⟧ self.old.faces) self.old arranged.old arranged.new }
+        ensures found { IfOk result (λ _. HasAll (faces_of ⟦<dyn Face as Face>⟧ self.new.faces) self.new) }
         ensures dropped { IfErr result (λ _. self.new.boxes ≡ None) }
     {
         let mut made = self.take_boxes()?;
@@ -146,6 +158,9 @@ impl Session {
         ensures near { IfOk result (λ placed. AreNearParts (placed_of placed).parts) }
         ensures rest { self.new ≡ record self.old { index = self.new.index; boxes = self.new.boxes } }
         ensures sound { IsSound (faces_of ⟦<dyn Face as Face>⟧ self.new.faces) self.new }
+        ensures prepares { PreparesFor self.old prepared.old prepared.new }
+        ensures arranges { ArrangesFor (faces_of ⟦<dyn Face as Face>⟧ self.old.faces) self.old arranged.old arranged.new }
+        ensures found { IfOk result (λ _. HasAll (faces_of ⟦<dyn Face as Face>⟧ self.new.faces) self.new) }
         ensures dropped { IfErr result (λ _. self.new.boxes ≡ None) }
     {
         positions_are_bounded();
@@ -200,10 +215,15 @@ impl Session {
         ensures within { IfOk result (λ placed. ArePlacesWithin (2 ^ 60 - 2 ^ 49) (placed_of placed).parts) }
         ensures sized { IfOk result (λ placed. AreSized (placed_of placed)) }
         ensures ready { AreReady (faces_of ⟦<dyn Face as Face>⟧ self.now.faces) self.now.view (styled_in self.now) made.new }
+        ensures prepares { PreparesOwed made.old.arena.slots made.old.root (page_boxes_in self.now) prepared.old prepared.new }
+        ensures arranges { ArrangesOwed (faces_of ⟦<dyn Face as Face>⟧ self.now.faces) self.now.view made.old.arena.slots made.old.root (page_boxes_in self.now) arranged.old arranged.new }
+        ensures found { IfOk result (λ _. FindsAll (faces_of ⟦<dyn Face as Face>⟧ self.now.faces) self.now.view made.new.arena.slots made.new.root (page_boxes_in self.now)) }
     {
+        counts_are_by_name();
         what_does_not_spread_is_near();
         contents_have_sizes();
         sizes_of_boxes_suffice();
+        arenas_are_sound(&made.arena);
         let root = relayout(
             self.alloc,
             &mut made.arena,
@@ -213,16 +233,18 @@ impl Session {
             prepared,
             arranged,
         )?;
+        arenas_are_sound(&made.arena);
         let placed = place(self.alloc, &root, self.view)?;
         Ok(placed)
     }
 
-    // Takes its boxes out. Where there are none they are made, with what was kept of them before edits of the tree and still holds.
+    // Takes its boxes out. Where there are none they are made, and what was kept for its page is kept for them.
     fn take_boxes(&mut self) -> Result<Rooted, AllocError>
         requires sound { IsSound (faces_of ⟦<dyn Face as Face>⟧ self.old.faces) self.old }
         ensures rest { self.new ≡ record self.old { index = self.new.index; boxes = None } }
         ensures sound { IsSound (faces_of ⟦<dyn Face as Face>⟧ self.new.faces) self.new }
         ensures ready { IfOk result (λ made. AreReady (faces_of ⟦<dyn Face as Face>⟧ self.new.faces) self.new.view (styled_in self.new) made) }
+        ensures keeps { IfOk result (λ made. KeepsAll self.old.boxes (Some (Current made)) (page_boxes_in self.old)) }
     {
         match self.boxes.take() {
             Some(KeptBoxes::Current(made)) => Ok(made),
@@ -244,8 +266,10 @@ impl Session {
         ensures rest { self.new ≡ record self.old { index = self.new.index } }
         ensures sound { IsSound (faces_of ⟦<dyn Face as Face>⟧ self.new.faces) self.new }
         ensures ready { IfOk result (λ made. AreReady (faces_of ⟦<dyn Face as Face>⟧ self.new.faces) self.new.view (styled_in self.new) made) }
+        ensures bare { IfOk result (λ made. (key : ℕ) → IsBare made.arena.slots key) }
     {
         what_is_not_kept_is_right();
+        what_is_reused_is_found();
         make_index(self.alloc, &mut self.index, &self.rules)?;
         let made = made_boxes(self.alloc, &self.document, made_index(&self.index))?;
         Ok(made)

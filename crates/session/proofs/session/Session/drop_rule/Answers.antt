@@ -11,6 +11,8 @@ use Rattle.edits.specs.Edited.{are_too_many, without}
 use Rattle.edits.specs.Change.{rule, unrule}
 use Rattle.face_api.specs.Faces.{faces_of}
 use Rattle.session.specs.State.{rules_in, state_in}
+use Rattle.session.specs.declared.session.Session.{Session}
+use Rattle.session.proofs.Losing.{loses_all}
 use Rattle.session.proofs.RuleEdits as edits
 use Rattle.session.proofs.Standing.{sound_moved, sound_under}
 use Rattle.session.proofs.session.Session.drop_rule.Goals as goal
@@ -47,3 +49,13 @@ returns-then-turns_none-clause-sound g c =
     let within = edits.within_without c.rules_that_turn_none.ensures old at tree turn c.requires.sound.within in
     sound_under tables c.args.self.now c.remove.new.self None (subst AreSaidRules (sym put) (edits.said_without at old c.requires.sound.rules)) tt
     (subst (λ (rules : List Ruling). IsWithinLimits (styled_document rules tree)) (sym put) within) c.requires.sound
+
+pub returns-then-turns_none-clause-loses : goal.returns-then-turns_none-clause-loses
+returns-then-turns_none-clause-loses g c =
+    loses_all c.names_are_of_places.ensures c.boxes_are_of_elements.ensures (faces_of (λ vtable. (g.dyn-1.0.entry vtable).1) c.args.self.now.faces) c.args.self.now
+    (record c.args.self.now { rules = c.remove.new.self; index = None; boxes = None }) (unrule c.args.number) refl refl c.requires.sound
+
+pub returns-in_ok-change_rules-clause-loses : goal.returns-in_ok-change_rules-clause-loses
+returns-in_ok-change_rules-clause-loses g c =
+    loses_all c.names_are_of_places.ensures c.boxes_are_of_elements.ensures (faces_of (λ vtable. (g.dyn-1.0.entry vtable).1) c.args.self.now.faces) c.args.self.now
+    c.change_rules.new.self (unrule c.args.number) refl (ap (λ (s : Session _ _). state_of s.document) c.change_rules.ensures.rest) c.requires.sound

@@ -11,9 +11,12 @@ use Rattle.dom_store.specs.Edits.{after}
 use Rattle.dom_store.specs.State.{State, state_of}
 use Rattle.dom_store.specs.Taking.{before_of}
 use Rattle.tree_laws.specs.Weight.{bytes, total}
+use Rattle.edits.specs.Change.{of_tree}
+use Rattle.session.specs.Found.{KeepsAll}
 use Rattle.session.specs.State.{AreKept, rules_in, state_in}
 use Rattle.session.specs.declared.keeping.KeptBoxes.{KeptBoxes}
-use Rattle.session.proofs.Outcomes.{boxes_refuse, bytes_after, can_apply, edited_from, few_after, is_after, reached_after, refused_edit, rooted_after, said_after, state_after, whole_after, with_tree}
+use Rattle.session.proofs.Losing.{loses_touched}
+use Rattle.session.proofs.Outcomes.{boxes_refuse, bytes_after, can_apply, edited_from, few_after, is_after, leaves_after, reached_after, refused_edit, rooted_after, said_after, state_after, whole_after, with_tree}
 use Rattle.session.proofs.Standing.{sound_by, sound_in}
 use Rattle.session.proofs.Within.{leads_back}
 use Rattle.session.proofs.session.Session.edit_tree.Goals as goal
@@ -70,6 +73,27 @@ returns-in-Ok-clause-applies g c =
     let within = subst (λ (r : List Ruling). IsWithinLimits (styled_document r next)) ruled c.in-Ok.ensures.answers in
     (can_apply tables rules old next edit elements done is within, state_after tables rules old next edit elements done is)
 
+pub returns-in-Ok-clause-loses : goal.returns-in-Ok-clause-loses
+returns-in-Ok-clause-loses g c =
+    let old = state_of c.args.self.now.document in
+    let next = state_of c.apply.new.self in
+    let rules = rules_in c.args.self.now in
+    let edit = edit_of c.args.edit.now in
+    let tables = faces_of (λ vtable. (g.dyn-1.0.entry vtable).1) c.args.self.now.faces in
+    let elements = c.in_ok-change.change.elements.items in
+    let done = c.accepted_edits_are_done.ensures in
+    let is = c.in_ok-change.ensures.applies in
+    let ruled = ap rulings_of c.deref.ensures.value in
+    let within = subst (λ (r : List Ruling). IsWithinLimits (styled_document r next)) ruled c.in-Ok.ensures.answers in
+    let sound = c.requires.sound in
+    let can = can_apply tables rules old next edit elements done is within in
+    loses_touched tables c.args.self.now (record c.args.self.now { document = c.apply.new.self; index = c.check_boxes_after.new.index; boxes = c.outdated.result }) (of_tree edit)
+    c.pages_are_boxes_of_html.ensures c.names_are_of_places.ensures c.boxes_outside_the_scope_were_there.ensures c.untouched_boxes_were_there.ensures
+    (record { fitting = c.requires.fitting; rooted = sound.rooted; whole = sound.whole; reached = sound.reached; leaves = sound.leaves; unrefused = can.taken })
+    (rooted_after tables rules old next edit elements done is c.accepted_edits_keep_roots.ensures c.children_have_parents.ensures sound.whole sound.rooted)
+    (state_after tables rules old next edit elements done is)
+    (λ page. subst (λ (boxes : Option KeptBoxes). KeepsAll boxes c.outdated.result page) c.take.ensures.value (c.outdated.ensures.keeps page))
+
 pub returns-in-Ok-clause-bytes : goal.returns-in-Ok-clause-bytes
 returns-in-Ok-clause-bytes g c =
     let old = state_of c.args.self.now.document in
@@ -103,13 +127,14 @@ returns-in-Ok-clause-sound g c =
       said = said_after tables rules old next edit elements done is c.accepted_edits_stay_said.ensures c.requires.said sound.said;
       whole = whole_after tables rules old next edit elements done is c.accepted_edits_keep_documents_whole.ensures sound.whole;
       reached = reached_after tables rules old next edit elements done is c.accepted_edits_keep_documents_reached.ensures c.requires.fitting sound.rooted sound.whole sound.reached;
+      leaves = leaves_after tables rules old next edit elements done is c.accepted_edits_keep_texts_leaves.ensures c.requires.fitting sound.whole sound.leaves;
       few = few_after tables rules old next edit elements done is weigh sound.few;
       short = subst (λ (state : State). total bytes state ≤ 1048576) (sym (is_after tables rules old next edit elements done is)) room;
       rules = sound.rules;
       index = subst (λ (r : List Ruling). IfSome c.check_boxes_after.new.index (λ index. index_rules index ≡ r)) ruled c.in-Ok.ensures.index;
       within = within;
       view = sound.view;
-      ready = c.outdated.ensures tables c.args.self.now.view (styled_document rules old) (styled_document rules next) (subst (λ (boxes : Option KeptBoxes). IfSome boxes (AreKept tables c.args.self.now.view (styled_document rules old))) (sym c.take.ensures.value) sound.ready);
+      ready = c.outdated.ensures.kept tables c.args.self.now.view (styled_document rules old) (styled_document rules next) (subst (λ (boxes : Option KeptBoxes). IfSome boxes (AreKept tables c.args.self.now.view (styled_document rules old))) (sym c.take.ensures.value) sound.ready);
     }
 
 pub returns-in-Err-clause-applies : goal.returns-in-Err-clause-applies

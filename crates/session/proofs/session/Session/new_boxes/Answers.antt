@@ -4,7 +4,7 @@ use Rattle.dom_store.specs.State.{state_of}
 use Rattle.style_tree.specs.Styling.{styled_document}
 use Rattle.face_api.specs.Faces.{faces_of}
 use Rattle.session.specs.State.{AreReady}
-use Rattle.session.proofs.Fresh.{right}
+use Rattle.session.proofs.Fresh.{founded, right}
 use Rattle.session.proofs.Standing.{indexed_by}
 use Rattle.session.proofs.session.Session.new_boxes.Goals as goal
 
@@ -18,6 +18,8 @@ returns-clause-ready g c =
       stands = own.stands;
       free = own.free;
       fit = own.fit;
+      named = own.named;
+      founded = founded c.what_is_reused_is_found.ensures.bare tables c.args.self.now.view made.arena.slots made.root own.bare;
       right = right c.what_is_not_kept_is_right.ensures.bare tables c.args.self.now.view made.arena.slots made.root own.bare;
       within = own.inside;
       positions = own.positions;

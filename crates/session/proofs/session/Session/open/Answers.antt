@@ -11,7 +11,7 @@ use Rattle.cascade.specs.Winners.{AreSaidRules}
 use Rattle.dom_store.specs.Opening.{opened}
 use Rattle.session.specs.Opening.{MakesBoxes}
 use Rattle.session.specs.State.{AreReady}
-use Rattle.session.proofs.Fresh.{few_boxes, fits, right, same_opened, same_positions, stand}
+use Rattle.session.proofs.Fresh.{few_boxes, fits, founded, named, right, same_opened, same_positions, stand}
 use Rattle.session.proofs.Refusals.{refused_opening}
 use Rattle.session.proofs.session.Session.open.Goals as goal
 
@@ -71,6 +71,7 @@ grown-requires g c =
       few =
           few_boxes _ c.in_ok-boxes.boxes.tree c.in_ok-boxes.ensures.makes.1
           (fits c.documents_within_limits_fit.ensures c.boxes_within_limits_fit.ensures (index_rules c.in_ok-index.index) state opened.0 (omega (arith, counts, number, few)) (omega (arith, letters, short)) c.in_ok-boxes.ensures.bounded);
+      named = named _ c.in_ok-boxes.boxes.tree c.in_ok-boxes.ensures.makes.1 (c.pages_name_boxes_once.ensures (index_rules c.in_ok-index.index) state c.in_ok-document.ensures.rooted opened.0);
     }
 
 pub returns-clause-bytes : goal.returns-clause-bytes
@@ -100,6 +101,7 @@ returns-clause-sound g c =
       said = c.in_ok-document.ensures.said;
       whole = opened.0;
       reached = c.opened_documents_are_reached.ensures nodes own state c.requires.shaped c.requires.ordered stores.0.low same;
+      leaves = c.texts_of_opened_documents_are_leaves.ensures nodes own state c.requires.shaped same;
       few = omega (arith, counts, number, few);
       short = omega (arith, letters, short);
       rules = subst AreSaidRules (sym copied) c.requires.rules;
@@ -110,6 +112,8 @@ returns-clause-sound g c =
         stands = stand _ c.in_ok-boxes.boxes.tree c.in_ok-grown.grown.arena.slots c.in_ok-grown.grown.root c.in_ok-boxes.ensures.makes.1 c.in_ok-grown.ensures.stands;
         free = c.in_ok-grown.ensures.free;
         fit = fits c.documents_within_limits_fit.ensures c.boxes_within_limits_fit.ensures (index_rules c.in_ok-index.index) state opened.0 (omega (arith, counts, number, few)) (omega (arith, letters, short)) c.in_ok-boxes.ensures.bounded;
+        named = c.in_ok-grown.ensures.named;
+        founded = founded c.what_is_reused_is_found.ensures.bare (faces_of (λ vtable. (g.dyn-1.0.entry vtable).1) c.args.faces) c.args.view c.in_ok-grown.grown.arena.slots c.in_ok-grown.grown.root c.in_ok-grown.ensures.bare;
         right = right c.what_is_not_kept_is_right.ensures.bare (faces_of (λ vtable. (g.dyn-1.0.entry vtable).1) c.args.faces) c.args.view c.in_ok-grown.grown.arena.slots c.in_ok-grown.grown.root c.in_ok-grown.ensures.bare;
         within = c.documents_within_limits_fit.ensures (index_rules c.in_ok-index.index) state opened.0 (omega (arith, counts, number, few)) (omega (arith, letters, short)) c.in_ok-boxes.ensures.bounded;
         positions = same_positions _ _ _ c.in_ok-grown.ensures.positions c.in_ok-boxes.ensures.makes.2;

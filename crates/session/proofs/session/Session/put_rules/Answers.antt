@@ -11,6 +11,8 @@ use Rattle.edits.specs.Edited.{are_too_many, without}
 use Rattle.edits.specs.Change.{rule, unrule}
 use Rattle.face_api.specs.Faces.{faces_of}
 use Rattle.session.specs.State.{rules_in, state_in}
+use Rattle.session.specs.declared.session.Session.{Session}
+use Rattle.session.proofs.Losing.{loses_all}
 use Rattle.session.proofs.RuleEdits as edits
 use Rattle.session.proofs.Standing.{sound_moved, sound_under}
 use Rattle.session.proofs.session.Session.put_rules.Goals as goal
@@ -43,3 +45,13 @@ returns-in_ok-put_behind-clause-sound g c =
     let within = edits.within_behind c.rules_that_turn_none.ensures old more tree turn c.requires.sound.within in
     sound_under tables c.args.self.now c.put_behind.new.rules None (subst AreSaidRules (sym put) (edits.said_behind old more c.requires.sound.rules c.requires.said)) tt
     (subst (λ (rules : List Ruling). IsWithinLimits (styled_document rules tree)) (sym put) within) c.requires.sound
+
+pub returns-in_ok-put_behind-clause-loses : goal.returns-in_ok-put_behind-clause-loses
+returns-in_ok-put_behind-clause-loses g c =
+    loses_all c.names_are_of_places.ensures c.boxes_are_of_elements.ensures (faces_of (λ vtable. (g.dyn-1.0.entry vtable).1) c.args.self.now.faces) c.args.self.now
+    (record c.args.self.now { rules = c.put_behind.new.rules; index = None; boxes = None }) (rule (rulings_of c.args.more.now.items)) refl refl c.requires.sound
+
+pub returns-in_ok-change_rules-clause-loses : goal.returns-in_ok-change_rules-clause-loses
+returns-in_ok-change_rules-clause-loses g c =
+    loses_all c.names_are_of_places.ensures c.boxes_are_of_elements.ensures (faces_of (λ vtable. (g.dyn-1.0.entry vtable).1) c.args.self.now.faces) c.args.self.now
+    c.change_rules.new.self (rule (rulings_of c.args.more.now.items)) refl (ap (λ (s : Session _ _). state_of s.document) c.change_rules.ensures.rest) c.requires.sound

@@ -1,8 +1,10 @@
-use Rattle.std.proofs.Common.{ap, refl, Err}
+use Rattle.std.proofs.Common.{ap, refl, None, Err}
 use Rattle.std.proofs.lemmas.Result.{err_from_is_err_and}
 use Rattle.face_api.specs.Faces.{faces_of}
+use Rattle.edits.specs.Change.{metric}
 use Rattle.session.specs.State.{state_in}
 use Rattle.session.proofs.FaceEdits.{can_set, set_refused, with_faces}
+use Rattle.session.proofs.Losing.{loses_all}
 use Rattle.session.proofs.Standing.{sound_bare, sound_with}
 use Rattle.session.proofs.session.Session.set_metric.Goals as goal
 
@@ -11,6 +13,11 @@ returns-clause-applies g c =
     let tables = faces_of (λ vtable. (g.dyn-1.0.entry vtable).1) c.args.self.now.faces in
     let state = state_in tables c.args.self.now in
     (can_set state c.args.face c.args.c c.args.upright c.args.value c.in_ok-set.ensures.room c.requires.sound.within, ap (with_faces state) c.in_ok-set.ensures.row)
+
+pub returns-clause-loses : goal.returns-clause-loses
+returns-clause-loses g c =
+    loses_all c.names_are_of_places.ensures c.boxes_are_of_elements.ensures (faces_of (λ vtable. (g.dyn-1.0.entry vtable).1) c.args.self.now.faces) c.args.self.now
+    (record c.args.self.now { faces = c.set.new.self; boxes = None }) (metric c.args.face c.args.c c.args.upright c.args.value) refl refl c.requires.sound
 
 pub returns-clause-sound : goal.returns-clause-sound
 returns-clause-sound g c =

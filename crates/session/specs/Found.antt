@@ -1,0 +1,91 @@
+-- What a session has for its next page, told by the names of boxes: which texts a page prepares, which contents it arranges, and what an edit
+-- loses of them.
+use Rattle.std.specs.Prelude.{◌≡◌, ℕ, ◌+◌, ◌≤◌, Bool, false, List, Contains, filter, length, Option, Some, None}
+use Rattle.face_api.specs.Table.{Table}
+use Rattle.fragment_types.specs.declared.item.BoxName.{BoxName}
+use Rattle.box_gen.specs.Boxes.{root_boxes}
+use Rattle.box_gen.specs.Places.{names, paragraphs}
+use Rattle.box_gen.specs.Tree.{Boxes}
+use Rattle.edits.specs.Change.{Change}
+use Rattle.edit_scope.specs.Scope.{reached, scope}
+use Rattle.relayout.specs.Asks.{Pair, asks}
+use Rattle.relayout.specs.Named.{FindsResult, FindsText}
+use Rattle.session.specs.declared.keeping.KeptBoxes.{KeptBoxes}
+use Rattle.session.specs.declared.keeping.KeptBoxes.TheVariants.{Current, Former}
+use Rattle.session.specs.declared.session.Session.{Session}
+use Rattle.session.specs.State.{state_in, styled_in}
+
+-- ---- what is kept
+
+-- the text of the box of this name in a page is found, among the boxes as they are or as they were
+abbrev pub HasTextIn : Option KeptBoxes → (page : Boxes) → BoxName → Type 0
+HasTextIn None page name = ⊥
+HasTextIn (Some (Current made)) page name = FindsText made.arena.slots made.root page name
+HasTextIn (Some (Former made)) page name = FindsText made.arena.slots made.root page name
+
+-- what the box of this name in a page comes to under this constraint is found there
+abbrev pub HasResultIn : Option KeptBoxes → (page : Boxes) → Pair → Type 0
+HasResultIn None page pair = ⊥
+HasResultIn (Some (Current made)) page pair = FindsResult made.arena.slots made.root page pair
+HasResultIn (Some (Former made)) page pair = FindsResult made.arena.slots made.root page pair
+
+-- all that was found for a page is found still
+pub record KeepsAll (old new : Option KeptBoxes) (page : Boxes) : Type 0 where
+  pub texts : (name : BoxName) → HasTextIn old page name → HasTextIn new page name
+  pub results : (pair : Pair) → HasResultIn old page pair → HasResultIn new page pair
+
+-- ---- what a session has
+
+module _ {I : Type 0} {D : I → Type 0} where
+  -- the boxes of its page
+  abbrev pub page_boxes_in : Session I D → Boxes
+  page_boxes_in session = root_boxes (styled_in session)
+
+  -- it has the text of the box of this name
+  abbrev pub HasText : Session I D → BoxName → Type 0
+  HasText session name = HasTextIn session.boxes (page_boxes_in session) name
+
+  -- it has what the box of this name comes to under this constraint
+  abbrev pub HasResult : Session I D → Pair → Type 0
+  HasResult session pair = HasResultIn session.boxes (page_boxes_in session) pair
+
+  -- it has the text of each paragraph of its page, and what each pair comes to that is met in the layout of the page
+  pub record HasAll (faces : List (Option Table)) (session : Session I D) : Type 0 where
+    pub texts : (name : BoxName) → Contains (paragraphs (page_boxes_in session)) name → HasText session name
+    pub results : (pair : Pair) → Contains (asks faces session.view (page_boxes_in session)) pair → HasResult session pair
+
+  -- ---- a page
+
+  -- A counter of prepared texts rises by no more than there are paragraphs in the page that are owed, whichever are, as long as the session
+  -- has the text of each other one.
+  abbrev pub PreparesFor : Session I D → (was is : ℕ) → Type 0
+  PreparesFor session was is =
+      (owed : BoxName → Bool) → ((name : BoxName) → Contains (paragraphs (page_boxes_in session)) name → owed name ≡ false → HasText session name)
+      → is ≤ was + length (filter owed (paragraphs (page_boxes_in session)))
+
+  -- A counter of arranged contents rises by no more than there are pairs met in its layout that are owed, whichever are, as long as the
+  -- session has what each other one comes to.
+  abbrev pub ArrangesFor : (faces : List (Option Table)) → Session I D → (was is : ℕ) → Type 0
+  ArrangesFor faces session was is =
+      (owed : Pair → Bool) → ((pair : Pair) → Contains (asks faces session.view (page_boxes_in session)) pair → owed pair ≡ false → HasResult session pair)
+      → is ≤ was + length (filter owed (asks faces session.view (page_boxes_in session)))
+
+  -- ---- an edit
+
+  -- a paragraph was one before, and its text isn't lost
+  pub record KeepsText (old new : Session I D) (name : BoxName) : Type 0 where
+    pub was : Contains (paragraphs (page_boxes_in old)) name
+    pub has : HasText old name → HasText new name
+
+  -- a box was one before, and what it comes to under a constraint isn't lost
+  pub record KeepsResult (old new : Session I D) (pair : Pair) : Type 0 where
+    pub was : Contains (names (page_boxes_in old)) pair.name
+    pub has : HasResult old pair → HasResult new pair
+
+  -- No text is lost but those of elements in the scope of the edit, and nothing that a box comes to but what those that it touches come to.
+  -- The tables of the faces are these before it.
+  pub record LosesTouched (before : List (Option Table)) (old new : Session I D) (change : Change) : Type 0 where
+    pub texts : (name : BoxName) → Contains (paragraphs (page_boxes_in new)) name → (Contains (scope (state_in before old) change) name.node → ⊥)
+        → KeepsText old new name
+    pub results : (pair : Pair) → Contains (names (page_boxes_in new)) pair.name → (Contains (reached (state_in before old) change) pair.name.node → ⊥)
+        → KeepsResult old new pair
