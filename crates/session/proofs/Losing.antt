@@ -113,10 +113,9 @@ module _ (html : PagesAreBoxesOfHtml) (held : NamesAreOfPlaces) (unscoped : Unsc
       → Contains (paragraphs (page_boxes state)) name × (HasTextIn kept (page_boxes state) name → HasTextIn kept (page_boxes next) name)
   text_stays name here apart =
       let there = λ (place : Place) (at : IsPlaceOf (page_boxes next) place) (same : place.name ≡ name).
-          unscoped state change place takes at (λ within. apart (subst (λ (n : BoxName). Contains (scope state change) n.node) same within)) in
+      unscoped state change place takes at (λ within. apart (subst (λ (n : BoxName). Contains (scope state change) n.node) same within)) in
       let (place, items, at, same, holds) = held.holds (page_boxes next) name here in
-      let own = there place at same in
-      (
+      let own = there place at same in (
         subst (λ (n : BoxName). Contains (paragraphs (page_boxes state)) n) (own.0.name ∙ same) (held.paragraph (page_boxes state) own.0.was items own.0.stood (own.0.content ∙ holds)),
         text_kept kept (page_boxes state) (page_boxes next) name (λ slots root.
             text_found slots root (page_boxes state) (page_boxes next) (mode_stays html state next takes.rooted rooted own.1 slots root) name (λ place at same. (there place at same).0)),
@@ -126,11 +125,10 @@ module _ (html : PagesAreBoxesOfHtml) (held : NamesAreOfPlaces) (unscoped : Unsc
       → Contains (names (page_boxes state)) pair.name × (HasResultIn kept (page_boxes state) pair → HasResultIn kept (page_boxes next) pair)
   result_stays pair here apart =
       let there = λ (place : Place) (at : IsPlaceOf (page_boxes next) place) (same : place.name ≡ pair.name).
-          untouched state change place takes at (λ within. apart (subst (λ (n : BoxName). Contains (reached state change) n.node) same within)) in
+      untouched state change place takes at (λ within. apart (subst (λ (n : BoxName). Contains (reached state change) n.node) same within)) in
       let (place, at, same) = held.place (page_boxes next) pair.name here in
       let own = there place at same in
-      let named : own.0.was.name ≡ pair.name = sym (ap (λ (p : Place). p.name) own.0.tree) ∙ same in
-      (
+      let named : own.0.was.name ≡ pair.name = sym (ap (λ (p : Place). p.name) own.0.tree) ∙ same in (
         subst (λ (n : BoxName). Contains (names (page_boxes state)) n) named (held.name (page_boxes state) own.0.was own.0.stood),
         result_kept kept (page_boxes state) (page_boxes next) pair (λ slots root.
             result_found slots root (page_boxes state) (page_boxes next) (mode_stays html state next takes.rooted rooted own.1 slots root) pair (λ place at same. (there place at same).0)),

@@ -29,7 +29,10 @@ use box_limits::{LimitError, turn_none};
 use cascade::RuleIndex;
 use css_types::Rules;
 use dom_store::laws::{accepted_edits_keep_roots, accepted_edits_stay_said};
-use edit_scope::laws::{accepted_edits_keep_texts_leaves, boxes_are_of_elements, boxes_outside_the_scope_were_there, pages_are_boxes_of_html, untouched_boxes_were_there};
+use edit_scope::laws::{
+    accepted_edits_keep_texts_leaves, boxes_are_of_elements, boxes_outside_the_scope_were_there,
+    pages_are_boxes_of_html, untouched_boxes_were_there,
+};
 use edits::{Edit, TreeEdit};
 use face_api::Face;
 use tree_laws::laws::{

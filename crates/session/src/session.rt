@@ -41,7 +41,9 @@ use html_read::ReadDocument;
 use place_map::{Placed, place};
 use rel_shift::laws::{pages_stay_without_insets, positions_are_bounded, sizes_of_boxes_suffice};
 use rel_shift::positions;
-use relayout::laws::{contents_have_sizes, counts_are_by_name, what_is_not_kept_is_right, what_is_reused_is_found};
+use relayout::laws::{
+    contents_have_sizes, counts_are_by_name, what_is_not_kept_is_right, what_is_reused_is_found,
+};
 use relayout::relayout;
 use std::alloc::{AllocError, Global};
 use std::sync::ledger::Ledger;
