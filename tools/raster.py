@@ -49,6 +49,13 @@ def made_by(command: list[str], data: bytes) -> bytes:
     return ran.stdout
 
 
+def browser_words(folder: str) -> list[str]:
+    """The words with which a browser runs without a window, with its files in a folder."""
+    # The browser's sandbox refuses to run as root.
+    unguarded = ["--no-sandbox"] if os.geteuid() == 0 else []
+    return ["--headless", "--disable-gpu", f"--user-data-dir={folder}/profile", *unguarded]
+
+
 def by_browser(browser: str, svg: str) -> bytes:
     """A photograph of the picture in a browser."""
     found = SIZE.search(svg)
@@ -57,12 +64,9 @@ def by_browser(browser: str, svg: str) -> bytes:
         page, photograph = os.path.join(folder, "page.html"), os.path.join(folder, "page.png")
         with open(page, "w", encoding="utf-8") as file:
             file.write(f'<!DOCTYPE html><meta charset="utf-8"><body style="margin:0">{svg}')
-        words = ["--headless", "--disable-gpu", "--hide-scrollbars", f"--user-data-dir={folder}/profile"]
-        # The browser's sandbox refuses to run as root.
-        words += ["--no-sandbox"] if os.geteuid() == 0 else []
-        words += [f"--window-size={width},{height}", f"--screenshot={photograph}", f"file://{page}"]
+        words = ["--hide-scrollbars", f"--window-size={width},{height}", f"--screenshot={photograph}", f"file://{page}"]
         try:
-            subprocess.run([browser, *words], timeout=LONGEST, check=False, capture_output=True)
+            subprocess.run([browser, *browser_words(folder), *words], timeout=LONGEST, check=False, capture_output=True)
             with open(photograph, "rb") as file:
                 return file.read()
         except (OSError, subprocess.TimeoutExpired) as error:

@@ -17,8 +17,12 @@ from tools.tests import support
 from tools.tests.support import SCRIPT, TOP, all_listings, example, held, page_of, tried
 
 SVG = "{http://www.w3.org/2000/svg}"
-# Documents of each mode and of both directions, by their names in examples/.
+# Documents of each mode and of both directions, by their names in examples/, and one in which text lies over text.
 POINTED = ("signs", "isolate_in_a_line", "text_in_vertical_rl", "text_in_sideways_lr", "four_digits_combined")
+OVER_TEXT = (
+    '<html><body style="margin:0"><p style="margin:0">abcdefghij</p><p style="margin:0;margin-block-start:-12px;'
+    'margin-inline-start:12px"><span style="position:relative;inset-inline-start:5px">klm</span></p></body></html>'
+)
 # Moves the pointer to some points of the page, in 1/64 px, and tells what the page says at each, and the caret that it shows.
 POINTER = """\
 const points = POINTS, seen = [];
@@ -82,21 +86,24 @@ class Pictures(support.ToolCase):
         if browser is None:
             self.skipTest("carets: there is no chromium")
         chance = random.Random(41)
-        for name in POINTED:
-            document = example(name).replace(".listing", ".html")
-            words = ["layout", *options_of(name)]
-            runs = [fragment.rect for fragment in page_of(example(name)).fragments if fragment.kind == "run"]
+        documents = [(name, held(example(name).replace(".listing", ".html")), options_of(name)) for name in POINTED]
+        for name, document, options in [*documents, ("text over text", OVER_TEXT, [])]:
+            words = " ".join(["layout", *options])
+            page = listing.pages_of(listing.read(self.ran(words, document.encode("utf-8"))))[0]
+            runs = [fragment.rect for fragment in page.fragments if fragment.kind == "run"]
             points = [point_near(chance, chance.choice(runs)) for _ in range(40)]
-            page = tried("picture", "--html", "--program", self.program, "--words", " ".join(words), document)
-            self.same((page.status, page.said), (0, ""), f"picture --html of {name}")
+            made = tried("picture", "--html", "--program", self.program, "--words", words, given=document)
+            self.same((made.status, made.said), (0, ""), f"picture --html of {name}")
             script = POINTER.replace("POINTS", json.dumps(points), 1)
-            found = seen_in(browser, self.folder(), page.out.replace("</script>", script + "</script>", 1))
-            self.same(found, self.told(document, words[1:], points), f"carets of {name}")
+            found = seen_in(browser, self.folder(), made.out.replace("</script>", script + "</script>", 1))
+            due = self.told(document, options, points)
+            self.same(found, due, f"carets of {name}")
+            self.hold({bool(words) for words, *_ in due} == {False, True}, f"some points of {name} hit, and some miss")
 
     def told(self, document: str, options: list[str], points: list[tuple[int, int]]) -> list[list[str | int]]:
         """What the page is to say at each point, by the program: the words, and the edges of the caret."""
         def answers(lines: list[str]) -> list[list[str]]:
-            probe = "\n".join([held(document).rstrip(), *lines, ""])
+            probe = "\n".join([document.rstrip(), *lines, ""])
             return [answer.split() for answer in self.ran(" ".join(["probe", *options]), probe.encode("utf-8")).splitlines()]
 
         hits = answers([f"point {x} {y}" for x, y in points])
@@ -162,8 +169,8 @@ def seen_in(browser: str, folder: str, page: str) -> list[list[str | int]]:
     path = os.path.join(folder, "page.html")
     with open(path, "w", encoding="utf-8") as file:
         file.write(page)
-    words = ["--headless", "--disable-gpu", f"--user-data-dir={folder}/profile", *["--no-sandbox"] * (os.geteuid() == 0)]
-    ran = subprocess.run([browser, *words, "--dump-dom", f"file://{path}"], stdout=subprocess.PIPE, stderr=subprocess.DEVNULL, timeout=120, check=False)
+    words = [*raster.browser_words(folder), "--dump-dom", f"file://{path}"]
+    ran = subprocess.run([browser, *words], stdout=subprocess.PIPE, stderr=subprocess.DEVNULL, timeout=raster.LONGEST, check=False)
     found = re.search(r'data-seen="([^"]*)"', ran.stdout.decode("utf-8"))
     seen: list[list[str | int]] = json.loads(html.unescape(found[1])) if found else []
     return seen
