@@ -1,2 +1,3 @@
 mod Examples
+pub mod OwedLaws
 pub mod StepLaws

@@ -153,7 +153,7 @@ steps_from lines k line within =
 
 module _ (view : View) (state : State) (change : Change) (line : ℕ) where
   -- it is refused for a reason that is no want of memory
-  reason : (error : ApplyError) → (error ≡ applying.Memory) ⊎ IsRefusedEdit state change error → IsRefusal error → IsRefusedEdit state change error
+  pub reason : (error : ApplyError) → (error ≡ applying.Memory) ⊎ IsRefusedEdit state change error → IsRefusal error → IsRefusedEdit state change error
   reason error (inl is) told = absurd (subst IsRefusal is told)
   reason error (inr refused) told = refused
 

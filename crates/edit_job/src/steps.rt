@@ -15,6 +15,7 @@ ghost use Rattle.listing.specs.Listing.{listing};
 ghost use Rattle.session.specs.Error.{apply_word};
 ghost use Rattle.session.specs.State.{IsSound, page_in, state_in};
 ghost use Rattle.session.specs.declared.error.ApplyError.TheVariants as applying;
+ghost use Rattle.edit_job.specs.Owed.{IsPaid, OwesStepIn, OweStepsIn, Owing, RiseTo, after_page_in};
 ghost use Rattle.edit_job.specs.Refusal.{IsRefusal, refusal};
 ghost use Rattle.edit_job.specs.Steps.{AreStepsIn, IsStepIn};
 
@@ -33,7 +34,8 @@ use wm_units::Steps;
 
 /// Goes through the steps of a script: writes the listing of each page that is shown, and the line of each refusal. Whole at Ok, else
 /// a front of what is due is written. `WriteFault` comes only where the sink's count of faults rose in this call. The texts of the
-/// document and of the script together hold at most 1,048,576 bytes.
+/// document and of the script together hold at most 1,048,576 bytes. Whatever is written, no more texts are prepared and no more contents
+/// arranged than the steps owe to their pages.
 pub fn tell_steps<K: Sink, L: Ledger, M: Ledger>(
     session: &mut Session,
     script: &[ScriptLine],
@@ -50,9 +52,13 @@ pub fn tell_steps<K: Sink, L: Ledger, M: Ledger>(
     ensures front { (last : State) (due : List ℕ)
         → AreStepsIn (faces_of ⟦<dyn Face as Face>⟧ session.old.faces) session.old (steps_of script.now) last due
         → AppendsFront (K.held sink.old) (K.held sink.new) due }
+    ensures costs { (owing last : Owing) → IsPaid session.old owing
+        → OweStepsIn (faces_of ⟦<dyn Face as Face>⟧ session.old.faces) session.old owing (steps_of script.now) last
+        → RiseTo owing last prepared.old prepared.new arranged.old arranged.new }
     ensures later { K.faults sink.old ≤ K.faults sink.new }
     ensures fault { IsErrOf result WriteError.WriteFault → Rose (K.faults sink.old) (K.faults sink.new) }
 {
+    one_outcome();
     steps_have_one_end();
     for line in script {
         tell_step(session, line, sink, prepared, arranged)?;
@@ -77,6 +83,11 @@ fn tell_step<K: Sink, L: Ledger, M: Ledger>(
     ensures front { (next : State) (due : List ℕ)
         → IsStepIn (faces_of ⟦<dyn Face as Face>⟧ session.old.faces) session.old (step_of line.now.what) line.now.line next due
         → AppendsFront (K.held sink.old) (K.held sink.new) due }
+    ensures costs { (owing more : Owing) (next : State) → IsPaid session.old owing
+        → OwesStepIn (faces_of ⟦<dyn Face as Face>⟧ session.old.faces) session.old owing (step_of line.now.what) next more
+        → RiseTo owing more prepared.old prepared.new arranged.old arranged.new }
+    ensures paid { OnOk result ((owing more : Owing) (next : State) → IsPaid session.old owing
+        → OwesStepIn (faces_of ⟦<dyn Face as Face>⟧ session.old.faces) session.old owing (step_of line.now.what) next more → IsPaid session.new more) }
     ensures view { session.new.view ≡ session.old.view }
     ensures sound { IsSound (faces_of ⟦<dyn Face as Face>⟧ session.new.faces) session.new }
     ensures bytes { total bytes (state_of session.new.document) ≤ total bytes (state_of session.old.document) + bytes_in (step_of line.now.what) }
@@ -99,6 +110,9 @@ fn tell_page<K: Sink, L: Ledger, M: Ledger>(
     requires sound { IsSound (faces_of ⟦<dyn Face as Face>⟧ session.old.faces) session.old }
     ensures whole { OnOk result (Appends (K.held sink.old) (K.held sink.new) (listing (page_in (faces_of ⟦<dyn Face as Face>⟧ session.old.faces) session.old))) }
     ensures front { AppendsFront (K.held sink.old) (K.held sink.new) (listing (page_in (faces_of ⟦<dyn Face as Face>⟧ session.old.faces) session.old)) }
+    ensures costs { (owing : Owing) → IsPaid session.old owing
+        → RiseTo owing (after_page_in (faces_of ⟦<dyn Face as Face>⟧ session.old.faces) session.old owing) prepared.old prepared.new arranged.old arranged.new }
+    ensures paid { OnOk result ((owing : Owing) → IsPaid session.new (after_page_in (faces_of ⟦<dyn Face as Face>⟧ session.old.faces) session.old owing)) }
     ensures rest { session.new ≡ record session.old { index = session.new.index; boxes = session.new.boxes } }
     ensures sound { IsSound (faces_of ⟦<dyn Face as Face>⟧ session.new.faces) session.new }
     ensures later { K.faults sink.old ≤ K.faults sink.new }
@@ -125,6 +139,8 @@ fn tell_edit<K: Sink>(
     ensures front { (next : State) (due : List ℕ)
         → IsStepIn (faces_of ⟦<dyn Face as Face>⟧ session.old.faces) session.old (steps.edit (change_of edit.now)) line next due
         → AppendsFront (K.held sink.old) (K.held sink.new) due }
+    ensures paid { OnOk result ((owing more : Owing) (next : State) → IsPaid session.old owing
+        → OwesStepIn (faces_of ⟦<dyn Face as Face>⟧ session.old.faces) session.old owing (steps.edit (change_of edit.now)) next more → IsPaid session.new more) }
     ensures view { session.new.view ≡ session.old.view }
     ensures sound { IsSound (faces_of ⟦<dyn Face as Face>⟧ session.new.faces) session.new }
     ensures bytes { total bytes (state_of session.new.document) ≤ total bytes (state_of session.old.document) + bytes_brought (change_of edit.now) }

@@ -1,5 +1,5 @@
 -- The pairs that are met in the layout of a page, told by names and by keys.
-use Rattle.std.proofs.Common.{◌≡◌, refl, sym, ap₂, subst, arith, ℕ, zero, Bool, true, false, List, [], ◌∷◌, ◌++◌, Option, Some, None, inl, inr}
+use Rattle.std.proofs.Common.{◌≡◌, refl, sym, ap, ap₂, subst, arith, ℕ, zero, Bool, true, false, List, [], ◌∷◌, ◌++◌, Option, Some, None, inl, inr}
 use Rattle.std.specs.Prelude.{◌⊎◌, ◌&&◌, Contains, IfSome, if◌then◌else◌, nat_eq}
 use Rattle.std.specs.Option.{option_cmp}
 use Rattle.std.specs.Ordering.{int_cmp, is_eq, ordering_then}
@@ -8,20 +8,25 @@ use Rattle.std.specs.declared.cmp.Ordering.TheVariants.{Less, Equal, Greater}
 use Rattle.std.proofs.lemmas.Bool.{and_parts, eqb-true}
 use Rattle.std.proofs.lemmas.List.Elements.{Contains-append_cases, Contains-append_left, Contains-append_right}
 use Rattle.slab.proofs.SlabLemmas.{Contains-cons, Contains-cons_cases}
+use Rattle.face_api.specs.Table.{Table}
+use Rattle.wm_modes.specs.Mode.{is_horizontal}
+use Rattle.wm_units.specs.declared.view.View.{View}
 use Rattle.fragment_types.specs.declared.constraint.Constraint.{Constraint}
 use Rattle.fragment_types.specs.declared.item.BoxName.{BoxName}
 use Rattle.box_arena.specs.At.{Node, Slots, first_at, next_at, node_at}
 use Rattle.box_arena.specs.Boxes.{StandFrom}
 use Rattle.box_arena.proofs.Sizes.{same_constraint}
-use Rattle.box_gen.specs.Places.{IsAmong, IsPlaceOf, Place}
+use Rattle.box_gen.specs.Places.{IsAmong, IsPlaceOf, Place, names}
 use Rattle.box_gen.specs.Tree.{Boxes, box, none as no_boxes}
 use Rattle.style_types.specs.declared.style.Style.{Style}
 use Rattle.para_prepare.specs.Preparation.{Preparation}
 use Rattle.relayout.specs.declared.sizes.Containing.{Containing}
-use Rattle.relayout.specs.Asks.{Pair, contributes_under, each_once, is_among, met, put_under, same_pair, same_size, those_under}
+use Rattle.relayout.specs.Asks.{Pair, asks, contributes_under, each_once, is_among, met, put_under, same_pair, same_size, those_under}
 use Rattle.relayout.specs.Counts.{EachMet}
+use Rattle.relayout.specs.Flow.{on_page}
 use Rattle.relayout.specs.Inline.{Outside}
 use Rattle.relayout.specs.Sizes.{containing_of}
+use Rattle.relayout.specs.Step.{under}
 use Rattle.relayout.proofs.Counting.{stands_head}
 use Rattle.relayout.proofs.PagePlaces.{node_of_place}
 
@@ -72,7 +77,7 @@ same_pairs one other same =
     let tied = tied_then (option_cmp int_cmp one.constraint.inline other.constraint.inline) (option_cmp int_cmp one.constraint.block other.constraint.block) inline_size block_size in
     ap₂ pair_of (ap₂ name_of (eqb-true one.name.node other.name.node nodes) (eqb-true one.name.ordinal other.name.ordinal ordinals)) (same_constraint one.constraint other.constraint tied)
 
-among_contained : (pair : Pair) (pairs : List Pair) → is_among pair pairs ≡ true → Contains pairs pair
+pub among_contained : (pair : Pair) (pairs : List Pair) → is_among pair pairs ≡ true → Contains pairs pair
 among_contained pair [] among = absurd (cc)
 among_contained pair (other ∷ pairs) among = by (same_pair pair other) refl (among_contained pair pairs) among where
   by : (b : Bool) → same_pair pair other ≡ b → (is_among pair pairs ≡ true → Contains pairs pair) → (if b then true else is_among pair pairs) ≡ true → Contains (other ∷ pairs) pair
@@ -100,6 +105,50 @@ contained_often (other ∷ pairs) pair there = by (is_among other (each_once pai
     at : (other ≡ pair) ⊎ Contains (each_once pairs) pair → (Contains (each_once pairs) pair → Contains pairs pair) → Contains (other ∷ pairs) pair
     at (inl is) below = contains_head other pair pairs is
     at (inr behind) below = Contains-cons other pair pairs (below behind)
+
+-- ---- the names of pairs
+
+-- the names of boxes that are met are those of the boxes
+those_named : (o : Option Constraint) (below : Constraint → List Pair) (among : List BoxName) (pair : Pair) → ((c : Constraint) → Contains (below c) pair → Contains among pair.name)
+    → Contains (those_under o below) pair → Contains among pair.name
+those_named None below among pair each there = absurd (contains_none pair there)
+those_named (Some c) below among pair each there = each c there
+
+met_named : (outside : Outside) (containing : Containing) (row : Boxes) (c : Constraint) (pair : Pair) → Contains (met outside containing row c) pair → Contains (names row) pair.name
+met_named outside containing no_boxes c pair there = absurd (contains_none pair there)
+met_named outside containing (box name style content inner next) c pair there =
+    let node : Node = record { name = name; style = style; content = content } in
+    let own : Pair = record { name = name; constraint = c } in
+    let below : Constraint → List Pair = met outside (containing_of style) inner in
+    let all : List BoxName = name ∷ (names inner ++ names next) in
+    let inside : (d : Constraint) → Contains (below d) pair → Contains all pair.name =
+    λ d among. Contains-cons name pair.name (names inner ++ names next) (Contains-append_left (names inner) (names next) pair.name (met_named outside (containing_of style) inner d pair among)) in
+    one_of_four own (those_under (contributes_under containing node c) below) (those_under (put_under outside containing node c inner) below) (met outside containing next c) pair (Contains all pair.name)
+    (λ same. contains_head name pair.name (names inner ++ names next) (ap (λ (p : Pair). p.name) same))
+    (those_named (contributes_under containing node c) below all pair inside)
+    (those_named (put_under outside containing node c inner) below all pair inside)
+    (λ behind. Contains-cons name pair.name (names inner ++ names next) (Contains-append_right (names inner) (names next) pair.name (met_named outside containing next c pair behind)))
+    there
+
+among_more : (name : BoxName) (inner next : List BoxName) (other : BoxName) → Contains (name ∷ (inner ++ [])) other → Contains (name ∷ (inner ++ next)) other
+among_more name inner next other there = by (Contains-cons_cases name other (inner ++ []) there) where
+  inside : Contains inner other ⊎ Contains [] other → Contains (name ∷ (inner ++ next)) other
+  inside (inl among) = Contains-cons name other (inner ++ next) (Contains-append_left inner next other among)
+  inside (inr never) = absurd (contains_none other never)
+
+  by : (name ≡ other) ⊎ Contains (inner ++ []) other → Contains (name ∷ (inner ++ next)) other
+  by (inl same) = contains_head name other (inner ++ next) same
+  by (inr behind) = inside (Contains-append_cases inner [] other behind)
+
+-- a pair that is met in the layout of a page has the name of one of its boxes
+pub asked_named : (faces : List (Option Table)) (view : View) (page : Boxes) (pair : Pair) → Contains (asks faces view page) pair → Contains (names page) pair.name
+asked_named faces view no_boxes pair there = absurd (contains_none pair there)
+asked_named faces view (box name style content inner next) pair there =
+    let outside = on_page (is_horizontal style.mode) faces view.inline view.block in
+    let c = under (Some view.inline) (Some view.block) in
+    let alone : Boxes = box name style content inner no_boxes in
+    among_more name (names inner) (names next) pair.name
+    (met_named outside (containing_of style) alone c pair (contained_often (met outside (containing_of style) alone c) pair there))
 
 -- ---- what holds of all that is met
 
