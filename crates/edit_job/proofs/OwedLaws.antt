@@ -1,9 +1,8 @@
 -- What the steps of a script owe to pages, and what a session has for them.
-use Rattle.std.proofs.Common.{◌≡◌, ◌⊎◌, ◌∙◌, refl, sym, ap, subst, arith, inl, inr, ℕ, ◌+◌, ◌≤◌, Bool, true, false, not, nat_eq, List, [], ◌∷◌, ◌++◌, Contains, Option, Some, None, filter, length}
-use Rattle.std.specs.List.{list_any}
-use Rattle.std.proofs.lemmas.Bool.{eqb-true, false_from_ne_true, not-true, not-false, true_from_ne_false, not_from_true}
+use Rattle.std.proofs.Common.{◌≡◌, ◌⊎◌, ◌∙◌, refl, sym, ap, subst, arith, inl, inr, ℕ, ◌+◌, ◌≤◌, Bool, true, false, not, List, [], ◌∷◌, ◌++◌, Contains, Option, filter}
+use Rattle.std.proofs.lemmas.Bool.{eqb-true, not-false, not-true}
 use Rattle.std.proofs.lemmas.Cmp.{nat_eq_equiv}
-use Rattle.std.proofs.lemmas.List.Elements.{All-contains, All-contains_itself, All-filter, Contains-append_cases, Contains-append_left, Contains-append_right, filter_passes}
+use Rattle.std.proofs.lemmas.List.Elements.{All-contains, All-contains_itself, All-filter, Contains-append_left, Contains-append_right, filter_passes}
 use Rattle.std.proofs.lemmas.Map.Views.{Contains-from_any, list_any-from_Contains}
 use Rattle.face_api.specs.Table.{Table}
 use Rattle.wm_units.specs.declared.view.View.{View}
@@ -25,7 +24,7 @@ use Rattle.session.specs.declared.session.Session.{Session}
 use Rattle.session.specs.Editing.{CanApply, HasOneOutcome, IsRefusedEdit}
 use Rattle.session.specs.Found.{ArrangesFor, HasAll, HasResult, HasResultIn, HasText, HasTextIn, LosesTouched, PreparesFor, page_boxes_in}
 use Rattle.session.specs.State.{IsSound, state_in}
-use Rattle.edit_job.specs.Owed.{AllAreOwedAtFirst, AreOwedOnce, IsPaid, OweSteps, OwesStep, OwesStepIn, Owing, RiseTo, after_edit, after_page, asks_of, at_first, is_of_one, owed_pairs, owed_paragraphs}
+use Rattle.edit_job.specs.Owed.{AllAreOwedAtFirst, AreOwedOnce, IsPaid, OweSteps, OwesStep, OwesStepIn, Owing, RiseTo, after_edit, after_page, at_first, is_of_one}
 use Rattle.edit_job.specs.Steps.{IsStep}
 
 -- ---- elements

@@ -1,6 +1,6 @@
 -- Edits of a small document, with the elements in their scopes and those that they touch, by computation. An independent implementation gives
 -- the same.
-use Rattle.std.specs.Prelude.{◌≡◌, refl, ℕ, ◌+◌, nat_eq, true, false, Bool, ◌&&◌, List, [], ◌∷◌, map, Some, None, slice_get}
+use Rattle.std.specs.Prelude.{◌≡◌, refl, ℕ, nat_eq, true, false, Bool, ◌&&◌, List, [], ◌∷◌, map, Some, None, slice_get}
 use Rattle.std.specs.List.{list_all, list_any}
 use Rattle.css_types.specs.declared.value.Declaration.{Declaration}
 use Rattle.css_types.specs.declared.property.Property as property
@@ -34,7 +34,6 @@ use Rattle.edits.specs.Change.{Change, of_tree, retire, rule}
 use Rattle.edits.specs.Edited.{after}
 use Rattle.edits.specs.State as whole
 use Rattle.edit_scope.specs.Boxes.{anonymous_among, box_of, own_boxes}
-use Rattle.edit_scope.specs.Owed.{after_edit, after_page, at_first}
 use Rattle.edit_scope.specs.Scope.{holder_in, reached, scope}
 
 abbrev all_of : (one other : List ℕ) → Bool
@@ -149,22 +148,3 @@ outer_content_stays = refl
 anonymous_blocks_are_own : map (λ shell. shell.name) (own_boxes (box_of [] (tree.after small.tree (move_to 10 1 0)) 62 1)) ≡ (record { node = 1; ordinal = 0 }) ∷ (record { node = 1; ordinal = 1 }) ∷ []
 unfolding small entries matches_from some each tails tag_names.tags is_less stated claims_of_rules greatest_from sum default_rules initial won said margin_at padding_at size_at border_at margins paddings borders own_font_size own_mode own_display own_direction own_orientation own_combine own_bidi own_face own_line_height own_align own_shift sized place_on line_to holder_in below_levels ancestors_to tops_from children_from tree_to styled_in content runs join anonymous_among stacked is_blank closed opened_again
 anonymous_blocks_are_own = refl
-
-abbrev turned : whole.State
-turned = after small (of_tree (set_style 5 (declared properties.WritingMode keywords.VerticalRl)))
-
--- to the first page three paragraphs are owed; then one is, that of the inline-block
-a_text_is_owed : (after_page (after small (of_tree (set_text 8 (120 ∷ [])))) (after_edit small (of_tree (set_text 8 (120 ∷ []))) (after_page small (at_first small)))).prepared ≡ 3 + 1
-unfolding small entries matches_from some each tails tag_names.tags is_less stated claims_of_rules greatest_from sum default_rules initial won said margin_at padding_at size_at border_at margins paddings borders own_font_size own_mode own_display own_direction own_orientation own_combine own_bidi own_face own_line_height own_align own_shift sized place_on line_to holder_in below_levels ancestors_to tops_from children_from tree_to styled_in content runs join anonymous_among stacked is_blank closed opened_again
-a_text_is_owed = refl
-
--- an inline box that turns is an inline-block, and holds a paragraph
-two_edits_are_owed : (after_page (after turned (of_tree (set_text 10 (120 ∷ [])))) (after_edit turned (of_tree (set_text 10 (120 ∷ [])))
-    (after_edit small (of_tree (set_style 5 (declared properties.WritingMode keywords.VerticalRl))) (after_page small (at_first small))))).prepared ≡ 3 + 3
-unfolding small entries matches_from some each tails tag_names.tags is_less stated claims_of_rules greatest_from sum default_rules initial won said margin_at padding_at size_at border_at margins paddings borders own_font_size own_mode own_display own_direction own_orientation own_combine own_bidi own_face own_line_height own_align own_shift sized place_on line_to holder_in below_levels ancestors_to tops_from children_from tree_to styled_in content runs join anonymous_among stacked is_blank closed opened_again
-two_edits_are_owed = refl
-
--- a text that is moved beside blocks is in an anonymous block; its old block has an empty paragraph
-moved_texts_are_owed : (after_page (after small (of_tree (move_to 10 1 0))) (after_edit small (of_tree (move_to 10 1 0)) (after_page small (at_first small)))).prepared ≡ 3 + 2
-unfolding small entries matches_from some each tails tag_names.tags is_less stated claims_of_rules greatest_from sum default_rules initial won said margin_at padding_at size_at border_at margins paddings borders own_font_size own_mode own_display own_direction own_orientation own_combine own_bidi own_face own_line_height own_align own_shift sized place_on line_to holder_in below_levels ancestors_to tops_from children_from tree_to styled_in content runs join anonymous_among stacked is_blank closed opened_again
-moved_texts_are_owed = refl

@@ -1,8 +1,6 @@
--- Pages: their boxes, and what is owed to them.
-use Rattle.std.proofs.Common.{◌≡◌, ◌∙◌, ℕ, ◌+◌, ◌≤◌, Bool, true, false, List, [], ◌∷◌, filter, refl, ap, sym, arith, Option, if◌then◌else◌}
+-- Pages: their boxes, and the names of these.
+use Rattle.std.proofs.Common.{◌≡◌, ◌∙◌, ℕ, ◌+◌, ◌≤◌, Bool, true, false, List, [], ◌∷◌, refl, ap, sym, arith, Option, if◌then◌else◌}
 use Rattle.std.specs.Prelude.{nat_eq}
-use Rattle.std.specs.List.{list_any}
-use Rattle.fragment_types.specs.declared.item.BoxName.{BoxName}
 use Rattle.style_types.specs.declared.style.Style.{Style}
 use Rattle.style_types.specs.Tree as styled
 use Rattle.style_types.specs.Tree.{Nodes}
@@ -15,7 +13,6 @@ use Rattle.box_gen.specs.Places.{numbers}
 use Rattle.box_gen.proofs.NameLaws.{named_once, one_if, tally, tally_both}
 use Rattle.box_limits.proofs.Judged.{html_children}
 use Rattle.edit_scope.specs.Boxes.{PagesAreBoxesOfHtml, body_in}
-use Rattle.edit_scope.specs.Owed.{SecondPagesAreOwedNothing, paragraphs_in}
 use Rattle.edit_scope.specs.Pages.{PagesNameBoxesOnce}
 use Rattle.edit_scope.specs.Scope.{element_style}
 
@@ -29,13 +26,6 @@ pages_are_boxes rules state rooted =
     ∙ ap (λ (o : Option Entry). root_boxes (with_body rules state 0 html.what (tree_with o 1 (tree_to 62 state) none))) rooted.body.1
     ∙ sym (ap (λ (o : Option Entry). made 0 style (content (body_in rules state (tree_with o 1 (tree_to 62 state) none)))) rooted.body.1)
     ∙ sym (ap (λ (l : List ℕ). made 0 style (content (body_in rules state (tree_to 63 state l)))) (html_children rules state rooted))
-
-none_owed : (names : List BoxName) → filter (λ name. list_any (nat_eq name.node) []) names ≡ []
-none_owed [] = refl
-none_owed (name ∷ names) = none_owed names
-
-pub second_pages_owed_nothing : SecondPagesAreOwedNothing
-second_pages_owed_nothing state owing = none_owed (paragraphs_in state)
 
 -- ---- no two of their boxes have one name
 

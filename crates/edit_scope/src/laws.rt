@@ -1,9 +1,8 @@
-//! What an edit leaves as it is, and what is owed to the page after it.
+//! What an edit leaves as it is.
 
 ghost use Rattle.edit_scope.specs.Boxes.{PagesAreBoxesOfHtml};
 ghost use Rattle.edit_scope.specs.Laws.{UnscopedContent, UnscopedLines, UntouchedBelow, UntouchedBoxes, UntouchedLines};
 ghost use Rattle.edit_scope.specs.Leaves.{EditsKeepLeaves, OpenedTextsAreLeaves};
-ghost use Rattle.edit_scope.specs.Owed.{SecondPagesAreOwedNothing};
 ghost use Rattle.edit_scope.specs.Pages.{BoxesAreOfElements, PagesHaveBoxes, PagesNameBoxesOnce, UnscopedPlaces, UntouchedPlaces};
 
 /// In a document that was opened no text has children.
@@ -45,11 +44,6 @@ pub fn elements_outside_the_scope_keep_their_content()
 /// The boxes of a page are the box of `html`, with all inside it.
 pub fn pages_are_boxes_of_html()
     ensures { PagesAreBoxesOfHtml }
-{}
-
-/// No paragraph is owed to a page of a document that wasn't edited after the page before.
-pub fn second_pages_are_owed_nothing()
-    ensures { SecondPagesAreOwedNothing }
 {}
 
 /// A box of a page that is an element's own is the box of that element, with all inside it.

@@ -4,7 +4,7 @@ use Rattle.session.specs.State.{state_in}
 use Rattle.edit_script.specs.Script.{StepAt}
 use Rattle.edit_script.specs.Views.{step_at, step_of, steps_of}
 use Rattle.wm_units.specs.declared.view.View.{View}
-use Rattle.edit_job.specs.Owed.{IsPaid, OweSteps, OwesStep, OwesStepIn, Owing}
+use Rattle.edit_job.specs.Owed.{OwesStep, OwesStepIn}
 use Rattle.edit_job.proofs.OwedLaws.{IsLeft, all_left, left_off, left_on, none_left, same_next}
 use Rattle.edit_job.proofs.StepLaws.{HaveGone, broken, bytes_on, finished, gone_on, line_fits, line_on, none_gone, none_on, step_over}
 use Rattle.edit_job.proofs.steps.tell_steps.Goals as goal
