@@ -1,6 +1,6 @@
 -- What an edit of a face leads to, by what its table answers.
-use Rattle.std.proofs.Common.{◌≡◌, ◌⊎◌, ◌∙◌, ◌<◌, refl, inl, inr, ap, sym, subst, ℕ, nat_lt, Bool, true, false, ◌||◌, if◌then◌else◌, List, length, Option, Some, None, is_some, IfErr, Result, Ok, Err, IsSomeAnd, arith}
-use Rattle.face_api.specs.Living.{living, retired, set_table}
+use Rattle.std.proofs.Common.{◌≡◌, ◌⊎◌, ◌∙◌, refl, inl, inr, ap, sym, subst, ℕ, nat_lt, Bool, true, false, ◌||◌, if◌then◌else◌, List, length, Option, Some, None, is_some, IsSomeAnd}
+use Rattle.face_api.specs.Living.{living}
 use Rattle.face_api.specs.Table.{IsFull, TakesRow, Table, row_for}
 use Rattle.face_api.specs.declared.error.FacesError.{FacesError}
 use Rattle.face_api.specs.declared.error.FacesError.TheVariants as faces_errors
@@ -10,7 +10,7 @@ use Rattle.edits.specs.State.{State}
 use Rattle.session.specs.declared.error.ApplyError.TheVariants as applying
 use Rattle.session.specs.Editing.{CanApply, IsRefusedEdit, of_faces_error}
 use Rattle.session.specs.State.{styled_of}
-use Rattle.edits.specs.Edited.{Reason, fixed, full, has_room, metric_reason, no_face, retire_reason}
+use Rattle.edits.specs.Edited.{fixed, full, has_room, metric_reason, no_face, retire_reason}
 
 -- ---- an advance
 

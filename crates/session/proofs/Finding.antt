@@ -1,5 +1,5 @@
 -- What is found for a page, in the words of a session.
-use Rattle.std.proofs.Common.{◌≡◌, ℕ, List, Option, Some, None}
+use Rattle.std.proofs.Common.{ℕ, List, Option, Some, None}
 use Rattle.face_api.specs.Table.{Table}
 use Rattle.box_gen.specs.Tree.{Boxes}
 use Rattle.relayout.specs.Named.{ArrangesOwed, FindsAll, PreparesOwed}

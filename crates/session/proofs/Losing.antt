@@ -5,7 +5,6 @@ use Rattle.face_api.specs.Table.{Table}
 use Rattle.fragment_types.specs.declared.constraint.Constraint.{Constraint}
 use Rattle.fragment_types.specs.declared.item.BoxName.{BoxName}
 use Rattle.style_types.specs.declared.style.Style.{Style}
-use Rattle.css_types.specs.Rule.{Ruling}
 use Rattle.dom_store.specs.State as dom
 use Rattle.dom_store.specs.State.{IsRooted, state_of}
 use Rattle.dom_store.specs.Standing.{ancestors_to, inclusive_ancestors}

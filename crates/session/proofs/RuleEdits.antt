@@ -1,10 +1,8 @@
 -- What an edit of the rules leads to.
-use Rattle.std.proofs.Common.{◌≡◌, ◌⊎◌, ◌∙◌, ◌+◌, ◌<◌, ◌≤◌, refl, inl, inr, ap, sym, subst, ℕ, nat_lt, Bool, true, false, if◌then◌else◌, List, [], ◌∷◌, ◌++◌, length, map, take, drop, Option, Some, None, Err, arith}
-use Rattle.std.specs.List.{All}
+use Rattle.std.proofs.Common.{◌≡◌, ◌⊎◌, ◌∙◌, ◌+◌, ◌<◌, refl, inl, inr, ap, sym, subst, ℕ, nat_lt, Bool, true, false, if◌then◌else◌, List, [], ◌++◌, length, take, drop, Some, None, Err, arith}
 use Rattle.std.proofs.lemmas.List.{append-nil, append_assoc, drop-drop, length-map, map-append, take-append-drop, take-map, drop-map}
 use Rattle.std.proofs.lemmas.Bool.{lt-ltb}
 use Rattle.std.proofs.lemmas.List.Elements.{All-append, All-drop, All-take}
-use Rattle.face_api.specs.Table.{Table}
 use Rattle.css_types.specs.declared.rule.Rule.{Rule}
 use Rattle.css_types.specs.Rule.{Ruling, ruling_of, rulings_of}
 use Rattle.cascade.specs.Winners.{AreSaidRules}
@@ -17,11 +15,10 @@ use Rattle.box_limits.specs.Rules.{RulesThatTurnNone, turn_none}
 use Rattle.box_limits.specs.declared.error.LimitError.{LimitError}
 use Rattle.box_limits.specs.declared.error.LimitError.TheVariants as limits
 use Rattle.edits.specs.Change.{Change, rule, unrule}
-use Rattle.edits.specs.Edited.{after, are_too_many, no_rule, refusal, too_many_rules, without}
+use Rattle.edits.specs.Edited.{are_too_many, no_rule, refusal, too_many_rules, without}
 use Rattle.edits.specs.State.{State}
-use Rattle.session.specs.declared.error.ApplyError.{ApplyError}
 use Rattle.session.specs.declared.error.ApplyError.TheVariants as applying
-use Rattle.session.specs.Editing.{CanApply, IsRefusedEdit, of_limit_error, styled_after}
+use Rattle.session.specs.Editing.{IsRefusedEdit, of_limit_error, styled_after}
 
 -- ---- boxes under rules
 

@@ -1,4 +1,4 @@
-use Rattle.session.proofs.Former.{keeps_apart, keeps_reused, reused_ready}
+use Rattle.session.proofs.Former.{keeps_reused, reused_ready}
 use Rattle.session.proofs.keeping.reuse_former.Goals as goal
 
 pub returns : goal.returns

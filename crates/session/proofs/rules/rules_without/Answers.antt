@@ -1,4 +1,4 @@
-use Rattle.std.proofs.Common.{◌∙◌, ap, sym, List, ◌+◌, take, drop, ◌++◌}
+use Rattle.std.proofs.Common.{◌∙◌, ap, sym, List, ◌+◌, take, ◌++◌}
 use Rattle.std.proofs.lemmas.List.{take-map, drop-map}
 use Rattle.css_types.specs.Rule.{Ruling, ruling_of, rulings_of}
 use Rattle.session.proofs.rules.rules_without.Goals as goal

@@ -1,6 +1,6 @@
 use Rattle.std.proofs.Common.{◌∙◌, ap, sym, List, take}
 use Rattle.std.proofs.lemmas.List.{take-map, drop-map}
-use Rattle.css_types.specs.Rule.{Ruling, ruling_of, rulings_of}
+use Rattle.css_types.specs.Rule.{ruling_of, rulings_of}
 use Rattle.box_limits.specs.Rules.{turn_none}
 use Rattle.session.proofs.rules.turns_none.Goals as goal
 

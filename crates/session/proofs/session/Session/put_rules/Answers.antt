@@ -1,20 +1,18 @@
-use Rattle.std.proofs.Common.{◌≡◌, ◌∙◌, ◌++◌, ◌<◌, ap, refl, inl, subst, sym, List, None, Err, true, false, length, arith}
-use Rattle.std.proofs.lemmas.Result.{err_from_is_err_and}
+use Rattle.std.proofs.Common.{◌≡◌, ◌∙◌, ◌++◌, ap, refl, subst, sym, List, None, true, false}
 use Rattle.cascade.specs.Winners.{AreSaidRules}
 use Rattle.css_types.specs.Rule.{Ruling, rulings_of}
 use Rattle.dom_store.specs.State.{state_of}
 use Rattle.style_tree.specs.Styling.{styled_document}
 use Rattle.box_gen.specs.Limit.{IsWithinLimits}
-use Rattle.box_limits.specs.Limits.{Answers}
 use Rattle.box_limits.specs.Rules.{turn_none}
-use Rattle.edits.specs.Edited.{are_too_many, without}
-use Rattle.edits.specs.Change.{rule, unrule}
+use Rattle.edits.specs.Edited.{are_too_many}
+use Rattle.edits.specs.Change.{rule}
 use Rattle.face_api.specs.Faces.{faces_of}
 use Rattle.session.specs.State.{rules_in, state_in}
 use Rattle.session.specs.declared.session.Session.{Session}
 use Rattle.session.proofs.Losing.{loses_all}
 use Rattle.session.proofs.RuleEdits as edits
-use Rattle.session.proofs.Standing.{sound_moved, sound_under}
+use Rattle.session.proofs.Standing.{sound_under}
 use Rattle.session.proofs.session.Session.put_rules.Goals as goal
 
 pub returns-in_ok-put_behind-clause-applies : goal.returns-in_ok-put_behind-clause-applies
