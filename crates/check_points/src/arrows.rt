@@ -10,7 +10,7 @@ use hit_caret::{Cell, CellVisitor, visit_cells};
 use place_map::Placed;
 use wm_modes::Rect;
 
-/// The places of a text to which a caret at one of its places goes: behind the next character, and before the one before it.
+/// The places of a text to which a caret at one of its places goes: the nearest at which it can stand behind that one, and before it.
 #[derive(Drop)]
 pub struct Steps {
     pub node: u32,
@@ -29,11 +29,22 @@ impl CellVisitor for Steps {
     }
 
     fn see(&mut self, cell: Cell) {
-        if cell.node == self.node && cell.end > self.place {
-            self.ahead = Some(self.ahead.map_or(cell.end, |ahead| ahead.min(cell.end)));
+        if cell.node == self.node {
+            self.see_place(cell.first);
+            self.see_place(cell.end);
         }
-        if cell.node == self.node && cell.first < self.place {
-            self.back = Some(self.back.map_or(cell.first, |back| back.max(cell.first)));
+    }
+}
+
+impl Steps {
+    fn see_place(&mut self, place: u32)
+        ensures { self.new ≡ rule.with_place self.old place }
+    {
+        if place > self.place {
+            self.ahead = Some(self.ahead.map_or(place, |ahead| ahead.min(place)));
+        }
+        if place < self.place {
+            self.back = Some(self.back.map_or(place, |back| back.max(place)));
         }
     }
 }

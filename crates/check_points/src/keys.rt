@@ -2,12 +2,12 @@
 
 ghost use Rattle.std.specs.Prelude.{IfOk};
 ghost use Rattle.place_map.specs.Near.{AreNearParts};
-ghost use Rattle.place_map.specs.Placed.{placed_of};
+ghost use Rattle.place_map.specs.Placed.{parts_of, placed_of};
 
 use crate::arrows::steps_from;
 use fragment_types::{BoxName, FragmentKind, Glyphs, RunUnit, UnitKind};
 use hit_caret::caret;
-use place_map::{Placed, PlacedPart};
+use place_map::{Placed, PlacedPart, PlacedParts};
 use std::alloc::{AllocError, Global};
 use std::rc::Rc;
 use std::test::*;
@@ -19,13 +19,22 @@ const VIEW: View = View {
     block: 6_400,
 };
 
-/// The text node, and its rectangle: three letters of 8 px from right to left.
+/// The text node.
 const TEXT: u32 = 3;
 
+/// The rectangle of a run of three letters of 8 px from right to left. The text goes on behind a space at which its line ends.
 const RUN: Rect = Rect {
     x: 0,
     y: 0,
     w: 1_536,
+    h: 1_024,
+};
+
+/// The rectangle of the letter on the next line.
+const NEXT: Rect = Rect {
+    x: 1_024,
+    y: 1_024,
+    w: 512,
     h: 1_024,
 };
 
@@ -50,9 +59,33 @@ fn page(alloc: Global) -> Result<Placed, AllocError>
                 natural: None,
                 units: Rc::new(alloc, units)?,
             },
-            children: Vec::new(alloc),
+            children: next_line(alloc)?,
         },
     })
+}
+
+// One letter more, on the next line.
+fn next_line(alloc: Global) -> Result<PlacedParts, AllocError>
+    ensures { IfOk result (λ parts. AreNearParts (parts_of parts.items)) }
+{
+    let mut units = Vec::new(alloc);
+    units.push(RunUnit::new(alloc, 4, 5, 512, &Glyphs::one('ד'))?)?;
+    let mut parts = Vec::new(alloc);
+    parts.push(PlacedPart {
+        name: BoxName {
+            node: TEXT,
+            ordinal: 0,
+        },
+        rect: NEXT,
+        kind: FragmentKind::Run {
+            form: UnitKind::Along,
+            level: 1,
+            natural: None,
+            units: Rc::new(alloc, units)?,
+        },
+        children: Vec::new(alloc),
+    })?;
+    Ok(parts)
 }
 
 #[test]
@@ -62,8 +95,12 @@ fn carets_go_through_a_text(rt: HostRuntime) -> Result<(), Fail> {
     assert_eq!(rt; (first.back, first.ahead), (None, Some(1)));
     let second = steps_from(&page, TEXT, 1);
     assert_eq!(rt; (second.back, second.ahead), (Some(0), Some(2)));
-    let last = steps_from(&page, TEXT, 3);
-    assert_eq!(rt; (last.back, last.ahead), (Some(2), None));
+    let line_end = steps_from(&page, TEXT, 3);
+    assert_eq!(rt; (line_end.back, line_end.ahead), (Some(2), Some(4)));
+    let line_start = steps_from(&page, TEXT, 4);
+    assert_eq!(rt; (line_start.back, line_start.ahead), (Some(3), Some(5)));
+    let last = steps_from(&page, TEXT, 5);
+    assert_eq!(rt; (last.back, last.ahead), (Some(4), None));
     let elsewhere = steps_from(&page, TEXT + 1, 0);
     assert_eq!(rt; (elsewhere.back, elsewhere.ahead), (None, None));
     Ok(())

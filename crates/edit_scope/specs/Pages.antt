@@ -21,16 +21,16 @@ use Rattle.edit_scope.specs.Scope.{element_style, every_element, reached, scope}
 abbrev pub page_boxes : State → Boxes
 page_boxes state = root_boxes (styled_document state.rules state.tree)
 
--- each of them that is an element's own is the box of that element, with all inside it
+-- a box of a page that is an element's own is the box of that element, with all inside it
 abbrev pub PagesHaveBoxes : Type 0
 PagesHaveBoxes = (rules : List Ruling) (state : dom.State) (place : Place) → IsRooted state → IsWhole state → IsReached state → IsPlaceOf (root_boxes (styled_document rules state)) place
     → place.name.ordinal ≡ 0 → tree_of place ≡ box_of rules state 63 place.name.node
 
--- no two of them have one name
+-- no two boxes of a page have one name
 abbrev pub PagesNameBoxesOnce : Type 0
 PagesNameBoxesOnce = (rules : List Ruling) (state : dom.State) → IsRooted state → IsWhole state → AreNamedOnce (root_boxes (styled_document rules state))
 
--- each of them is of an element of the document
+-- each box of a page is of an element of the document
 abbrev pub BoxesAreOfElements : Type 0
 BoxesAreOfElements = (rules : List Ruling) (state : dom.State) (place : Place) → IsRooted state → IsWhole state → IsReached state
     → IsPlaceOf (root_boxes (styled_document rules state)) place → Contains (every_element state) place.name.node
@@ -43,14 +43,14 @@ pub record WasBox (page : Boxes) (place : Place) : Type 0 where
   pub style : was.style ≡ place.style
   pub content : was.content ≡ place.content
 
--- that box had also those inside it, and stood in a box whose lines run alike
+-- a box that stood with those inside it, in a box whose lines run alike
 pub record WasTree (page : Boxes) (place : Place) : Type 0 where
   pub was : Place
   pub stood : IsPlaceOf page was
   pub tree : place ≡ record was { around = place.around }
   pub around : AreAlike was.around place.around
 
--- the lines of the whole page run as they did
+-- `html` has the mode that it had
 abbrev pub KeepsMode : (old new : State) → Type 0
 KeepsMode old new = (element_style new.rules new.tree 0).mode ≡ (element_style old.rules old.tree 0).mode
 
@@ -59,7 +59,7 @@ abbrev pub UnscopedPlaces : Type 0
 UnscopedPlaces = (state : State) (change : Change) (place : Place) → Takes state change → IsPlaceOf (page_boxes (after state change)) place
     → (Contains (scope state change) place.name.node → ⊥) → WasBox (page_boxes state) place × KeepsMode state (after state change)
 
--- one of an element that isn't touched was there with all inside it
+-- a box of an element that isn't touched was there with all inside it
 abbrev pub UntouchedPlaces : Type 0
 UntouchedPlaces = (state : State) (change : Change) (place : Place) → Takes state change → IsPlaceOf (page_boxes (after state change)) place
     → (Contains (reached state change) place.name.node → ⊥) → WasTree (page_boxes state) place × KeepsMode state (after state change)

@@ -62,12 +62,12 @@ pub fn boxes_are_of_elements()
 {}
 
 /// A box of an element that isn't in the scope of an edit was there before it, with its name, its style and its content, on a page whose
-/// lines ran alike.
+/// `html` had the same mode.
 pub fn boxes_outside_the_scope_were_there()
     ensures { UnscopedPlaces }
 {}
 
-/// One of an element that isn't touched was there with all inside it, in a box whose lines ran alike.
+/// A box of an element that isn't touched was there with all inside it, in a box whose lines ran alike.
 pub fn untouched_boxes_were_there()
     ensures { UntouchedPlaces }
 {}

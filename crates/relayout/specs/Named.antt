@@ -1,5 +1,4 @@
--- What an arena has for the boxes of a page, told by their names. The page stands in it, or an earlier one does, some of whose boxes are what they
--- are now.
+-- What an arena has for the boxes of a page, told by their names: the page stands in the arena, or an earlier one of which some boxes are the same.
 use Rattle.std.specs.Prelude.{◌≡◌, ℕ, ◌+◌, ◌≤◌, Bool, false, List, Contains, filter, length, Option, Some, None, IsSome, option_map}
 use Rattle.slab.specs.Slab.{Slab}
 use Rattle.face_api.specs.Table.{Table}
@@ -37,12 +36,12 @@ pub record HasResultOf (slots : Slots Preparation) (place : Place) (c : Constrai
   pub around : AreAlike (option_map (λ node. node.style) (around_at slots key)) place.around
   pub kept : IsSome (kept_at slots key c)
 
--- the text of the box of this name in a page is found
+-- the text of the box of this name in a page is found, if there is such a box
 pub record FindsText (slots : Slots Preparation) (root : ℕ) (page : Boxes) (name : BoxName) : Type 0 where
   pub mode : HasMode slots root page
   pub text : (place : Place) → IsPlaceOf page place → place.name ≡ name → HasTextOf slots place
 
--- what the box of this name in a page comes to under this constraint is found
+-- what the box of this name in a page comes to under this constraint is found, if there is such a box
 pub record FindsResult (slots : Slots Preparation) (root : ℕ) (page : Boxes) (pair : Pair) : Type 0 where
   pub mode : HasMode slots root page
   pub result : (place : Place) → IsPlaceOf page place → place.name ≡ pair.name → HasResultOf slots place pair.constraint

@@ -49,8 +49,8 @@ pub fn contents_have_sizes()
     ensures { LayoutsAreSized }
 {}
 
-/// How often texts are prepared and contents arranged, told by the names of boxes in the place of keys; and of each box of a page, by its
-/// name, that all that was met is kept.
+/// What `relayout` says of its counters by keys holds by the names of boxes too; and where all that is met is kept, each text and each
+/// result of a page is found by its name.
 pub fn counts_are_by_name()
     ensures { CountsAreByName }
 {}

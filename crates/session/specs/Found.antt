@@ -82,8 +82,8 @@ module _ {I : Type 0} {D : I → Type 0} where
     pub was : Contains (names (page_boxes_in old)) pair.name
     pub has : HasResult old pair → HasResult new pair
 
-  -- No text is lost but those of elements in the scope of the edit, and nothing that a box comes to but what those that it touches come to.
-  -- The tables of the faces are these before it.
+  -- Each paragraph of the page after the edit that isn't of an element in its scope was one before, and its text isn't lost; each box there of
+  -- an element that the edit doesn't touch stood before, and no result of it is lost. `before` has the tables of the faces before the edit.
   pub record LosesTouched (before : List (Option Table)) (old new : Session I D) (change : Change) : Type 0 where
     pub texts : (name : BoxName) → Contains (paragraphs (page_boxes_in new)) name → (Contains (scope (state_in before old) change) name.node → ⊥)
         → KeepsText old new name
