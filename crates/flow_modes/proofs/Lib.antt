@@ -1,1 +1,6 @@
 pub mod BoxLaws
+pub mod LineLaws
+pub mod ParagraphLaws
+pub mod PreparedLaws
+pub mod SideLaws
+pub mod UnitLaws

@@ -1,2 +1,6 @@
 pub mod Boxes
+pub mod Lines
+pub mod Paragraphs
+pub mod Prepared
+pub mod Sides
 pub mod Ways

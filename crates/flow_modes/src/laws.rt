@@ -1,8 +1,45 @@
 //! Laws of one flow in four modes. These functions do nothing: their contracts are the laws.
 
 ghost use Rattle.flow_modes.specs.Boxes.{NodesMakeBoxesAlike};
+ghost use Rattle.flow_modes.specs.Lines.{LineFragmentsAlike};
+ghost use Rattle.flow_modes.specs.Paragraphs.{ParagraphLinesAlike, ParagraphSizesAlike};
+ghost use Rattle.flow_modes.specs.Prepared.{PreparationsAlike, UnitsAlike};
+ghost use Rattle.flow_modes.specs.Sides.{SidesAlike};
+
+/// Margins, paddings and borders are in each way on the sides of the flow on which they are in a horizontal one, and the used direction is
+/// the computed one.
+pub fn sides_alike()
+    ensures { SidesAlike }
+{}
 
 /// A styled tree in a way makes the boxes, in that way, that the tree makes.
 pub fn nodes_make_boxes_alike()
     ensures { NodesMakeBoxesAlike }
+{}
+
+/// The units of a text in a way are those of a horizontal flow; they stand in their lines as sideways text does.
+pub fn units_alike()
+    ensures { UnitsAlike }
+{}
+
+/// What is prepared of a paragraph in a way is what is prepared of it in a horizontal flow: its levels, its classes for the rules of
+/// a line, the base levels and the breaks are the same.
+pub fn preparations_alike()
+    ensures { PreparationsAlike }
+{}
+
+/// The fragments of a line whose text stands as sideways text does in a mode, and whose inline-blocks are of that mode, are those of the
+/// line, in that mode.
+pub fn line_fragments_alike()
+    ensures { LineFragmentsAlike }
+{}
+
+/// A paragraph in a way has the min-content and the max-content size that it has in a horizontal flow.
+pub fn paragraph_sizes_alike()
+    ensures { ParagraphSizesAlike }
+{}
+
+/// The lines of a paragraph in a way are those of a horizontal flow, in that way.
+pub fn paragraph_lines_alike()
+    ensures { ParagraphLinesAlike }
 {}
