@@ -1,4 +1,5 @@
 pub mod BoxLaws
+mod Examples
 pub mod LineLaws
 pub mod ParagraphLaws
 pub mod PreparedLaws

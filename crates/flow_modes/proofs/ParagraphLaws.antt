@@ -22,7 +22,7 @@ use Rattle.line_fill.specs.Sizes.{intrinsic}
 use Rattle.line_place.specs.Line as place
 use Rattle.line_place.specs.declared.line.LineBox.{LineBox}
 use Rattle.para_prepare.specs.Parts.{used_direction}
-use Rattle.para_prepare.specs.Preparation.{Preparation}
+use Rattle.para_prepare.specs.Preparation.{Preparation, preparation}
 use Rattle.para_prepare.specs.declared.item.PreparedContent.{PreparedContent}
 use Rattle.para_prepare.specs.declared.item.PreparedContent.TheVariants.{Unit, Combined, Atom as inline_block, Break}
 use Rattle.para_prepare.specs.declared.item.PreparedItem.{PreparedItem}
@@ -34,10 +34,11 @@ use Rattle.para_lines.specs.Lines.{Atom, Standing, atom_extents, baseline, boxes
 use Rattle.para_lines.specs.declared.paragraph.Container.{Container}
 use Rattle.page_turn.specs.Kinds.{pieces_in}
 use Rattle.flow_modes.specs.Lines.{line_in, line_item_in, shown_in}
-use Rattle.flow_modes.specs.Paragraphs.{ParagraphLinesAlike, ParagraphSizesAlike, container_in, inline_block_in}
+use Rattle.flow_modes.specs.Paragraphs.{ParagraphLinesAlike, ParagraphSizesAlike, ParagraphsAlike, container_in, inline_block_in}
 use Rattle.flow_modes.specs.Prepared.{preparation_in, prepared_item_in, what_in}
 use Rattle.flow_modes.specs.Ways.{Way, across, down, left, right, entries_in, entry_in, mode_of, plain, style_in}
 use Rattle.flow_modes.proofs.LineLaws.{line_fragments_alike, line_over_same, line_under_same}
+use Rattle.flow_modes.proofs.PreparedLaws.{preparations_alike}
 use Rattle.flow_modes.proofs.SideLaws.{direction_same, size_side, width_side}
 
 -- ---- edges
@@ -185,7 +186,7 @@ fill_from_same : (way : Way) (inline : Option ℤ) (entries : List Entry) (befor
     → fill_items_from inline (entries_in way entries) before (map (prepared_item_in way) items) breaks rounds extents ≡ fill_items_from inline (entries_in plain entries) before items breaks rounds extents
 fill_from_same way inline entries before (item ∷ items) (end_ ∷ breaks) (chain ∷ rounds) extents =
     let others = ap (fill_items_from inline (entries_in way entries) chain (map (prepared_item_in way) items) breaks rounds) (past_same way item.what extents)
-        ∙ fill_from_same way inline entries chain items breaks rounds (filling.past item.what extents) in
+    ∙ fill_from_same way inline entries chain items breaks rounds (filling.past item.what extents) in
     λ i. record {
       advance = advance_same way item.what extents i;
       before = opening_edges_same way inline entries (fresh chain before) i;
@@ -303,7 +304,7 @@ standings_same : (way : Way) (items : List PreparedItem) (levels : List ℕ) (cl
 unfolding standing_in
 standings_same way (item ∷ items) (level ∷ levels) (class ∷ classes) (base ∷ bases) (extent ∷ extents) (chain ∷ rounds) atoms =
     let others = ap (standings_by (map (prepared_item_in way) items) levels classes bases extents rounds) (past_same way item.what (map (inline_block_in way) atoms) ∙ atoms_past way item.what atoms)
-        ∙ standings_same way items levels classes bases extents rounds (filling.past item.what atoms) in
+    ∙ standings_same way items levels classes bases extents rounds (filling.past item.what atoms) in
     λ i. record { item = prepared_item_in way item; level = level; class = class; base = base; extent = extent; chain = chain; atom = get_or-map (inline_block_in way) atoms 0 no_atom i } ∷ others i
 standings_same way [] levels classes bases extents rounds atoms = refl
 standings_same way (item ∷ items) [] classes bases extents rounds atoms = refl
@@ -426,3 +427,8 @@ paragraph_lines_alike faces way container entries prepared atoms =
     ∙ (λ i. lines_from faces (container_in way container) (entries_in way entries) 0 0 (pos 0) []
     (standings_same way prepared.items prepared.levels prepared.classes prepared.bases (map (λ item. item.advance) items) rounds atoms i) (lines container.size items))
     ∙ lines_from_same faces way container entries 0 0 (pos 0) [] (standings_by prepared.items prepared.levels prepared.classes prepared.bases (map (λ item. item.advance) items) rounds atoms) (lines container.size items)
+
+pub paragraphs_alike : ParagraphsAlike
+paragraphs_alike faces given way container entries atoms =
+    ap (λ (prepared : Preparation). paragraph_lines faces (container_in way container) (entries_in way entries) prepared (map (inline_block_in way) atoms)) (preparations_alike faces given way container.style entries)
+    ∙ paragraph_lines_alike faces way container entries (preparation faces given (style_in plain container.style) (entries_in plain entries)) atoms

@@ -2,7 +2,7 @@
 
 ghost use Rattle.flow_modes.specs.Boxes.{NodesMakeBoxesAlike};
 ghost use Rattle.flow_modes.specs.Lines.{LineFragmentsAlike};
-ghost use Rattle.flow_modes.specs.Paragraphs.{ParagraphLinesAlike, ParagraphSizesAlike};
+ghost use Rattle.flow_modes.specs.Paragraphs.{ParagraphLinesAlike, ParagraphSizesAlike, ParagraphsAlike};
 ghost use Rattle.flow_modes.specs.Prepared.{PreparationsAlike, UnitsAlike};
 ghost use Rattle.flow_modes.specs.Sides.{SidesAlike};
 
@@ -39,7 +39,12 @@ pub fn paragraph_sizes_alike()
     ensures { ParagraphSizesAlike }
 {}
 
-/// The lines of a paragraph in a way are those of a horizontal flow, in that way.
+/// The lines of a prepared paragraph in a way are those of a horizontal flow, in that way.
 pub fn paragraph_lines_alike()
     ensures { ParagraphLinesAlike }
+{}
+
+/// So the lines of the items of a paragraph in a way are those of the items in a horizontal flow, in that way.
+pub fn paragraphs_alike()
+    ensures { ParagraphsAlike }
 {}
