@@ -4,4 +4,5 @@ pub mod LineLaws
 pub mod ParagraphLaws
 pub mod PreparedLaws
 pub mod SideLaws
+pub mod SizeLaws
 pub mod UnitLaws

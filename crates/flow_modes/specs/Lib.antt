@@ -3,4 +3,5 @@ pub mod Lines
 pub mod Paragraphs
 pub mod Prepared
 pub mod Sides
+pub mod Sizes
 pub mod Ways

@@ -5,6 +5,7 @@ ghost use Rattle.flow_modes.specs.Lines.{LineFragmentsAlike};
 ghost use Rattle.flow_modes.specs.Paragraphs.{ParagraphLinesAlike, ParagraphSizesAlike, ParagraphsAlike};
 ghost use Rattle.flow_modes.specs.Prepared.{PreparationsAlike, UnitsAlike};
 ghost use Rattle.flow_modes.specs.Sides.{SidesAlike};
+ghost use Rattle.flow_modes.specs.Sizes.{BoxSizesAlike, EquationsAlike, InlineBlocksAlike};
 
 /// Margins, paddings and borders are in each way on the sides of the flow on which they are in a horizontal one, and the used direction is
 /// the computed one.
@@ -47,4 +48,20 @@ pub fn paragraph_lines_alike()
 /// So the lines of the items of a paragraph in a way are those of the items in a horizontal flow, in that way.
 pub fn paragraphs_alike()
     ensures { ParagraphsAlike }
+{}
+
+/// Boxes in a way ask along the lines and across them for the sizes that they ask for in a horizontal flow, and have the same margins,
+/// borders and paddings there.
+pub fn box_sizes_alike()
+    ensures { BoxSizesAlike }
+{}
+
+/// The inline axis of a block-level box in a way is filled as in a horizontal flow (CSS 2, 10.3.3).
+pub fn equations_alike()
+    ensures { EquationsAlike }
+{}
+
+/// An inline-block in a way has the margin box and the baseline that it has in a horizontal flow, and its fragment is of the way.
+pub fn inline_blocks_alike()
+    ensures { InlineBlocksAlike }
 {}
