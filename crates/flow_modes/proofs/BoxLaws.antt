@@ -13,7 +13,8 @@ use Rattle.box_gen.specs.Parts as part
 use Rattle.box_gen.specs.Parts.{Part, around, has_block, is_block}
 use Rattle.box_gen.specs.Tree.{Boxes, blocks, box, inline, none}
 use Rattle.flow_modes.specs.Boxes.{NodesMakeBoxesAlike}
-use Rattle.flow_modes.specs.Ways.{Way, across, down, left, right, boxes_in, content_in, entry_in, nodes_in, style_in}
+use Rattle.mode_ways.proofs.RoleLaws.{same_role}
+use Rattle.mode_ways.specs.Ways.{Way, across, down, left, right, boxes_in, content_in, entry_in, nodes_in, style_in}
 
 -- an anonymous block has what it copies in the way, and is alike on all sides
 anonymous_same : (way : Way) (style : Style) → anonymous (style_in way style) ≡ style_in way (anonymous style)
@@ -145,11 +146,6 @@ module _ (way : Way) where
 
   -- ---- the boxes of a tree
 
-  same_role : (kind : NodeKind) (style : Style) → role_of kind (style_in way style) ≡ role_of kind style
-  same_role styled.element style = refl
-  same_role styled.line_break style = refl
-  same_role (styled.text letters) style = refl
-
   same_is_block : (own : Part) → is_block (turned_part own) ≡ is_block own
   unfolding turned_part
   same_is_block (part.words number letters style) = refl
@@ -187,7 +183,7 @@ module _ (way : Way) where
   unfolding content nodes_in
   turned_parts styled.none = refl
   turned_parts (styled.node number kind style inner next) =
-      (λ i. parts_by (same_role kind style i) number (style_in way style) (turned_parts inner i) ++ turned_parts next i)
+      (λ i. parts_by (same_role way kind style i) number (style_in way style) (turned_parts inner i) ++ turned_parts next i)
       ∙ ap (λ (parts : List Part). parts ++ map turned_part (content next)) (turned_parts_by (role_of kind style) number style (content inner))
       ∙ sym (map-append turned_part (parts_by (role_of kind style) number style (content inner)) (content next))
 

@@ -12,7 +12,7 @@ use Rattle.wm_modes.specs.declared.mode.WritingMode.TheVariants.{SidewaysLr, Sid
 use Rattle.wm_modes.specs.declared.sides.FlowSide.TheVariants.{BlockStart, InlineStart, LineLeft}
 use Rattle.box_gen.specs.Tree.{blocks, box, none}
 use Rattle.para_lines.specs.Edges.{inline_edge, size_on}
-use Rattle.flow_modes.specs.Ways.{down, left, right, boxes_in, plain, sides_in, style_in, widths_in}
+use Rattle.mode_ways.specs.Ways.{down, left, right, boxes_in, plain, sides_in, style_in, widths_in}
 
 -- a margin of its own on each side
 abbrev unlike : SideSizes

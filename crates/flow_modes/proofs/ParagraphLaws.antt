@@ -36,7 +36,7 @@ use Rattle.page_turn.specs.Kinds.{pieces_in}
 use Rattle.flow_modes.specs.Lines.{line_in, line_item_in, shown_in}
 use Rattle.flow_modes.specs.Paragraphs.{ParagraphLinesAlike, ParagraphSizesAlike, ParagraphsAlike, container_in, inline_block_in}
 use Rattle.flow_modes.specs.Prepared.{preparation_in, prepared_item_in, what_in}
-use Rattle.flow_modes.specs.Ways.{Way, across, down, left, right, entries_in, entry_in, mode_of, plain, style_in}
+use Rattle.mode_ways.specs.Ways.{Way, across, down, left, right, entries_in, entry_in, mode_of, plain, style_in}
 use Rattle.flow_modes.proofs.LineLaws.{line_fragments_alike, line_over_same, line_under_same}
 use Rattle.flow_modes.proofs.PreparedLaws.{preparations_alike}
 use Rattle.flow_modes.proofs.SideLaws.{direction_same, size_side, width_side}

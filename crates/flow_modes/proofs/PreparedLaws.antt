@@ -26,7 +26,7 @@ use Rattle.para_prepare.specs.Standing.{levels_of, standings, standings_by}
 use Rattle.para_prepare.specs.White.{chosen, marks, marks_from, signs, signs_in}
 use Rattle.page_turn.specs.Kinds.{form_in}
 use Rattle.flow_modes.specs.Prepared.{PreparationsAlike, prepared_item_in, preparation_in, unit_in}
-use Rattle.flow_modes.specs.Ways.{Way, across, down, left, right, entries_in, entry_in, mode_of, plain, style_in}
+use Rattle.mode_ways.specs.Ways.{Way, across, down, left, right, entries_in, entry_in, mode_of, plain, style_in}
 use Rattle.flow_modes.proofs.SideLaws.{direction_same}
 use Rattle.flow_modes.proofs.UnitLaws.{units_alike}
 

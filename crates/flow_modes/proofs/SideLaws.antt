@@ -11,7 +11,7 @@ use Rattle.style_types.specs.declared.style.Style.{Style}
 use Rattle.para_prepare.specs.Parts.{used_direction}
 use Rattle.para_lines.specs.Edges.{size_on, width_on}
 use Rattle.flow_modes.specs.Sides.{SidesAlike}
-use Rattle.flow_modes.specs.Ways.{Way, across, down, left, right, mode_of, plain, sides_in, style_in, widths_in}
+use Rattle.mode_ways.specs.Ways.{Way, across, down, left, right, mode_of, plain, sides_in, style_in, widths_in}
 
 pub size_side : (way : Way) (sides : SideSizes) (dir : Direction) (side : FlowSide) → size_on (sides_in way sides) (side_of (mode_of way) dir side) ≡ size_on sides (side_of (mode_of plain) dir side)
 size_side (across orientation combine) sides dir BlockStart = refl

@@ -16,7 +16,7 @@ use Rattle.relayout.specs.Edges.{inner_edges_across, inner_edges_along, margin, 
 use Rattle.relayout.specs.Inline.{equation_of}
 use Rattle.relayout.specs.Sizes.{containing_of, is_parallel, sizes_across, sizes_along}
 use Rattle.flow_modes.specs.Sizes.{BoxSizesAlike, EquationsAlike, InlineBlocksAlike}
-use Rattle.flow_modes.specs.Ways.{Way, across, down, left, right, mode_of, plain, style_in}
+use Rattle.mode_ways.specs.Ways.{Way, across, down, left, right, mode_of, plain, style_in}
 use Rattle.flow_modes.proofs.SideLaws.{direction_same, size_side}
 
 along_same : (way : Way) (style : Style) (base : Option ℤ) → sizes_along (mode_of way) (style_in way style) base ≡ sizes_along (mode_of plain) (style_in plain style) base

@@ -8,7 +8,7 @@ use Rattle.cluster_units.specs.Cluster.{unit_clusters}
 use Rattle.cluster_units.specs.Runs.{Run, items, runs_of}
 use Rattle.cluster_units.specs.Unit.{joins, run_units, single_unit, units_of}
 use Rattle.flow_modes.specs.Prepared.{UnitsAlike, unit_in}
-use Rattle.flow_modes.specs.Ways.{Way, across, down, left, right, plain, style_in}
+use Rattle.mode_ways.specs.Ways.{Way, across, down, left, right, plain, style_in}
 
 -- no unit is upright in any way, so all advance alike
 single_same : (way : Way) (style : Style) (table : Table) (cluster : _) → single_unit (style_in way style) table cluster ≡ unit_in way (single_unit (style_in plain style) table cluster)

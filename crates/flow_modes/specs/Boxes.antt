@@ -2,7 +2,7 @@
 use Rattle.std.specs.Prelude.{◌≡◌}
 use Rattle.style_types.specs.Tree.{Nodes}
 use Rattle.box_gen.specs.Boxes.{root_boxes}
-use Rattle.flow_modes.specs.Ways.{Way, boxes_in, nodes_in}
+use Rattle.mode_ways.specs.Ways.{Way, boxes_in, nodes_in}
 
 -- nodes in a way make the boxes in that way of those that the nodes make
 abbrev pub NodesMakeBoxesAlike : Type 0

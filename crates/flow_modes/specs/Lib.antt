@@ -4,4 +4,3 @@ pub mod Paragraphs
 pub mod Prepared
 pub mod Sides
 pub mod Sizes
-pub mod Ways

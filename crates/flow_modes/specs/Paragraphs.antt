@@ -8,7 +8,7 @@ use Rattle.para_lines.specs.Filling.{paragraph_sizes}
 use Rattle.para_lines.specs.Lines.{Atom, paragraph_lines}
 use Rattle.page_turn.specs.Kinds.{pieces_in}
 use Rattle.flow_modes.specs.Prepared.{preparation_in}
-use Rattle.flow_modes.specs.Ways.{Way, entries_in, mode_of, plain, style_in}
+use Rattle.mode_ways.specs.Ways.{Way, entries_in, mode_of, plain, style_in}
 
 abbrev pub container_in : Way → Container → Container
 container_in way container = record container { style = style_in way container.style }

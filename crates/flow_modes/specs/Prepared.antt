@@ -10,7 +10,7 @@ use Rattle.para_prepare.specs.declared.item.PreparedContent.TheVariants as conte
 use Rattle.para_prepare.specs.declared.item.PreparedItem.{PreparedItem}
 use Rattle.para_prepare.specs.Preparation.{Preparation, preparation}
 use Rattle.page_turn.specs.Kinds.{form_in}
-use Rattle.flow_modes.specs.Ways.{Way, entries_in, mode_of, plain, style_in}
+use Rattle.mode_ways.specs.Ways.{Way, entries_in, mode_of, plain, style_in}
 
 -- a unit stands in its line as sideways text does there
 abbrev pub unit_in : Way → Unit → Unit

@@ -8,7 +8,7 @@ use Rattle.style_types.specs.declared.style.SideWidths.{SideWidths}
 use Rattle.style_types.specs.declared.style.Style.{Style}
 use Rattle.para_prepare.specs.Parts.{used_direction}
 use Rattle.para_lines.specs.Edges.{size_on, width_on}
-use Rattle.flow_modes.specs.Ways.{Way, mode_of, plain, sides_in, style_in, widths_in}
+use Rattle.mode_ways.specs.Ways.{Way, mode_of, plain, sides_in, style_in, widths_in}
 
 -- on each side of the flow there is in every way what is there in a horizontal flow, and the used direction is the computed one
 pub record SidesAlike : Type 0 where

@@ -9,7 +9,7 @@ use Rattle.relayout.specs.Flowed.{Laid, Part}
 use Rattle.relayout.specs.Inline.{equation_of}
 use Rattle.relayout.specs.Sizes.{containing_of, is_parallel, sizes_across, sizes_along}
 use Rattle.flow_modes.specs.Paragraphs.{inline_block_in}
-use Rattle.flow_modes.specs.Ways.{Way, mode_of, plain, style_in}
+use Rattle.mode_ways.specs.Ways.{Way, mode_of, plain, style_in}
 
 -- what a style asks for along the lines and across them, and its margins, borders and paddings together, are those of a horizontal flow
 pub record BoxSizesAlike : Type 0 where

@@ -8,3 +8,4 @@ mod PositionLists
 mod ShiftLaws
 mod Sums
 mod Trees
+mod TurnLaws

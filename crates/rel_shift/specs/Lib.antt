@@ -5,3 +5,4 @@ pub mod Own
 pub mod Positions
 pub mod Shifting
 pub mod Totals
+pub mod Turned

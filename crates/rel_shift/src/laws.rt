@@ -1,6 +1,7 @@
 //! Laws of shifts. These functions do nothing: their contracts are the laws.
 
 ghost use Rattle.rel_shift.specs.Laws.{AddUp, GoNoFurther, OnlyPlacesChange, PositionsAreBounded, SizesSuffice, StayWithoutInsets};
+ghost use Rattle.rel_shift.specs.Turned.{PositionsTurn, ShiftsTurn};
 
 /// Nothing but the places of fragments changes: names, kinds, sizes and order stay, and so does the view.
 pub fn only_places_change()
@@ -30,4 +31,14 @@ pub fn positions_are_bounded()
 /// Where the view and the boxes of a page have sizes from 0 to 2^32 units, each containing block has.
 pub fn sizes_of_boxes_suffice()
     ensures { SizesSuffice }
+{}
+
+/// A styled tree in a way has the positions of the tree, in that way.
+pub fn positions_turn()
+    ensures { PositionsTurn }
+{}
+
+/// A page that is turned to a mode and shifted there is the page that is shifted and then turned.
+pub fn shifts_turn()
+    ensures { ShiftsTurn }
 {}

@@ -1,0 +1,6 @@
+mod Documents
+mod Examples
+mod FreeClaims
+mod Pages
+mod Styles
+mod Won

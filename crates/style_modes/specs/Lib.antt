@@ -1,0 +1,2 @@
+pub mod Turnable
+pub mod Turned

@@ -1,0 +1,13 @@
+//! Laws of styles in four modes. These functions do nothing: their contracts are the laws.
+
+ghost use Rattle.style_modes.specs.Turned.{TurnableDocumentsArePlain, TurnableDocumentsTurn};
+
+/// A document whose declarations name nothing of the page has in each way the styled tree, in that way, that it has else.
+pub fn turnable_documents_turn()
+    ensures { TurnableDocumentsTurn }
+{}
+
+/// Such a document is one of a horizontal flow.
+pub fn turnable_documents_are_plain()
+    ensures { TurnableDocumentsArePlain }
+{}
