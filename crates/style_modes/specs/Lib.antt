@@ -1,2 +1,3 @@
 pub mod Turnable
 pub mod Turned
+pub mod Tying

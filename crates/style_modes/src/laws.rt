@@ -1,5 +1,6 @@
 //! Laws of styles in four modes. These functions do nothing: their contracts are the laws.
 
+ghost use Rattle.style_modes.specs.Tying.{NoneTiesWhereTurnable};
 ghost use Rattle.style_modes.specs.Turned.{TurnableDocumentsArePlain, TurnableDocumentsTurn};
 
 /// A document whose declarations name nothing of the page has in each way the styled tree, in that way, that it has else.
@@ -10,4 +11,9 @@ pub fn turnable_documents_turn()
 /// Such a document is one of a horizontal flow.
 pub fn turnable_documents_are_plain()
     ensures { TurnableDocumentsArePlain }
+{}
+
+/// No declaration of a document ties it to one mode exactly where the document can be turned.
+pub fn none_ties_where_turnable()
+    ensures { NoneTiesWhereTurnable }
 {}

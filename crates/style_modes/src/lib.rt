@@ -1,6 +1,9 @@
-//! Laws of styles in four modes (CSS Logical Properties 1, 4; CSS Writing Modes 4, 6.4): a document whose declarations name nothing of the
-//! page has in vertical-rl, sideways-rl and sideways-lr the styles that it has in horizontal-tb. These functions do nothing: their contracts
-//! are the laws.
+//! Which documents can be set in any mode (CSS Logical Properties 1, 4; CSS Writing Modes 4, 3.2, 5.1 and 9.1), and laws of their styles: where
+//! no declaration names anything of the page, they have in vertical-rl, sideways-rl and sideways-lr the styles that they have in
+//! horizontal-tb.
 #![tactic(auto)]
 
 pub mod laws;
+mod tying;
+
+pub use tying::{first_tying, ties};
