@@ -1,5 +1,7 @@
 pub mod BoxLaws
+pub mod ContentLaws
 mod Examples
+pub mod FlowLaws
 pub mod LineLaws
 pub mod ParagraphLaws
 pub mod PreparedLaws

@@ -19,19 +19,19 @@ use Rattle.flow_modes.specs.Sizes.{BoxSizesAlike, EquationsAlike, InlineBlocksAl
 use Rattle.mode_ways.specs.Ways.{Way, across, down, left, right, mode_of, plain, style_in}
 use Rattle.flow_modes.proofs.SideLaws.{direction_same, size_side}
 
-along_same : (way : Way) (style : Style) (base : Option ℤ) → sizes_along (mode_of way) (style_in way style) base ≡ sizes_along (mode_of plain) (style_in plain style) base
+pub along_same : (way : Way) (style : Style) (base : Option ℤ) → sizes_along (mode_of way) (style_in way style) base ≡ sizes_along (mode_of plain) (style_in plain style) base
 along_same (across orientation combine) style base = refl
 along_same down style base = refl
 along_same (right orientation combine) style base = refl
 along_same (left orientation combine) style base = refl
 
-across_same : (way : Way) (style : Style) (base : Option ℤ) → sizes_across (mode_of way) (style_in way style) base ≡ sizes_across (mode_of plain) (style_in plain style) base
+pub across_same : (way : Way) (style : Style) (base : Option ℤ) → sizes_across (mode_of way) (style_in way style) base ≡ sizes_across (mode_of plain) (style_in plain style) base
 across_same (across orientation combine) style base = refl
 across_same down style base = refl
 across_same (right orientation combine) style base = refl
 across_same (left orientation combine) style base = refl
 
-margins_along_same : (way : Way) (style : Style) (inline : Option ℤ) → margins_along (style_in way style) inline (mode_of way) ≡ margins_along (style_in plain style) inline (mode_of plain)
+pub margins_along_same : (way : Way) (style : Style) (inline : Option ℤ) → margins_along (style_in way style) inline (mode_of way) ≡ margins_along (style_in plain style) inline (mode_of plain)
 margins_along_same (across orientation combine) style inline = refl
 margins_along_same down style inline = refl
 margins_along_same (right orientation combine) style inline = refl
@@ -43,19 +43,19 @@ margins_over_same down style inline = refl
 margins_over_same (right orientation combine) style inline = refl
 margins_over_same (left orientation combine) style inline = refl
 
-inner_along_same : (way : Way) (style : Style) (inline : Option ℤ) → inner_edges_along (style_in way style) inline (mode_of way) ≡ inner_edges_along (style_in plain style) inline (mode_of plain)
+pub inner_along_same : (way : Way) (style : Style) (inline : Option ℤ) → inner_edges_along (style_in way style) inline (mode_of way) ≡ inner_edges_along (style_in plain style) inline (mode_of plain)
 inner_along_same (across orientation combine) style inline = refl
 inner_along_same down style inline = refl
 inner_along_same (right orientation combine) style inline = refl
 inner_along_same (left orientation combine) style inline = refl
 
-inner_over_same : (way : Way) (style : Style) (inline : Option ℤ) → inner_edges_across (style_in way style) inline (mode_of way) ≡ inner_edges_across (style_in plain style) inline (mode_of plain)
+pub inner_over_same : (way : Way) (style : Style) (inline : Option ℤ) → inner_edges_across (style_in way style) inline (mode_of way) ≡ inner_edges_across (style_in plain style) inline (mode_of plain)
 inner_over_same (across orientation combine) style inline = refl
 inner_over_same down style inline = refl
 inner_over_same (right orientation combine) style inline = refl
 inner_over_same (left orientation combine) style inline = refl
 
-parallel_same : (way : Way) (parent style : Style) → is_parallel (containing_of (style_in way parent)) (style_in way style) ≡ true
+pub parallel_same : (way : Way) (parent style : Style) → is_parallel (containing_of (style_in way parent)) (style_in way style) ≡ true
 parallel_same (across orientation combine) parent style = refl
 parallel_same down parent style = refl
 parallel_same (right orientation combine) parent style = refl
@@ -84,14 +84,14 @@ equations_alike way parent style inline =
 
 -- ---- fragments in a way after another
 
-kind_twice : (way : Way) (kind : Kind) → kind_in (mode_of way) kind ≡ kind_in (mode_of way) (kind_in (mode_of plain) kind)
+pub kind_twice : (way : Way) (kind : Kind) → kind_in (mode_of way) kind ≡ kind_in (mode_of way) (kind_in (mode_of plain) kind)
 kind_twice way (block mode dir content definite start end_ through) = refl
 kind_twice way (line index base mode baseline) = refl
 kind_twice way span = refl
 kind_twice way (run form level natural units) = refl
 kind_twice way (measure min max) = refl
 
-pieces_twice : (way : Way) (pieces : Pieces) → pieces_in (mode_of way) pieces ≡ pieces_in (mode_of way) (pieces_in (mode_of plain) pieces)
+pub pieces_twice : (way : Way) (pieces : Pieces) → pieces_in (mode_of way) pieces ≡ pieces_in (mode_of way) (pieces_in (mode_of plain) pieces)
 pieces_twice way none = refl
 pieces_twice way (piece name rect kind inner next) = λ i. piece name rect (kind_twice way kind i) (pieces_twice way inner i) (pieces_twice way next i)
 

@@ -1,4 +1,5 @@
 pub mod Boxes
+pub mod Flow
 pub mod Lines
 pub mod Paragraphs
 pub mod Prepared

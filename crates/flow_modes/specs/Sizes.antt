@@ -5,7 +5,7 @@ use Rattle.style_types.specs.declared.style.Style.{Style}
 use Rattle.page_turn.specs.Kinds.{kind_in, pieces_in}
 use Rattle.relayout.specs.Atoms.{atom_in}
 use Rattle.relayout.specs.Edges.{inner_edges_across, inner_edges_along, margins_along, margins_over}
-use Rattle.relayout.specs.Flowed.{Laid, Part}
+use Rattle.relayout.specs.Flowed.{Flowed, Laid, Part}
 use Rattle.relayout.specs.Inline.{equation_of}
 use Rattle.relayout.specs.Sizes.{containing_of, is_parallel, sizes_across, sizes_along}
 use Rattle.flow_modes.specs.Paragraphs.{inline_block_in}
@@ -29,8 +29,11 @@ EquationsAlike = (way : Way) (parent style : Style) (inline : ℤ) → equation_
 abbrev pub part_in : Way → Part → Part
 part_in way part = record part { kind = kind_in (mode_of way) part.kind; inner = pieces_in (mode_of way) part.inner }
 
+abbrev pub flowed_in : Way → Flowed → Flowed
+flowed_in way flowed = record flowed { part = part_in way flowed.part }
+
 abbrev pub laid_in : Way → Laid → Laid
-laid_in way laid = record { style = style_in way laid.style; flowed = record laid.flowed { part = part_in way laid.flowed.part } }
+laid_in way laid = record { style = style_in way laid.style; flowed = flowed_in way laid.flowed }
 
 -- an inline-block in a paragraph has the margin box and the baseline that it has in a horizontal flow
 abbrev pub InlineBlocksAlike : Type 0

@@ -1,6 +1,7 @@
 //! Laws of one flow in four modes. These functions do nothing: their contracts are the laws.
 
 ghost use Rattle.flow_modes.specs.Boxes.{NodesMakeBoxesAlike};
+ghost use Rattle.flow_modes.specs.Flow.{BoxesAlike, BoxesAskAlike, ContentsAlike, LayoutsAlike};
 ghost use Rattle.flow_modes.specs.Lines.{LineFragmentsAlike};
 ghost use Rattle.flow_modes.specs.Paragraphs.{ParagraphLinesAlike, ParagraphSizesAlike, ParagraphsAlike};
 ghost use Rattle.flow_modes.specs.Prepared.{PreparationsAlike, UnitsAlike};
@@ -64,4 +65,27 @@ pub fn equations_alike()
 /// An inline-block in a way has the margin box and the baseline that it has in a horizontal flow, and its fragment is of the way.
 pub fn inline_blocks_alike()
     ensures { InlineBlocksAlike }
+{}
+
+/// A box in a way hands the block size on to its children that it hands on in a horizontal flow, and asks its content for the same
+/// min-content and max-content sizes and the same inline size.
+pub fn boxes_ask_alike()
+    ensures { BoxesAskAlike }
+{}
+
+/// What is in a box, its children one under the other or the lines of its paragraph, is in a way what is in it in a horizontal flow, in that
+/// way.
+pub fn contents_alike()
+    ensures { ContentsAlike }
+{}
+
+/// A box in a way comes under each constraint to what it comes to in a horizontal flow, in that way, with the same margins that adjoin
+/// others.
+pub fn boxes_alike()
+    ensures { BoxesAlike }
+{}
+
+/// The layout of a tree of boxes in a way is the layout of the tree in a horizontal flow, in that way.
+pub fn layouts_alike()
+    ensures { LayoutsAlike }
 {}

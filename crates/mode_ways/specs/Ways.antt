@@ -7,7 +7,6 @@ use Rattle.style_types.specs.declared.style.Combine.TheVariants.{Never}
 use Rattle.style_types.specs.declared.style.Insets.{Insets}
 use Rattle.style_types.specs.declared.style.SideSizes.{SideSizes}
 use Rattle.style_types.specs.declared.style.SideWidths.{SideWidths}
-use Rattle.style_types.specs.declared.style.Size.{Size}
 use Rattle.style_types.specs.declared.style.Style.{Style}
 use Rattle.style_types.specs.declared.style.TextOrientation.{TextOrientation}
 use Rattle.style_types.specs.declared.style.TextOrientation.TheVariants.{Mixed, Sideways}
@@ -46,8 +45,8 @@ combine_of down = Never
 combine_of (right orientation combine) = combine
 combine_of (left orientation combine) = combine
 
--- a size across the page, of those along the lines and across them in the flow
-abbrev pub size_across : Way → (along over : Size) → Size
+-- what there is across the page, of what there is along the lines and across them in the flow
+abbrev pub size_across : {Length : Type 0} → Way → (along over : Length) → Length
 size_across (across orientation combine) along over = along
 size_across down along over = over
 size_across (right orientation combine) along over = over

@@ -1,0 +1,5 @@
+use Rattle.flow_modes.proofs.FlowLaws.{boxes_ask_alike}
+use Rattle.flow_modes.proofs.laws.boxes_ask_alike.Goals as goal
+
+pub returns : goal.returns
+returns c = boxes_ask_alike
