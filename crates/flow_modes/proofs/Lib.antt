@@ -1,3 +1,4 @@
+pub mod AskLaws
 pub mod BoxLaws
 pub mod ContentLaws
 mod Examples

@@ -1,5 +1,6 @@
 //! Laws of one flow in four modes. These functions do nothing: their contracts are the laws.
 
+ghost use Rattle.flow_modes.specs.Asks.{AsksAlike};
 ghost use Rattle.flow_modes.specs.Boxes.{NodesMakeBoxesAlike};
 ghost use Rattle.flow_modes.specs.Flow.{BoxesAlike, BoxesAskAlike, ContentsAlike, LayoutsAlike};
 ghost use Rattle.flow_modes.specs.Lines.{LineFragmentsAlike};
@@ -88,4 +89,10 @@ pub fn boxes_alike()
 /// The layout of a tree of boxes in a way is the layout of the tree in a horizontal flow, in that way.
 pub fn layouts_alike()
     ensures { LayoutsAlike }
+{}
+
+/// The layout of boxes in a way lays out the boxes that it lays out in a horizontal flow, under the same constraints, and prepares the same
+/// texts.
+pub fn asks_alike()
+    ensures { AsksAlike }
 {}
