@@ -15,7 +15,7 @@ use Rattle.relayout.specs.Sizes.{containing_of, given}
 use Rattle.relayout.specs.Step.{definite_under, under}
 use Rattle.flow_modes.specs.Asks.{AsksAlike}
 use Rattle.flow_modes.specs.Flow.{node_in, outside_in}
-use Rattle.flow_modes.specs.Ways.{Way, boxes_in, content_in, plain, style_in}
+use Rattle.mode_ways.specs.Ways.{Way, boxes_in, content_in, plain, style_in}
 use Rattle.flow_modes.proofs.ContentLaws.{handed_same}
 use Rattle.flow_modes.proofs.FlowLaws.{inline_size_same, known_same, members_same, page_same}
 use Rattle.flow_modes.proofs.SizeLaws.{along_same, parallel_same}

@@ -36,7 +36,7 @@ use Rattle.relayout.specs.Sizes.{block_base, block_sizes, containing_of, definit
 use Rattle.flow_modes.specs.Flow.{ContentsAlike, filled_in, node_in}
 use Rattle.flow_modes.specs.Paragraphs.{container_in, inline_block_in}
 use Rattle.flow_modes.specs.Sizes.{flowed_in, laid_in}
-use Rattle.flow_modes.specs.Ways.{Way, across, down, left, right, entries_in, mode_of, plain, style_in}
+use Rattle.mode_ways.specs.Ways.{Way, across, down, left, right, entries_in, mode_of, plain, style_in}
 use Rattle.flow_modes.proofs.ParagraphLaws.{paragraphs_alike}
 use Rattle.flow_modes.proofs.SideLaws.{direction_same, size_side, width_side}
 use Rattle.flow_modes.proofs.SizeLaws.{across_same, along_same, equations_alike, inline_blocks_alike, inner_along_same, inner_over_same, kind_twice, parallel_same, pieces_twice}

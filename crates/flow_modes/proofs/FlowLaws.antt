@@ -26,7 +26,7 @@ use Rattle.relayout.specs.Sizes.{containing_of, given, hold, hold_both, is_atom,
 use Rattle.relayout.specs.Step.{under}
 use Rattle.flow_modes.specs.Flow.{BoxesAlike, BoxesAskAlike, LayoutsAlike, member_in, node_in, outside_in}
 use Rattle.flow_modes.specs.Sizes.{flowed_in, laid_in}
-use Rattle.flow_modes.specs.Ways.{Way, across, down, left, right, boxes_in, content_in, entries_in, mode_of, plain, style_in}
+use Rattle.mode_ways.specs.Ways.{Way, across, down, left, right, boxes_in, content_in, entries_in, mode_of, plain, style_in}
 use Rattle.flow_modes.proofs.ContentLaws.{based_same, block_box_same, boxed_same, contents_alike, handed_same, inline_place_same, inline_sizes_same, margin_side, measured_same}
 use Rattle.flow_modes.proofs.ParagraphLaws.{paragraph_sizes_alike}
 use Rattle.flow_modes.proofs.PreparedLaws.{preparations_alike}

@@ -6,7 +6,7 @@ use Rattle.wm_units.specs.declared.view.View.{View}
 use Rattle.box_gen.specs.Places.{paragraphs}
 use Rattle.box_gen.specs.Tree.{Boxes}
 use Rattle.relayout.specs.Asks.{asks}
-use Rattle.flow_modes.specs.Ways.{Way, boxes_in, plain}
+use Rattle.mode_ways.specs.Ways.{Way, boxes_in, plain}
 
 -- the same boxes are laid out as in a horizontal flow, under the same constraints, and the same ones hold a paragraph
 pub record AsksAlike : Type 0 where

@@ -16,7 +16,7 @@ use Rattle.relayout.specs.Flowed.{Laid, Member}
 use Rattle.relayout.specs.Inline.{Outside, inline_size}
 use Rattle.relayout.specs.Sizes.{containing_of}
 use Rattle.flow_modes.specs.Sizes.{flowed_in, laid_in}
-use Rattle.flow_modes.specs.Ways.{Way, boxes_in, content_in, mode_of, plain, size_across, style_in}
+use Rattle.mode_ways.specs.Ways.{Way, boxes_in, content_in, mode_of, plain, size_across, style_in}
 
 abbrev pub node_in : Way → Node → Node
 node_in way node = record { name = node.name; style = style_in way node.style; content = content_in way node.content }

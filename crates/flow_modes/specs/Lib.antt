@@ -2,6 +2,7 @@ pub mod Asks
 pub mod Boxes
 pub mod Flow
 pub mod Lines
+pub mod Pages
 pub mod Paragraphs
 pub mod Prepared
 pub mod Sides

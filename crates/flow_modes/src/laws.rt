@@ -4,6 +4,7 @@ ghost use Rattle.flow_modes.specs.Asks.{AsksAlike};
 ghost use Rattle.flow_modes.specs.Boxes.{NodesMakeBoxesAlike};
 ghost use Rattle.flow_modes.specs.Flow.{BoxesAlike, BoxesAskAlike, ContentsAlike, LayoutsAlike};
 ghost use Rattle.flow_modes.specs.Lines.{LineFragmentsAlike};
+ghost use Rattle.flow_modes.specs.Pages.{PagesAreTurned, StyledPagesAreTurned};
 ghost use Rattle.flow_modes.specs.Paragraphs.{ParagraphLinesAlike, ParagraphSizesAlike, ParagraphsAlike};
 ghost use Rattle.flow_modes.specs.Prepared.{PreparationsAlike, UnitsAlike};
 ghost use Rattle.flow_modes.specs.Sides.{SidesAlike};
@@ -95,4 +96,14 @@ pub fn layouts_alike()
 /// texts.
 pub fn asks_alike()
     ensures { AsksAlike }
+{}
+
+/// The page of boxes in a way is the page of the boxes in a horizontal flow, turned to the mode of the way.
+pub fn pages_are_turned()
+    ensures { PagesAreTurned }
+{}
+
+/// So is the page of a styled tree in a way.
+pub fn styled_pages_are_turned()
+    ensures { StyledPagesAreTurned }
 {}

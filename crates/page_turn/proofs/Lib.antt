@@ -1,4 +1,4 @@
 mod Examples
-mod PageLaws
+pub mod PageLaws
 mod RectLaws
 mod Trees
