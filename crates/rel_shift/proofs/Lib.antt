@@ -8,4 +8,4 @@ mod PositionLists
 mod ShiftLaws
 mod Sums
 mod Trees
-mod TurnLaws
+pub mod TurnLaws

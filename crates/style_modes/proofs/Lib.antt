@@ -1,4 +1,4 @@
-mod Documents
+pub mod Documents
 mod Examples
 mod Firsts
 mod FreeClaims
