@@ -7,8 +7,7 @@ ghost use Rattle.place_map.specs.Placed.{placed_of};
 ghost use Rattle.check_points.specs.Arrows as rule;
 
 use hit_caret::{Cell, CellVisitor, visit_cells};
-use place_map::Placed;
-use wm_modes::Rect;
+use place_map::{Bound, Placed};
 
 /// The places of a text to which a caret at one of its places goes: the nearest at which it can stand behind that one, and before it.
 #[derive(Drop)]
@@ -24,8 +23,8 @@ impl CellVisitor for Steps {
 
     ghost seen = { seen };
 
-    fn looks_at(&self, node: u32, _rect: &Rect) -> bool {
-        node == self.node
+    fn looks_into(&self, bound: &Bound) -> bool {
+        bound.spans(self.node)
     }
 
     fn see(&mut self, cell: Cell) {

@@ -1,11 +1,12 @@
 //! A caret on a page of one run, moved by arrow keys.
 
 ghost use Rattle.std.specs.Prelude.{IfOk};
-ghost use Rattle.place_map.specs.Near.{AreNearParts};
+ghost use Rattle.fragment_types.specs.Fragment.{kind_of};
+ghost use Rattle.place_map.specs.Near.{AreNearParts, IsNearKind};
 ghost use Rattle.place_map.specs.Placed.{parts_of, placed_of};
 
 use crate::arrows::steps_from;
-use fragment_types::{BoxName, FragmentKind, Glyphs, RunUnit, UnitKind};
+use fragment_types::{BoxName, FragmentKind, Glyphs, RunUnit, RunUnits, UnitKind};
 use hit_caret::caret;
 use place_map::{Placed, PlacedPart, PlacedParts};
 use std::alloc::{AllocError, Global};
@@ -21,6 +22,12 @@ const VIEW: View = View {
 
 /// The text node.
 const TEXT: u32 = 3;
+
+/// The name of its runs.
+const NAME: BoxName = BoxName {
+    node: TEXT,
+    ordinal: 0,
+};
 
 /// The rectangle of a run of three letters of 8 px from right to left. The text goes on behind a space at which its line ends.
 const RUN: Rect = Rect {
@@ -47,20 +54,7 @@ fn page(alloc: Global) -> Result<Placed, AllocError>
     units.push(RunUnit::new(alloc, 0, 1, 512, &Glyphs::one('א'))?)?;
     Ok(Placed {
         view: VIEW,
-        root: PlacedPart {
-            name: BoxName {
-                node: TEXT,
-                ordinal: 0,
-            },
-            rect: RUN,
-            kind: FragmentKind::Run {
-                form: UnitKind::Along,
-                level: 1,
-                natural: None,
-                units: Rc::new(alloc, units)?,
-            },
-            children: next_line(alloc)?,
-        },
+        root: PlacedPart::new(NAME, RUN, run_of(alloc, units)?, next_line(alloc)?),
     })
 }
 
@@ -71,21 +65,20 @@ fn next_line(alloc: Global) -> Result<PlacedParts, AllocError>
     let mut units = Vec::new(alloc);
     units.push(RunUnit::new(alloc, 4, 5, 512, &Glyphs::one('ד'))?)?;
     let mut parts = Vec::new(alloc);
-    parts.push(PlacedPart {
-        name: BoxName {
-            node: TEXT,
-            ordinal: 0,
-        },
-        rect: NEXT,
-        kind: FragmentKind::Run {
-            form: UnitKind::Along,
-            level: 1,
-            natural: None,
-            units: Rc::new(alloc, units)?,
-        },
-        children: Vec::new(alloc),
-    })?;
+    parts.push(PlacedPart::new(NAME, NEXT, run_of(alloc, units)?, Vec::new(alloc)))?;
     Ok(parts)
+}
+
+// A run from right to left of these units.
+fn run_of(alloc: Global, units: RunUnits) -> Result<FragmentKind, AllocError>
+    ensures { IfOk result (λ kind. IsNearKind (kind_of kind)) }
+{
+    Ok(FragmentKind::Run {
+        form: UnitKind::Along,
+        level: 1,
+        natural: None,
+        units: Rc::new(alloc, units)?,
+    })
 }
 
 #[test]

@@ -26,6 +26,19 @@ const NO_MARGINS: Margins = Margins {
     negative: 0,
 };
 
+const NAME: BoxName = BoxName {
+    node: 0,
+    ordinal: 0,
+};
+
+/// Where the box stands: as wide as the view, at its top.
+const WHOLE: Rect = Rect {
+    x: 0,
+    y: 0,
+    w: 12_800,
+    h: 640,
+};
+
 /// 5 px down, and a tenth of the view to the right.
 const INSETS: Insets = Insets {
     top: Size::Length(320),
@@ -61,20 +74,12 @@ fn page(alloc: Global) -> Result<Placed, AllocError>
     };
     Ok(Placed {
         view: VIEW,
-        root: PlacedPart {
-            name: BoxName {
-                node: 0,
-                ordinal: 0,
-            },
-            rect: Rect {
-                x: 0,
-                y: 0,
-                w: 12_800,
-                h: 640,
-            },
-            kind: FragmentKind::Box(Rc::new(alloc, part)?),
-            children: Vec::new(alloc),
-        },
+        root: PlacedPart::new(
+            NAME,
+            WHOLE,
+            FragmentKind::Box(Rc::new(alloc, part)?),
+            Vec::new(alloc),
+        ),
     })
 }
 
@@ -90,6 +95,6 @@ fn pages_are_shifted(rt: HostRuntime) -> Result<(), Fail> {
         w: 12_800,
         h: 640,
     };
-    assert_eq!(rt; shifted.root.rect, due);
+    assert_eq!(rt; shifted.root.rect(), due);
     Ok(())
 }

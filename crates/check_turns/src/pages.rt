@@ -74,12 +74,12 @@ fn flow(alloc: Global) -> Result<Placed, AllocError>
     };
     Ok(Placed {
         view: VIEW,
-        root: PlacedPart {
-            name: NAME,
-            rect: FLOW,
-            kind: FragmentKind::Box(Rc::new(alloc, part)?),
-            children: Vec::new(alloc),
-        },
+        root: PlacedPart::new(
+            NAME,
+            FLOW,
+            FragmentKind::Box(Rc::new(alloc, part)?),
+            Vec::new(alloc),
+        ),
     })
 }
 
@@ -87,10 +87,10 @@ fn flow(alloc: Global) -> Result<Placed, AllocError>
 fn pages_are_turned(rt: HostRuntime) -> Result<(), Fail> {
     let flow = flow(rt.alloc())?;
     let vertical = turn(rt.alloc(), &flow, WritingMode::VerticalRl)?;
-    assert_eq!(rt; vertical.root.rect, VERTICAL);
+    assert_eq!(rt; vertical.root.rect(), VERTICAL);
     assert_eq!(rt; vertical.mode(), WritingMode::VerticalRl);
     let sideways = turn(rt.alloc(), &flow, WritingMode::SidewaysLr)?;
-    assert_eq!(rt; sideways.root.rect, SIDEWAYS);
+    assert_eq!(rt; sideways.root.rect(), SIDEWAYS);
     assert_eq!(rt; sideways.mode(), WritingMode::SidewaysLr);
     Ok(())
 }

@@ -9,7 +9,7 @@ ghost use Rattle.place_map.specs.Placed.{placed_of};
 use crate::cells::Cell;
 use crate::rects::{Point, extent_from, touching};
 use crate::visiting::{CellVisitor, visit_cells};
-use place_map::Placed;
+use place_map::{Bound, Placed};
 use wm_modes::{FlowSide, Rect};
 
 /// The caret at a place of a text, a rectangle without extent along its line: the leading edge of the first cell of the text
@@ -96,8 +96,8 @@ impl CellVisitor for FirstCells {
       ending = found_first s.ending (ends_at s.node s.place c) c;
     } };
 
-    fn looks_at(&self, node: u32, _rect: &Rect) -> bool {
-        node == self.node
+    fn looks_into(&self, bound: &Bound) -> bool {
+        bound.spans(self.node)
     }
 
     fn see(&mut self, cell: Cell) {

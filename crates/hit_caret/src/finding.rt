@@ -9,8 +9,7 @@ use crate::cells::Cell;
 use crate::hits::{Hit, hit_in};
 use crate::rects::{Point, holds};
 use crate::visiting::{CellVisitor, visit_cells};
-use place_map::Placed;
-use wm_modes::Rect;
+use place_map::{Bound, Placed};
 
 /// The hit of a point, in units of 1/64 px from the page's left and top edges: of the last cell that holds it, or none where
 /// no cell does. The page is as `visit_cells` wants it. Takes no memory.
@@ -40,8 +39,8 @@ impl CellVisitor for LastHit {
 
     ghost seen = { λ last c. record { point = last.point; found = if holds c.rect last.point then Some (hit_in last.point c) else last.found } };
 
-    fn looks_at(&self, _node: u32, rect: &Rect) -> bool {
-        holds(rect, self.point)
+    fn looks_into(&self, bound: &Bound) -> bool {
+        bound.holds(self.point.x, self.point.y)
     }
 
     fn see(&mut self, cell: Cell) {

@@ -6,29 +6,29 @@ ghost use Rattle.hit_caret.specs.Cells as spec;
 ghost use Rattle.hit_caret.specs.Near.{IsNearCell};
 ghost use Rattle.place_map.specs.Near.{AreNearParts};
 ghost use Rattle.place_map.specs.Placed.{parts_of, placed_of};
-ghost use Rattle.place_map.specs.declared.placed.PlacedPart.{out-PlacedPart};
 ghost use Rattle.wm_modes.specs.Near.{IsNear};
 
 use crate::cells::{Cell, Run};
 use fragment_types::{FragmentKind, RunUnit, UnitKind};
-use place_map::{Placed, PlacedPart};
+use place_map::{Bound, Placed, PlacedPart};
 use std::slice;
-use wm_modes::{Rect, WritingMode};
+use wm_modes::WritingMode;
 
 /// What looks at cells one after the other.
 pub trait CellVisitor {
     ghost use Rattle.std.specs.Prelude.{false};
     ghost use Rattle.hit_caret.specs.declared.cells.Cell.{Cell};
-    ghost use Rattle.hit_caret.specs.Visiting.{Ignores};
+    ghost use Rattle.hit_caret.specs.Visiting.{IgnoresAll};
 
     /// What it is after it has seen a cell.
     ghost seen: { Self → Cell → Self };
 
-    /// Whether it is to see the cells of a run of this text node, which lie in this rectangle. Where it isn't, none of them would
-    /// change it.
-    fn looks_at(&self, node: u32, rect: &Rect) -> bool
-        requires near { IsNearCell rect.now }
-        ensures { result ≡ false → Ignores seen self.now node rect.now };
+    /// Whether it is to see the cells of fragments that lie in this bound. Where it isn't, none of them would change it.
+    fn looks_into(&self, bound: &Bound) -> bool
+        ensures { result ≡ false → IgnoresAll seen self.now bound.now }
+    {
+        true
+    }
 
     /// Sees a cell. No coordinate of it is further than 2^62 from 0.
     fn see(&mut self, cell: Cell)
@@ -36,8 +36,8 @@ pub trait CellVisitor {
         ensures { self.new ≡ seen self.old cell };
 }
 
-/// Shows the cells of a page to a visitor, in the order of the listing, but those of runs that it doesn't look at: so it is what
-/// it would be, if it had seen all. All coordinates of the page lie within 2^60 units of 0. Takes no memory.
+/// Shows the cells of a page to a visitor, in the order of the listing, but those of fragments that it doesn't look into: so it
+/// is what it would be, if it had seen all. All coordinates of the page lie within 2^60 units of 0. Takes no memory.
 pub fn visit_cells<V: CellVisitor>(placed: &Placed, visitor: &mut V)
     requires near { AreNearParts (placed_of placed.now).parts }
     ensures { visitor.new ≡ fold V.seen visitor.old (spec.cells (placed_of placed.now)) }
@@ -51,17 +51,19 @@ fn visit_parts<V: CellVisitor>(mode: WritingMode, parts: &[PlacedPart], visitor:
     ensures { visitor.new ≡ fold V.seen visitor.old (spec.cells_in mode (parts_of parts.now)) }
 {
     for part in parts {
-        visit_part(mode, part, visitor);
-        visit_parts(mode_inside(mode, &part.kind), &part.children, visitor);
+        if visitor.looks_into(part.bound()) {
+            visit_part(mode, part, visitor);
+            visit_parts(mode_inside(mode, part.kind()), part.children(), visitor);
+        }
     }
 }
 
 // The cells of a fragment itself.
 fn visit_part<V: CellVisitor>(mode: WritingMode, part: &PlacedPart, visitor: &mut V)
-    requires rect { IsNear (out-PlacedPart part.now).rect }
-    ensures { visitor.new ≡ fold V.seen visitor.old (spec.own_cells mode (out-PlacedPart part.now).name.node (out-PlacedPart part.now).rect (kind_of (out-PlacedPart part.now).kind)) }
+    requires rect { IsNear part.now.rect }
+    ensures { visitor.new ≡ fold V.seen visitor.old (spec.own_cells mode part.now.name.node part.now.rect part.now.kind) }
 {
-    match &part.kind {
+    match part.kind() {
         FragmentKind::Run {
             form,
             level,
@@ -69,14 +71,12 @@ fn visit_part<V: CellVisitor>(mode: WritingMode, part: &PlacedPart, visitor: &mu
             ..
         } => {
             let run = Run {
-                node: part.name.node,
+                node: part.name().node,
                 level: *level,
                 mode,
-                rect: part.rect,
+                rect: part.rect(),
             };
-            if visitor.looks_at(run.node, &run.rect) {
-                visit_run(*form, &run, units, visitor);
-            }
+            visit_run(*form, &run, units, visitor);
         }
         FragmentKind::Box(_)
         | FragmentKind::Line { .. }

@@ -13,11 +13,16 @@ use Rattle.fragment_types.specs.declared.item.BoxName.{BoxName}
 use Rattle.style_types.specs.declared.style.Baseline.{Baseline}
 use Rattle.fragment_types.specs.declared.unit_kind.UnitKind.{UnitKind}
 use Rattle.fragment_types.specs.Fragment.{block, line, span, run, measure, kind_of}
-use Rattle.listing.specs.Lines.{box_line, line_line, line_of, run_line, run_place, span_line}
+use Rattle.place_map.specs.Parts.{Part}
+use Rattle.listing.specs.Lines.{box_line, line_at, line_line, line_of, run_line, run_place, span_line}
 use Rattle.listing.specs.Runs.{combined_width, form_word, space, units}
 use Rattle.listing.specs.Words.{count}
 
 module _ (mode : WritingMode) (name : BoxName) (rect : Rect) (kind : FragmentKind) where
+  -- the line of a fragment of this name, rectangle and kind
+  pub same_line : (p : Part) → name ≡ p.name → rect ≡ p.rect → kind_of kind ≡ p.kind → line_of mode name rect (kind_of kind) ≡ line_at mode p
+  same_line p named at of = λ i. line_of mode (named i) (at i) (of i)
+
   pub box_text : (own : WritingMode) (dir : Direction) (content : FlowRect) (definite : Option ℤ) (start end_ : Margins) (through : Bool)
       → kind_of kind ≡ block own dir content definite start end_ through → box_line name rect ≡ line_of mode name rect (kind_of kind)
   unfolding line_of

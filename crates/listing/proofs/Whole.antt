@@ -11,12 +11,12 @@ use Rattle.wm_modes.specs.declared.rects.Rect.{Rect}
 use Rattle.place_map.specs.Frame.{page_of}
 use Rattle.place_map.specs.Placed.{direction_of, mode_of, parts_of, placed_of}
 use Rattle.place_map.specs.declared.placed.Placed.{Placed}
-use Rattle.place_map.specs.declared.placed.PlacedPart.{PlacedPart}
+use Rattle.place_map.specs.Parts.{Part}
 use Rattle.listing.specs.Lines.{page_line}
 use Rattle.listing.specs.Listing.{lines, listing}
 use Rattle.listing.proofs.Puts.{first_broken, second_broken, third_broken, three_put}
 
-module _ (placed : Placed) (waiting line : List ℕ) (mode : WritingMode) (dir : Direction) (page : Rect) (roots : List PlacedPart) (none : waiting ≡ []) (told : line ≡ page_line page mode dir)
+module _ (placed : Placed) (waiting line : List ℕ) (mode : WritingMode) (dir : Direction) (page : Rect) (roots : List Part) (none : waiting ≡ []) (told : line ≡ page_line page mode dir)
     (whole : page ≡ page_of placed.view (mode_of (placed_of placed))) (by : mode ≡ mode_of (placed_of placed)) (to : dir ≡ direction_of (placed_of placed)) (one : roots ≡ placed.root ∷ []) where
   pub text : waiting ++ (line ++ lines mode (parts_of roots) ++ codes "end\n") ≡ listing (placed_of placed)
   unfolding listing

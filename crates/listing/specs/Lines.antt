@@ -4,10 +4,10 @@ use Rattle.wm_modes.specs.Words.{mode_word, direction_word}
 use Rattle.wm_modes.specs.declared.mode.Direction.{Direction}
 use Rattle.wm_modes.specs.declared.mode.WritingMode.{WritingMode}
 use Rattle.wm_modes.specs.declared.rects.Rect.{Rect}
-use Rattle.fragment_types.specs.Fragment.{Kind, block, line, span, run, measure, kind_of}
+use Rattle.fragment_types.specs.Fragment.{Kind, block, line, span, run, measure}
 use Rattle.fragment_types.specs.RunUnit.{RunUnit}
 use Rattle.fragment_types.specs.declared.item.BoxName.{BoxName}
-use Rattle.place_map.specs.declared.placed.PlacedPart.{PlacedPart, out-PlacedPart}
+use Rattle.place_map.specs.Parts.{Part}
 use Rattle.listing.specs.Runs.{combined_width, end_of, first_of, form_word, space, units}
 use Rattle.listing.specs.Words.{count, name_words, pair, rect_words, word}
 
@@ -46,6 +46,5 @@ line_of mode name rect (run form level natural run_units) =
     run_line name.node rect (form_word mode form (combined_width natural run_units)) level run_units
 line_of mode name rect (measure min max) = []
 
--- the same of the code's own type
-abbrev pub line_at : WritingMode → PlacedPart → List ℕ
-line_at mode p = line_of mode (out-PlacedPart p).name (out-PlacedPart p).rect (kind_of (out-PlacedPart p).kind)
+abbrev pub line_at : WritingMode → Part → List ℕ
+line_at mode p = line_of mode p.name p.rect p.kind

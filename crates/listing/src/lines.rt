@@ -49,22 +49,21 @@ pub(crate) fn put_line<K: Sink>(
     ensures later { K.faults sink.old ≤ K.faults sink.new }
     ensures fault { IsErrOf result WriteError.WriteFault → Rose (K.faults sink.old) (K.faults sink.new) }
 {
-    match &part.kind {
-        FragmentKind::Box(_) => { waiting.put(box_line(part.name, &part.rect).as_bytes(), sink) }
+    let name = part.name();
+    let rect = part.rect();
+    match part.kind() {
+        FragmentKind::Box(_) => { waiting.put(box_line(name, &rect).as_bytes(), sink) }
         FragmentKind::Line { index, base, .. } => {
-            waiting.put(
-                line_line(part.name, &part.rect, *index, *base).as_bytes(),
-                sink,
-            )
+            waiting.put(line_line(name, &rect, *index, *base).as_bytes(), sink)
         }
-        FragmentKind::Span => waiting.put(span_line(part.name, &part.rect).as_bytes(), sink),
+        FragmentKind::Span => waiting.put(span_line(name, &rect).as_bytes(), sink),
         FragmentKind::Run {
             form,
             level,
             natural,
             units,
         } => {
-            let mut start = run_place(part.name.node, &part.rect, units);
+            let mut start = run_place(name.node, &rect, units);
             push_form(&mut start, mode, *form, combined_width(*natural, units));
             push_count(&mut start, usize::from(*level));
             put_run(&start, units, waiting, sink)

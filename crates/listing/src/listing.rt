@@ -45,7 +45,12 @@ fn put_parts<K: Sink>(
 {
     for part in parts {
         put_line(mode, part, waiting, sink)?;
-        put_parts(mode_inside(mode, &part.kind), &part.children, waiting, sink)?;
+        put_parts(
+            mode_inside(mode, part.kind()),
+            part.children(),
+            waiting,
+            sink,
+        )?;
     }
     Ok(())
 }

@@ -1,7 +1,8 @@
 //! Rectangles of the flow's page on the page of another mode (CSS Writing Modes 4, 6.2 and 6.4).
 
-ghost use Rattle.std.specs.Prelude.{◌≡◌, ◌≤◌, ◌^◌, unsigned_abs};
+ghost use Rattle.std.specs.Prelude.{◌≡◌, ◌≤◌, ◌*◌, ◌^◌, unsigned_abs};
 ghost use Rattle.page_turn.specs.Rects as rule;
+ghost use Rattle.place_map.specs.Near.{HasEdges};
 ghost use Rattle.wm_modes.specs.Map as map;
 ghost use Rattle.wm_modes.specs.Near.{IsNear};
 ghost use Rattle.wm_modes.specs.Sides as sides;
@@ -25,7 +26,8 @@ impl Turn {
     /// A rectangle of the flow's page, turned: as far from line-left and from block-start.
     pub(crate) fn rect(self, rect: Rect) -> Rect
         requires near { IsNear rect }
-        ensures { result ≡ rule.rect_turned self.mode self.view rect }
+        ensures value { result ≡ rule.rect_turned self.mode self.view rect }
+        ensures edges { HasEdges result }
     {
         let along = from_side(
             self.side(FlowSide::LineLeft),
@@ -69,7 +71,8 @@ fn from_side(side: Side, whole: i64, start: i64, extent: i64) -> i64
     requires whole { unsigned_abs whole ≤ 2 ^ 60 }
     requires start { unsigned_abs start ≤ 2 ^ 60 }
     requires extent { unsigned_abs extent ≤ 2 ^ 60 }
-    ensures { result ≡ rule.from_side side whole start extent }
+    ensures value { result ≡ rule.from_side side whole start extent }
+    ensures near { unsigned_abs result ≤ 3 * 2 ^ 60 }
 {
     match side {
         Side::Top | Side::Left => start,
@@ -82,7 +85,8 @@ fn from_other_end(whole: i64, start: i64, extent: i64) -> i64
     requires whole { unsigned_abs whole ≤ 2 ^ 60 }
     requires start { unsigned_abs start ≤ 2 ^ 60 }
     requires extent { unsigned_abs extent ≤ 2 ^ 60 }
-    ensures { result ≡ map.from_other_end whole start extent }
+    ensures value { result ≡ map.from_other_end whole start extent }
+    ensures near { unsigned_abs result ≤ 3 * 2 ^ 60 }
 {
     whole - start - extent
 }

@@ -50,11 +50,8 @@ fn turned_part(alloc: Global, turn: Turn, part: &PlacedPart) -> Result<PlacedPar
     requires near { AreNearParts (before part.now none) }
     ensures { IfOk result (λ made. (next : Parts) → before made (rule.turned_parts turn.mode turn.view next) ≡ rule.turned_parts turn.mode turn.view (before part.now next)) }
 {
-    let children = turned_parts(alloc, turn, &part.children)?;
-    Ok(PlacedPart {
-        name: part.name,
-        rect: turn.rect(part.rect),
-        kind: kind_in(alloc, turn.mode, &part.kind)?,
-        children,
-    })
+    let children = turned_parts(alloc, turn, part.children())?;
+    let kind = kind_in(alloc, turn.mode, part.kind())?;
+    let rect = turn.rect(part.rect());
+    Ok(PlacedPart::new(part.name(), rect, kind, children))
 }

@@ -5,7 +5,7 @@ use Rattle.wm_modes.specs.declared.mode.WritingMode.TheVariants as modes
 use Rattle.style_types.specs.declared.style.Baseline.TheVariants as bases
 use Rattle.fragment_types.specs.declared.unit_kind.UnitKind.TheVariants as kinds
 use Rattle.fragment_types.specs.Fragment.{none, piece, block, line, span, run, measure}
-use Rattle.place_map.specs.Placed.{part, none as nothing}
+use Rattle.place_map.specs.Parts.{part, none as nothing}
 use Rattle.place_map.specs.Placing.{place}
 
 place-1 : place (record { inline = (pos 6400); block = (pos 3200) }) (piece (record { node = 0; ordinal = 0 }) (record { i = (pos 0); b = (pos 0); inline = (pos 6400); block = (pos 0) }) (block modes.VerticalLr directions.Rtl (record { i = (pos 0); b = (pos 0); inline = (pos 6400); block = (pos 0) }) None (record { positive = (pos 0); negative = (pos 0) }) (record { positive = (pos 0); negative = (pos 0) }) false) (piece (record { node = 1; ordinal = 0 }) (record { i = (pos 0); b = (pos 0); inline = (pos 6400); block = (pos 0) }) (block modes.VerticalLr directions.Rtl (record { i = (pos 0); b = (pos 0); inline = (pos 6400); block = (pos 0) }) None (record { positive = (pos 0); negative = (pos 0) }) (record { positive = (pos 0); negative = (pos 0) }) true) none none) none) ≡ record { view = (record { inline = (pos 6400); block = (pos 3200) }); parts = (part (record { node = 0; ordinal = 0 }) (record { x = (pos 0); y = (pos 0); w = (pos 0); h = (pos 6400) }) (block modes.VerticalLr directions.Rtl (record { i = (pos 0); b = (pos 0); inline = (pos 6400); block = (pos 0) }) None (record { positive = (pos 0); negative = (pos 0) }) (record { positive = (pos 0); negative = (pos 0) }) false) (part (record { node = 1; ordinal = 0 }) (record { x = (pos 0); y = (pos 0); w = (pos 0); h = (pos 6400) }) (block modes.VerticalLr directions.Rtl (record { i = (pos 0); b = (pos 0); inline = (pos 6400); block = (pos 0) }) None (record { positive = (pos 0); negative = (pos 0) }) (record { positive = (pos 0); negative = (pos 0) }) true) nothing nothing) nothing) }

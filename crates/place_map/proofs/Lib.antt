@@ -1,2 +1,4 @@
+mod Bounds
 mod Examples
+pub mod PartLists
 mod Trees

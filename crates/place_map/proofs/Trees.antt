@@ -8,12 +8,12 @@ use Rattle.fragment_types.specs.declared.fragment.Fragment.{Fragment, out-Fragme
 use Rattle.fragment_types.specs.declared.fragment.Fragment.TheFolds.{fold_out-Fragment}
 use Rattle.fragment_types.specs.Fragment.{Kind, Pieces, none, piece, before, kind_of, moved_to, piece_of, piece_step, pieces_of}
 use Rattle.place_map.specs.declared.frame.Frame.{Frame}
-use Rattle.place_map.specs.declared.placed.PlacedPart.{PlacedPart}
 use Rattle.place_map.specs.Frame.{inside, on_page}
 use Rattle.place_map.specs.Near.{AreNear, AreNearParts, IsNearPart}
-use Rattle.place_map.specs.Placed as page
-use Rattle.place_map.specs.Placed.{Parts, part, followed, parts_of}
+use Rattle.place_map.specs.Parts as page
+use Rattle.place_map.specs.Parts.{Part, Parts, part, followed, parts_of}
 use Rattle.place_map.specs.Placing.{placed}
+use Rattle.place_map.proofs.PartLists.{followed_push, part_with}
 
 -- ---- a fragment is a piece before what follows it
 
@@ -95,28 +95,20 @@ part_same : (n n' : BoxName) (r r' : Rect) (k k' : Kind) (i i' next : Parts) →
 part_same n n' r r' k k' i i' next p q s t = rw (p, q, s, t) refl
 
 -- a fragment stands where its frame says, with those inside it
-pub part_placed : (frame own : Frame) (f copy : Fragment) (rect : Rect) (children : List PlacedPart) (p : PlacedPart)
-    → ((next : Parts) → page.before p next ≡ part (out-Fragment copy).name rect (kind_of (out-Fragment copy).kind) (parts_of children) next)
+pub part_placed : (frame own : Frame) (f copy : Fragment) (rect : Rect) (children : List Part) (p : Part)
+    → p ≡ part_with (out-Fragment copy).name rect (kind_of (out-Fragment copy).kind) (parts_of children)
     → rect ≡ on_page frame (out-Fragment f).rect → own ≡ inside frame (kind_of (out-Fragment f).kind) rect → piece_of copy ≡ moved_to (out-Fragment f).rect (piece_of f)
     → parts_of children ≡ placed own (pieces_of (out-Fragment f).children.value.items)
     → (next : Pieces) → page.before p (placed frame next) ≡ placed frame (before f next)
-part_placed frame own f copy rect children p opened at within copied inner next =
+part_placed frame own f copy rect children p is at within copied inner next =
     let below = pieces_of (out-Fragment f).children.value.items in
-    opened (placed frame next)
+    ap (λ (q : Part). page.before q (placed frame next)) is
     ∙ part_same _ _ _ _ _ _ _ _ (placed frame next) (copy_name copy f _ copied) at (copy_kind copy f _ copied)
     (inner ∙ ap (λ (w : Frame). placed w below) (within ∙ ap (inside frame (kind_of (out-Fragment f).kind)) at))
     ∙ sym (ap (placed frame) (as_piece f next))
 
-followed_push : (parts : List PlacedPart) (p : PlacedPart) (next : Parts) → followed (parts ++ p ∷ []) next ≡ followed parts (page.before p next)
-followed_push [] p next = refl
-followed_push (first ∷ parts) p next = ap (page.before first) (followed_push parts p next)
-
-followed_none : (parts : List PlacedPart) → followed parts page.none ≡ parts_of parts
-followed_none [] = refl
-followed_none (first ∷ parts) = ap (page.before first) (followed_none parts)
-
 -- one fragment more is placed
-pub one_more : (frame : Frame) (fs : List Fragment) (k : ℕ) (f : Fragment) (made : List PlacedPart) (p : PlacedPart) (all : Parts)
+pub one_more : (frame : Frame) (fs : List Fragment) (k : ℕ) (f : Fragment) (made : List Part) (p : Part) (all : Parts)
     → k < length fs → f ≡ get_or fs k f → ((next : Pieces) → page.before p (placed frame next) ≡ placed frame (before f next))
     → followed made (placed frame (pieces_of (drop k fs))) ≡ all → followed (made ++ p ∷ []) (placed frame (pieces_of (drop (k + 1) fs))) ≡ all
 one_more frame fs k f made p all lt is placed_so so_far =
@@ -125,9 +117,9 @@ one_more frame fs k f made p all lt is placed_so so_far =
     ∙ ap (followed made) (placed_so (pieces_of (drop (k + 1) fs)) ∙ sym (ap (λ (left : List Fragment). placed frame (pieces_of left)) here))
     ∙ so_far
 
-pub all_placed : (frame : Frame) (fs : List Fragment) (k : ℕ) (made : List PlacedPart) (all : Parts)
+pub all_placed : (frame : Frame) (fs : List Fragment) (k : ℕ) (made : List Part) (all : Parts)
     → length fs ≤ k → followed made (placed frame (pieces_of (drop k fs))) ≡ all → parts_of made ≡ all
-all_placed frame fs k made all end_ so_far = sym (followed_none made) ∙ sym (ap (λ (l : List Fragment). followed made (placed frame (pieces_of l))) (drop_all k fs end_)) ∙ so_far
+all_placed frame fs k made all end_ so_far = sym (ap (λ (l : List Fragment). followed made (placed frame (pieces_of l))) (drop_all k fs end_)) ∙ so_far
 
 -- ---- what is placed is near
 

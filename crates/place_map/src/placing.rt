@@ -56,10 +56,5 @@ fn placed_part(alloc: Global, frame: Frame, fragment: &Fragment) -> Result<Place
     let inside = frame.inside(&fragment.kind, rect);
     let children = placed_parts(alloc, inside, &fragment.children)?;
     let shared = fragment.moved_to(fragment.rect)?;
-    Ok(PlacedPart {
-        name: shared.name,
-        rect,
-        kind: shared.kind,
-        children,
-    })
+    Ok(PlacedPart::new(shared.name, rect, shared.kind, children))
 }

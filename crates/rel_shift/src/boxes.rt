@@ -6,7 +6,6 @@ ghost use Rattle.std.specs.Ordering.{nat_cmp};
 ghost use Rattle.std.specs.Prelude.{◌≡◌, ℕ, IfOk};
 ghost use Rattle.fragment_types.specs.Fragment.{kind_of};
 ghost use Rattle.place_map.specs.Placed.{parts_of, placed_of};
-ghost use Rattle.place_map.specs.declared.placed.PlacedPart.{out-PlacedPart};
 ghost use Rattle.rel_shift.specs.Boxes as rule;
 
 use crate::containing::Containing;
@@ -51,7 +50,7 @@ fn add_boxes(
 {
     for part in parts {
         add_box(mode, part, boxes)?;
-        add_boxes(mode_inside(mode, &part.kind), &part.children, boxes)?;
+        add_boxes(mode_inside(mode, part.kind()), part.children(), boxes)?;
     }
     Ok(())
 }
@@ -62,20 +61,20 @@ fn add_box(
     part: &PlacedPart,
     boxes: &mut BTreeMap<u32, Containing>,
 ) -> Result<(), AllocError>
-    ensures { IfOk result (λ _. (node : ℕ) → get nat_cmp boxes.new node ≡ option_or (rule.own_box_of node mode (out-PlacedPart part.now).name (kind_of (out-PlacedPart part.now).kind)) (get nat_cmp boxes.old node)) }
+    ensures { IfOk result (λ _. (node : ℕ) → get nat_cmp boxes.new node ≡ option_or (rule.own_box_of node mode part.now.name part.now.kind) (get nat_cmp boxes.old node)) }
 {
     if let Some(own) = own_box(mode, part) {
-        boxes.insert(part.name.node, own)?;
+        boxes.insert(part.name().node, own)?;
     }
     Ok(())
 }
 
 // The own box of an element; anonymous blocks and other fragments are none.
 fn own_box(mode: WritingMode, part: &PlacedPart) -> Option<Containing>
-    ensures { result ≡ rule.own_box mode (out-PlacedPart part.now).name (kind_of (out-PlacedPart part.now).kind) }
+    ensures { result ≡ rule.own_box mode part.now.name part.now.kind }
 {
-    match &part.kind {
-        FragmentKind::Box(own) if part.name.ordinal == 0 => Some(containing(mode, own)),
+    match part.kind() {
+        FragmentKind::Box(own) if part.name().ordinal == 0 => Some(containing(mode, own)),
         FragmentKind::Box(_)
         | FragmentKind::Line { .. }
         | FragmentKind::Span

@@ -2,7 +2,7 @@
 
 ghost use Rattle.std.specs.List.{All};
 ghost use Rattle.std.specs.Prelude.{◌≡◌, ℕ, ◌-◌, ◌≤◌, ◌^◌, length, ◌+ℤ◌, unsigned_abs, IfOk};
-ghost use Rattle.place_map.specs.Near.{AreNearParts};
+ghost use Rattle.place_map.specs.Near.{AreNearParts, HasEdges};
 ghost use Rattle.place_map.specs.Placed.{Parts, before, none, parts_of, placed_of};
 ghost use Rattle.rel_shift.specs.Bounds.{AreSized, HasBounds, IsWithin};
 ghost use Rattle.rel_shift.specs.Laws.{ArePlacesWithin};
@@ -68,21 +68,19 @@ fn shifted_part(alloc: Global, totals: &Totals, part: &PlacedPart) -> Result<Pla
     requires within { (node : ℕ) → IsWithin (2 ^ 48) (total_in totals.now node) }
     ensures { IfOk result (λ made. (next : Parts) → before made (rule.shifted (total_in totals.now) next) ≡ rule.shifted (total_in totals.now) (before part.now next)) }
 {
-    let children = shifted_parts(alloc, totals, &part.children)?;
-    let kind = copied(&part.kind)?;
-    Ok(PlacedPart {
-        name: part.name,
-        rect: moved(part.rect, totals.total(part.name.node)),
-        kind,
-        children,
-    })
+    let children = shifted_parts(alloc, totals, part.children())?;
+    let kind = copied(part.kind())?;
+    let name = part.name();
+    let rect = moved(part.rect(), totals.total(name.node));
+    Ok(PlacedPart::new(name, rect, kind, children))
 }
 
 // A rectangle, moved.
 fn moved(rect: Rect, by: Shift) -> Rect
     requires near { IsNear rect }
     requires within { IsWithin (2 ^ 48) by }
-    ensures { result ≡ rule.moved by rect }
+    ensures value { result ≡ rule.moved by rect }
+    ensures edges { HasEdges result }
 {
     Rect {
         x: further(rect.x, by.dx),

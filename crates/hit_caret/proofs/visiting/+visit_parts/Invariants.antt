@@ -1,7 +1,6 @@
 use Rattle.std.proofs.Common.{◌≡◌, drop, fold}
-use Rattle.place_map.specs.Placed.{parts_of}
+use Rattle.place_map.specs.Parts.{count, parts_of}
 use Rattle.hit_caret.specs.Cells.{cells_in}
-use Rattle.hit_caret.proofs.Trees.{count}
 use Rattle.hit_caret.proofs.visiting.+visit_parts.Given as goal
 
 -- the cells of the fragments so far are seen

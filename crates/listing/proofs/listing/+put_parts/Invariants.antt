@@ -1,8 +1,7 @@
 use Rattle.std.proofs.Common.{◌≤◌, ◌++◌, drop}
 use Rattle.io_edge.specs.Edge.{AppendsUpTo}
-use Rattle.place_map.specs.Placed.{parts_of}
+use Rattle.place_map.specs.Parts.{count, parts_of}
 use Rattle.listing.specs.Listing.{lines}
-use Rattle.listing.proofs.Trees.{count}
 use Rattle.listing.proofs.listing.+put_parts.Given as goal
 
 -- the lines of the fragments so far are put, and those of the rest are left

@@ -1,7 +1,6 @@
 use Rattle.std.proofs.Common.{◌≡◌, ◌+◌, ◌*◌, drop}
-use Rattle.place_map.specs.Placed.{before, followed, none, parts_of}
+use Rattle.place_map.specs.Parts.{before, count, followed, none, parts_of}
 use Rattle.page_turn.specs.Turning.{turned_parts}
-use Rattle.page_turn.proofs.Trees.{count}
 use Rattle.page_turn.proofs.turning.+turned.Given as goal
 
 -- what is turned, before what is still to come

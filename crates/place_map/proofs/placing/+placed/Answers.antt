@@ -1,8 +1,6 @@
 use Rattle.std.proofs.Common.{ap, ◌∙◌, List, arith}
 use Rattle.fragment_types.specs.declared.fragment.Fragment.{Fragment}
 use Rattle.fragment_types.specs.Fragment.{pieces_of}
-use Rattle.place_map.specs.declared.placed.PlacedPart.TheFolds.{fold-roll-PlacedPart}
-use Rattle.place_map.specs.Placed.{Parts, part_step}
 use Rattle.place_map.specs.Placing.{placed}
 use Rattle.place_map.proofs.Trees.{all_placed, fewer_at, fewer_below, near_at, near_below, part_placed}
 use Rattle.place_map.proofs.placing.+placed.Goals as goal
@@ -10,8 +8,7 @@ use Rattle.place_map.proofs.placing.+placed.Goals as goal
 pub placed_part-returns : goal.placed_part-returns
 placed_part-returns t c =
     part_placed c.args.frame c.inside-inside.result c.args.fragment.now c.in_ok-shared.shared c.on_page-rect.result c.in_ok-children.children.items _
-    (λ next. ap (λ (g : Parts → Parts). g next) (fold-roll-PlacedPart (Parts → Parts) part_step _))
-    c.on_page-rect.ensures c.inside-inside.ensures c.in_ok-shared.ensures
+    c.new.ensures c.on_page-rect.ensures c.inside-inside.ensures c.in_ok-shared.ensures
     (c.in_ok-children.ensures ∙ ap (λ (fs : List Fragment). placed c.inside-inside.result (pieces_of fs)) (c.deref-2.ensures.value ∙ ap (λ v. v.items) c.deref.ensures))
 
 pub placed_parts-returns : goal.placed_parts-returns

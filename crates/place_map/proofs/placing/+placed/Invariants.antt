@@ -1,6 +1,6 @@
 use Rattle.std.proofs.Common.{◌≡◌, ◌+◌, ◌*◌, drop}
 use Rattle.fragment_types.specs.Fragment.{piece_of, pieces_of}
-use Rattle.place_map.specs.Placed.{followed}
+use Rattle.place_map.specs.Parts.{followed}
 use Rattle.place_map.specs.Placing.{placed}
 use Rattle.place_map.proofs.Trees.{count}
 use Rattle.place_map.proofs.placing.+placed.Given as goal

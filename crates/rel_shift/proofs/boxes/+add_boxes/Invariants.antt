@@ -2,9 +2,8 @@ use Rattle.std.proofs.Common.{◌≡◌, ℕ, drop}
 use Rattle.std.specs.BTreeMap.{get}
 use Rattle.std.specs.Option.{option_or}
 use Rattle.std.specs.Ordering.{nat_cmp}
-use Rattle.place_map.specs.Placed.{parts_of}
+use Rattle.place_map.specs.Parts.{count, parts_of}
 use Rattle.rel_shift.specs.Boxes.{box_in}
-use Rattle.rel_shift.proofs.Trees.{count}
 use Rattle.rel_shift.proofs.boxes.+add_boxes.Given as goal
 
 -- the boxes so far, and those to come

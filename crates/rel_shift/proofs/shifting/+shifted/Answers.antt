@@ -1,24 +1,29 @@
-use Rattle.std.proofs.Common.{ap, ◌∙◌, arith}
-use Rattle.place_map.specs.declared.placed.PlacedPart.{out-PlacedPart}
-use Rattle.place_map.specs.declared.placed.PlacedPart.TheFolds.{fold-roll-PlacedPart}
-use Rattle.place_map.specs.Placed.{Parts, part_step}
+use Rattle.std.proofs.Common.{◌≡◌, ap, ◌∙◌, arith}
+use Rattle.fragment_types.specs.Fragment.{kind_of}
+use Rattle.fragment_types.specs.declared.item.BoxName.{BoxName}
+use Rattle.place_map.specs.Parts.{parts_of}
+use Rattle.place_map.proofs.PartLists.{fewer_at, fewer_inside, near_at, near_inside, part_with}
 use Rattle.rel_shift.specs.Shifting.{moved}
 use Rattle.rel_shift.specs.Totals.{total_in}
 use Rattle.rel_shift.specs.declared.insets.Shift.{Shift}
-use Rattle.rel_shift.proofs.Trees.{all_shifted, fewer_at, fewer_inside, near_at, near_inside, one_more, part_shifted}
+use Rattle.rel_shift.proofs.Trees.{all_shifted, one_more, part_shifted}
 use Rattle.rel_shift.proofs.shifting.+shifted.Goals as goal
 
 pub shifted_part-shifted_parts-requires : goal.shifted_part-shifted_parts-requires
 shifted_part-shifted_parts-requires t c = (
-  omega (arith, fewer_inside c.args.part.now c.deref.result.now c.deref.ensures.value, c.decreases),
-  (near_inside c.args.part.now c.deref.result.now c.deref.ensures.value c.requires.near, c.requires.within),
+  omega (arith, fewer_inside c.args.part.now c.children.result.now c.children.ensures, c.decreases),
+  (near_inside c.args.part.now c.children.result.now c.children.ensures c.requires.near, c.requires.within),
 )
 
 pub shifted_part-returns : goal.shifted_part-returns
 shifted_part-returns t c =
-    part_shifted (total_in c.args.totals.now) c.args.part.now _ c.moved.result _ c.deref.result.now c.in_ok-children.children.items
-    (λ next. ap (λ (g : Parts → Parts). g next) (fold-roll-PlacedPart (Parts → Parts) part_step _))
-    (c.moved.ensures ∙ ap (λ (s : Shift). moved s (out-PlacedPart c.args.part.now).rect) c.total.ensures) c.in_ok-kind.ensures c.in_ok-children.ensures c.deref.ensures.value
+    let p = c.args.part.now in
+    let shifts = total_in c.args.totals.now in
+    let by : c.total.result ≡ shifts p.name.node = c.total.ensures ∙ ap (λ (n : BoxName). shifts n.node) c.name-name.ensures in
+    part_shifted shifts p c.new.result c.moved-rect.result (kind_of c.in_ok-kind.kind) c.children.result.now c.in_ok-children.children.items
+    (c.new.ensures ∙ ap (λ (n : BoxName). part_with n c.moved-rect.result (kind_of c.in_ok-kind.kind) (parts_of c.in_ok-children.children.items)) c.name-name.ensures)
+    (c.moved-rect.ensures.value ∙ ap (λ (s : Shift). moved s c.rect.result) by ∙ ap (moved (shifts p.name.node)) c.rect.ensures)
+    (c.in_ok-kind.ensures ∙ c.kind.ensures) c.in_ok-children.ensures c.children.ensures
 
 pub shifted_parts-shifted_part-requires : goal.shifted_parts-shifted_part-requires
 shifted_parts-shifted_part-requires t c = (

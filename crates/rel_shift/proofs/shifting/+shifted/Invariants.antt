@@ -1,8 +1,7 @@
 use Rattle.std.proofs.Common.{◌≡◌, ◌+◌, ◌*◌, drop}
-use Rattle.place_map.specs.Placed.{before, followed, none, parts_of}
+use Rattle.place_map.specs.Parts.{before, count, followed, none, parts_of}
 use Rattle.rel_shift.specs.Shifting.{shifted}
 use Rattle.rel_shift.specs.Totals.{total_in}
-use Rattle.rel_shift.proofs.Trees.{count}
 use Rattle.rel_shift.proofs.shifting.+shifted.Given as goal
 
 -- what is shifted, before what is still to come
