@@ -7,7 +7,7 @@ ghost use Rattle.place_map.specs.Placed.{parts_of, placed_of};
 
 use crate::arrows::steps_from;
 use fragment_types::{BoxName, FragmentKind, Glyphs, RunUnit, RunUnits, UnitKind};
-use hit_caret::caret;
+use hit_caret::{Cell, CellVisitor, caret, visit_cells};
 use place_map::{Placed, PlacedPart, PlacedParts};
 use std::alloc::{AllocError, Global};
 use std::rc::Rc;
@@ -79,6 +79,31 @@ fn run_of(alloc: Global, units: RunUnits) -> Result<FragmentKind, AllocError>
         natural: None,
         units: Rc::new(alloc, units)?,
     })
+}
+
+// The last cell of a page, by a visitor that says nothing of bounds.
+#[derive(Drop)]
+struct LastCell {
+    cell: Option<Cell>,
+}
+
+impl CellVisitor for LastCell {
+    ghost use Rattle.std.specs.Prelude.{Some};
+
+    ghost seen = { λ _ cell. record { cell = Some cell } };
+
+    fn see(&mut self, cell: Cell) {
+        self.cell = Some(cell);
+    }
+}
+
+#[test]
+fn a_visitor_that_says_nothing_of_bounds_sees_all(rt: HostRuntime) -> Result<(), Fail> {
+    let page = page(rt.alloc())?;
+    let mut last = LastCell { cell: None };
+    visit_cells(&page, &mut last);
+    assert_eq!(rt; last.cell.map(|cell| cell.end), Some(5));
+    Ok(())
 }
 
 #[test]

@@ -23,7 +23,8 @@ pub trait CellVisitor {
     /// What it is after it has seen a cell.
     ghost seen: { Self → Cell → Self };
 
-    /// Whether it is to see the cells of fragments that lie in this bound. Where it isn't, none of them would change it.
+    /// Whether it is to see the cells of fragments that lie in this bound. Where it isn't, none of them would change it. A visitor
+    /// that doesn't say sees all.
     fn looks_into(&self, bound: &Bound) -> bool
         ensures { result ≡ false → IgnoresAll seen self.now bound.now }
     {

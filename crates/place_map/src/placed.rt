@@ -110,7 +110,7 @@ impl PlacedPart {
     }
 }
 
-// What lies in a bound or is one of these fragments, or inside one, lies in this bound.
+// The narrowest bound of what lies in a bound, and of these fragments with all inside them.
 fn bound_of(own: Bound, parts: &[PlacedPart]) -> Bound
     ensures own { IsNoWider own result }
     ensures parts { AreIn result (parts_of parts.now) }
