@@ -1,5 +1,5 @@
--- Something is due for every input, and nothing else is.
-use Rattle.std.proofs.Common.{◌≡◌, ◌⊎◌, ◌∙◌, refl, sym, ap, arith, inl, inr, ℕ, ◌<◌, ◌≤◌, Bool, true, false, List, length, drop, Option, Ok, Err}
+-- Something is due for every input, and nothing else is; so for what is owed to its pages.
+use Rattle.std.proofs.Common.{◌≡◌, ◌⊎◌, ◌∙◌, refl, sym, ap, subst, arith, inl, inr, ℕ, ◌<◌, ◌≤◌, Bool, true, false, List, length, drop, Option, Ok, Err}
 use Rattle.std.specs.Prelude.{codes, nat_lt, ⊤}
 use Rattle.std.proofs.lemmas.Bool.Decides.{nat_tests}
 use Rattle.face_api.specs.Table.{Table}
@@ -15,16 +15,18 @@ use Rattle.html_read.specs.Values.{Node, Whole}
 use Rattle.edits.specs.State.{State}
 use Rattle.session.specs.Opening.{CanOpen, HasOneAnswer, IsRefused}
 use Rattle.session.specs.declared.error.OpenError.{OpenError}
+use Rattle.edit_job.specs.Owed.{AreOwedOnce, Owed, after_page, at_first}
 use Rattle.edit_job.specs.Refusal.{refusal}
 use Rattle.edit_job.specs.Steps.{HaveAnEnd, HaveOneEnd}
 use Rattle.session.specs.Error.{open_word}
-use Rattle.input_due.specs.Due.{End, Done, Refused, node_of}
+use Rattle.input_due.specs.Due.{Done, Refused, node_of}
 use Rattle.input_due.specs.declared.follows.Follows.{Follows}
 use Rattle.probe_job.specs.Answers.{answers}
 use Rattle.session.specs.State.{page_of, styled_of}
 use Rattle.input_due.specs.Asked.{Asked, AskedOr, asked_behind, has_lines, probes, steps}
-use Rattle.input_due.specs.Input.{IsDueOfAsked, IsDueOfInput, IsDueOfOpened, IsDueOfRead, IsDueOfStyling, IsDueOfTail, IsDueOver, longest_input, opened_with}
-use Rattle.input_due.specs.Laws.{HaveOneDue}
+use Rattle.input_due.specs.Input.{ComesOfAsked, ComesOfInput, ComesOfOpened, ComesOfRead, ComesOfStyling, ComesOfTail, IsDueOfRefusal, IsDueOver, Told, longest_input, opened_with}
+use Rattle.input_due.specs.Owed.{OwesNothing, OwesOver, nothing_owed, owed_so_far}
+use Rattle.input_due.specs.Laws.{HaveOneDue, OweOnce}
 
 either_way : (input : List ℕ) → (longest_input < length input) ⊎ (length input ≤ longest_input)
 either_way input = by (nat_lt longest_input (length input)) refl
@@ -36,96 +38,123 @@ either_way input = by (nat_lt longest_input (length input)) refl
 never_both : (m n : ℕ) → m < n → n ≤ m → ⊥
 never_both m n less most = absurd (omega (arith, less, most))
 
--- ---- something is due
+-- ---- something comes of every input, and one thing alone
 
--- a line of refusal
-abbrev Line : (word : List ℕ) (place : ℕ) → Type 0
-Line word place = (end_ : End) × (due : List ℕ) × ((end_ ≡ Refused) × (due ≡ refusal word place))
+module _ {X : Type 0} (Over : State → Asked → X → Type 0) (RefusedAs : List ℕ → ℕ → X → Type 0) (faces : List (Option Table)) (answer : HasOneAnswer) where
+  -- Something comes of every document that is open, and of every refusal.
+  module _ (over : (state : State) (asked : Asked) → (told : X) × Over state asked told) (line : (word : List ℕ) (place : ℕ) → (told : X) × RefusedAs word place told) where
+    opened_some : (nodes : List Node) (styles : Styling) (asked : Asked) → CanOpen nodes styles.own styles.rules ⊎ ((error : OpenError) × IsRefused nodes styles.own styles.rules error)
+        → (told : X) × ComesOfOpened Over RefusedAs faces nodes styles asked told
+    opened_some nodes styles asked (inl can) = let some = over (opened_with faces nodes styles) asked in (some.0, inl (can, some.1))
+    opened_some nodes styles asked (inr (error, refused)) = let some = line (open_word error) (node_of error) in (some.0, inr (error, refused, some.1))
 
-line : (word : List ℕ) (place : ℕ) → Line word place
-line word place = (Refused, refusal word place, (refl, refl))
+    asked_some : (nodes : List Node) (styles : Styling) (asked : AskedOr) → (told : X) × ComesOfAsked Over RefusedAs faces nodes styles asked told
+    asked_some nodes styles (Ok asked) = opened_some nodes styles asked (answer.some nodes styles.own styles.rules)
+    asked_some nodes styles (Err refused) = line refused.0 refused.1
 
-module _ (faces : List (Option Table)) (view : View) (opens : HasOneAnswer) (leads : HaveAnEnd) where
-  over_some : (state : State) (asked : Asked) → (due : List ℕ) × IsDueOver faces view state asked due
-  over_some state (steps said) =
-      let end_ = leads view state said in
-      (end_.1, (end_.0, end_.2))
-  over_some state (probes asked) = (answers (page_of state.faces view (styled_of state)) asked, refl)
+    styling_some : (nodes : List Node) (read : Placed Styling) (asked : AskedOr) → (told : X) × ComesOfStyling Over RefusedAs faces nodes read asked told
+    styling_some nodes (Ok styles) asked = asked_some nodes styles asked
+    styling_some nodes (Err refused) asked = line (style_word refused.0) refused.1
 
-  opened_some : (nodes : List Node) (styles : Styling) (asked : Asked) → CanOpen nodes styles.own styles.rules ⊎ ((error : OpenError) × IsRefused nodes styles.own styles.rules error)
-      → (end_ : End) × (due : List ℕ) × IsDueOfOpened faces view nodes styles asked end_ due
-  opened_some nodes styles asked (inl can) =
-      let over = over_some (opened_with faces nodes styles) asked in
-      (Done, over.0, (can, over.1))
-  opened_some nodes styles asked (inr (error, refused)) = (Refused, refusal (open_word error) (node_of error), (error, refused, refl))
+    tail_some : (follows : Follows) (size : ℕ) (document : Whole) (behind : Read ⊤) → (told : X) × ComesOfTail Over RefusedAs faces follows size document behind told
+    tail_some follows size document (Ok behind) = styling_some document.nodes (styling document) (asked_behind follows size behind.1)
+    tail_some follows size document (Err left) = line (kind_word (syntax left).0) (place_in size (syntax left).1)
 
-  asked_some : (nodes : List Node) (styles : Styling) (asked : AskedOr) → (end_ : End) × (due : List ℕ) × IsDueOfAsked faces view nodes styles asked end_ due
-  asked_some nodes styles (Ok asked) = opened_some nodes styles asked (opens.some nodes styles.own styles.rules)
-  asked_some nodes styles (Err refused) = line refused.0 refused.1
+    read_some : (follows : Follows) (bytes : List ℕ) (read : ReadOr Fault Whole) → (told : X) × ComesOfRead Over RefusedAs faces follows bytes read told
+    read_some follows bytes (Ok read) = tail_some follows (length bytes) read.0 (reading.tail (has_lines follows) (drop read.0.length bytes))
+    read_some follows bytes (Err fault) = line (kind_word fault.0) (place_in (length bytes) fault.1)
 
-  styling_some : (nodes : List Node) (read : Placed Styling) (asked : AskedOr) → (end_ : End) × (due : List ℕ) × IsDueOfStyling faces view nodes read asked end_ due
-  styling_some nodes (Ok styles) asked = asked_some nodes styles asked
-  styling_some nodes (Err refused) asked = line (style_word refused.0) refused.1
+    input_some : (follows : Follows) (input : List ℕ) → (longest_input < length input) ⊎ (length input ≤ longest_input) → (told : X) × ComesOfInput Over RefusedAs faces follows input told
+    input_some follows input (inl long) = let some = line (codes "TooLong") longest_input in (some.0, inl (long, some.1))
+    input_some follows input (inr short) = let some = read_some follows input (reading.input input) in (some.0, inr (short, some.1))
 
-  tail_some : (follows : Follows) (size : ℕ) (document : Whole) (behind : Read ⊤) → (end_ : End) × (due : List ℕ) × IsDueOfTail faces view follows size document behind end_ due
-  tail_some follows size document (Ok behind) = styling_some document.nodes (styling document) (asked_behind follows size behind.1)
-  tail_some follows size document (Err left) = line (kind_word (syntax left).0) (place_in size (syntax left).1)
+  -- One thing alone comes of each of them.
+  module _ (over : (state : State) (asked : Asked) (one other : X) → Over state asked one → Over state asked other → other ≡ one)
+      (line : (word : List ℕ) (place : ℕ) (one other : X) → RefusedAs word place one → RefusedAs word place other → other ≡ one) (one other : X) where
+    opened_only : (nodes : List Node) (styles : Styling) (asked : Asked) → ComesOfOpened Over RefusedAs faces nodes styles asked one → ComesOfOpened Over RefusedAs faces nodes styles asked other → other ≡ one
+    opened_only nodes styles asked (inl (can, here)) (inl (also, there)) = over (opened_with faces nodes styles) asked one other here there
+    opened_only nodes styles asked (inl (can, here)) (inr (error, refused, there)) = absurd ((answer.only nodes styles.own styles.rules error refused).0 can)
+    opened_only nodes styles asked (inr (error, refused, here)) (inl (can, there)) = absurd ((answer.only nodes styles.own styles.rules error refused).0 can)
+    opened_only nodes styles asked (inr (error, refused, here)) (inr (reason, also, there)) =
+        line (open_word error) (node_of error) one other here
+        (subst (λ (e : OpenError). RefusedAs (open_word e) (node_of e) other) ((answer.only nodes styles.own styles.rules error refused).1 reason also) there)
 
-  read_some : (follows : Follows) (bytes : List ℕ) (read : ReadOr Fault Whole) → (end_ : End) × (due : List ℕ) × IsDueOfRead faces view follows bytes read end_ due
-  read_some follows bytes (Ok read) = tail_some follows (length bytes) read.0 (reading.tail (has_lines follows) (drop read.0.length bytes))
-  read_some follows bytes (Err fault) = line (kind_word fault.0) (place_in (length bytes) fault.1)
+    asked_only : (nodes : List Node) (styles : Styling) (asked : AskedOr) → ComesOfAsked Over RefusedAs faces nodes styles asked one → ComesOfAsked Over RefusedAs faces nodes styles asked other → other ≡ one
+    asked_only nodes styles (Ok asked) here there = opened_only nodes styles asked here there
+    asked_only nodes styles (Err refused) here there = line refused.0 refused.1 one other here there
 
-  by_length : (follows : Follows) (input : List ℕ) → (longest_input < length input) ⊎ (length input ≤ longest_input) → (end_ : End) × (due : List ℕ) × IsDueOfInput faces view follows input end_ due
-  by_length follows input (inl long) = (Refused, refusal (codes "TooLong") longest_input, inl (long, refl, refl))
-  by_length follows input (inr short) =
-      let some = read_some follows input (reading.input input) in
-      (some.0, some.1, inr (short, some.2))
+    styling_only : (nodes : List Node) (read : Placed Styling) (asked : AskedOr) → ComesOfStyling Over RefusedAs faces nodes read asked one → ComesOfStyling Over RefusedAs faces nodes read asked other → other ≡ one
+    styling_only nodes (Ok styles) asked here there = asked_only nodes styles asked here there
+    styling_only nodes (Err refused) asked here there = line (style_word refused.0) refused.1 one other here there
 
--- ---- nothing else is
+    tail_only : (follows : Follows) (size : ℕ) (document : Whole) (behind : Read ⊤) → ComesOfTail Over RefusedAs faces follows size document behind one → ComesOfTail Over RefusedAs faces follows size document behind other
+        → other ≡ one
+    tail_only follows size document (Ok behind) here there = styling_only document.nodes (styling document) (asked_behind follows size behind.1) here there
+    tail_only follows size document (Err left) here there = line (kind_word (syntax left).0) (place_in size (syntax left).1) one other here there
 
-one_line : (word : List ℕ) (place : ℕ) (end_ other : End) (due more : List ℕ) → (end_ ≡ Refused) × (due ≡ refusal word place) → (other ≡ Refused) × (more ≡ refusal word place) → (other ≡ end_) × (more ≡ due)
-one_line word place end_ other due more (is, d) (is', d') = (is' ∙ sym is, d' ∙ sym d)
+    read_only : (follows : Follows) (bytes : List ℕ) (read : ReadOr Fault Whole) → ComesOfRead Over RefusedAs faces follows bytes read one → ComesOfRead Over RefusedAs faces follows bytes read other → other ≡ one
+    read_only follows bytes (Ok read) here there = tail_only follows (length bytes) read.0 (reading.tail (has_lines follows) (drop read.0.length bytes)) here there
+    read_only follows bytes (Err fault) here there = line (kind_word fault.0) (place_in (length bytes) fault.1) one other here there
 
-module _ (faces : List (Option Table)) (view : View) (opens : HasOneAnswer) (ends : HaveOneEnd) where
-  over_only : (state : State) (asked : Asked) (due more : List ℕ) → IsDueOver faces view state asked due → IsDueOver faces view state asked more → more ≡ due
-  over_only state (steps said) due more (last, here) (last', there) = (ends view state said last last' due more here there).1
-  over_only state (probes asked) due more is also = also ∙ sym is
+    input_only : (follows : Follows) (input : List ℕ) → ComesOfInput Over RefusedAs faces follows input one → ComesOfInput Over RefusedAs faces follows input other → other ≡ one
+    input_only follows input (inl (long, here)) (inl (also, there)) = line (codes "TooLong") longest_input one other here there
+    input_only follows input (inl (long, here)) (inr (short, there)) = absurd (never_both longest_input (length input) long short)
+    input_only follows input (inr (short, here)) (inl (long, there)) = absurd (never_both longest_input (length input) long short)
+    input_only follows input (inr (short, here)) (inr (also, there)) = read_only follows input (reading.input input) here there
 
-  opened_only : (nodes : List Node) (styles : Styling) (asked : Asked) (end_ other : End) (due more : List ℕ) → IsDueOfOpened faces view nodes styles asked end_ due → IsDueOfOpened faces view nodes styles asked other more → (other ≡ end_) × (more ≡ due)
-  opened_only nodes styles asked Done Done due more (can, here) (can', there) = (refl, over_only (opened_with faces nodes styles) asked due more here there)
-  opened_only nodes styles asked Done Refused due more (can, here) (error, refused, d) = absurd ((opens.only nodes styles.own styles.rules error refused).0 can)
-  opened_only nodes styles asked Refused Done due more (error, refused, d) (can, here) = absurd ((opens.only nodes styles.own styles.rules error refused).0 can)
-  opened_only nodes styles asked Refused Refused due more (error, refused, d) (error', refused', d') =
-      (refl, d' ∙ ap (λ (e : OpenError). refusal (open_word e) (node_of e)) ((opens.only nodes styles.own styles.rules error refused).1 error' refused') ∙ sym d)
+-- ---- what is due
 
-  asked_only : (nodes : List Node) (styles : Styling) (asked : AskedOr) (end_ other : End) (due more : List ℕ) → IsDueOfAsked faces view nodes styles asked end_ due → IsDueOfAsked faces view nodes styles asked other more → (other ≡ end_) × (more ≡ due)
-  asked_only nodes styles (Ok asked) end_ other due more = opened_only nodes styles asked end_ other due more
-  asked_only nodes styles (Err refused) end_ other due more = one_line refused.0 refused.1 end_ other due more
+due_some : HaveAnEnd → (view : View) (state : State) (asked : Asked) → (told : Told) × IsDueOver view state asked told
+due_some leads view state (steps said) = let end_ = leads view state said in ((Done, end_.1), (refl, end_.0, end_.2))
+due_some leads view state (probes asked) = ((Done, answers (page_of state.faces view (styled_of state)) asked), (refl, refl))
 
-  styling_only : (nodes : List Node) (read : Placed Styling) (asked : AskedOr) (end_ other : End) (due more : List ℕ) → IsDueOfStyling faces view nodes read asked end_ due → IsDueOfStyling faces view nodes read asked other more → (other ≡ end_) × (more ≡ due)
-  styling_only nodes (Ok styles) asked end_ other due more = asked_only nodes styles asked end_ other due more
-  styling_only nodes (Err refused) asked end_ other due more = one_line (style_word refused.0) refused.1 end_ other due more
+same_told : (one other : Told) → other.0 ≡ one.0 → other.1 ≡ one.1 → other ≡ one
+same_told one other ends bytes = ap (λ e. (e, other.1)) ends ∙ ap (λ b. (one.0, b)) bytes
 
-  tail_only : (follows : Follows) (size : ℕ) (document : Whole) (behind : Read ⊤) (end_ other : End) (due more : List ℕ) → IsDueOfTail faces view follows size document behind end_ due → IsDueOfTail faces view follows size document behind other more → (other ≡ end_) × (more ≡ due)
-  tail_only follows size document (Ok behind) end_ other due more = styling_only document.nodes (styling document) (asked_behind follows size behind.1) end_ other due more
-  tail_only follows size document (Err left) end_ other due more = one_line (kind_word (syntax left).0) (place_in size (syntax left).1) end_ other due more
+due_only : HaveOneEnd → (view : View) (state : State) (asked : Asked) (one other : Told) → IsDueOver view state asked one → IsDueOver view state asked other → other ≡ one
+due_only ends view state (steps said) one other (is, last, here) (is', last', there) = same_told one other (is' ∙ sym is) (ends view state said last last' one.1 other.1 here there).1
+due_only ends view state (probes asked) one other (is, d) (is', d') = same_told one other (is' ∙ sym is) (d' ∙ sym d)
 
-  read_only : (follows : Follows) (bytes : List ℕ) (read : ReadOr Fault Whole) (end_ other : End) (due more : List ℕ) → IsDueOfRead faces view follows bytes read end_ due → IsDueOfRead faces view follows bytes read other more → (other ≡ end_) × (more ≡ due)
-  read_only follows bytes (Ok read) end_ other due more = tail_only follows (length bytes) read.0 (reading.tail (has_lines follows) (drop read.0.length bytes)) end_ other due more
-  read_only follows bytes (Err fault) end_ other due more = one_line (kind_word fault.0) (place_in (length bytes) fault.1) end_ other due more
+line_some : (word : List ℕ) (place : ℕ) → (told : Told) × IsDueOfRefusal word place told
+line_some word place = ((Refused, refusal word place), (refl, refl))
 
-  input_only : (follows : Follows) (input : List ℕ) (end_ other : End) (due more : List ℕ) → IsDueOfInput faces view follows input end_ due → IsDueOfInput faces view follows input other more → (other ≡ end_) × (more ≡ due)
-  input_only follows input end_ other due more (inl (long, is, d)) (inl (long', is', d')) = one_line (codes "TooLong") longest_input end_ other due more (is, d) (is', d')
-  input_only follows input end_ other due more (inl (long, is, d)) (inr (short, is')) = absurd (never_both longest_input (length input) long short)
-  input_only follows input end_ other due more (inr (short, is)) (inl (long, is', d')) = absurd (never_both longest_input (length input) long short)
-  input_only follows input end_ other due more (inr (short, is)) (inr (short', is')) = read_only follows input (reading.input input) end_ other due more is is'
-
--- ---- the law
+line_only : (word : List ℕ) (place : ℕ) (one other : Told) → IsDueOfRefusal word place one → IsDueOfRefusal word place other → other ≡ one
+line_only word place one other (is, d) (is', d') = same_told one other (is' ∙ sym is) (d' ∙ sym d)
 
 pub one_due : HasOneAnswer → HaveAnEnd → HaveOneEnd → HaveOneDue
-one_due opens leads ends = record {
-  document_some = λ faces view follows bytes. read_some faces view opens leads follows bytes (reading.input bytes);
-  document_only = λ faces view follows bytes. read_only faces view opens ends follows bytes (reading.input bytes);
-  some = λ faces view follows input. by_length faces view opens leads follows input (either_way input);
-  only = λ faces view follows input. input_only faces view opens ends follows input;
+one_due answer leads ends = record {
+  document_some = λ faces view follows bytes.
+      let some = read_some (IsDueOver view) IsDueOfRefusal faces answer (due_some leads view) line_some follows bytes (reading.input bytes) in (some.0.0, some.0.1, some.1);
+  document_only = λ faces view follows bytes end_ other due more is also.
+      let same = read_only (IsDueOver view) IsDueOfRefusal faces answer (due_only ends view) line_only (end_, due) (other, more) follows bytes (reading.input bytes) is also in
+      (ap (λ (t : Told). t.0) same, ap (λ (t : Told). t.1) same);
+  some = λ faces view follows input.
+      let some = input_some (IsDueOver view) IsDueOfRefusal faces answer (due_some leads view) line_some follows input (either_way input) in (some.0.0, some.0.1, some.1);
+  only = λ faces view follows input end_ other due more is also.
+      let same = input_only (IsDueOver view) IsDueOfRefusal faces answer (due_only ends view) line_only (end_, due) (other, more) follows input is also in
+      (ap (λ (t : Told). t.0) same, ap (λ (t : Told). t.1) same);
+}
+
+-- ---- what is owed
+
+owed_some : AreOwedOnce → (view : View) (state : State) (asked : Asked) → (owed : Owed) × OwesOver view state asked owed
+owed_some owes view state (steps said) = let last = owes.some view state (at_first state) said in (owed_so_far last.0, (last.0, last.1, refl))
+owed_some owes view state (probes asked) = (owed_so_far (after_page view state (at_first state)), refl)
+
+owed_only : AreOwedOnce → (view : View) (state : State) (asked : Asked) (one other : Owed) → OwesOver view state asked one → OwesOver view state asked other → other ≡ one
+owed_only owes view state (steps said) one other (last, here, is) (last', there, is') = is' ∙ ap owed_so_far (owes.only view state (at_first state) said last last' here there) ∙ sym is
+owed_only owes view state (probes asked) one other is is' = is' ∙ sym is
+
+nothing_some : (word : List ℕ) (place : ℕ) → (owed : Owed) × OwesNothing word place owed
+nothing_some word place = (nothing_owed, refl)
+
+nothing_only : (word : List ℕ) (place : ℕ) (one other : Owed) → OwesNothing word place one → OwesNothing word place other → other ≡ one
+nothing_only word place one other is is' = is' ∙ sym is
+
+pub owe_once : HasOneAnswer → AreOwedOnce → OweOnce
+owe_once answer owes = record {
+  document_some = λ faces view follows bytes. read_some (OwesOver view) OwesNothing faces answer (owed_some owes view) nothing_some follows bytes (reading.input bytes);
+  document_only = λ faces view follows bytes one other is also. read_only (OwesOver view) OwesNothing faces answer (owed_only owes view) nothing_only one other follows bytes (reading.input bytes) is also;
+  some = λ faces view follows input. input_some (OwesOver view) OwesNothing faces answer (owed_some owes view) nothing_some follows input (either_way input);
+  only = λ faces view follows input one other is also. input_only (OwesOver view) OwesNothing faces answer (owed_only owes view) nothing_only one other follows input is also;
 }

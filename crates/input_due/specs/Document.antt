@@ -1,8 +1,12 @@
--- What stands behind a document that was read, and how much of it there is.
-use Rattle.std.specs.Prelude.{◌≡◌, ◌≤◌, ℕ, Result, Ok, Err, ⊤}
+-- What stands behind a document that was read, and how much of it there is; what comes of it.
+use Rattle.std.specs.Prelude.{◌≡◌, ◌≤◌, ℕ, List, Result, Ok, Err, ⊤}
+use Rattle.wm_units.specs.declared.view.View.{View}
+use Rattle.face_api.specs.Faces.{faces_of}
+use Rattle.face_api.specs.declared.face.Face.{Ghosts}
 use Rattle.html_read.specs.declared.node.ReadDocument.{ReadDocument}
 use Rattle.html_read.specs.Shape.{IsInDocumentOrder, IsShaped, text_bytes}
 use Rattle.html_read.specs.Values.{nodes_of}
+use Rattle.edits.specs.State.{State}
 use Rattle.edit_script.specs.declared.error.ScriptError.{ScriptError}
 use Rattle.edit_script.specs.declared.error.ScriptError.TheVariants as script_errors
 use Rattle.edit_script.specs.Views.{steps_of}
@@ -18,6 +22,7 @@ use Rattle.input_due.specs.declared.lines.Lines as code_lines
 use Rattle.input_due.specs.declared.lines.Lines.TheVariants as code
 use Rattle.input_due.specs.Asked.{Asked, AskedOr, steps, probes, asked_at}
 use Rattle.input_due.specs.Due.{cause_word}
+use Rattle.session.specs.State.{state_in}
 use Rattle.session.specs.declared.session.Session.{Session}
 
 -- what every document that was read has, with at most so many bytes of text
@@ -55,3 +60,34 @@ module _ {I : Type 0} {D : I → Type 0} where
   abbrev pub due_over : Session I D → code_lines.Lines → Due I D
   due_over session (code.Steps script) = dues.Steps session script
   due_over session (code.Probes asked) = dues.Answers session asked
+
+-- ---- what comes of a document
+
+-- it is open as this state, with this asked of it, or refused by a word with a place
+pub data Outcome : Type 0 where
+  opens : State → Asked → Outcome
+  refuses : (word : List ℕ) → (place : ℕ) → Outcome
+
+abbrev pub IsOpening : State → Asked → Outcome → Type 0
+IsOpening state asked outcome = outcome ≡ opens state asked
+
+abbrev pub IsRefusing : (word : List ℕ) → (place : ℕ) → Outcome → Type 0
+IsRefusing word place outcome = outcome ≡ refuses word place
+
+module _ {I : Type 0} {D : I → Type 0} (members : (x : I) → Ghosts (D x)) where
+  -- the outcome for which this is due
+  abbrev pub outcome_of : Due I D → Outcome
+  outcome_of (dues.Steps session script) = opens (state_in (faces_of members session.faces) session) (steps (steps_of script.items))
+  outcome_of (dues.Answers session asked) = opens (state_in (faces_of members session.faces) session) (probes asked.items)
+  outcome_of (dues.Refused cause place) = refuses (cause_word cause) place
+
+  -- an open document is seen in this view
+  abbrev pub IsSeenIn : View → Due I D → Type 0
+  IsSeenIn view (dues.Steps session script) = session.view ≡ view
+  IsSeenIn view (dues.Answers session asked) = session.view ≡ view
+  IsSeenIn view (dues.Refused cause place) = ⊤
+
+  -- this is due for what comes of it, where the other says which outcomes come
+  pub record IsDueAs (Comes : Outcome → Type 0) (view : View) (due : Due I D) : Type 0 where
+    pub comes : Comes (outcome_of due)
+    pub seen : IsSeenIn view due

@@ -1,4 +1,4 @@
--- Which bytes are due for an input, and how it ends.
+-- What comes of an input, refusal by refusal; which bytes are due for it, and how it ends.
 use Rattle.std.specs.Prelude.{◌≡◌, ◌⊎◌, ℕ, ◌<◌, ◌≤◌, List, length, drop, codes, Option, Ok, Err, ⊤}
 use Rattle.wm_units.specs.declared.view.View.{View}
 use Rattle.reading.specs.Readers.{Read, ReadOr}
@@ -27,56 +27,77 @@ use Rattle.input_due.specs.Due.{End, Done, Refused, node_of}
 abbrev pub longest_input : ℕ
 longest_input = 1048576
 
--- the line of a fault in an input of this size
-abbrev pub IsDueOfFault : (size : ℕ) → Fault → End → List ℕ → Type 0
-IsDueOfFault size fault end_ due = (end_ ≡ Refused) × (due ≡ refusal (kind_word fault.0) (place_in size fault.1))
-
--- ---- what is due
-
 -- the state of a document as it is opened
 abbrev pub opened_with : (faces : List (Option Table)) → List Node → Styling → State
 opened_with faces nodes styles = record { tree = opened nodes styles.own; rules = styles.rules; faces = faces }
 
+-- ---- what comes of an input
+
+-- What is told of an input is told of its document where that can be opened, else of the one refusal that comes first. `Over` tells it of a
+-- document that is open and of what is asked of it, `RefusedAs` of a refusal, by its word and its place.
+module _ {X : Type 0} (Over : State → Asked → X → Type 0) (RefusedAs : (word : List ℕ) → (place : ℕ) → X → Type 0) (faces : List (Option Table)) where
+  -- of a fault in an input of this size
+  abbrev pub ComesOfFault : (size : ℕ) → Fault → X → Type 0
+  ComesOfFault size fault told = RefusedAs (kind_word fault.0) (place_in size fault.1) told
+
+  -- of a document with its styles and what is asked of it: that where it can be opened, else a refusal with the number of a node
+  abbrev pub ComesOfOpened : List Node → Styling → Asked → X → Type 0
+  ComesOfOpened nodes styles asked told = (CanOpen nodes styles.own styles.rules × Over (opened_with faces nodes styles) asked told)
+      ⊎ ((error : OpenError) × IsRefused nodes styles.own styles.rules error × RefusedAs (open_word error) (node_of error) told)
+
+  -- of a document with its styles, by what was read behind it
+  abbrev pub ComesOfAsked : List Node → Styling → AskedOr → X → Type 0
+  ComesOfAsked nodes styles (Ok asked) told = ComesOfOpened nodes styles asked told
+  ComesOfAsked nodes styles (Err refused) told = RefusedAs refused.0 refused.1 told
+
+  -- of a document by what was read of its sheets and style attributes: a fault, or its styles
+  abbrev pub ComesOfStyling : List Node → Placed Styling → AskedOr → X → Type 0
+  ComesOfStyling nodes (Ok styles) asked told = ComesOfAsked nodes styles asked told
+  ComesOfStyling nodes (Err refused) asked told = RefusedAs (style_word refused.0) refused.1 told
+
+  -- of a document
+  abbrev pub ComesOfWhole : Whole → AskedOr → X → Type 0
+  ComesOfWhole document asked told = ComesOfStyling document.nodes (styling document) asked told
+
+  -- of a document that stands in an input of this size, by what was read behind it, with what may follow it
+  abbrev pub ComesOfTail : Follows → (size : ℕ) → Whole → Read ⊤ → X → Type 0
+  ComesOfTail follows size document (Ok behind) told = ComesOfWhole document (asked_behind follows size behind.1) told
+  ComesOfTail follows size document (Err left) told = ComesOfFault size (syntax left) told
+
+  -- of an input, by what was read of it: a fault, or a document with what stands behind it
+  abbrev pub ComesOfRead : Follows → List ℕ → ReadOr Fault Whole → X → Type 0
+  ComesOfRead follows bytes (Ok read) told = ComesOfTail follows (length bytes) read.0 (reading.tail (has_lines follows) (drop read.0.length bytes)) told
+  ComesOfRead follows bytes (Err fault) told = ComesOfFault (length bytes) fault told
+
+  -- of an input that isn't too long
+  abbrev pub ComesOfDocument : Follows → List ℕ → X → Type 0
+  ComesOfDocument follows bytes told = ComesOfRead follows bytes (reading.input bytes) told
+
+  -- of an input: that it is too long is refused first
+  abbrev pub ComesOfInput : Follows → List ℕ → X → Type 0
+  ComesOfInput follows input told = ((longest_input < length input) × RefusedAs (codes "TooLong") longest_input told)
+      ⊎ ((length input ≤ longest_input) × ComesOfDocument follows input told)
+
+-- ---- what is due
+
+-- an end, and the bytes that are due
+abbrev pub Told : Type 0
+Told = End × List ℕ
+
+-- over a document that is open what the steps write is due, or the answers over its page
+abbrev pub IsDueOver : View → State → Asked → Told → Type 0
+IsDueOver view state (steps said) told = (told.0 ≡ Done) × (last : State) × AreSteps view state said last told.1
+IsDueOver view state (probes asked) told = (told.0 ≡ Done) × (told.1 ≡ answers (page_of state.faces view (styled_of state)) asked)
+
+-- of a refusal its line is due
+abbrev pub IsDueOfRefusal : (word : List ℕ) → (place : ℕ) → Told → Type 0
+IsDueOfRefusal word place told = (told.0 ≡ Refused) × (told.1 ≡ refusal word place)
+
 module _ (faces : List (Option Table)) (view : View) where
-  -- for a document that is open: what the steps write, or the answers over its page
-  abbrev pub IsDueOver : State → Asked → List ℕ → Type 0
-  IsDueOver state (steps said) due = (last : State) × AreSteps view state said last due
-  IsDueOver state (probes asked) due = due ≡ answers (page_of state.faces view (styled_of state)) asked
-
-  -- for a document with its styles and what is asked of it: that where it can be opened, else a refusal with the number of a node
-  abbrev pub IsDueOfOpened : List Node → Styling → Asked → End → List ℕ → Type 0
-  IsDueOfOpened nodes styles asked Done due = CanOpen nodes styles.own styles.rules × IsDueOver (opened_with faces nodes styles) asked due
-  IsDueOfOpened nodes styles asked Refused due = (error : OpenError) × IsRefused nodes styles.own styles.rules error × (due ≡ refusal (open_word error) (node_of error))
-
-  -- for a document with its styles, by what was read behind it
-  abbrev pub IsDueOfAsked : List Node → Styling → AskedOr → End → List ℕ → Type 0
-  IsDueOfAsked nodes styles (Ok asked) end_ due = IsDueOfOpened nodes styles asked end_ due
-  IsDueOfAsked nodes styles (Err refused) end_ due = (end_ ≡ Refused) × (due ≡ refusal refused.0 refused.1)
-
-  -- for a document by what was read of its sheets and style attributes: a fault, or its styles
-  abbrev pub IsDueOfStyling : List Node → Placed Styling → AskedOr → End → List ℕ → Type 0
-  IsDueOfStyling nodes (Ok styles) asked end_ due = IsDueOfAsked nodes styles asked end_ due
-  IsDueOfStyling nodes (Err refused) asked end_ due = (end_ ≡ Refused) × (due ≡ refusal (style_word refused.0) refused.1)
-
-  -- for a document
-  abbrev pub IsDueOfWhole : Whole → AskedOr → End → List ℕ → Type 0
-  IsDueOfWhole document asked = IsDueOfStyling document.nodes (styling document) asked
-
-  -- for a document that stands in an input of this size, by what was read behind it, with what may follow it
-  abbrev pub IsDueOfTail : Follows → (size : ℕ) → Whole → Read ⊤ → End → List ℕ → Type 0
-  IsDueOfTail follows size document (Ok behind) end_ due = IsDueOfWhole document (asked_behind follows size behind.1) end_ due
-  IsDueOfTail follows size document (Err left) end_ due = IsDueOfFault size (syntax left) end_ due
-
-  -- for an input, by what was read of it: a fault, or a document with what stands behind it
-  abbrev pub IsDueOfRead : Follows → List ℕ → ReadOr Fault Whole → End → List ℕ → Type 0
-  IsDueOfRead follows bytes (Ok read) end_ due = IsDueOfTail follows (length bytes) read.0 (reading.tail (has_lines follows) (drop read.0.length bytes)) end_ due
-  IsDueOfRead follows bytes (Err fault) end_ due = IsDueOfFault (length bytes) fault end_ due
-
   -- for an input that isn't too long
   abbrev pub IsDueOfDocument : Follows → List ℕ → End → List ℕ → Type 0
-  IsDueOfDocument follows bytes = IsDueOfRead follows bytes (reading.input bytes)
+  IsDueOfDocument follows bytes end_ due = ComesOfDocument (IsDueOver view) IsDueOfRefusal faces follows bytes (end_, due)
 
-  -- for an input: that it is too long is refused first
+  -- for an input
   abbrev pub IsDueOfInput : Follows → List ℕ → End → List ℕ → Type 0
-  IsDueOfInput follows input end_ due = ((longest_input < length input) × (end_ ≡ Refused) × (due ≡ refusal (codes "TooLong") longest_input))
-      ⊎ ((length input ≤ longest_input) × IsDueOfDocument follows input end_ due)
+  IsDueOfInput follows input end_ due = ComesOfInput (IsDueOver view) IsDueOfRefusal faces follows input (end_, due)

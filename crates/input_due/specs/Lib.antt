@@ -3,3 +3,4 @@ pub mod Document
 pub mod Due
 pub mod Input
 pub mod Laws
+pub mod Owed

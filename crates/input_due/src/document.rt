@@ -11,9 +11,10 @@ ghost use Rattle.html_read.specs.Values.{nodes_of, whole_of};
 ghost use Rattle.dom_store.specs.State.{AreSaid};
 ghost use Rattle.cascade.specs.Winners.{AreSaidRules};
 ghost use Rattle.input_due.specs.Asked.{FitsAsked, bytes_asked, has_lines};
-ghost use Rattle.input_due.specs.Document.{IsReadBefore, asked_in, asked_of};
+ghost use Rattle.input_due.specs.Document.{IsDueAs, IsOpening, IsReadBefore, IsRefusing, asked_in, asked_of};
 ghost use Rattle.input_due.specs.Due.{IsDueBy, IsReady};
-ghost use Rattle.input_due.specs.Input.{IsDueOfAsked, IsDueOfDocument, IsDueOfOpened, IsDueOfTail, IsDueOfWhole};
+ghost use Rattle.input_due.specs.Input.{ComesOfAsked, ComesOfDocument, ComesOfOpened, ComesOfTail, ComesOfWhole, IsDueOfDocument};
+ghost use Rattle.input_due.specs.Owed.{IsOwedBy, IsOwedByDocument};
 
 use crate::due::Due;
 use crate::follows::Follows;
@@ -32,7 +33,7 @@ use std::str;
 use wm_units::View;
 
 /// What is due for an input that isn't too long: a script or the lines of a probe may follow its document, or neither; then the
-/// page is listed once.
+/// page is listed once. What is owed to its pages is owed for that.
 pub fn due_of_document(
     alloc: Global,
     view: View,
@@ -43,6 +44,24 @@ pub fn due_of_document(
     requires view { IsView view }
     requires short { length input.now ≤ 1048576 }
     ensures due { IfOk result (λ due. IsDueBy ⟦<dyn Face as Face>⟧ (IsDueOfDocument (faces_of ⟦<dyn Face as Face>⟧ faces) view follows input.now) due) }
+    ensures owed { IfOk result (λ due. IsOwedBy ⟦<dyn Face as Face>⟧ (IsOwedByDocument (faces_of ⟦<dyn Face as Face>⟧ faces) view follows input.now) due) }
+    ensures ready { IfOk result (λ due. IsReady ⟦<dyn Face as Face>⟧ due) }
+{
+    one_answer();
+    with_document(alloc, view, faces, input, follows)
+}
+
+// By its document.
+fn with_document(
+    alloc: Global,
+    view: View,
+    faces: Faces,
+    input: &[u8],
+    follows: Follows,
+) -> Result<Due, AllocError>
+    requires view { IsView view }
+    requires short { length input.now ≤ 1048576 }
+    ensures outcome { IfOk result (λ due. IsDueAs ⟦<dyn Face as Face>⟧ (ComesOfDocument IsOpening IsRefusing (faces_of ⟦<dyn Face as Face>⟧ faces) follows input.now) view due) }
     ensures ready { IfOk result (λ due. IsReady ⟦<dyn Face as Face>⟧ due) }
 {
     documents_spell();
@@ -68,7 +87,7 @@ fn with_tail(
     requires end { read.now.end ≤ length input.now }
     requires utf8 { IsUtf8 (drop read.now.end input.now) }
     requires read { IsReadBefore read.now read.now.end }
-    ensures due { IfOk result (λ due. IsDueBy ⟦<dyn Face as Face>⟧ (IsDueOfTail (faces_of ⟦<dyn Face as Face>⟧ faces) view follows (length input.now) (whole_of read.now) (reading.tail (has_lines follows) (drop read.now.end input.now))) due) }
+    ensures outcome { IfOk result (λ due. IsDueAs ⟦<dyn Face as Face>⟧ (ComesOfTail IsOpening IsRefusing (faces_of ⟦<dyn Face as Face>⟧ faces) follows (length input.now) (whole_of read.now) (reading.tail (has_lines follows) (drop read.now.end input.now))) view due) }
     ensures ready { IfOk result (λ due. IsReady ⟦<dyn Face as Face>⟧ due) }
 {
     match read_tail(input, read.end, follows.has_lines()) {
@@ -103,7 +122,7 @@ fn with_styles(
     requires view { IsView view }
     requires read { IsReadBefore read.now (1048576 - length behind.text.now) }
     requires short { length behind.text.now ≤ 1048576 }
-    ensures due { IfOk result (λ due. IsDueBy ⟦<dyn Face as Face>⟧ (IsDueOfWhole (faces_of ⟦<dyn Face as Face>⟧ faces) view (whole_of read.now) (asked_in behind.entry)) due) }
+    ensures outcome { IfOk result (λ due. IsDueAs ⟦<dyn Face as Face>⟧ (ComesOfWhole IsOpening IsRefusing (faces_of ⟦<dyn Face as Face>⟧ faces) (whole_of read.now) (asked_in behind.entry)) view due) }
     ensures ready { IfOk result (λ due. IsReady ⟦<dyn Face as Face>⟧ due) }
 {
     what_is_read_is_said();
@@ -129,7 +148,7 @@ fn with_lines(
     requires each { length styles.now.styles.items ≡ length read.now.nodes.items }
     requires rules { AreSaidRules (rulings_of styles.now.rules.items) }
     requires own { All (λ own. AreSaid own.items) styles.now.styles.items }
-    ensures due { IfOk result (λ due. IsDueBy ⟦<dyn Face as Face>⟧ (IsDueOfAsked (faces_of ⟦<dyn Face as Face>⟧ faces) view (nodes_of read.now.nodes.items) (styled_of styles.now) (asked_in behind.entry)) due) }
+    ensures outcome { IfOk result (λ due. IsDueAs ⟦<dyn Face as Face>⟧ (ComesOfAsked IsOpening IsRefusing (faces_of ⟦<dyn Face as Face>⟧ faces) (nodes_of read.now.nodes.items) (styled_of styles.now) (asked_in behind.entry)) view due) }
     ensures ready { IfOk result (λ due. IsReady ⟦<dyn Face as Face>⟧ due) }
 {
     match read_lines(alloc, behind) {
@@ -155,10 +174,9 @@ fn opened(
     requires each { length styles.now.styles.items ≡ length read.now.nodes.items }
     requires rules { AreSaidRules (rulings_of styles.now.rules.items) }
     requires own { All (λ own. AreSaid own.items) styles.now.styles.items }
-    ensures due { IfOk result (λ due. IsDueBy ⟦<dyn Face as Face>⟧ (IsDueOfOpened (faces_of ⟦<dyn Face as Face>⟧ faces) view (nodes_of read.now.nodes.items) (styled_of styles.now) (asked_of lines)) due) }
+    ensures outcome { IfOk result (λ due. IsDueAs ⟦<dyn Face as Face>⟧ (ComesOfOpened IsOpening IsRefusing (faces_of ⟦<dyn Face as Face>⟧ faces) (nodes_of read.now.nodes.items) (styled_of styles.now) (asked_of lines)) view due) }
     ensures ready { IfOk result (λ due. IsReady ⟦<dyn Face as Face>⟧ due) }
 {
-    one_answer();
     match Session::open(alloc, read, styles, faces, view) {
         Ok(session) => Ok(lines.over(session)),
         Err(error) => match Due::not_opened(error) {

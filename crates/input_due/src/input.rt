@@ -7,6 +7,7 @@ ghost use Rattle.wm_units.specs.View.{IsView};
 ghost use Rattle.io_edge.specs.Edge.{Rose};
 ghost use Rattle.input_due.specs.Due.{IsOpen, IsDueBy, IsReady};
 ghost use Rattle.input_due.specs.Input.{IsDueOfInput, longest_input};
+ghost use Rattle.input_due.specs.Owed.{IsOwedBy, IsOwedByInput};
 
 use crate::document::due_of_document;
 use crate::due::{Cause, Due};
@@ -32,6 +33,7 @@ pub fn due_of_input<S: Source>(
 ) -> Result<Due, InputError>
     requires view { IsView view }
     ensures due { IfOk result (λ due. (input : List ℕ) → S.left source.old ≡ Some input → IsDueBy ⟦<dyn Face as Face>⟧ (IsDueOfInput (faces_of ⟦<dyn Face as Face>⟧ faces) view follows input) due) }
+    ensures owed { IfOk result (λ due. (input : List ℕ) → S.left source.old ≡ Some input → IsOwedBy ⟦<dyn Face as Face>⟧ (IsOwedByInput (faces_of ⟦<dyn Face as Face>⟧ faces) view follows input) due) }
     ensures ready { IfOk result (λ due. IsReady ⟦<dyn Face as Face>⟧ due) }
     ensures done { IfOk result (λ due. IsOpen due → IsAtEnd (S.left source.new)) }
     ensures short { IfOk result (λ due. (input : List ℕ) → S.left source.old ≡ Some input → length input ≤ longest_input → IsAtEnd (S.left source.new)) }

@@ -1,3 +1,4 @@
+pub mod CountLaws
 mod Examples
 pub mod JobLaws
 pub mod OneResult

@@ -1,4 +1,4 @@
--- Something is due for all words and every input, and nothing else is.
+-- Something is due for all words and every input, and nothing else is; so for what is owed.
 use Rattle.std.proofs.Common.{◌≡◌, ◌⊎◌, ◌∙◌, refl, sym, ap, subst, inl, inr, ℕ, List, Option, Some, None}
 use Rattle.std.proofs.lemmas.Option.{same_Some}
 use Rattle.face_api.specs.Table.{Table}
@@ -14,9 +14,13 @@ use Rattle.input_due.specs.declared.follows.Follows.TheVariants.{Nothing, Script
 use Rattle.input_due.specs.Due.{End}
 use Rattle.input_due.specs.Due as ends
 use Rattle.input_due.specs.Input.{IsDueOfInput}
+use Rattle.edit_job.specs.Owed.{Owed}
 use Rattle.input_due.specs.Laws.{HaveOneDue}
+use Rattle.input_due.specs.Laws as inputs
+use Rattle.input_due.specs.Owed.{nothing_owed}
 use Rattle.wm_run.specs.Job.{IsDue, IsDueOfCommand, IsDueOfJob, IsNoJob, counted, usage_line, with_status}
-use Rattle.wm_run.specs.Laws.{HaveOneResult}
+use Rattle.wm_run.specs.Laws.{HaveOneResult, OweOnce}
+use Rattle.wm_run.specs.Owed.{IsOwed, IsOwedByCommand, IsOwedByJob}
 use Rattle.wm_run.specs.declared.status.Status.{Status}
 use Rattle.wm_run.specs.declared.status.Status.TheVariants.{Done, Usage, Refused, Memory, ReadFault, WriteFault}
 
@@ -64,7 +68,7 @@ module _ (one : HaveOneDue) (faces : List (Option Table)) (view : View) (count :
 
 -- ---- the words
 
-module _ (spelled : IsReadAsSpelled) (one : HaveOneDue) (faces : List (Option Table)) (words : List (List ℕ)) (input : List ℕ) where
+module _ (spelled : IsReadAsSpelled) (words : List (List ℕ)) where
   one_job : (job other : Job) → IsJob words job → IsJob words other → other ≡ job
   one_job job other is also = sym (same_Some job other (sym ((spelled words job).0 is) ∙ (spelled words other).0 also))
 
@@ -75,6 +79,7 @@ module _ (spelled : IsReadAsSpelled) (one : HaveOneDue) (faces : List (Option Ta
       by (Some job) is = inr (job, (spelled words job).1 is)
       by None is = inl (λ job found. let both : None ≡ Some job = sym is ∙ (spelled words job).0 found in absurd (cc))
 
+module _ (spelled : IsReadAsSpelled) (one : HaveOneDue) (faces : List (Option Table)) (words : List (List ℕ)) (input : List ℕ) where
   some_due : IsNoJob words ⊎ ((job : Job) × IsJob words job) → (status : Status) × (due : List ℕ) × IsDue faces words input status due
   some_due (inl none) = (Usage, usage_line, inl (none, refl, refl))
   some_due (inr (job, is)) = let some = command_some one faces job.view job.count input job.command in (some.0, some.1, inr (job, is, some.2))
@@ -84,10 +89,44 @@ module _ (spelled : IsReadAsSpelled) (one : HaveOneDue) (faces : List (Option Ta
   only_due status other due more (inl (none, is, d)) (inr (job, found, of)) = absurd (none job found)
   only_due status other due more (inr (job, found, of)) (inl (none, is, d)) = absurd (none job found)
   only_due status other due more (inr (job, found, of)) (inr (job', found', of')) =
-      command_only one faces job.view job.count input job.command status other due more of (subst (λ (j : Job). IsDueOfJob faces j input other more) (one_job job job' found found') of')
+      command_only one faces job.view job.count input job.command status other due more of
+      (subst (λ (j : Job). IsDueOfJob faces j input other more) (one_job spelled words job job' found found') of')
 
 pub one_result : IsReadAsSpelled → HaveOneDue → HaveOneResult
 one_result spelled one = record {
-  some = λ faces words input. some_due spelled one faces words input (job_or_none spelled one faces words input);
+  some = λ faces words input. some_due spelled one faces words input (job_or_none spelled words);
   only = λ faces words input. only_due spelled one faces words input;
+}
+
+-- ---- what is owed
+
+module _ (once : inputs.OweOnce) (faces : List (Option Table)) (view : View) (count : ℕ) (input : List ℕ) where
+  command_owes : (command : Command) → (owed : Owed) × IsOwedByCommand command faces view count input owed
+  command_owes Layout = once.some faces view Nothing input
+  command_owes Edit = once.some faces view Script input
+  command_owes Probe = once.some faces view Points input
+  command_owes Gen = once.document_some faces view Script (gen_input count)
+
+  command_owes_once : (command : Command) (owed other : Owed) → IsOwedByCommand command faces view count input owed → IsOwedByCommand command faces view count input other → other ≡ owed
+  command_owes_once Layout owed other is also = once.only faces view Nothing input owed other is also
+  command_owes_once Edit owed other is also = once.only faces view Script input owed other is also
+  command_owes_once Probe owed other is also = once.only faces view Points input owed other is also
+  command_owes_once Gen owed other is also = once.document_only faces view Script (gen_input count) owed other is also
+
+module _ (spelled : IsReadAsSpelled) (once : inputs.OweOnce) (faces : List (Option Table)) (words : List (List ℕ)) (input : List ℕ) where
+  some_owed : IsNoJob words ⊎ ((job : Job) × IsJob words job) → (owed : Owed) × IsOwed faces words input owed
+  some_owed (inl none) = (nothing_owed, inl (none, refl))
+  some_owed (inr (job, is)) = let some = command_owes once faces job.view job.count input job.command in (some.0, inr (job, is, some.1))
+
+  only_owed : (owed other : Owed) → IsOwed faces words input owed → IsOwed faces words input other → other ≡ owed
+  only_owed owed other (inl (none, is)) (inl (none', is')) = is' ∙ sym is
+  only_owed owed other (inl (none, is)) (inr (job, found, of)) = absurd (none job found)
+  only_owed owed other (inr (job, found, of)) (inl (none, is)) = absurd (none job found)
+  only_owed owed other (inr (job, found, of)) (inr (job', found', of')) =
+      command_owes_once once faces job.view job.count input job.command owed other of (subst (λ (j : Job). IsOwedByJob faces j input other) (one_job spelled words job job' found found') of')
+
+pub owe_once : IsReadAsSpelled → inputs.OweOnce → OweOnce
+owe_once spelled once = record {
+  some = λ faces words input. some_owed spelled once faces words input (job_or_none spelled words);
+  only = λ faces words input. only_owed spelled once faces words input;
 }

@@ -1,3 +1,4 @@
 pub mod Job
 pub mod Laws
+pub mod Owed
 pub mod Standing

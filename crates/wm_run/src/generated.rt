@@ -5,9 +5,11 @@ ghost use Rattle.face_api.specs.Faces.{faces_of};
 ghost use Rattle.wm_units.specs.View.{IsView};
 ghost use Rattle.io_edge.specs.Edge.{Rose};
 ghost use Rattle.generator.specs.Generator.{gen_input};
+ghost use Rattle.edit_job.specs.Owed.{Owed, RiseBy};
 ghost use Rattle.input_due.specs.Due.{End};
 ghost use Rattle.input_due.specs.Input.{IsDueOfDocument};
 ghost use Rattle.wm_run.specs.Job.{IsDueOfGenerated, counted};
+ghost use Rattle.wm_run.specs.Owed.{IsOwedByGenerated};
 ghost use Rattle.wm_run.specs.Standing.{Stands};
 
 use crate::status::Status;
@@ -40,6 +42,7 @@ pub(crate) fn tell_generated<K: Sink, L: Ledger, M: Ledger>(
     ensures no_usage { result ≡ Status.Usage → ⊥ }
     ensures no_refusal { result ≡ Status.Refused → ⊥ }
     ensures no_read_fault { result ≡ Status.ReadFault → ⊥ }
+    ensures counts { (owed : Owed) → IsOwedByGenerated (faces_of ⟦<dyn Face as Face>⟧ faces) view count owed → RiseBy owed prepared.old prepared.new arranged.old arranged.new }
     ensures write_fault { result ≡ Status.WriteFault → Rose (K.faults sink.old) (K.faults sink.new) }
 {
     match written_for(alloc, view, faces, count, prepared, arranged) {
@@ -66,6 +69,7 @@ fn written_for<L: Ledger, M: Ledger>(
     requires few { count ≤ 1000 }
     ensures is { IfOk result (λ written. (end_ : End) × IsDueOfDocument (faces_of ⟦<dyn Face as Face>⟧ faces) view Follows.Script (gen_input count) end_ written) }
     ensures only { IfOk result (λ written. (end_ : End) (other : List ℕ) → IsDueOfDocument (faces_of ⟦<dyn Face as Face>⟧ faces) view Follows.Script (gen_input count) end_ other → other ≡ written) }
+    ensures counts { (owed : Owed) → IsOwedByGenerated (faces_of ⟦<dyn Face as Face>⟧ faces) view count owed → RiseBy owed prepared.old prepared.new arranged.old arranged.new }
 {
     steps_have_one_end();
     let input = gen_input(alloc, count)?;

@@ -6,8 +6,11 @@ ghost use Rattle.face_api.specs.Faces.{all_living, faces_of};
 ghost use Rattle.wm_units.specs.View.{IsView};
 ghost use Rattle.io_edge.specs.Edge.{Rose};
 ghost use Rattle.command_line.specs.Command.{IsJob};
+ghost use Rattle.edit_job.specs.Owed.{Owed, RiseBy};
 ghost use Rattle.input_due.specs.Input.{IsDueOfInput, longest_input};
+ghost use Rattle.input_due.specs.Owed.{IsOwedByInput};
 ghost use Rattle.wm_run.specs.Job.{IsDue, IsDueOfGenerated, IsDueOfJob, IsNoJob, Reads, usage_line, with_status};
+ghost use Rattle.wm_run.specs.Owed.{IsOwed, IsOwedByGenerated, IsOwedByJob};
 ghost use Rattle.wm_run.specs.Standing.{IsUsageOrBroken, Stands};
 
 use crate::generated::tell_generated;
@@ -32,7 +35,8 @@ use wm_units::{Steps, View};
 ///
 /// The faces are one to eight, by numbers from 0 in the order of the list. The run owns them, and drops them when
 /// it ends. `prepared` counts paragraphs whose text is prepared, `arranged` lists of lines and of blocks that are put down.
-/// Both have no bytes when the program runs, and no clause says how much they count.
+/// Both have no bytes when the program runs. Neither counts more than the job owes to its pages, where the bytes of the source are
+/// known or the command reads none of them; no clause says how much they count at least.
 pub fn run<S: Source, K: Sink, L: Ledger, M: Ledger>(
     alloc: Global,
     words: &Words,
@@ -52,6 +56,14 @@ pub fn run<S: Source, K: Sink, L: Ledger, M: Ledger>(
     // So they are whatever the source is, where the command reads nothing of it.
     ensures generated { (job : Job) → IsJob words.now job → (Reads job.command → ⊥)
         → Stands (IsDueOfGenerated (all_living ⟦<dyn Face as Face>⟧ faces.items) job.view job.count) (K.held sink.old) (K.held sink.new) result }
+
+    // Whatever the status, no more texts are prepared and no more contents arranged than the job owes to its pages.
+    ensures counts { (input : List ℕ) (owed : Owed) → S.left source.old ≡ Some input
+        → IsOwed (all_living ⟦<dyn Face as Face>⟧ faces.items) words.now input owed → RiseBy owed prepared.old prepared.new arranged.old arranged.new }
+
+    // So it is whatever the source is, where the command reads nothing of it.
+    ensures generated_counts { (job : Job) (owed : Owed) → IsJob words.now job → (Reads job.command → ⊥)
+        → IsOwedByGenerated (all_living ⟦<dyn Face as Face>⟧ faces.items) job.view job.count owed → RiseBy owed prepared.old prepared.new arranged.old arranged.new }
 
     // The usage line comes exactly where the words give no job. Nothing is taken from the source then.
     ensures usage { result ≡ Status.Usage → IsNoJob words.now × Appends (K.held sink.old) (K.held sink.new) usage_line
@@ -96,6 +108,8 @@ fn tell_job<S: Source, K: Sink, L: Ledger, M: Ledger>(
         → Stands (IsDueOfJob (faces_of ⟦<dyn Face as Face>⟧ faces) job input) (K.held sink.old) (K.held sink.new) result }
     ensures generated { (Reads job.command → ⊥)
         → Stands (IsDueOfGenerated (faces_of ⟦<dyn Face as Face>⟧ faces) job.view job.count) (K.held sink.old) (K.held sink.new) result }
+    ensures counts { (input : List ℕ) (owed : Owed) → S.left source.old ≡ Some input → IsOwedByJob (faces_of ⟦<dyn Face as Face>⟧ faces) job input owed → RiseBy owed prepared.old prepared.new arranged.old arranged.new }
+    ensures generated_counts { (Reads job.command → ⊥) → (owed : Owed) → IsOwedByGenerated (faces_of ⟦<dyn Face as Face>⟧ faces) job.view job.count owed → RiseBy owed prepared.old prepared.new arranged.old arranged.new }
     ensures no_usage { result ≡ Status.Usage → ⊥ }
     ensures read_fault { result ≡ Status.ReadFault → Reads job.command × Rose (S.faults source.old) (S.faults source.new) × Keeps (K.held sink.old) (K.held sink.new) }
     ensures write_fault { result ≡ Status.WriteFault → Rose (K.faults sink.old) (K.faults sink.new) }
@@ -152,6 +166,7 @@ fn tell_input<S: Source, K: Sink, L: Ledger, M: Ledger>(
     requires view { IsView view }
     ensures stands { (input : List ℕ) → S.left source.old ≡ Some input
         → Stands (with_status (IsDueOfInput (faces_of ⟦<dyn Face as Face>⟧ faces) view follows input)) (K.held sink.old) (K.held sink.new) result }
+    ensures counts { (input : List ℕ) (owed : Owed) → S.left source.old ≡ Some input → IsOwedByInput (faces_of ⟦<dyn Face as Face>⟧ faces) view follows input owed → RiseBy owed prepared.old prepared.new arranged.old arranged.new }
     ensures no_usage { result ≡ Status.Usage → ⊥ }
     ensures read_fault { result ≡ Status.ReadFault → Rose (S.faults source.old) (S.faults source.new) × Keeps (K.held sink.old) (K.held sink.new) }
     ensures write_fault { result ≡ Status.WriteFault → Rose (K.faults sink.old) (K.faults sink.new) }

@@ -1,9 +1,9 @@
-//! A law of runs. This function does nothing: its contract is the law.
+//! Laws of runs. These functions do nothing: their contracts are the laws.
 
-ghost use Rattle.wm_run.specs.Laws.{HaveOneResult};
+ghost use Rattle.wm_run.specs.Laws.{HaveOneResult, OweOnce};
 
 use command_line::laws::read_as_spelled;
-use input_due::laws::inputs_have_one_due;
+use input_due::laws::{inputs_have_one_due, inputs_owe_once};
 
 /// Something is due for all words and every input, with a status, and nothing else is: so what `run` says of a front of what
 /// is due is always said of one text.
@@ -12,4 +12,12 @@ pub fn runs_have_one_result()
 {
     read_as_spelled();
     inputs_have_one_due();
+}
+
+/// Something is owed to the pages for all words and every input, and no other amount: so `run` always has one bound on what it counts.
+pub fn runs_owe_once()
+    ensures { OweOnce }
+{
+    read_as_spelled();
+    inputs_owe_once();
 }

@@ -5,12 +5,15 @@ ghost use Rattle.std.specs.Io.KnownBytes.{Appends};
 ghost use Rattle.face_api.specs.Faces.{faces_of};
 ghost use Rattle.io_edge.specs.Edge.{AppendsFront, Rose};
 ghost use Rattle.probe_job.specs.Answers.{answers};
-ghost use Rattle.session.specs.State.{IsSound, page_in};
+ghost use Rattle.session.specs.State.{IsSound, page_in, state_in};
+ghost use Rattle.edit_job.specs.Owed.{Owed, RiseBy, after_page_in, at_first};
 ghost use Rattle.input_due.specs.Due.{IsOf, IsOpen, IsReady};
+ghost use Rattle.input_due.specs.Owed.{IsOwedFor, owed_so_far};
 ghost use Rattle.wm_run.specs.Job.{usage_line, with_status};
 ghost use Rattle.wm_run.specs.Standing.{Gives, IsBroken, IsSettled, Stands, ended};
 
 use crate::status::Status;
+use edit_job::laws::all_are_owed_at_first;
 use edit_job::{refusal_line, tell_steps};
 use face_api::Face;
 use hit_caret::Probe;
@@ -36,8 +39,10 @@ pub(crate) fn tell<K: Sink, L: Ledger, M: Ledger>(
     ensures no_usage { result ≡ Status.Usage → ⊥ }
     ensures no_read_fault { result ≡ Status.ReadFault → ⊥ }
     ensures done { result ≡ Status.Done → IsOpen due }
+    ensures counts { (owed : Owed) → IsOwedFor ⟦<dyn Face as Face>⟧ due owed → RiseBy owed prepared.old prepared.new arranged.old arranged.new }
     ensures write_fault { result ≡ Status.WriteFault → Rose (K.faults sink.old) (K.faults sink.new) }
 {
+    all_are_owed_at_first();
     match due {
         Due::Steps {
             mut session,
@@ -72,8 +77,11 @@ fn tell_probes<K: Sink, L: Ledger, M: Ledger>(
     requires sound { IsSound (faces_of ⟦<dyn Face as Face>⟧ session.old.faces) session.old }
     ensures whole { OnOk result (Appends (K.held sink.old) (K.held sink.new) (answers (page_in (faces_of ⟦<dyn Face as Face>⟧ session.old.faces) session.old) probes.now)) }
     ensures front { AppendsFront (K.held sink.old) (K.held sink.new) (answers (page_in (faces_of ⟦<dyn Face as Face>⟧ session.old.faces) session.old) probes.now) }
+    ensures counts { RiseBy (owed_so_far (after_page_in (faces_of ⟦<dyn Face as Face>⟧ session.old.faces) session.old (at_first (state_in (faces_of ⟦<dyn Face as Face>⟧ session.old.faces) session.old))))
+        prepared.old prepared.new arranged.old arranged.new }
     ensures fault { IsErrOf result WriteError.WriteFault → Rose (K.faults sink.old) (K.faults sink.new) }
 {
+    all_are_owed_at_first();
     let placed = session.page(prepared, arranged)?;
     tell_answers(&placed, probes, sink)
 }

@@ -4,6 +4,8 @@ use Rattle.generator.specs.Generator.{gen_input}
 use Rattle.input_due.specs.declared.follows.Follows.TheVariants.{Script}
 use Rattle.input_due.specs.Due.{IsDueBy, IsOf}
 use Rattle.input_due.specs.Input.{IsDueOfDocument}
+use Rattle.input_due.specs.Owed.{IsOwedBy, IsOwedByDocument}
+use Rattle.wm_run.proofs.CountLaws.{none_counted}
 use Rattle.wm_run.proofs.JobLaws.{told_text}
 use Rattle.wm_run.proofs.StandingLaws.{settled_text}
 use Rattle.wm_run.proofs.generated.written_for.Goals as goal
@@ -25,3 +27,15 @@ returns-in-Done-clause-only g c = λ end_ other due.
     let P : List ℕ → Type 0 = λ bytes. IsDueBy (λ vtable. (g.dyn-1.0.entry vtable).1) (IsDueOfDocument faces c.args.view Script bytes) c.in_ok-due.due in
     let by = subst P (c.deref.ensures.value ∙ c.in_ok-input.ensures.bytes) c.in_ok-due.ensures.due in
     told_text (λ vtable. (g.dyn-1.0.entry vtable).1) c.steps_have_one_end.ensures (IsDueOfDocument faces c.args.view Script (gen_input c.args.count)) c.in_ok-due.due told.0 told.1 by told.2 end_ other due ∙ sym same
+
+pub returns-in_err-input-clause-counts : goal.returns-in_err-input-clause-counts
+returns-in_err-input-clause-counts g c = λ owed owes. none_counted owed c.args.prepared.now c.args.arranged.now
+
+pub returns-in_err-due-clause-counts : goal.returns-in_err-due-clause-counts
+returns-in_err-due-clause-counts g c = λ owed owes. none_counted owed c.args.prepared.now c.args.arranged.now
+
+pub returns-in-Done-clause-counts : goal.returns-in-Done-clause-counts
+returns-in-Done-clause-counts g c = λ owed owes.
+    let P : List ℕ → Type 0 = λ bytes. IsOwedBy (λ vtable. (g.dyn-1.0.entry vtable).1) (IsOwedByDocument (faces_of (λ vtable. (g.dyn-1.0.entry vtable).1) c.args.faces) c.args.view Script bytes) c.in_ok-due.due in
+    let by = subst P (c.deref.ensures.value ∙ c.in_ok-input.ensures.bytes) c.in_ok-due.ensures.owed in
+    c.tell.ensures.counts owed ((by owed).0 owes)

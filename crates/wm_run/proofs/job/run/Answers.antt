@@ -4,8 +4,10 @@ use Rattle.face_api.specs.Table.{Table}
 use Rattle.command_line.specs.declared.error.WordsError.{WordsError}
 use Rattle.command_line.specs.declared.job.Job.{Job}
 use Rattle.wm_run.specs.Job.{IsDue, IsDueOfGenerated, IsDueOfJob, Reads, usage_line}
+use Rattle.wm_run.specs.Owed.{IsOwedByGenerated, IsOwedByJob}
 use Rattle.wm_run.specs.Standing.{Stands}
 use Rattle.wm_run.specs.declared.status.Status.TheVariants.{Usage}
+use Rattle.wm_run.proofs.CountLaws.{none_counted, owed_by_job}
 use Rattle.wm_run.proofs.JobLaws.{only_usage, same_job}
 use Rattle.wm_run.proofs.StandingLaws.{line_given, nothing_written, stands_by, stands_only}
 use Rattle.wm_run.proofs.job.run.Goals as goal
@@ -60,3 +62,35 @@ returns-in-Err-Usage-clause-generated g c = λ job is none. absurd (c.in-Err-Usa
 
 pub returns-clause-generated : goal.returns-clause-generated
 returns-clause-generated g c = λ job is none. nothing_written (IsDueOfGenerated (all_living (λ vtable. (g.dyn-1.0.entry vtable).1) c.args.faces.items) job.view job.count) (g.K.Sink.held c.args.sink.now)
+
+pub returns-in_default-clause-counts : goal.returns-in_default-clause-counts
+returns-in_default-clause-counts g c = λ input owed told owes. none_counted owed c.args.prepared.now c.args.arranged.now
+
+pub returns-in-Ok-read_words-clause-counts : goal.returns-in-Ok-read_words-clause-counts
+returns-in-Ok-read_words-clause-counts g c = λ input owed told owes.
+    let words = c.in-Ok-read_words.ensures in
+    let P : List (Option Table) → Type 0 = λ own. IsOwedByJob own c.in-Ok-read_words.job input owed in
+    c.tell_job.ensures.counts input owed told
+    (subst P (sym c.in-Ok.ensures) (owed_by_job (all_living (λ vtable. (g.dyn-1.0.entry vtable).1) c.args.faces.items) c.args.words.now c.in-Ok-read_words.job input owed words.read words.only owes))
+
+pub returns-in-Err-Usage-clause-counts : goal.returns-in-Err-Usage-clause-counts
+returns-in-Err-Usage-clause-counts g c = λ input owed told owes. none_counted owed c.args.prepared.now c.args.arranged.now
+
+pub returns-clause-counts : goal.returns-clause-counts
+returns-clause-counts g c = λ input owed told owes. none_counted owed c.args.prepared.now c.args.arranged.now
+
+pub returns-in_default-clause-generated_counts : goal.returns-in_default-clause-generated_counts
+returns-in_default-clause-generated_counts g c = λ job owed is none owes. none_counted owed c.args.prepared.now c.args.arranged.now
+
+pub returns-in-Ok-read_words-clause-generated_counts : goal.returns-in-Ok-read_words-clause-generated_counts
+returns-in-Ok-read_words-clause-generated_counts g c = λ job owed is none owes.
+    let own = c.in-Ok-read_words.ensures.only job is in
+    let P : List (Option Table) → Type 0 = λ tables. IsOwedByGenerated tables job.view job.count owed in
+    let Q : Job → Type 0 = λ (j : Job). IsOwedByGenerated (faces_of (λ vtable. (g.dyn-1.0.entry vtable).1) c.in-Ok.faces) j.view j.count owed in
+    c.tell_job.ensures.generated_counts (λ reads. none (subst (λ (j : Job). Reads j.command) (sym own) reads)) owed (subst Q own (subst P (sym c.in-Ok.ensures) owes))
+
+pub returns-in-Err-Usage-clause-generated_counts : goal.returns-in-Err-Usage-clause-generated_counts
+returns-in-Err-Usage-clause-generated_counts g c = λ job owed is none owes. none_counted owed c.args.prepared.now c.args.arranged.now
+
+pub returns-clause-generated_counts : goal.returns-clause-generated_counts
+returns-clause-generated_counts g c = λ job owed is none owes. none_counted owed c.args.prepared.now c.args.arranged.now

@@ -5,6 +5,7 @@ use Rattle.input_due.specs.Due.{IsOf}
 use Rattle.wm_run.specs.Job.{with_status}
 use Rattle.wm_run.specs.Standing.{Stands}
 use Rattle.wm_run.specs.declared.status.Status.{Status}
+use Rattle.wm_run.proofs.CountLaws.{answers_count, none_counted, steps_count}
 use Rattle.wm_run.proofs.JobLaws.{stands_answers, stands_steps}
 use Rattle.wm_run.proofs.tell.tell.Goals as goal
 
@@ -26,3 +27,16 @@ returns-in-Answers-clause-stands g c =
     subst (λ (s : Status). Stands (with_status (IsOf (λ vtable. (g.dyn-1.0.entry vtable).1) c.args.due)) old new s) (sym c.ended-in-Answers.ensures)
     (stands_answers (λ vtable. (g.dyn-1.0.entry vtable).1) c.args.due c.in-Answers.session c.in-Answers.probes c.deref-in-Answers.result.now old new c.tell_probes-written.result
     c.in-Answers.is c.deref-in-Answers.ensures.value told.whole told.front)
+
+pub returns-in-Steps-clause-counts : goal.returns-in-Steps-clause-counts
+returns-in-Steps-clause-counts g c =
+    steps_count (λ vtable. (g.dyn-1.0.entry vtable).1) c.all_are_owed_at_first.ensures c.args.due c.in-Steps.session c.in-Steps.script c.deref.result.now c.args.prepared.now c.tell_steps-written.new.prepared c.args.arranged.now c.tell_steps-written.new.arranged
+    c.in-Steps.is c.deref.ensures.value c.requires.ready c.tell_steps-written.ensures.costs
+
+pub returns-in-Answers-clause-counts : goal.returns-in-Answers-clause-counts
+returns-in-Answers-clause-counts g c =
+    answers_count (λ vtable. (g.dyn-1.0.entry vtable).1) c.args.due c.in-Answers.session c.in-Answers.probes c.args.prepared.now c.tell_probes-written.new.prepared c.args.arranged.now c.tell_probes-written.new.arranged
+    c.in-Answers.is c.tell_probes-written.ensures.counts
+
+pub returns-in-Refused-clause-counts : goal.returns-in-Refused-clause-counts
+returns-in-Refused-clause-counts g c = λ owed owes. none_counted owed c.args.prepared.now c.args.arranged.now
