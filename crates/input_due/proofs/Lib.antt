@@ -1,4 +1,5 @@
 pub mod DocumentLaws
 mod Examples
 pub mod OneDue
+mod OwedExamples
 pub mod Taken
