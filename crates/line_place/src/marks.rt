@@ -22,6 +22,9 @@ pub(crate) enum Mark<'a, S: LineSource> {
 
 pub(crate) type Marks<'a, S> = Vec<Mark<'a, S>>;
 
+// For how many marks there is room at first: most lines have fewer.
+const ROOM: usize = 16;
+
 // The places of boxes, innermost first.
 type Places = Vec<usize>;
 
@@ -140,7 +143,7 @@ fn bare_marks<'a, S: LineSource>(
     requires within { AreWithin (length boxes.now) leaves.now }
     ensures { IfOk result (λ made. map mark_of made.items ≡ marks_after boxes.now None (runs.runs leaves.now)) }
 {
-    let mut marks = Vec::new(alloc);
+    let mut marks = Vec::with_capacity(alloc, ROOM)?;
     let mut inside = None;
     let mut at = 0;
     while at < leaves.len() {

@@ -323,13 +323,25 @@ pub(crate) fn walked<S: LineSource>(
     let mut walk = Walk {
         at,
         opened: Vec::new(alloc),
-        parts: Vec::new(alloc),
+        parts: room_for(alloc, stage.frame.boxes, marks)?,
     };
     for mark in marks {
         walk.step(alloc, stage, mark)?;
     }
     let Walk { parts, .. } = walk;
     Ok(parts)
+}
+
+// Room for the outermost fragments of a line: as many as there are marks, where none of these is of a box.
+fn room_for<S: LineSource>(
+    alloc: Global,
+    boxes: &[LineBox],
+    marks: &[Mark<S>],
+) -> Result<Fragments, AllocError>
+    ensures { IfOk result (λ parts. parts.items ≡ []) }
+{
+    let count = if boxes.is_empty() { marks.len() } else { 1 };
+    Vec::with_capacity(alloc, count)
 }
 
 impl Walk {
