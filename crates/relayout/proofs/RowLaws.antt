@@ -53,6 +53,18 @@ lives_there boxes key node is = by (get boxes key) is where
   by None is = absurd (none-some node is)
   by (Some entry) is = refl
 
+-- a box of a row, and those behind it
+pub row_on : (boxes : Arena) (next : Option ℕ) (key : ℕ) → (rest : Boxes) × StandFrom boxes.slots next rest → next ≡ Some key
+    → ContainsKey boxes key × ((others : Boxes) × StandFrom boxes.slots (next_at boxes.slots key) others)
+row_on boxes next key (rest, stand) is = by rest stand where
+  by : (rest : Boxes) → StandFrom boxes.slots next rest → ContainsKey boxes key × ((others : Boxes) × StandFrom boxes.slots (next_at boxes.slots key) others)
+  by no_boxes stand = absurd (none-some key (sym stand ∙ is))
+  by (box name style content inner others) (k, at, node, within, behind) =
+      let same : k ≡ key = same_Some k key (sym at ∙ is) in
+      let A : ℕ → Type 0 = λ n. node_at boxes.slots n ≡ Some (record { name = name; style = style; content = content }) in
+      let B : ℕ → Type 0 = λ n. StandFrom boxes.slots (next_at boxes.slots n) others in
+      (lives_there boxes key (record { name = name; style = style; content = content }) (subst A same node), (others, subst B same behind))
+
 node_lives : (slots : Slots Preparation) (key : ℕ) → IsSome (links_at slots key) → (node : Node) × (node_at slots key ≡ Some node)
 node_lives slots key live = by (slice_index_or slots key None) live where
   by : (entry : Option (Entry Preparation)) → IsSome (option_map (λ entry. entry.links) entry) → (node : Node) × (option_map (λ held. node_of held.node) (option_map (λ entry. entry.held) entry) ≡ Some node)

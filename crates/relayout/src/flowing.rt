@@ -14,7 +14,7 @@ ghost use Rattle.relayout.specs.Flowing.{CanFlow, CanFlowBox, IsBegun, IsSeen, I
 ghost use Rattle.relayout.specs.Inline.{Outside};
 ghost use Rattle.relayout.specs.Intrinsic.{IsTextOf};
 ghost use Rattle.relayout.specs.Paragraph.{IsParagraphIn, IsReadyIn};
-ghost use Rattle.relayout.specs.Row.{AreFlowed, HasBox, IsFlowedAt, IsSteady, outside_of};
+ghost use Rattle.relayout.specs.Row.{AreFlowed, HasBox, HasRow, IsFlowedAt, IsSteady, outside_of};
 
 use crate::flow_box::FlowBox;
 use crate::flowed::{LaidBox, LaidBoxes};
@@ -63,6 +63,22 @@ fn shared(fragment: &Fragment) -> Result<Fragment, AllocError>
     Ok(own)
 }
 
+// How many boxes stand in a row.
+fn count_of(arena: &BoxArena<Prepared>, row: &Row) -> usize
+    requires { HasRow arena.now.slots row.now.from row.now.depth }
+{
+    let mut next = row.from;
+    let mut count = 0;
+    for _ in 0..MOST_BOXES {
+        let Some(key) = next else {
+            break;
+        };
+        next = arena.next(key);
+        count += 1;
+    }
+    count
+}
+
 // The prepared text of the paragraph that a box holds, if it holds one.
 fn text_of<L: Ledger>(
     alloc: Global,
@@ -104,7 +120,7 @@ impl<L: Ledger, M: Ledger> Flow<'_, '_, '_, '_, L, M> {
         ensures costs { RowCosts (outside_of ⟦<dyn Face as Face>⟧ page.entry) self.old.arena.now.slots self.new.arena.now.slots row.now (counted self.old.texts.now self.old.arranged.now) (counted self.new.texts.now self.new.arranged.now) }
         ensures done { OnOk result (RowDone (outside_of ⟦<dyn Face as Face>⟧ page.entry) self.old.arena.now.slots self.new.arena.now.slots row.now (counted self.old.texts.now self.old.arranged.now) (counted self.new.texts.now self.new.arranged.now)) }
     {
-        let mut laid = Vec::new(alloc);
+        let mut laid = Vec::with_capacity(alloc, count_of(self.arena, row))?;
         let mut next = row.from;
         for _ in 0..MOST_BOXES {
             let Some(key) = next else {
@@ -133,10 +149,11 @@ impl<L: Ledger, M: Ledger> Flow<'_, '_, '_, '_, L, M> {
         ensures kept { IfOk result (λ found. option_map (λ laid. piece_of laid.fragment) found ≡ kept_at self.now.arena.now.slots own.now.key own.now.c) }
         ensures flowed { IfOk result (λ found. IfSome found (λ laid. (outside : Outside) → CanFlowBox outside self.now.arena.now.slots own.now → IsFlowedAt outside self.now.arena.now.slots own.now laid)) }
     {
-        let style = self.arena.node(own.key).style;
+        let node = self.arena.node(own.key);
         match self.arena.kept(own.key, own.c) {
             Some(fragment) => {
                 let fragment = shared(fragment)?;
+                let style = node.style;
                 Ok(Some(LaidBox { style, fragment }))
             }
             None => Ok(None),

@@ -12,12 +12,23 @@ use Rattle.relayout.proofs.RowLaws.{lives_there, steady_itself, steady_then}
 use Rattle.relayout.proofs.flowing.Flow.+flow.Goals as goal
 use Rattle.relayout.proofs.flowing.Flow.+flow.Goals.{else-loop-test, then-loop-test+in_default}
 
+pub count_of-requires : goal.count_of-requires
+count_of-requires g t c = c.requires.can.boxes
+
+pub returns-in_err-laid-clause-steady : goal.returns-in_err-laid-clause-steady
+returns-in_err-laid-clause-steady g t c = steady_itself (outside_of (λ vtable. (g.dyn-1.0.entry vtable).1) c.args.page) c.args.self.now.arena.now c.requires.can.right
+
+pub returns-in_err-laid-clause-costs : goal.returns-in_err-laid-clause-costs
+returns-in_err-laid-clause-costs g t c =
+    let outside = outside_of (λ vtable. (g.dyn-1.0.entry vtable).1) c.args.page in
+    counting_costs outside _ _ c.args.row.now c.args.row.now.from _ _ (counting_first outside c.args.self.now.arena.now.slots c.args.row.now _)
+
 pub loop-init : goal.loop-init
 loop-init g t c =
     let outside = outside_of (λ vtable. (g.dyn-1.0.entry vtable).1) c.args.page in
     let arena = c.args.self.now.arena.now in
     let P : List LaidBox → Type 0 = λ laid. Going outside arena arena c.args.row.now c.args.row.now.from 0 laid in
-    record { arena = refl; texts = refl; arranged = refl; counting = counting_first outside arena.slots c.args.row.now _; going = subst P (sym c.new-laid.ensures.items) (going_first outside arena c.args.row.now c.requires.can) }
+    record { arena = refl; texts = refl; arranged = refl; counting = counting_first outside arena.slots c.args.row.now _; going = subst P (sym c.in_ok-laid.ensures.items) (going_first outside arena c.args.row.now c.requires.can) }
 
 pub next-next-requires : goal.next-next-requires
 next-next-requires g t c =

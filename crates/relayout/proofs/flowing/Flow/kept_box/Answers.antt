@@ -4,12 +4,12 @@ use Rattle.relayout.proofs.FlowingLaws.{kept_flowed}
 use Rattle.relayout.proofs.RowLaws.{lives_there}
 use Rattle.relayout.proofs.flowing.Flow.kept_box.Goals as goal
 
-pub node-requires : goal.node-requires
-node-requires g c = lives_there c.args.self.now.arena.now c.args.own.now.key c.requires.node c.requires.is
+pub node-node-requires : goal.node-node-requires
+node-node-requires g c = lives_there c.args.self.now.arena.now c.args.own.now.key c.requires.node c.requires.is
 
 pub kept-requires : goal.kept-requires
 kept-requires g c = lives_there c.args.self.now.arena.now c.args.own.now.key c.requires.node c.requires.is
 
 pub returns-in_ok-fragment-in-Some-clause-flowed : goal.returns-in_ok-fragment-in-Some-clause-flowed
 returns-in_ok-fragment-in-Some-clause-flowed g c = λ outside can.
-    kept_flowed outside _ c.args.own.now _ (node_of c.node.result.now) can c.node.ensures.node refl (search rules)
+    kept_flowed outside _ c.args.own.now _ (node_of c.node-node.result.now) can c.node-node.ensures.node refl (search rules)
