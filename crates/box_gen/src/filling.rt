@@ -4,6 +4,7 @@ ghost use Rattle.std.specs.Prelude.{◌≤◌, length};
 
 use crate::opened::Opened;
 use crate::paragraph::{anonymous_style, own_name, paragraph};
+use crate::role::Role;
 use crate::run::Run;
 use crate::tree::{BoxNode, BoxTree, BoxTrees, Content};
 use fragment_types::{BoxName, Item};
@@ -44,6 +45,18 @@ impl Filling {
             run: Run::new(alloc),
             opened: Vec::new(alloc),
         })
+    }
+
+    /// Makes room for what one node of this role puts.
+    pub fn make_room(&mut self, role: Role) -> Result<(), AllocError>
+        ensures { IfOk result (λ _. filling_of self.new ≡ filling_of self.old) }
+    {
+        match role {
+            Role::Words => self.run.items.reserve_exact(1)?,
+            Role::BlockLevel => self.boxes.reserve_exact(1)?,
+            Role::Nothing | Role::LineBreak | Role::InlineBox | Role::Atom => {}
+        }
+        Ok(())
     }
 
     /// Puts a text.

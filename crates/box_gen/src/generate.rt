@@ -6,13 +6,13 @@ ghost use Rattle.box_gen.specs.Tree.{boxes_of};
 ghost use Rattle.box_gen.specs.Parts.{has_block};
 ghost use Rattle.box_gen.specs.Boxes.{content, root_boxes};
 ghost use Rattle.box_gen.specs.declared.role.Role.TheVariants as roles;
-ghost use Rattle.box_gen.specs.Building.{filling_of, role_in, Puts};
+ghost use Rattle.box_gen.specs.Building.{filling_of, no_filling, role_in, Puts};
 
 use crate::filling::Filling;
 use crate::role::{Role, role_of};
 use crate::tree::BoxTree;
 use std::alloc::{AllocError, Global};
-use style_types::{StyledKind, StyledNode};
+use style_types::{SharedStyle, StyledKind, StyledNode};
 
 /// The boxes that a styled tree makes: that of the root, whatever its display, with all inside it. A block-level box in an inline
 /// box cuts that into pieces. Takes memory for the boxes, and time in proportion to the tree and, for each block-level box, to the
@@ -29,9 +29,25 @@ pub fn boxes(alloc: Global, styled: &StyledNode) -> Result<BoxTree, AllocError>
 fn container(alloc: Global, node: &StyledNode) -> Result<BoxTree, AllocError>
     ensures { IfOk result (λ tree. boxes_of tree ≡ root_boxes (nodes_of node.now)) }
 {
-    let mut filling = Filling::new(alloc, node.node, &node.style)?;
+    let mut filling = empty(alloc, node.node, &node.style, &node.children)?;
     put_nodes(alloc, &node.children, &mut filling)?;
     filling.finished(alloc)
+}
+
+// A container of this node and style, with nothing put: where one node is put, as in most, there is room for what that makes alone.
+fn empty(
+    alloc: Global,
+    number: u32,
+    style: &SharedStyle,
+    inside: &[StyledNode],
+) -> Result<Filling, AllocError>
+    ensures { IfOk result (λ filling. filling_of filling ≡ no_filling number style.now) }
+{
+    let mut filling = Filling::new(alloc, number, style)?;
+    if inside.len() == 1 {
+        filling.make_room(role_of(&inside[0]))?;
+    }
+    Ok(filling)
 }
 
 // Puts what these nodes are in their container; whether a block-level box is among it.

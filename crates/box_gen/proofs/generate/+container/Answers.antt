@@ -15,7 +15,7 @@ use Rattle.box_gen.proofs.generate.+container.Goals as goal
 pub container-returns : goal.container-returns
 container-returns t c =
     ok_gives c.finished.result _ _ c.finished.ensures (λ tree is.
-    is ∙ container_is c.args.node.now c.deref.result.now c.deref.ensures.value (filling_of c.in_ok-filling.filling) (filling_of c.put_nodes.new.filling) c.in_ok-filling.ensures c.in_ok-put_nodes.ensures.put)
+    is ∙ container_is c.args.node.now c.deref-2.result.now c.deref-2.ensures.value (filling_of c.in_ok-filling.filling) (filling_of c.put_nodes.new.filling) c.in_ok-filling.ensures c.in_ok-put_nodes.ensures.put)
 
 pub put_inline_box-returns-clause-put : goal.put_inline_box-returns-clause-put
 put_inline_box-returns-clause-put t c =
