@@ -12,9 +12,21 @@ pub(crate) fn plain_count(bytes: &[u8]) -> usize
     ensures within { result ≤ length bytes.now }
     ensures plain { list_all is_plain_letter (take result bytes.now) ≡ true }
 {
+    // In text of other scripts few plain bytes stand side by side, for which whole blocks would be looked at in vain.
+    if !starts_plain(bytes) {
+        return plain_in(bytes);
+    }
     let start = plain_blocks(bytes);
     let (_, rest) = bytes.split_at(start);
     start + plain_in(rest)
+}
+
+// Whether there are two bytes in front that are plain.
+fn starts_plain(bytes: &[u8]) -> bool {
+    match bytes {
+        [first, second, ..] => is_plain_letter(*first) && is_plain_letter(*second),
+        _ => false,
+    }
 }
 
 // How many of these bytes in front are plain, looked at byte by byte.
