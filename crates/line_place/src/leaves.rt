@@ -277,12 +277,47 @@ fn levels_of<S: LineSource>(
     ensures levels { IfOk result (λ levels. levels.items ≡ levels_of (line_in frame.now (S.items source.now))) }
     ensures length { IfOk result (λ levels. length levels.items ≡ length (S.items source.now)) }
 {
-    let classes = own_classes(alloc, source)?;
-    let mut levels = own_levels(alloc, source)?;
+    let classes = item_classes(alloc, source)?;
+    let mut levels = item_levels(alloc, source)?;
     reset(&mut levels, &classes, frame.base);
     Ok(levels)
 }
 
+// The levels of the items, before L1.
+fn item_levels<S: LineSource>(alloc: Global, source: &S) -> Result<LevelList, AllocError>
+    ensures levels { IfOk result (λ made. made.items ≡ map (λ item. item.level) (S.items source.now)) }
+    ensures length { IfOk result (λ made. length made.items ≡ length (S.items source.now)) }
+{
+    match source.levels() {
+        Some(levels) => {
+            let made = Vec::from_slice(alloc, levels)?;
+            Ok(made)
+        }
+        None => {
+            let made = own_levels(alloc, source)?;
+            Ok(made)
+        }
+    }
+}
+
+// The classes of the items.
+fn item_classes<S: LineSource>(alloc: Global, source: &S) -> Result<ClassList, AllocError>
+    ensures classes { IfOk result (λ made. made.items ≡ map (λ item. item.class) (S.items source.now)) }
+    ensures length { IfOk result (λ made. length made.items ≡ length (S.items source.now)) }
+{
+    match source.classes() {
+        Some(classes) => {
+            let made = Vec::from_slice(alloc, classes)?;
+            Ok(made)
+        }
+        None => {
+            let made = own_classes(alloc, source)?;
+            Ok(made)
+        }
+    }
+}
+
+// The levels of the items, read one by one.
 fn own_levels<S: LineSource>(alloc: Global, source: &S) -> Result<LevelList, AllocError>
     ensures levels { IfOk result (λ made. made.items ≡ map (λ item. item.level) (S.items source.now)) }
     ensures length { IfOk result (λ made. length made.items ≡ length (S.items source.now)) }
@@ -306,6 +341,7 @@ fn own_aparts<S: LineSource>(alloc: Global, source: &S) -> Result<Aparts, AllocE
     Ok(made)
 }
 
+// The classes of the items, read one by one.
 fn own_classes<S: LineSource>(alloc: Global, source: &S) -> Result<ClassList, AllocError>
     ensures classes { IfOk result (λ made. made.items ≡ map (λ item. item.class) (S.items source.now)) }
     ensures length { IfOk result (λ made. length made.items ≡ length (S.items source.now)) }

@@ -12,6 +12,7 @@ use crate::line_text::LineText;
 use crate::runs::{stand_alike, unit_of};
 use fragment_types::RunUnit;
 use std::alloc::{AllocError, Global};
+use wm_chars::BidiClass;
 
 /// Items of a line in logical order, which are read one at a time, and some of them several times: what is asked of all of them
 /// should cost a few steps.
@@ -41,6 +42,20 @@ pub trait LineSource {
         ensures { (d : Item) → IfOk result (λ made. made ≡ unit_in (slice_index_or (items self.now) place d)) }
     {
         unit_of(alloc, &self.item(place))
+    }
+
+    /// The levels of all of them, where it has them in a list. One that hasn't may say none.
+    fn levels(&self) -> Option<&[u8]>
+        ensures { IfSome result (λ levels. levels.now ≡ map (λ item. item.level) (items self.now)) }
+    {
+        None
+    }
+
+    /// The classes of all of them, where it has them in a list. One that hasn't may say none.
+    fn classes(&self) -> Option<&[BidiClass]>
+        ensures { IfSome result (λ classes. classes.now ≡ map (λ item. item.class) (items self.now)) }
+    {
+        None
     }
 
     /// Whether each of them has level 0. A source that doesn't know may say no.

@@ -62,6 +62,30 @@ standings_length (item ∷ items) (level ∷ levels) (class ∷ classes) (base �
 standings_length (item ∷ items) (level ∷ levels) (class ∷ classes) (base ∷ bases) (end_ ∷ breaks) skipped atoms a b c d =
     ap suc (standings_length items levels classes bases breaks (drop 1 skipped) atoms (omega arith) (omega arith) (omega arith) (omega arith))
 
+pub standings_levels : (items : List PreparedItem) (levels : List ℕ) (classes : List BidiClass) (bases : List ℕ) (breaks : List Breaking) (skipped : List ℕ) (atoms : List code_atom.Atom)
+    → length levels ≡ length items → length classes ≡ length items → length bases ≡ length items → length breaks ≡ length items
+    → map (λ s. s.level) (standings_of items levels classes bases breaks skipped atoms) ≡ levels
+standings_levels [] [] classes bases breaks skipped atoms a b c d = refl
+standings_levels [] (level ∷ levels) classes bases breaks skipped atoms a b c d = absurd (omega arith)
+standings_levels (item ∷ items) [] classes bases breaks skipped atoms a b c d = absurd (omega arith)
+standings_levels (item ∷ items) (level ∷ levels) [] bases breaks skipped atoms a b c d = absurd (omega arith)
+standings_levels (item ∷ items) (level ∷ levels) (class ∷ classes) [] breaks skipped atoms a b c d = absurd (omega arith)
+standings_levels (item ∷ items) (level ∷ levels) (class ∷ classes) (base ∷ bases) [] skipped atoms a b c d = absurd (omega arith)
+standings_levels (item ∷ items) (level ∷ levels) (class ∷ classes) (base ∷ bases) (end_ ∷ breaks) skipped atoms a b c d =
+    ap (λ (l : List ℕ). level ∷ l) (standings_levels items levels classes bases breaks (drop 1 skipped) atoms (omega arith) (omega arith) (omega arith) (omega arith))
+
+pub standings_classes : (items : List PreparedItem) (levels : List ℕ) (classes : List BidiClass) (bases : List ℕ) (breaks : List Breaking) (skipped : List ℕ) (atoms : List code_atom.Atom)
+    → length levels ≡ length items → length classes ≡ length items → length bases ≡ length items → length breaks ≡ length items
+    → map (λ s. s.class) (standings_of items levels classes bases breaks skipped atoms) ≡ classes
+standings_classes [] levels [] bases breaks skipped atoms a b c d = refl
+standings_classes [] levels (class ∷ classes) bases breaks skipped atoms a b c d = absurd (omega arith)
+standings_classes (item ∷ items) [] classes bases breaks skipped atoms a b c d = absurd (omega arith)
+standings_classes (item ∷ items) (level ∷ levels) [] bases breaks skipped atoms a b c d = absurd (omega arith)
+standings_classes (item ∷ items) (level ∷ levels) (class ∷ classes) [] breaks skipped atoms a b c d = absurd (omega arith)
+standings_classes (item ∷ items) (level ∷ levels) (class ∷ classes) (base ∷ bases) [] skipped atoms a b c d = absurd (omega arith)
+standings_classes (item ∷ items) (level ∷ levels) (class ∷ classes) (base ∷ bases) (end_ ∷ breaks) skipped atoms a b c d =
+    ap (λ (l : List BidiClass). class ∷ l) (standings_classes items levels classes bases breaks (drop 1 skipped) atoms (omega arith) (omega arith) (omega arith) (omega arith))
+
 drop_one : {X : Type 0} (k : ℕ) (xs : List X) → drop k (drop 1 xs) ≡ drop (suc k) xs
 drop_one zero [] = refl
 drop_one (suc k) [] = refl

@@ -22,6 +22,7 @@ use line_place::{LineBox, LineFrame, LineItem, LineSource, LineText};
 use para_prepare::PreparedContent;
 use std::alloc::{AllocError, Global};
 use std::marker::Model;
+use wm_chars::BidiClass;
 
 /// The items of a line, with what they are made from: each stands in boxes of the line.
 #[derive(Drop)]
@@ -69,6 +70,16 @@ impl LineSource for SeatedItems<'_> {
     fn unit(&self, alloc: Global, place: usize) -> Result<RunUnit, AllocError> {
         let made = unit_of(alloc, &self.standing(place))?;
         Ok(made)
+    }
+
+    #[inline(always)]
+    fn levels(&self) -> Option<&[u8]> {
+        Some(self.standings.levels())
+    }
+
+    #[inline(always)]
+    fn classes(&self) -> Option<&[BidiClass]> {
+        Some(self.standings.classes())
     }
 
     fn is_level_zero(&self) -> bool {

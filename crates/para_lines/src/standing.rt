@@ -117,6 +117,20 @@ impl<'a> Standings<'a> {
         }
     }
 
+    /// Their levels.
+    pub(crate) fn levels(&self) -> &'a [u8]
+        ensures { result.now ≡ map (λ own. own.level) self.now }
+    {
+        self.lists.levels
+    }
+
+    /// Their classes for L1 of UAX 9.
+    pub(crate) fn classes(&self) -> &'a [BidiClass]
+        ensures { result.now ≡ map (λ own. own.class) self.now }
+    {
+        self.lists.classes
+    }
+
     /// Those from one place up to another.
     pub(crate) fn between(&self, from: usize, end: usize) -> Standings<'a>
         requires order { from ≤ end }
