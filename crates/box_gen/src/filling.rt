@@ -47,14 +47,14 @@ impl Filling {
         })
     }
 
-    /// Makes room for what one node of this role puts.
-    pub fn make_room(&mut self, role: Role) -> Result<(), AllocError>
+    /// Makes room for what so many nodes put, of which the first has this role: for a text alone, or for a box of each node.
+    pub fn make_room(&mut self, role: Role, count: usize) -> Result<(), AllocError>
         ensures { IfOk result (λ _. filling_of self.new ≡ filling_of self.old) }
     {
         match role {
-            Role::Words => self.run.items.reserve_exact(1)?,
-            Role::BlockLevel => self.boxes.reserve_exact(1)?,
-            Role::Nothing | Role::LineBreak | Role::InlineBox | Role::Atom => {}
+            Role::Words if count == 1 => self.run.items.reserve_exact(1)?,
+            Role::BlockLevel => self.boxes.reserve_exact(count)?,
+            Role::Words | Role::Nothing | Role::LineBreak | Role::InlineBox | Role::Atom => {}
         }
         Ok(())
     }

@@ -34,7 +34,8 @@ fn container(alloc: Global, node: &StyledNode) -> Result<BoxTree, AllocError>
     filling.finished(alloc)
 }
 
-// A container of this node and style, with nothing put: where one node is put, as in most, there is room for what that makes alone.
+// A container of this node and style, with nothing put. Most hold one text, or nothing but block-level boxes: so there is room for
+// as many as the first of these nodes says.
 fn empty(
     alloc: Global,
     number: u32,
@@ -44,8 +45,8 @@ fn empty(
     ensures { IfOk result (λ filling. filling_of filling ≡ no_filling number style.now) }
 {
     let mut filling = Filling::new(alloc, number, style)?;
-    if inside.len() == 1 {
-        filling.make_room(role_of(&inside[0]))?;
+    if let Some(first) = inside.first() {
+        filling.make_room(role_of(first), inside.len())?;
     }
     Ok(filling)
 }
