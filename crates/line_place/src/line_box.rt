@@ -10,6 +10,7 @@ ghost use Rattle.line_place.specs.Marks.{mark_of};
 ghost use Rattle.line_place.specs.Placing as rule;
 ghost use Rattle.line_place.specs.Reach.{AreInLimit, AreLineMarks, AreNested, AreOfBoxes, AreReached, HasLimit, IsAtomic, IsBefore, extents_reach, item_reach, line_reach, mark_reach, total};
 
+use crate::empty::NoFragments;
 use crate::leaves::{LeafSlice, leaves};
 use crate::line::{LineFrame, LineInput};
 use crate::line_text::{LineText, place_text};
@@ -19,7 +20,6 @@ use crate::source::{LineSource, Listed};
 use crate::walk::{LineStage, walked};
 use fragment_types::LineFragment;
 use std::alloc::{AllocError, Global};
-use std::rc::Rc;
 
 /// Places a line: its inline boxes, runs and atoms as fragments from line-left, and how far it reaches over and under its
 /// baseline, in units of 1/64 px (CSS 2, 9.4.2 and 10.8; UAX 9, 3.4). Boxes stand behind those round them, and the lengths
@@ -39,13 +39,35 @@ pub fn place_line_from<S: LineSource>(
     ensures within { (limit : ℕ) → HasLimit limit (line_in frame.now (S.items source.now)) → IfOk result (λ made. (unsigned_abs made.over ≤ limit) × (unsigned_abs made.under ≤ limit)) }
     ensures reach { All (λ item. IsAtomic item.what) (S.items source.now) → IfOk result (λ made. AreInLimit (4 * line_reach (line_in frame.now (S.items source.now))) (pieces_of made.parts.items)) }
 {
+    let empty = NoFragments::new(alloc)?;
+    let made = place_line_with(alloc, frame, source, &empty)?;
+    Ok(made)
+}
+
+/// Places a line as `place_line_from` does, with a list that its fragments share with those of other lines.
+pub fn place_line_with<S: LineSource>(
+    alloc: Global,
+    frame: &LineFrame,
+    source: &S,
+    empty: &NoFragments,
+) -> Result<LineFragment, AllocError>
+    requires inside { All (λ item. IsBefore (length frame.now.boxes.now) item.inside) (S.items source.now) }
+    requires nested { AreNested frame.now.boxes.now }
+    requires reach { line_reach (line_in frame.now (S.items source.now)) ≤ 2 ^ 60 }
+    ensures over { IfOk result (λ made. made.over ≡ rule.line_over (line_in frame.now (S.items source.now))) }
+    ensures under { IfOk result (λ made. made.under ≡ rule.line_under (line_in frame.now (S.items source.now))) }
+    ensures parts { IfOk result (λ made. pieces_of made.parts.items ≡ rule.parts (line_in frame.now (S.items source.now))) }
+    ensures near { IfOk result (λ made. (unsigned_abs made.over ≤ 2 ^ 60) × (unsigned_abs made.under ≤ 2 ^ 60)) }
+    ensures within { (limit : ℕ) → HasLimit limit (line_in frame.now (S.items source.now)) → IfOk result (λ made. (unsigned_abs made.over ≤ limit) × (unsigned_abs made.under ≤ limit)) }
+    ensures reach { All (λ item. IsAtomic item.what) (S.items source.now) → IfOk result (λ made. AreInLimit (4 * line_reach (line_in frame.now (S.items source.now))) (pieces_of made.parts.items)) }
+{
     match known_text(alloc, frame, source)? {
         Some(text) => {
-            let made = place_text(alloc, frame, text)?;
+            let made = place_text(alloc, frame, text, empty)?;
             Ok(made)
         }
         None => {
-            let made = place_items(alloc, frame, source)?;
+            let made = place_items(alloc, frame, source, empty)?;
             Ok(made)
         }
     }
@@ -99,6 +121,7 @@ fn place_items<S: LineSource>(
     alloc: Global,
     frame: &LineFrame,
     source: &S,
+    empty: &NoFragments,
 ) -> Result<LineFragment, AllocError>
     requires inside { All (λ item. IsBefore (length frame.now.boxes.now) item.inside) (S.items source.now) }
     requires nested { AreNested frame.now.boxes.now }
@@ -112,7 +135,7 @@ fn place_items<S: LineSource>(
     let list = leaves(alloc, frame, source)?;
     let leaves = LeafSlice::of_list(source, &list);
     let marks = marks(alloc, frame.boxes, &leaves)?;
-    let made = of_marks(alloc, frame, &marks)?;
+    let made = of_marks(alloc, frame, &marks, empty)?;
     Ok(made)
 }
 
@@ -121,6 +144,7 @@ fn of_marks<S: LineSource>(
     alloc: Global,
     line: &LineFrame,
     marks: &[Mark<S>],
+    empty: &NoFragments,
 ) -> Result<LineFragment, AllocError>
     requires marks { AreLineMarks (length line.now.boxes.now) (map mark_of marks.now) }
     requires boxes { AreReached line.now.boxes.now }
@@ -138,7 +162,7 @@ fn of_marks<S: LineSource>(
     let stage = LineStage {
         frame: line,
         over,
-        empty: Rc::new(alloc, Vec::new(alloc))?,
+        empty,
     };
     let parts = walked(alloc, &stage, at, marks)?;
     Ok(LineFragment { over, under, parts })

@@ -7,6 +7,7 @@ ghost use Rattle.line_place.specs.LineText.{IsLineText, text_of, text_piece};
 ghost use Rattle.line_place.specs.Placing as rule;
 ghost use Rattle.line_place.specs.Reach.{AreInLimit, extents_reach, line_reach};
 
+use crate::empty::NoFragments;
 use crate::line::LineFrame;
 use crate::measure::offset;
 use crate::walk::{LineStage, unnumbered};
@@ -33,6 +34,7 @@ pub(crate) fn place_text(
     alloc: Global,
     frame: &LineFrame,
     text: LineText,
+    empty: &NoFragments,
 ) -> Result<LineFragment, AllocError>
     requires base { frame.now.base ≡ 0 }
     requires boxes { frame.now.boxes.now ≡ [] }
@@ -45,11 +47,7 @@ pub(crate) fn place_text(
 {
     level_zero_stays();
     let (over, under) = (frame.strut.over, frame.strut.under);
-    let stage = LineStage {
-        frame,
-        over,
-        empty: Rc::new(alloc, Vec::new(alloc))?,
-    };
+    let stage = LineStage { frame, over, empty };
     let fragment = stage.text_alone(alloc, text)?;
     let mut parts = Vec::with_capacity(alloc, 1)?;
     parts.push(fragment)?;

@@ -11,6 +11,7 @@ ghost use Rattle.line_place.specs.Reach.{AreLineMarks, AreReached, CanStand, IsB
 ghost use Rattle.line_place.specs.declared.walk.Open.{Open};
 ghost use Rattle.line_place.specs.Walk.{AreOpen, followed, followed_if, whole};
 
+use crate::empty::NoFragments;
 use crate::leaves::LeafSlice;
 use crate::line::{Extents, LineBox, LineContent, LineFrame};
 use crate::marks::Mark;
@@ -39,17 +40,16 @@ pub(crate) struct Walk {
     pub(crate) parts: Fragments,
 }
 
-/// What the walk along a line works in: the line's frame, how far the line reaches over its baseline, and an empty list, which
-/// the fragments with none inside them share.
+/// What the walk along a line works in: the line's frame, how far the line reaches over its baseline, and the list that the
+/// fragments with none inside them share.
 #[derive(Drop)]
 pub(crate) struct LineStage<'a> {
     pub(crate) frame: &'a LineFrame<'a>,
     pub(crate) over: i64,
-    pub(crate) empty: Rc<Fragments>,
+    pub(crate) empty: &'a NoFragments,
     ghost boxes: { AreReached frame.now.boxes.now },
     ghost strut: { extents_reach frame.now.strut ≤ 2 ^ 60 },
     ghost near: { unsigned_abs over ≤ 2 ^ 61 },
-    ghost none: { length empty.value.items ≡ 0 },
 }
 
 // The text node of a run, its form, and its natural width where it is combined.
@@ -155,7 +155,7 @@ impl<'a> LineStage<'a> {
             name,
             rect,
             kind,
-            children: self.empty.clone()?,
+            children: self.empty.share()?,
         })
     }
 

@@ -26,6 +26,7 @@ use crate::setting::Setting;
 use crate::standing::{Standings, skipped_atoms};
 use face_api::{Face, Faces};
 use fragment_types::{Fragment, FragmentKind, Fragments, Item, LineFragment};
+use line_place::NoFragments;
 use para_prepare::Prepared;
 use std::alloc::{AllocError, Global};
 use std::rc::Rc;
@@ -74,10 +75,12 @@ pub fn paragraph_lines<L: Ledger>(
         atoms,
     };
     let lines = input.filled(alloc, &standings, arranged)?;
+    let empty = NoFragments::new(alloc)?;
     let setting = Setting {
         boxes: &boxes,
         container,
         standings: &standings,
+        empty: &empty,
     };
     let made = stacked(alloc, &setting, faces, lines.ends())?;
     Ok(made)

@@ -17,15 +17,17 @@ use crate::seated_items::SeatedItems;
 use crate::standing::Standings;
 use face_api::{Face, Faces};
 use fragment_types::LineFragment;
-use line_place::place_line_from;
+use line_place::{NoFragments, place_line_with};
 use std::alloc::{AllocError, Global};
 
-/// What all lines of a paragraph are made from: its boxes, its container, and all its items.
+/// What all lines of a paragraph are made from: its boxes, its container, all its items, and the list that fragments with none inside
+/// them share.
 #[derive(Clone, Copy)]
 pub(crate) struct Setting<'a> {
     pub(crate) boxes: &'a Boxes<'a>,
     pub(crate) container: &'a Container,
     pub(crate) standings: &'a Standings<'a>,
+    pub(crate) empty: &'a NoFragments,
 
     ghost is_setting: { IsSetting boxes.now container.now standings.now } by { IsSetting-prop boxes.now container.now standings.now },
 }
@@ -63,7 +65,7 @@ impl Setting<'_> {
         let boxes = seated.line_boxes(alloc, faces)?;
         let items = SeatedItems::new(seated, standings);
         let frame = items.frame(faces, &boxes);
-        let made = place_line_from(alloc, &frame, &items)?;
+        let made = place_line_with(alloc, &frame, &items, self.empty)?;
         Ok(made)
     }
 }

@@ -56,19 +56,19 @@ new-items-requires g c =
       places = c.deref-2.ensures.value ∙ c.in_ok-places.ensures;
     }
 
-pub place_line_from-requires-clause-inside : goal.place_line_from-requires-clause-inside
-place_line_from-requires-clause-inside g c =
+pub place_line_with-requires-clause-inside : goal.place_line_with-requires-clause-inside
+place_line_with-requires-clause-inside g c =
     let own : List code.Standing = slice_range c.args.self.now.standings.now c.args.from c.args.end in
     line_inside _ c.args.self.now.container.now c.args.self.now.boxes.now _ _ own (line_in c.frame-frame.result _) (on_same _ _ _ _ _ _ c.frame-frame.ensures.line c.new-items.ensures c.between-standings.ensures)
 
-pub place_line_from-requires-clause-nested : goal.place_line_from-requires-clause-nested
-place_line_from-requires-clause-nested g c =
+pub place_line_with-requires-clause-nested : goal.place_line_with-requires-clause-nested
+place_line_with-requires-clause-nested g c =
     let own : List code.Standing = slice_range c.args.self.now.standings.now c.args.from c.args.end in
     let able = all_range (IsAble (length c.args.self.now.boxes.now)) c.args.self.now.standings.now c.args.from c.args.end c.requires.part.order c.requires.part.within c.args.self.now.is_setting.able in
     line_nested _ c.args.self.now.container.now c.args.self.now.boxes.now _ _ own (line_in c.frame-frame.result _) (on_same _ _ _ _ _ _ c.frame-frame.ensures.line c.new-items.ensures c.between-standings.ensures) able
 
-pub place_line_from-requires-clause-reach : goal.place_line_from-requires-clause-reach
-place_line_from-requires-clause-reach g c =
+pub place_line_with-requires-clause-reach : goal.place_line_with-requires-clause-reach
+place_line_with-requires-clause-reach g c =
     let set = c.args.self.now.is_setting in
     let entries : List Entry = c.args.self.now.boxes.now in
     let own : List code.Standing = slice_range c.args.self.now.standings.now c.args.from c.args.end in

@@ -3,7 +3,7 @@ use Rattle.line_place.specs.Line.{line_in}
 use Rattle.line_place.specs.LineText.{text_of}
 use Rattle.line_place.proofs.PlaceLaws.{within_limit}
 use Rattle.line_place.proofs.TextLaws.{text_near}
-use Rattle.line_place.proofs.line_box.place_line_from.Goals as goal
+use Rattle.line_place.proofs.line_box.place_line_with.Goals as goal
 
 pub place_text-requires-clause-reach : goal.place_text-requires-clause-reach
 place_text-requires-clause-reach g c =
