@@ -10,7 +10,7 @@ use Rattle.dom_store.specs.State.{Entry, State, Tree, What, element, text, tree_
 use Rattle.dom_store.specs.Standing.{children_at, lives}
 use Rattle.tree_laws.specs.Reached.{IsAtLevel, IsReached}
 use Rattle.style_modes.specs.Turnable.{IsTurnable, TieNone, TiesNone, ties}
-use Rattle.style_modes.specs.Tying.{NoneTiesWhereTurnable, own_places, places_in, places_of, rule_places, tying_places}
+use Rattle.style_modes.specs.Tying.{NoneIsFirstWhereTurnable, NoneTiesWhereTurnable, first_of, lesser, own_places, places_in, places_of, rule_places, tying_places}
 
 abbrev Free : Declaration → Type 0
 Free d = ties d.property ≡ false
@@ -144,3 +144,18 @@ none_where rules state turnable =
 
 pub none_ties_where_turnable : NoneTiesWhereTurnable
 none_ties_where_turnable rules state reached = (turnable_where rules state reached, none_where rules state)
+
+-- ---- the first of them
+
+no_first_of_some : (place : ℕ) (rest : Option ℕ) → lesser (Some place) rest ≡ None → ⊥
+no_first_of_some place None is = cc
+no_first_of_some place (Some other) is = cc
+
+none_first : (places : List ℕ) → first_of places ≡ None → places ≡ []
+none_first [] is = refl
+none_first (place ∷ places) is = absurd (no_first_of_some place (first_of places) is)
+
+pub none_is_first_where_turnable : NoneIsFirstWhereTurnable
+none_is_first_where_turnable rules state reached =
+    let law = none_ties_where_turnable rules state reached in
+    (λ none. law.0 (none_first (tying_places rules state) none), λ turnable. ap first_of (law.1 turnable))

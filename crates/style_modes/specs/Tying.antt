@@ -50,3 +50,7 @@ first_of (place ∷ places) = lesser (Some place) (first_of places)
 -- there are none exactly where the document can be turned
 abbrev pub NoneTiesWhereTurnable : Type 0
 NoneTiesWhereTurnable = (rules : List Ruling) (state : State) → IsReached state → tying_places rules state ≡ [] ↔ IsTurnable rules state
+
+-- so there is no first one exactly then
+abbrev pub NoneIsFirstWhereTurnable : Type 0
+NoneIsFirstWhereTurnable = (rules : List Ruling) (state : State) → IsReached state → first_of (tying_places rules state) ≡ None ↔ IsTurnable rules state

@@ -1,6 +1,6 @@
 //! Laws of styles in four modes. These functions do nothing: their contracts are the laws.
 
-ghost use Rattle.style_modes.specs.Tying.{NoneTiesWhereTurnable};
+ghost use Rattle.style_modes.specs.Tying.{NoneIsFirstWhereTurnable, NoneTiesWhereTurnable};
 ghost use Rattle.style_modes.specs.Turned.{TurnableDocumentsArePlain, TurnableDocumentsTurn};
 
 /// A document whose declarations name nothing of the page has in each way the styled tree, in that way, that it has else.
@@ -16,4 +16,9 @@ pub fn turnable_documents_are_plain()
 /// No declaration of a document ties it to one mode exactly where the document can be turned.
 pub fn none_ties_where_turnable()
     ensures { NoneTiesWhereTurnable }
+{}
+
+/// So there is no place of a first one exactly then.
+pub fn none_is_first_where_turnable()
+    ensures { NoneIsFirstWhereTurnable }
 {}
