@@ -17,9 +17,9 @@ use Rattle.mode_ways.specs.Ways.{Way, boxes_in, mode_of, nodes_in, plain}
 use Rattle.page_turn.specs.Turning.{turned}
 use Rattle.flow_modes.specs.Pages as flow
 use Rattle.flow_modes.proofs.BoxLaws.{nodes_make_boxes_alike}
-use Rattle.flow_modes.proofs.PageLaws.{pages_are_turned}
+use Rattle.flow_modes.proofs.PageLaws.{pages_are_turned, styled_pages_are_turned}
 use Rattle.style_modes.proofs.Documents.{turnable_documents_are_plain, turnable_documents_turn}
-use Rattle.page_modes.specs.Pages.{DocumentsHaveOneFlow, page_of}
+use Rattle.page_modes.specs.Pages.{DocumentsHaveOneFlow, UnshiftedPagesTurn, flow_page_of, page_of}
 
 module _ (faces : List (Option Table)) (view : View) (way : Way) where
   -- boxes in a horizontal flow: where there are some, the root of their page is a box
@@ -44,3 +44,18 @@ pub documents_have_one_flow : DocumentsHaveOneFlow
 documents_have_one_flow faces view way rules state upright turnable =
     ap (page_of faces view) (turnable_documents_turn way rules state upright turnable)
     ∙ nodes_alike faces view way (styled_document rules state) (turnable_documents_are_plain rules state turnable)
+
+-- before shifts: the flow in the plain way is that of the document, turned to horizontal-tb
+pub unshifted_pages_turn : UnshiftedPagesTurn
+unshifted_pages_turn = record {
+  turn = λ faces view way rules state upright turnable.
+      ap (flow_page_of faces view) (turnable_documents_turn way rules state upright turnable)
+      ∙ styled_pages_are_turned faces view way (styled_document rules state)
+      ∙ ap (λ (nodes : Nodes). turned (mode_of way) (flow_page_of faces view nodes)) (turnable_documents_are_plain rules state turnable);
+  stay = λ faces view rules state turnable.
+      let nodes = styled_document rules state in
+      let is_plain = turnable_documents_are_plain rules state turnable in
+      ap (λ (n : Nodes). turned HorizontalTb (flow_page_of faces view n)) (sym is_plain)
+      ∙ sym (styled_pages_are_turned faces view plain nodes)
+      ∙ ap (flow_page_of faces view) is_plain;
+}

@@ -1,6 +1,7 @@
 -- The pages of a document in four modes, and its flow. CSS Writing Modes 4, 6.2 and 6.4; CSS Positioned Layout 3, 3.
 use Rattle.std.specs.Prelude.{◌≡◌, false, List, Option}
 use Rattle.face_api.specs.Table.{Table}
+use Rattle.wm_modes.specs.declared.mode.WritingMode.TheVariants.{HorizontalTb}
 use Rattle.wm_units.specs.declared.view.View.{View}
 use Rattle.style_types.specs.Style.{is_upright}
 use Rattle.style_types.specs.Tree.{Nodes}
@@ -20,9 +21,16 @@ use Rattle.style_modes.specs.Turned.{turned_document}
 
 -- ---- a page
 
--- the page of a styled tree: the flow of its boxes, carried to the page, with its fragments shifted as their nodes are
+-- `flow_page_of` and `page_of` are the words of session, which stands above this crate, so that they can't be cited here: its law
+-- `turnable_pages_turn` has these laws in its own words.
+
+-- the flow of the boxes of a styled tree, carried to the page, before any of it is shifted
+abbrev pub flow_page_of : (faces : List (Option Table)) → View → Nodes → Page
+flow_page_of faces view nodes = place view (layout faces view.inline view.block (root_boxes nodes))
+
+-- the page of a styled tree: the fragments of that are shifted as their nodes are
 abbrev pub page_of : (faces : List (Option Table)) → View → Nodes → Page
-page_of faces view nodes = shift (place view (layout faces view.inline view.block (root_boxes nodes))) (positions_of nodes)
+page_of faces view nodes = shift (flow_page_of faces view nodes) (positions_of nodes)
 
 -- the page of a document that is set in a way
 abbrev pub page_in : (faces : List (Option Table)) → View → Way → List Ruling → State → Page
@@ -38,3 +46,10 @@ flow_of faces view rules state = page_of faces view (styled_document rules state
 abbrev pub DocumentsHaveOneFlow : Type 0
 DocumentsHaveOneFlow = (faces : List (Option Table)) (view : View) (way : Way) (rules : List Ruling) (state : State) → is_upright (orientation_of way) ≡ false → IsTurnable rules state
     → page_in faces view way rules state ≡ turned (mode_of way) (flow_of faces view rules state)
+
+-- so it is before any of it is shifted; and turned to horizontal-tb it stays as it is
+pub record UnshiftedPagesTurn : Type 0 where
+  pub turn : (faces : List (Option Table)) (view : View) (way : Way) (rules : List Ruling) (state : State) → is_upright (orientation_of way) ≡ false → IsTurnable rules state
+      → flow_page_of faces view (turned_document way rules state) ≡ turned (mode_of way) (flow_page_of faces view (styled_document rules state))
+  pub stay : (faces : List (Option Table)) (view : View) (rules : List Ruling) (state : State) → IsTurnable rules state
+      → turned HorizontalTb (flow_page_of faces view (styled_document rules state)) ≡ flow_page_of faces view (styled_document rules state)
