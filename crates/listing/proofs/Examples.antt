@@ -1,4 +1,5 @@
--- Pages with the listings that an independent implementation gives them, by computation.
+-- Pages with the listings that an independent implementation gives them, and pages of the flow with listings worked by hand, by
+-- computation.
 use Rattle.std.specs.Prelude.{◌≡◌, refl, ℕ, true, false, List, [], ◌∷◌, ◌++◌, Some, None, ℤ, pos, negsuc, codes}
 use Rattle.std.specs.Fmt.{digits}
 use Rattle.margin_collapse.specs.declared.margins.Margins.{Margins}
@@ -11,10 +12,10 @@ use Rattle.fragment_types.specs.RunUnit.{RunUnit}
 use Rattle.fragment_types.specs.declared.item.BoxName.{BoxName}
 use Rattle.style_types.specs.declared.style.Baseline.TheVariants as bases
 use Rattle.fragment_types.specs.declared.unit_kind.UnitKind.TheVariants as kinds
-use Rattle.fragment_types.specs.Fragment.{block, line, span, run}
+use Rattle.fragment_types.specs.Fragment.{block, line, span, run, measure}
 use Rattle.place_map.specs.Placed.{Page, Parts, part, none}
-use Rattle.listing.specs.Lines.{box_line, line_line, line_of, page_line, run_line, run_place, span_line}
-use Rattle.listing.specs.Listing.{listing}
+use Rattle.listing.specs.Lines.{box_line, flow_line, line_line, line_of, page_line, run_line, run_place, span_line}
+use Rattle.listing.specs.Listing.{flow_listing, listing}
 use Rattle.listing.specs.Runs.{combined_width, end_of, first_of, form_word, turn_word}
 use Rattle.listing.specs.Words.{code_point, count, name_words, rect_words, pair, word}
 
@@ -96,6 +97,18 @@ listing-12 : listing (page (pos 51200) (pos 3200) (part (name 0 0) (rect (pos 0)
     ≡ codes "page 3200 51200 vertical-lr ltr\nbox 0 0 0 0 5468 51200\nbox 1 0 512 512 4444 50176\nbox 1 1 512 512 1024 50176\nline 1 1 0 512 512 1024 50176 512\nspan 2 0 512 512 1024 1024\nspan 4 0 576 512 896 1024\nrun 5 0 3 576 512 896 1024 c1024 0 002D,005B,0025\nbox 6 0 2734 512 0 50176\nbox 1 2 3932 512 1024 50176\nline 1 2 0 3932 512 1024 50176 512\nrun 7 0 2 3932 512 1024 1024 s 0 006D,0020\nrun 7 2 3 3932 1536 1024 1024 u 0 3042\nend\n"
 unfolding listing page_line box_line line_line span_line run_place run_line line_of first_of end_of turn_word combined_width form_word word pair count rect_words name_words code_point digits mode_word direction_word
 listing-12 = refl
+
+-- a page of the flow, whose words of how text stands are dashes
+flow-1 : flow_listing (page (pos 6400) (pos 3200) (part (name 0 0) (rect (pos 0) (pos 0) (pos 6400) (pos 1024)) (block modes.HorizontalTb directions.Rtl (flow (pos 6400) (pos 1024)) None margin margin false) (part (name 1 0) (rect (pos 0) (pos 0) (pos 6400) (pos 1024)) (block modes.HorizontalTb directions.Rtl (flow (pos 6400) (pos 1024)) None margin margin false) (part (name 1 0) (rect (pos 0) (pos 0) (pos 6400) (pos 1024)) (line 0 (pos 768) modes.HorizontalTb bases.Alphabetic) (part (name 2 0) (rect (pos 4352) (pos 0) (pos 1024) (pos 1024)) span (part (name 3 0) (rect (pos 4352) (pos 0) (pos 1024) (pos 1024)) (run kinds.Along 2 None ((unit 0 2 (pos 512) ((120 ∷ 769 ∷ []) ∷ [])) ∷ (unit 2 3 (pos 512) ((121 ∷ []) ∷ [])) ∷ [])) none none) (part (name 4 0) (rect (pos 5376) (pos 0) (pos 1024) (pos 1024)) (run kinds.Along 1 None ((unit 1 2 (pos 512) ((41 ∷ []) ∷ [])) ∷ (unit 0 1 (pos 512) ((1488 ∷ []) ∷ [])) ∷ [])) none none)) none) none) none))
+    ≡ codes "flow 6400 3200 rtl\nbox 0 0 0 0 6400 1024\nbox 1 0 0 0 6400 1024\nline 1 0 0 0 0 6400 1024 768\nspan 2 0 4352 0 1024 1024\nrun 3 0 3 4352 0 1024 1024 - 2 0078+0301,0079\nrun 4 0 2 5376 0 1024 1024 - 1 0029,05D0\nend\n"
+unfolding flow_listing flow_line box_line line_line span_line run_place run_line line_of first_of end_of word pair count rect_words name_words code_point digits direction_word
+flow-1 = refl
+
+-- the flow stays the flow in boxes of modes of their own, for upright, turned and combined runs too
+flow-2 : flow_listing (page (pos 12800) (pos 38400) (part (name 0 0) (rect (pos 0) (pos 0) (pos 12800) (pos 3072)) (block modes.HorizontalTb directions.Ltr (flow (pos 12800) (pos 3072)) None margin margin false) (part (name 1 0) (rect (pos 0) (pos 0) (pos 1024) (pos 3072)) (block modes.VerticalRl directions.Ltr (flow (pos 3072) (pos 1024)) None margin margin false) (part (name 1 0) (rect (pos 0) (pos 0) (pos 1024) (pos 3072)) (line 0 (pos 512) modes.VerticalRl bases.Central) (part (name 2 0) (rect (pos 0) (pos 0) (pos 1024) (pos 1024)) (run kinds.Upright 0 None ((unit 0 1 (pos 1024) ((12354 ∷ []) ∷ [])) ∷ [])) none (part (name 2 0) (rect (pos 0) (pos 1024) (pos 1024) (pos 1024)) (run kinds.Combined 0 (Some (pos 1536)) ((unit 1 4 (pos 1024) ((49 ∷ []) ∷ (50 ∷ []) ∷ (51 ∷ []) ∷ [])) ∷ [])) none (part (name 2 0) (rect (pos 0) (pos 2048) (pos 1024) (pos 512)) (run kinds.Turned 0 None ((unit 4 5 (pos 512) ((97 ∷ []) ∷ [])) ∷ [])) none (part (name 3 0) (rect (pos 0) (pos 2560) (pos 0) (pos 0)) (measure (pos 0) (pos 0)) none none)))) none) (part (name 4 0) (rect (pos 1024) (negsuc 511) (pos 1024) (pos 512)) (block modes.SidewaysLr directions.Ltr (flow (pos 512) (pos 1024)) None margin margin false) (part (name 4 0) (rect (pos 1024) (negsuc 511) (pos 1024) (pos 512)) (line 0 (pos 768) modes.SidewaysLr bases.Alphabetic) (part (name 5 0) (rect (pos 1024) (negsuc 511) (pos 1024) (pos 512)) (run kinds.Along 0 None ((unit 0 1 (pos 512) ((98 ∷ []) ∷ [])) ∷ [])) none none) none) none)) none))
+    ≡ codes "flow 12800 38400 ltr\nbox 0 0 0 0 12800 3072\nbox 1 0 0 0 1024 3072\nline 1 0 0 0 0 1024 3072 512\nrun 2 0 1 0 0 1024 1024 - 0 3042\nrun 2 1 4 0 1024 1024 1024 - 0 0031,0032,0033\nrun 2 4 5 0 2048 1024 512 - 0 0061\nbox 4 0 1024 -512 1024 512\nline 4 0 0 1024 -512 1024 512 768\nrun 5 0 1 1024 -512 1024 512 - 0 0062\nend\n"
+unfolding flow_listing flow_line box_line line_line span_line run_place run_line line_of first_of end_of word pair count rect_words name_words code_point digits direction_word
+flow-2 = refl
 
 -- code points have four digits at least
 code_points : code_point 10 ++ code_point 1488 ++ code_point 65535 ++ code_point 65536 ++ code_point 1114111 ≡ codes "000A05D0FFFF1000010FFFF"

@@ -1,4 +1,5 @@
 pub mod Lines
 pub mod Listing
 pub mod Runs
+pub mod TextStanding
 pub mod Words

@@ -11,6 +11,8 @@ use Rattle.fragment_types.specs.RunUnit.{RunUnit}
 use Rattle.fragment_types.specs.declared.unit_kind.UnitKind.{UnitKind}
 use Rattle.fragment_types.specs.declared.unit_kind.UnitKind.TheVariants.{Along, Turned, Upright, Combined}
 use Rattle.listing.specs.Words.{code_point}
+use Rattle.listing.specs.declared.text_standing.TextStanding.{TextStanding}
+use Rattle.listing.specs.declared.text_standing.TextStanding.TheVariants.{InMode, OnFlow}
 
 -- ---- the bounds
 
@@ -38,11 +40,17 @@ combined_width natural [] = pos 0
 combined_width None (unit ∷ units) = unit.extent
 combined_width (Some natural) (unit ∷ units) = int_min natural unit.extent
 
+-- in a mode: units along their line, upright, and combined by their width
 unfoldable pub form_word : WritingMode → UnitKind → (width : ℤ) → List ℕ
 form_word mode Along width = turn_word mode
 form_word mode Turned width = turn_word mode
 form_word mode Upright width = codes "u"
 form_word mode Combined width = codes "c" ++ signed_decimal width
+
+-- how units stand is told of a mode; on the flow there is a dash in its place
+abbrev pub standing_word : TextStanding → UnitKind → (width : ℤ) → List ℕ
+standing_word (InMode mode) form width = form_word mode form width
+standing_word OnFlow form width = codes "-"
 
 -- ---- the characters
 

@@ -5,12 +5,14 @@ ghost use Rattle.io_edge.specs.Edge.{Rose, AppendsFront, AppendsUpTo};
 ghost use Rattle.listing.specs.Lines as spec;
 ghost use Rattle.listing.specs.Runs as run;
 
-use crate::runs::{bounds_of, combined_width, push_form, put_units};
+use crate::runs::{bounds_of, combined_width, push_standing, put_units};
+use crate::text_standing::TextStanding;
 use crate::words::{Line, push_count, push_name, push_node, push_number, push_pair, push_rect};
 use fragment_types::{BoxName, FragmentKind, RunUnit};
 use io_edge::{Sink, Waiting, WriteError};
 use place_map::PlacedPart;
 use wm_modes::{Direction, Rect, WritingMode};
+use wm_units::View;
 
 /// The line of the page.
 #[tactic(auto, unfolding(crate::specs::Lines::page_line))]
@@ -21,6 +23,19 @@ pub(crate) fn page_line(page: Rect, mode: WritingMode, direction: Direction) -> 
     line.push_str("page");
     push_pair(&mut line, page.w, page.h);
     push_word(&mut line, mode.word());
+    push_word(&mut line, direction.word());
+    line.push_str("\n");
+    line
+}
+
+/// The line of the flow.
+#[tactic(auto, unfolding(crate::specs::Lines::flow_line))]
+pub(crate) fn flow_line(view: View, direction: Direction) -> Line
+    ensures { result.bytes ≡ spec.flow_line view direction }
+{
+    let mut line = Line::new();
+    line.push_str("flow");
+    push_pair(&mut line, view.inline, view.block);
     push_word(&mut line, direction.word());
     line.push_str("\n");
     line
@@ -37,15 +52,15 @@ fn push_word(line: &mut Line, word: &str)
     line.push_str(word);
 }
 
-/// The line of a fragment in text of this mode.
+/// The line of a fragment in text that stands so.
 pub(crate) fn put_line<K: Sink>(
-    mode: WritingMode,
+    standing: TextStanding,
     part: &PlacedPart,
     waiting: &mut Waiting,
     sink: &mut K,
 ) -> Result<(), WriteError>
-    ensures front { AppendsFront (K.held sink.old) (K.held sink.new) (waiting.old ++ spec.line_at mode part.now) }
-    ensures waits { OnOk result (AppendsUpTo (K.held sink.old) (K.held sink.new) (waiting.old ++ spec.line_at mode part.now) waiting.new) }
+    ensures front { AppendsFront (K.held sink.old) (K.held sink.new) (waiting.old ++ spec.line_at standing part.now) }
+    ensures waits { OnOk result (AppendsUpTo (K.held sink.old) (K.held sink.new) (waiting.old ++ spec.line_at standing part.now) waiting.new) }
     ensures later { K.faults sink.old ≤ K.faults sink.new }
     ensures fault { IsErrOf result WriteError.WriteFault → Rose (K.faults sink.old) (K.faults sink.new) }
 {
@@ -64,7 +79,7 @@ pub(crate) fn put_line<K: Sink>(
             units,
         } => {
             let mut start = run_place(name.node, &rect, units);
-            push_form(&mut start, mode, *form, combined_width(*natural, units));
+            push_standing(&mut start, standing, *form, combined_width(*natural, units));
             push_count(&mut start, usize::from(*level));
             put_run(&start, units, waiting, sink)
         }

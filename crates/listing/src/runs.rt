@@ -4,6 +4,7 @@ ghost use Rattle.std.specs.Prelude.{◌≡◌, ◌+◌, ◌≤◌, ◌++◌, ◌
 ghost use Rattle.io_edge.specs.Edge.{Rose, AppendsFront, AppendsUpTo};
 ghost use Rattle.listing.specs.Runs as spec;
 
+use crate::text_standing::TextStanding;
 use crate::words::{Line, character, short_character};
 use fragment_types::{RunUnit, UnitKind};
 use io_edge::{Sink, Waiting, WriteError};
@@ -54,9 +55,21 @@ pub(crate) fn combined_width(natural: Option<i64>, units: &[RunUnit]) -> i64
     }
 }
 
-/// How the units stand.
+/// How the units stand, where that is told.
+pub(crate) fn push_standing(line: &mut Line, standing: TextStanding, form: UnitKind, width: i64)
+    requires { length line.old.bytes ≤ 150 }
+    ensures bytes { line.new.bytes ≡ line.old.bytes ++ (codes " " ++ spec.standing_word standing form width) }
+    ensures longer { length line.new.bytes ≤ length line.old.bytes + 22 }
+{
+    match standing {
+        TextStanding::InMode(mode) => push_form(line, mode, form, width),
+        TextStanding::OnFlow => line.push_str(" -"),
+    }
+}
+
+// How the units stand in this mode.
 #[tactic(auto, unfolding(crate::specs::Runs::form_word))]
-pub(crate) fn push_form(line: &mut Line, mode: WritingMode, form: UnitKind, width: i64)
+fn push_form(line: &mut Line, mode: WritingMode, form: UnitKind, width: i64)
     requires { length line.old.bytes ≤ 150 }
     ensures bytes { line.new.bytes ≡ line.old.bytes ++ (codes " " ++ spec.form_word mode form width) }
     ensures longer { length line.new.bytes ≤ length line.old.bytes + 22 }

@@ -7,7 +7,7 @@ use Rattle.listing.proofs.listing.+put_parts.Given as goal
 -- the lines of the fragments so far are put, and those of the rest are left
 abbrev pub invariant-loop-part : goal.invariant-loop-part
 invariant-loop-part g l = record {
-  put : AppendsUpTo (g.K.Sink.held l.initial.sink) (g.K.Sink.held l.sink) (l.initial.waiting ++ lines l.mode (parts_of l.parts)) (l.waiting ++ lines l.mode (parts_of (drop l.part-index l.parts)));
+  put : AppendsUpTo (g.K.Sink.held l.initial.sink) (g.K.Sink.held l.sink) (l.initial.waiting ++ lines l.standing (parts_of l.parts)) (l.waiting ++ lines l.standing (parts_of (drop l.part-index l.parts)));
   later : g.K.Sink.faults l.initial.sink ≤ g.K.Sink.faults l.sink;
 }
 
