@@ -6,3 +6,4 @@ pub mod Limits
 pub mod Opening
 pub mod Spread
 pub mod State
+pub mod Turning

@@ -1,10 +1,12 @@
-//! Laws of documents within the limits. These functions do nothing: their contracts are the laws.
+//! Laws of documents within the limits, and of their pages in other modes. These functions do nothing: their contracts are the laws.
 
 ghost use Rattle.session.specs.Editing.{HasOneOutcome};
 ghost use Rattle.session.specs.Limits.{BoxesFit, DocumentsFit};
 ghost use Rattle.session.specs.Opening.{HasOneAnswer};
 ghost use Rattle.session.specs.Spread.{SpreadIsNear};
+ghost use Rattle.session.specs.Turning.{TurnableFlowsTurn, TurnablePagesTurn};
 
+use page_modes::laws::{documents_have_one_flow, unshifted_pages_turn};
 use tree_laws::laws::{live_counts_are_totals, trees_weigh_no_more};
 
 /// The boxes of a document within the limits can be laid out.
@@ -34,3 +36,17 @@ pub fn one_answer()
 pub fn one_outcome()
     ensures { HasOneOutcome }
 {}
+
+/// A document that can be turned has in each mode its own page, turned to the mode, with the shifts of relatively positioned elements.
+pub fn turnable_pages_turn()
+    ensures { TurnablePagesTurn }
+{
+    documents_have_one_flow();
+}
+
+/// So it has its own flow, turned to the mode, before any of it is shifted.
+pub fn turnable_flows_turn()
+    ensures { TurnableFlowsTurn }
+{
+    unshifted_pages_turn();
+}

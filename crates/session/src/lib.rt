@@ -13,6 +13,7 @@ mod rules;
 mod session;
 mod shifted;
 mod stored;
+mod turning;
 
 pub use error::{ApplyError, OpenError};
 pub use session::Session;
