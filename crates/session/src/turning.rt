@@ -23,9 +23,10 @@ use style_modes::laws::none_is_first_where_turnable;
 use wm_units::Steps;
 
 impl Session {
-    /// The place of the first declaration that ties the document as it is now to one writing mode, in bytes of the text that the
-    /// declaration was read from: of the author's rules, whether or not they match, and of the style attributes, also of elements that
-    /// aren't shown. `None` exactly where the document can be turned to any mode. Takes no memory.
+    /// The place of the first declaration that ties the document as it is now to one writing mode: of the author's rules, whether or not
+    /// they match, and of the style attributes, also of elements that aren't shown. It is told in bytes of the text that the declaration
+    /// was read from, and of one in a style attribute it is the place of the attribute's name. `None` exactly where the document can be
+    /// turned to any mode. Takes no memory.
     pub fn physical(&self) -> Option<usize>
         requires sound { IsSound (faces_of ⟦<dyn Face as Face>⟧ self.now.faces) self.now }
         ensures value { result ≡ first_of (tying_places (rules_in self.now) (state_of self.now.document)) }
