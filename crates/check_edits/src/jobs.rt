@@ -1,5 +1,5 @@
-//! An input with a script after its document, one with a probe, and what is written for them. Others are compared with outside
-//! answers by tools/document-cases.
+//! An input with a script after its document, one with a probe, one of which the flow is listed with its page in each mode, and what is
+//! written for them. Others are compared with outside answers by tools/document-cases.
 
 ghost use Rattle.std.specs.Prelude.{◌≡◌, ◌<◌};
 
@@ -7,6 +7,7 @@ use edit_job::{refusal_line, tell_steps};
 use face_api::{Face, Faces, MonoFace};
 use input_due::{Due, Follows, due_of_document};
 use io_edge::{SteadySink, write_all_of};
+use modes_job::tell_modes;
 use probe_job::tell_answers;
 use std::alloc::Global;
 use std::marker::Brand;
@@ -56,6 +57,52 @@ caret 1024 512 0 1024
 nocaret
 ";
 
+/// A document that no declaration ties to one mode, and the listings of its flow and of its page in each mode.
+const TURNABLE: &[u8] = b"<html><body><p>a</p></body></html>";
+
+const PAGES: &str = "\
+flow 51200 38400 ltr
+box 0 0 0 0 51200 3072
+box 1 0 512 1024 50176 1024
+box 2 0 512 1024 50176 1024
+line 2 0 0 512 1024 50176 1024 768
+run 3 0 1 512 1024 512 1024 - 0 0061
+end
+page 51200 38400 horizontal-tb ltr
+box 0 0 0 0 51200 3072
+box 1 0 512 1024 50176 1024
+box 2 0 512 1024 50176 1024
+line 2 0 0 512 1024 50176 1024 768
+run 3 0 1 512 1024 512 1024 h 0 0061
+end
+page 38400 51200 vertical-rl ltr
+box 0 0 35328 0 3072 51200
+box 1 0 36352 512 1024 50176
+box 2 0 36352 512 1024 50176
+line 2 0 0 36352 512 1024 50176 768
+run 3 0 1 36352 512 1024 512 s 0 0061
+end
+page 38400 51200 sideways-rl ltr
+box 0 0 35328 0 3072 51200
+box 1 0 36352 512 1024 50176
+box 2 0 36352 512 1024 50176
+line 2 0 0 36352 512 1024 50176 768
+run 3 0 1 36352 512 1024 512 s 0 0061
+end
+page 38400 51200 sideways-lr ltr
+box 0 0 0 0 3072 51200
+box 1 0 1024 512 1024 50176
+box 2 0 1024 512 1024 50176
+line 2 0 0 1024 512 1024 50176 768
+run 3 0 1 1024 50176 1024 512 l 0 0061
+end
+";
+
+/// A document that a declaration of a size ties to one mode, and its refusal.
+const TIED: &[u8] = b"<html><body><p style=\"width:5px\">a</p></body></html>";
+
+const NOT_TURNABLE: &str = "refused NotTurnable 15\n";
+
 // What is written for an input.
 fn written<L: Ledger, M: Ledger>(
     alloc: Global,
@@ -102,6 +149,12 @@ fn written<L: Ledger, M: Ledger>(
             let placed = session.page(&mut prepared, &mut arranged)?;
             tell_answers(&placed, &probes, &mut sink)?;
         }
+        Due::Pages { mut session } => {
+            let mut prepared = Steps::<L>::open(first);
+            let mut arranged = Steps::<M>::open(second);
+            let flow = session.page(&mut prepared, &mut arranged)?;
+            tell_modes(alloc, &flow, &mut sink)?;
+        }
         Due::Refused { cause, place } => {
             write_all_of(&mut sink, refusal_line(cause.word(), place).as_bytes())?;
         }
@@ -132,5 +185,31 @@ fn probes_are_answered(rt: HostRuntime) -> Result<(), Fail> {
         Blank::new(1),
     )?;
     assert_eq!(rt; sink.bytes(), ANSWERS.as_bytes());
+    Ok(())
+}
+
+#[test]
+fn pages_are_listed_in_each_mode(rt: HostRuntime) -> Result<(), Fail> {
+    let sink = written::<Brand, Brand>(
+        rt.alloc(),
+        TURNABLE,
+        Follows::Modes,
+        Blank::new(1),
+        Blank::new(1),
+    )?;
+    assert_eq!(rt; sink.bytes(), PAGES.as_bytes());
+    Ok(())
+}
+
+#[test]
+fn tied_documents_are_refused(rt: HostRuntime) -> Result<(), Fail> {
+    let sink = written::<Brand, Brand>(
+        rt.alloc(),
+        TIED,
+        Follows::Modes,
+        Blank::new(1),
+        Blank::new(1),
+    )?;
+    assert_eq!(rt; sink.bytes(), NOT_TURNABLE.as_bytes());
     Ok(())
 }

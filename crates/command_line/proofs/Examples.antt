@@ -4,7 +4,7 @@ use Rattle.clap.proofs.OnLiterals.{clap_on_literals}
 use Rattle.reading.specs.Readers.{one_of}
 use Rattle.reading.specs.Decimals.{number, more_digits}
 use Rattle.command_line.specs.declared.job.Command.{Command}
-use Rattle.command_line.specs.declared.job.Command.TheVariants.{Layout, Edit, Gen, Probe}
+use Rattle.command_line.specs.declared.job.Command.TheVariants.{Layout, Edit, Modes, Gen, Probe}
 use Rattle.command_line.specs.declared.job.Job.{Job}
 use Rattle.command_line.specs.Reading.{job_of}
 
@@ -39,7 +39,11 @@ nothing : job_of ([]) ≡ None
 unfolding clap_on_literals one_of number more_digits
 nothing = refl
 
-unknown_command : job_of (codes "modes" ∷ []) ≡ None
+all_modes : job_of (codes "modes" ∷ []) ≡ Some (job Modes 51200 38400 100)
+unfolding clap_on_literals one_of number more_digits
+all_modes = refl
+
+unknown_command : job_of (codes "mode" ∷ []) ≡ None
 unfolding clap_on_literals one_of number more_digits
 unknown_command = refl
 

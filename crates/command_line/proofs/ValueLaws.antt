@@ -9,7 +9,7 @@ use Rattle.reading.specs.Readers.{Read}
 use Rattle.reading.specs.Decimals.{number, IsDecimal}
 use Rattle.reading.proofs.DecimalLaws.{decimal_spells}
 use Rattle.command_line.specs.declared.job.Command.{Command}
-use Rattle.command_line.specs.declared.job.Command.TheVariants.{Layout, Edit, Gen, Probe}
+use Rattle.command_line.specs.declared.job.Command.TheVariants.{Layout, Edit, Modes, Gen, Probe}
 use Rattle.command_line.specs.declared.values.TheConstants.{COMMANDS}
 use Rattle.command_line.specs.Command.{IsNumberTo, IsValue, IsViewSize, command_name, px}
 use Rattle.command_line.specs.Reading.{command_of, number_read, number_to, size_of, value_or, within}
@@ -70,12 +70,14 @@ number_bare most (x ∷ xs) n is =
 pub name_again : (c : Command) → command_of (command_name c) ≡ Some c
 name_again Layout = refl
 name_again Edit = refl
+name_again Modes = refl
 name_again Gen = refl
 name_again Probe = refl
 
 pub name_bare : (c : Command) → Looks bare (command_name c)
 name_bare Layout = no_hyphen _ _ refl
 name_bare Edit = no_hyphen _ _ refl
+name_bare Modes = no_hyphen _ _ refl
 name_bare Gen = no_hyphen _ _ refl
 name_bare Probe = no_hyphen _ _ refl
 
@@ -97,7 +99,7 @@ module _ {Row : Type 0} (word : Row → Text) (command : Row → Command) where
     go false is others = others (by_test false is)
 
 pub name_takes : (text : Text) (c : Command) → command_of text ≡ Some c → text ≡ command_name c
-name_takes text c e = found_is_named (λ row. row.0.now) (λ row. row.1) COMMANDS (refl, (refl, (refl, (refl, tt)))) text c e
+name_takes text c e = found_is_named (λ row. row.0.now) (λ row. row.1) COMMANDS (refl, (refl, (refl, (refl, (refl, tt))))) text c e
 
 -- ---- options
 

@@ -4,7 +4,7 @@ use Rattle.std.specs.Prelude.{◌≡◌, ◌⊎◌, ℕ, ◌*◌, ◌≤◌, Boo
 use Rattle.wm_units.specs.Numbers.{fixed}
 use Rattle.reading.specs.Decimals.{IsDecimal}
 use Rattle.command_line.specs.declared.job.Command.{Command}
-use Rattle.command_line.specs.declared.job.Command.TheVariants.{Layout, Edit, Gen, Probe}
+use Rattle.command_line.specs.declared.job.Command.TheVariants.{Layout, Edit, Modes, Gen, Probe}
 use Rattle.command_line.specs.declared.job.Job.{Job}
 
 -- what a part of the line gives: the command, or the value of an option
@@ -53,6 +53,7 @@ given kind parts = map (λ part. part.text) (filter (λ part. is_kind kind part.
 abbrev pub command_name : Command → List ℕ
 command_name Layout = codes "layout"
 command_name Edit = codes "edit"
+command_name Modes = codes "modes"
 command_name Gen = codes "gen"
 command_name Probe = codes "probe"
 

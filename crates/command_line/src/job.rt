@@ -9,6 +9,8 @@ pub enum Command {
     Layout,
     /// A document and a script of edits are read, and a listing is written for each `show`.
     Edit,
+    /// A document that ties its boxes to no mode is read, and its flow is listed, and its page in each of four modes.
+    Modes,
     /// The edits of the generated input are run, and what they write is counted.
     Gen,
     /// A document and the lines of a probe are read, and each line is answered over the page.

@@ -9,9 +9,10 @@ use reading::decimal;
 use wm_units::fixed;
 
 /// The commands with their words.
-pub(crate) static COMMANDS: [(&str, Command); 4] = [
+pub(crate) static COMMANDS: [(&str, Command); 5] = [
     ("layout", Command::Layout),
     ("edit", Command::Edit),
+    ("modes", Command::Modes),
     ("gen", Command::Gen),
     ("probe", Command::Probe),
 ];

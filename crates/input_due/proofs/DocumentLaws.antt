@@ -1,5 +1,5 @@
 -- What comes of a document, by what was read of it; what is due and what is owed for that.
-use Rattle.std.proofs.Common.{◌≡◌, ◌↔◌, ◌⊎◌, ◌∙◌, refl, sym, ap, subst, arith, inl, inr, ℕ, ◌+◌, ◌-◌, ◌<◌, ◌≤◌, List, length, drop, Option, Some, Ok, Err}
+use Rattle.std.proofs.Common.{◌≡◌, ◌↔◌, ◌⊎◌, ◌∙◌, refl, sym, ap, subst, arith, inl, inr, ℕ, ◌+◌, ◌-◌, ◌<◌, ◌≤◌, List, length, drop, Option, Some, None, Ok, Err}
 use Rattle.std.specs.Prelude.{IfOk, Result, codes, ⊤}
 use Rattle.std.proofs.lemmas.List.{length-drop}
 use Rattle.std.proofs.lemmas.Option.{same_Some}
@@ -36,10 +36,11 @@ use Rattle.edit_job.specs.Owed.{Owed}
 use Rattle.input_due.specs.Due.{End, IsDueBy, IsOf, IsReady, cause_word, node_of, not_opened}
 use Rattle.input_due.specs.declared.follows.Follows.{Follows}
 use Rattle.tree_laws.specs.Weight as weight
-use Rattle.input_due.specs.Asked.{Asked, AskedOr, FitsAsked, asked_at, asked_behind, bytes_asked, has_lines, probes, steps}
-use Rattle.input_due.specs.Input.{ComesOfAsked, ComesOfDocument, ComesOfInput, ComesOfOpened, ComesOfRead, ComesOfStyling, ComesOfTail, ComesOfWhole, IsDueOfDocument, IsDueOfRefusal, IsDueOver, longest_input, opened_with}
+use Rattle.input_due.specs.Asked.{Asked, AskedOr, FitsAsked, asked_at, asked_behind, bytes_asked, has_lines, modes, probes, steps}
+use Rattle.input_due.specs.Input.{ComesOfAsked, ComesOfDocument, ComesOfInput, ComesOfOpen, ComesOfOpened, ComesOfRead, ComesOfStyling, ComesOfTail, ComesOfWhole, IsDueOfDocument, IsDueOfRefusal, IsDueOver, longest_input, opened_with, tied}
 use Rattle.input_due.specs.Owed.{IsOwedBy, IsOwedByDocument, IsOwedFor, OwesNothing, OwesOver}
-use Rattle.input_due.specs.Document.{IsDueAs, IsOpening, IsRefusing, IsSeenIn, Outcome, asked_of, due_over, opens, outcome_of, refuses}
+use Rattle.input_due.specs.Document.{IsDueAs, IsOpening, IsRefusing, IsSeenIn, Outcome, asked_of, due_by_tie, due_over, opens, outcome_of, refuses}
+use Rattle.style_modes.specs.Tying.{NoneIsFirstWhereTurnable, first_of, tying_places}
 use Rattle.input_due.specs.declared.lines.Lines.{Lines}
 use Rattle.input_due.specs.declared.lines.Lines.TheVariants as code
 use Rattle.input_due.specs.declared.due.Due.{Due}
@@ -63,19 +64,35 @@ module _ {I : Type 0} {D : I → Type 0} (members : (x : I) → Ghosts (D x)) (f
       ∙ ap (λ (r : List Ruling). record { tree = state_of session.document; rules = r; faces = faces }) rules
       ∙ ap (λ (tree : State). record { tree = tree; rules = styles.rules; faces = faces }) state
 
-  -- a session with its lines is its document, open, with what they ask of it
-  same_outcome : (session : Session I D) (lines : Lines) → outcome_of members (due_over session lines) ≡ opens (state_in (faces_of members session.faces) session) (asked_of lines)
-  same_outcome session (code.Steps script) = refl
-  same_outcome session (code.Probes asked) = refl
+  -- a session with its lines is its document, open, with what they ask of it, but where a declaration stands against that
+  comes_by_tie : (session : Session I D) (tie : Option ℕ)
+      → ComesOfOpen IsOpening IsRefusing faces tie (state_in (faces_of members session.faces) session) modes (outcome_of members (due_by_tie session tie))
+  unfolding cause_word
+  comes_by_tie session None = refl
+  comes_by_tie session (Some place) = refl
+
+  comes_over : (session : Session I D) (lines : Lines)
+      → ComesOfOpen IsOpening IsRefusing faces (tied (state_in (faces_of members session.faces) session) (asked_of lines)) (state_in (faces_of members session.faces) session) (asked_of lines) (outcome_of members (due_over session lines))
+  comes_over session (code.Steps script) = refl
+  comes_over session (code.Probes asked) = refl
+  comes_over session code.Modes = comes_by_tie session (first_of (tying_places (rules_in session) (state_of session.document)))
+
+  seen_by_tie : (session : Session I D) (tie : Option ℕ) → session.view ≡ view → IsSeenIn members view (due_by_tie session tie)
+  seen_by_tie session None sees = sees
+  seen_by_tie session (Some place) sees = tt
 
   seen_over : (session : Session I D) (lines : Lines) → session.view ≡ view → IsSeenIn members view (due_over session lines)
   seen_over session (code.Steps script) sees = sees
   seen_over session (code.Probes asked) sees = sees
+  seen_over session code.Modes sees = seen_by_tie session (first_of (tying_places (rules_in session) (state_of session.document))) sees
 
   pub due_of_opened : (session : Session I D) (lines : Lines) (nodes : List Node) (styles : Styling) → faces_of members session.faces ≡ faces → session.view ≡ view → state_of session.document ≡ opened nodes styles.own → rules_in session ≡ styles.rules
       → CanOpen nodes styles.own styles.rules → IsDueAs members (ComesOfOpened IsOpening IsRefusing faces nodes styles (asked_of lines)) view (due_over session lines)
   due_of_opened session lines nodes styles own sees state rules can = record {
-    comes = inl (can, same_outcome session lines ∙ ap (λ (s : edited.State). opens s (asked_of lines)) (same_state session nodes styles own state rules));
+    comes = inl (
+      can,
+      subst (λ (s : edited.State). ComesOfOpen IsOpening IsRefusing faces (tied s (asked_of lines)) s (asked_of lines) (outcome_of members (due_over session lines))) (same_state session nodes styles own state rules) (comes_over session lines),
+    );
     seen = seen_over session lines sees;
   }
 
@@ -161,10 +178,18 @@ module _ {X : Type 0} (Over : edited.State → Asked → X → Type 0) (RefusedA
     refused_same : (word : List ℕ) (place : ℕ) → IsRefusing word place outcome → RefusedAs word place told ↔ OfOutcome outcome told
     refused_same word place is = subst (λ (o : Outcome). RefusedAs word place told ↔ OfOutcome o told) (sym is) (λ r. r, λ r. r)
 
+    open_same : (tie : Option ℕ) (state : edited.State) (asked : Asked) → ComesOfOpen IsOpening IsRefusing faces tie state asked outcome
+        → ComesOfOpen Over RefusedAs faces tie state asked told ↔ OfOutcome outcome told
+    open_same None state asked is = subst (λ (o : Outcome). Over state asked told ↔ OfOutcome o told) (sym is) (λ over. over, λ over. over)
+    open_same (Some place) state asked is = refused_same (codes "NotTurnable") place is
+
     opened_same : (nodes : List Node) (styles : Styling) (asked : Asked) → ComesOfOpened IsOpening IsRefusing faces nodes styles asked outcome
         → ComesOfOpened Over RefusedAs faces nodes styles asked told ↔ OfOutcome outcome told
-    opened_same nodes styles asked (inl (can, is)) = subst (λ (o : Outcome). ComesOfOpened Over RefusedAs faces nodes styles asked told ↔ OfOutcome o told) (sym is) (there, λ over. inl (can, over)) where
-      there : ComesOfOpened Over RefusedAs faces nodes styles asked told → Over (opened_with faces nodes styles) asked told
+    opened_same nodes styles asked (inl (can, comes)) = (λ of. same.0 (there of), λ of. inl (can, same.1 of)) where
+      same : ComesOfOpen Over RefusedAs faces (tied (opened_with faces nodes styles) asked) (opened_with faces nodes styles) asked told ↔ OfOutcome outcome told
+      same = open_same (tied (opened_with faces nodes styles) asked) (opened_with faces nodes styles) asked comes
+
+      there : ComesOfOpened Over RefusedAs faces nodes styles asked told → ComesOfOpen Over RefusedAs faces (tied (opened_with faces nodes styles) asked) (opened_with faces nodes styles) asked told
       there (inl (also, over)) = over
       there (inr (error, refused, line)) = absurd ((one.only nodes styles.own styles.rules error refused).0 can)
     opened_same nodes styles asked (inr (error, refused, is)) =
@@ -215,12 +240,14 @@ module _ {I : Type 0} {D : I → Type 0} (members : (x : I) → Ghosts (D x)) (v
   due_same : (due : Due I D) (end_ : End) (bytes : List ℕ) → IsSeenIn members view due → OfOutcome (IsDueOver view) IsDueOfRefusal (outcome_of members due) (end_, bytes) ≡ IsOf members due end_ bytes
   due_same (dues.Steps session script) end_ bytes sees = ap (λ (v : View). IsDueOver v (state_in (faces_of members session.faces) session) (steps (steps_of script.items)) (end_, bytes)) (sym sees)
   due_same (dues.Answers session asked) end_ bytes sees = ap (λ (v : View). IsDueOver v (state_in (faces_of members session.faces) session) (probes asked.items) (end_, bytes)) (sym sees)
+  due_same (dues.Pages session) end_ bytes sees = ap (λ (v : View). IsDueOver v (state_in (faces_of members session.faces) session) modes (end_, bytes)) (sym sees)
   due_same (dues.Refused cause place) end_ bytes sees = refl
 
   -- so for what is owed
   owed_same : (due : Due I D) (owed : Owed) → IsSeenIn members view due → OfOutcome (OwesOver view) OwesNothing (outcome_of members due) owed ≡ IsOwedFor members due owed
   owed_same (dues.Steps session script) owed sees = ap (λ (v : View). OwesOver v (state_in (faces_of members session.faces) session) (steps (steps_of script.items)) owed) (sym sees)
   owed_same (dues.Answers session asked) owed sees = ap (λ (v : View). OwesOver v (state_in (faces_of members session.faces) session) (probes asked.items) owed) (sym sees)
+  owed_same (dues.Pages session) owed sees = ap (λ (v : View). OwesOver v (state_in (faces_of members session.faces) session) modes owed) (sym sees)
   owed_same (dues.Refused cause place) owed sees = refl
 
   module _ (faces : List (Option Table)) (one : HasOneAnswer) (follows : Follows) (input : List ℕ) (due : Due I D) (by : IsDueAs members (ComesOfDocument IsOpening IsRefusing faces follows input) view due) where
@@ -234,11 +261,17 @@ module _ {I : Type 0} {D : I → Type 0} (members : (x : I) → Ghosts (D x)) (v
 
 -- ---- what can be told
 
-module _ {I : Type 0} {D : I → Type 0} (members : (x : I) → Ghosts (D x)) where
+module _ {I : Type 0} {D : I → Type 0} (members : (x : I) → Ghosts (D x)) (none_tie : NoneIsFirstWhereTurnable) where
+  ready_by_tie : (session : Session I D) → IsSound (faces_of members session.faces) session → (tie : Option ℕ) → first_of (tying_places (rules_in session) (state_of session.document)) ≡ tie
+      → IsReady members (due_by_tie session tie)
+  ready_by_tie session sound None is = (sound, (none_tie (rules_in session) (state_of session.document) sound.reached).0 is)
+  ready_by_tie session sound (Some place) is = tt
+
   pub ready_over : (session : Session I D) (lines : Lines) → IsSound (faces_of members session.faces) session → FitsAsked (asked_of lines)
       → weight.total weight.bytes (state_of session.document) + bytes_asked (asked_of lines) ≤ 1048576 → IsReady members (due_over session lines)
   ready_over session (code.Steps script) sound fits room = record { sound = sound; fit = fits; room = room }
   ready_over session (code.Probes asked) sound fits room = sound
+  ready_over session code.Modes sound fits room = ready_by_tie session sound (first_of (tying_places (rules_in session) (state_of session.document))) refl
 
 -- ---- answers
 

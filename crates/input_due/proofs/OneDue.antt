@@ -1,5 +1,5 @@
 -- Something is due for every input, and nothing else is; so for what is owed to its pages.
-use Rattle.std.proofs.Common.{◌≡◌, ◌⊎◌, ◌∙◌, refl, sym, ap, subst, arith, inl, inr, ℕ, ◌<◌, ◌≤◌, Bool, true, false, List, length, drop, Option, Ok, Err}
+use Rattle.std.proofs.Common.{◌≡◌, ◌⊎◌, ◌∙◌, refl, sym, ap, subst, arith, inl, inr, ℕ, ◌<◌, ◌≤◌, Bool, true, false, List, length, drop, Option, Some, None, Ok, Err}
 use Rattle.std.specs.Prelude.{codes, nat_lt, ⊤}
 use Rattle.std.proofs.lemmas.Bool.Decides.{nat_tests}
 use Rattle.face_api.specs.Table.{Table}
@@ -21,10 +21,11 @@ use Rattle.edit_job.specs.Steps.{HaveAnEnd, HaveOneEnd}
 use Rattle.session.specs.Error.{open_word}
 use Rattle.input_due.specs.Due.{Done, Refused, node_of}
 use Rattle.input_due.specs.declared.follows.Follows.{Follows}
+use Rattle.modes_job.specs.Telling.{modes_of}
 use Rattle.probe_job.specs.Answers.{answers}
 use Rattle.session.specs.State.{page_of, styled_of}
-use Rattle.input_due.specs.Asked.{Asked, AskedOr, asked_behind, has_lines, probes, steps}
-use Rattle.input_due.specs.Input.{ComesOfAsked, ComesOfInput, ComesOfOpened, ComesOfRead, ComesOfStyling, ComesOfTail, IsDueOfRefusal, IsDueOver, Told, longest_input, opened_with}
+use Rattle.input_due.specs.Asked.{Asked, AskedOr, asked_behind, has_lines, modes, probes, steps}
+use Rattle.input_due.specs.Input.{ComesOfAsked, ComesOfInput, ComesOfOpen, ComesOfOpened, ComesOfRead, ComesOfStyling, ComesOfTail, IsDueOfRefusal, IsDueOver, Told, longest_input, opened_with, tied}
 use Rattle.input_due.specs.Owed.{OwesNothing, OwesOver, nothing_owed, owed_so_far}
 use Rattle.input_due.specs.Laws.{HaveOneDue, OweOnce}
 
@@ -43,9 +44,13 @@ never_both m n less most = absurd (omega (arith, less, most))
 module _ {X : Type 0} (Over : State → Asked → X → Type 0) (RefusedAs : List ℕ → ℕ → X → Type 0) (faces : List (Option Table)) (answer : HasOneAnswer) where
   -- Something comes of every document that is open, and of every refusal.
   module _ (over : (state : State) (asked : Asked) → (told : X) × Over state asked told) (line : (word : List ℕ) (place : ℕ) → (told : X) × RefusedAs word place told) where
+    tied_some : (tie : Option ℕ) (state : State) (asked : Asked) → (told : X) × ComesOfOpen Over RefusedAs faces tie state asked told
+    tied_some None state asked = over state asked
+    tied_some (Some place) state asked = line (codes "NotTurnable") place
+
     opened_some : (nodes : List Node) (styles : Styling) (asked : Asked) → CanOpen nodes styles.own styles.rules ⊎ ((error : OpenError) × IsRefused nodes styles.own styles.rules error)
         → (told : X) × ComesOfOpened Over RefusedAs faces nodes styles asked told
-    opened_some nodes styles asked (inl can) = let some = over (opened_with faces nodes styles) asked in (some.0, inl (can, some.1))
+    opened_some nodes styles asked (inl can) = let some = tied_some (tied (opened_with faces nodes styles) asked) (opened_with faces nodes styles) asked in (some.0, inl (can, some.1))
     opened_some nodes styles asked (inr (error, refused)) = let some = line (open_word error) (node_of error) in (some.0, inr (error, refused, some.1))
 
     asked_some : (nodes : List Node) (styles : Styling) (asked : AskedOr) → (told : X) × ComesOfAsked Over RefusedAs faces nodes styles asked told
@@ -71,8 +76,12 @@ module _ {X : Type 0} (Over : State → Asked → X → Type 0) (RefusedAs : Lis
   -- One thing alone comes of each of them.
   module _ (over : (state : State) (asked : Asked) (one other : X) → Over state asked one → Over state asked other → other ≡ one)
       (line : (word : List ℕ) (place : ℕ) (one other : X) → RefusedAs word place one → RefusedAs word place other → other ≡ one) (one other : X) where
+    tied_only : (tie : Option ℕ) (state : State) (asked : Asked) → ComesOfOpen Over RefusedAs faces tie state asked one → ComesOfOpen Over RefusedAs faces tie state asked other → other ≡ one
+    tied_only None state asked here there = over state asked one other here there
+    tied_only (Some place) state asked here there = line (codes "NotTurnable") place one other here there
+
     opened_only : (nodes : List Node) (styles : Styling) (asked : Asked) → ComesOfOpened Over RefusedAs faces nodes styles asked one → ComesOfOpened Over RefusedAs faces nodes styles asked other → other ≡ one
-    opened_only nodes styles asked (inl (can, here)) (inl (also, there)) = over (opened_with faces nodes styles) asked one other here there
+    opened_only nodes styles asked (inl (can, here)) (inl (also, there)) = tied_only (tied (opened_with faces nodes styles) asked) (opened_with faces nodes styles) asked here there
     opened_only nodes styles asked (inl (can, here)) (inr (error, refused, there)) = absurd ((answer.only nodes styles.own styles.rules error refused).0 can)
     opened_only nodes styles asked (inr (error, refused, here)) (inl (can, there)) = absurd ((answer.only nodes styles.own styles.rules error refused).0 can)
     opened_only nodes styles asked (inr (error, refused, here)) (inr (reason, also, there)) =
@@ -107,6 +116,7 @@ module _ {X : Type 0} (Over : State → Asked → X → Type 0) (RefusedAs : Lis
 due_some : HaveAnEnd → (view : View) (state : State) (asked : Asked) → (told : Told) × IsDueOver view state asked told
 due_some leads view state (steps said) = let end_ = leads view state said in ((Done, end_.1), (refl, end_.0, end_.2))
 due_some leads view state (probes asked) = ((Done, answers (page_of state.faces view (styled_of state)) asked), (refl, refl))
+due_some leads view state modes = ((Done, modes_of state.faces view state.rules state.tree), (refl, refl))
 
 same_told : (one other : Told) → other.0 ≡ one.0 → other.1 ≡ one.1 → other ≡ one
 same_told one other ends bytes = ap (λ e. (e, other.1)) ends ∙ ap (λ b. (one.0, b)) bytes
@@ -114,6 +124,7 @@ same_told one other ends bytes = ap (λ e. (e, other.1)) ends ∙ ap (λ b. (one
 due_only : HaveOneEnd → (view : View) (state : State) (asked : Asked) (one other : Told) → IsDueOver view state asked one → IsDueOver view state asked other → other ≡ one
 due_only ends view state (steps said) one other (is, last, here) (is', last', there) = same_told one other (is' ∙ sym is) (ends view state said last last' one.1 other.1 here there).1
 due_only ends view state (probes asked) one other (is, d) (is', d') = same_told one other (is' ∙ sym is) (d' ∙ sym d)
+due_only ends view state modes one other (is, d) (is', d') = same_told one other (is' ∙ sym is) (d' ∙ sym d)
 
 line_some : (word : List ℕ) (place : ℕ) → (told : Told) × IsDueOfRefusal word place told
 line_some word place = ((Refused, refusal word place), (refl, refl))
@@ -140,10 +151,12 @@ one_due answer leads ends = record {
 owed_some : AreOwedOnce → (view : View) (state : State) (asked : Asked) → (owed : Owed) × OwesOver view state asked owed
 owed_some owes view state (steps said) = let last = owes.some view state (at_first state) said in (owed_so_far last.0, (last.0, last.1, refl))
 owed_some owes view state (probes asked) = (owed_so_far (after_page view state (at_first state)), refl)
+owed_some owes view state modes = (owed_so_far (after_page view state (at_first state)), refl)
 
 owed_only : AreOwedOnce → (view : View) (state : State) (asked : Asked) (one other : Owed) → OwesOver view state asked one → OwesOver view state asked other → other ≡ one
 owed_only owes view state (steps said) one other (last, here, is) (last', there, is') = is' ∙ ap owed_so_far (owes.only view state (at_first state) said last last' here there) ∙ sym is
 owed_only owes view state (probes asked) one other is is' = is' ∙ sym is
+owed_only owes view state modes one other is is' = is' ∙ sym is
 
 nothing_some : (word : List ℕ) (place : ℕ) → (owed : Owed) × OwesNothing word place owed
 nothing_some word place = (nothing_owed, refl)

@@ -12,12 +12,13 @@ use Rattle.hit_caret.specs.declared.probes.Probe.{Probe}
 use Rattle.hit_caret.specs.Error.{kind_word as probe_word}
 use Rattle.hit_caret.specs.Probing as probing
 use Rattle.input_due.specs.declared.follows.Follows.{Follows}
-use Rattle.input_due.specs.declared.follows.Follows.TheVariants.{Nothing, Script, Probe as Points}
+use Rattle.input_due.specs.declared.follows.Follows.TheVariants.{Nothing, Script, Probe as Points, Modes}
 
--- what is asked of a document: to go through steps, or to answer the lines of a probe over its page
+-- what is asked of a document: to go through steps, to answer the lines of a probe over its page, or to list its flow and its page in each mode
 pub data Asked : Type 0 where
   steps : List StepAt → Asked
   probes : List Probe → Asked
+  modes : Asked
 
 -- that, or the word of what is wrong with it and its place in the input
 abbrev pub AskedOr : Type 0
@@ -42,12 +43,14 @@ abbrev pub has_lines : Follows → Bool
 has_lines Nothing = false
 has_lines Script = true
 has_lines Points = true
+has_lines Modes = false
 
--- a text that begins at this place of the input: a script, the lines of a probe, or nothing: then the page is listed once
+-- a text that begins at this place of the input: a script, the lines of a probe, or nothing: then the page is listed once, or in each mode
 abbrev pub asked_at : Follows → (start : ℕ) → (text : List ℕ) → AskedOr
 asked_at Nothing start text = Ok (steps one_page)
 asked_at Script start text = steps_at start (scripts.script text)
 asked_at Points start text = probes_at start (probing.probes text)
+asked_at Modes start text = Ok modes
 
 -- so for what stands behind a document in an input of this size
 abbrev pub asked_behind : Follows → (size : ℕ) → (behind : List ℕ) → AskedOr
@@ -59,8 +62,10 @@ asked_behind follows size behind = asked_at follows (size - length behind) behin
 abbrev pub FitsAsked : Asked → Type 0
 FitsAsked (steps said) = AllFit said
 FitsAsked (probes asked) = ⊤
+FitsAsked modes = ⊤
 
 -- how many bytes of text it brings
 abbrev pub bytes_asked : Asked → ℕ
 bytes_asked (steps said) = bytes_of said
 bytes_asked (probes asked) = 0
+bytes_asked modes = 0

@@ -1,5 +1,7 @@
 -- What stands behind a document that was read, and how much of it there is; what comes of it.
-use Rattle.std.specs.Prelude.{◌≡◌, ◌≤◌, ℕ, List, Result, Ok, Err, ⊤}
+use Rattle.dom_store.specs.State.{state_of}
+use Rattle.style_modes.specs.Tying.{first_of, tying_places}
+use Rattle.std.specs.Prelude.{◌≡◌, ◌≤◌, ℕ, List, Option, Some, None, Result, Ok, Err, ⊤}
 use Rattle.wm_units.specs.declared.view.View.{View}
 use Rattle.face_api.specs.Faces.{faces_of}
 use Rattle.face_api.specs.declared.face.Face.{Ghosts}
@@ -20,9 +22,9 @@ use Rattle.input_due.specs.declared.lines.Halt.{Halt}
 use Rattle.input_due.specs.declared.lines.Halt.TheVariants as halts
 use Rattle.input_due.specs.declared.lines.Lines as code_lines
 use Rattle.input_due.specs.declared.lines.Lines.TheVariants as code
-use Rattle.input_due.specs.Asked.{Asked, AskedOr, steps, probes, asked_at}
+use Rattle.input_due.specs.Asked.{Asked, AskedOr, steps, probes, asked_at, modes}
 use Rattle.input_due.specs.Due.{cause_word}
-use Rattle.session.specs.State.{state_in}
+use Rattle.session.specs.State.{state_in, rules_in}
 use Rattle.session.specs.declared.session.Session.{Session}
 
 -- what every document that was read has, with at most so many bytes of text
@@ -39,6 +41,7 @@ asked_in behind = asked_at behind.follows behind.start behind.text.now
 abbrev pub asked_of : code_lines.Lines → Asked
 asked_of (code.Steps script) = steps (steps_of script.items)
 asked_of (code.Probes asked) = probes asked.items
+asked_of code.Modes = modes
 
 -- why they were not read
 abbrev pub of_script_error : ScriptError → Halt
@@ -56,10 +59,16 @@ ReadsLines (Err (halts.Refused cause place)) read = read ≡ Err (cause_word cau
 ReadsLines (Err halts.Memory) read = ⊤
 
 module _ {I : Type 0} {D : I → Type 0} where
+  -- its page in each mode is due where no declaration ties it to one, by the place of the first that does
+  abbrev pub due_by_tie : Session I D → (tied : Option ℕ) → Due I D
+  due_by_tie session None = dues.Pages session
+  due_by_tie session (Some place) = dues.Refused causes.NotTurnable place
+
   -- what is due for them over a session
   abbrev pub due_over : Session I D → code_lines.Lines → Due I D
   due_over session (code.Steps script) = dues.Steps session script
   due_over session (code.Probes asked) = dues.Answers session asked
+  due_over session code.Modes = due_by_tie session (first_of (tying_places (rules_in session) (state_of session.document)))
 
 -- ---- what comes of a document
 
@@ -79,12 +88,14 @@ module _ {I : Type 0} {D : I → Type 0} (members : (x : I) → Ghosts (D x)) wh
   abbrev pub outcome_of : Due I D → Outcome
   outcome_of (dues.Steps session script) = opens (state_in (faces_of members session.faces) session) (steps (steps_of script.items))
   outcome_of (dues.Answers session asked) = opens (state_in (faces_of members session.faces) session) (probes asked.items)
+  outcome_of (dues.Pages session) = opens (state_in (faces_of members session.faces) session) modes
   outcome_of (dues.Refused cause place) = refuses (cause_word cause) place
 
   -- an open document is seen in this view
   abbrev pub IsSeenIn : View → Due I D → Type 0
   IsSeenIn view (dues.Steps session script) = session.view ≡ view
   IsSeenIn view (dues.Answers session asked) = session.view ≡ view
+  IsSeenIn view (dues.Pages session) = session.view ≡ view
   IsSeenIn view (dues.Refused cause place) = ⊤
 
   -- this is due for what comes of it, where the other says which outcomes come

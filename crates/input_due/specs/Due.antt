@@ -1,4 +1,6 @@
 -- What is due for an input, as its end and the bytes to be written.
+use Rattle.modes_job.specs.Telling.{modes_of}
+use Rattle.style_modes.specs.Turnable.{IsTurnable}
 use Rattle.std.specs.Prelude.{◌≡◌, ◌↔◌, ◌+◌, ◌≤◌, ℕ, List, codes, Option, option_map, unwrap_or, ⊤}
 use Rattle.face_api.specs.Faces.{faces_of}
 use Rattle.face_api.specs.Table.{Table}
@@ -15,7 +17,7 @@ use Rattle.edit_script.specs.Views.{steps_of}
 use Rattle.session.specs.declared.error.OpenError.{OpenError}
 use Rattle.session.specs.declared.session.Session.{Session}
 use Rattle.session.specs.Error.{open_node, open_word}
-use Rattle.session.specs.State.{IsSound, page_in}
+use Rattle.session.specs.State.{IsSound, page_in, rules_in}
 use Rattle.edit_job.specs.Refusal.{refusal}
 use Rattle.edit_job.specs.Steps.{AreStepsIn}
 use Rattle.hit_caret.specs.Error.{kind_word as probe_word}
@@ -42,6 +44,7 @@ cause_word (causes.Style kind) = style_word kind
 cause_word (causes.Script kind) = script_word kind
 cause_word (causes.Probe kind) = probe_word kind
 cause_word (causes.Opening error) = open_word error
+cause_word causes.NotTurnable = codes "NotTurnable"
 
 module _ {I : Type 0} {D : I → Type 0} where
   abbrev pub not_opened : OpenError → Option (Due I D)
@@ -51,6 +54,7 @@ module _ {I : Type 0} {D : I → Type 0} where
   abbrev pub IsOpen : Due I D → Type 0
   IsOpen (dues.Steps session script) = ⊤
   IsOpen (dues.Answers session probes) = ⊤
+  IsOpen (dues.Pages session) = ⊤
   IsOpen (dues.Refused cause place) = ⊥
 
   -- steps can be gone through over a session
@@ -64,12 +68,14 @@ module _ {I : Type 0} {D : I → Type 0} (members : (x : I) → Ghosts (D x)) wh
   abbrev pub IsOf : Due I D → End → (due : List ℕ) → Type 0
   IsOf (dues.Steps session script) end_ due = (end_ ≡ Done) × (last : State) × AreStepsIn (faces_of members session.faces) session (steps_of script.items) last due
   IsOf (dues.Answers session probes) end_ due = (end_ ≡ Done) × (due ≡ answers (page_in (faces_of members session.faces) session) probes.items)
+  IsOf (dues.Pages session) end_ due = (end_ ≡ Done) × (due ≡ modes_of (faces_of members session.faces) session.view (rules_in session) (state_of session.document))
   IsOf (dues.Refused cause place) end_ due = (end_ ≡ Refused) × (due ≡ refusal (cause_word cause) place)
 
   -- what is due can be told
   abbrev pub IsReady : Due I D → Type 0
   IsReady (dues.Steps session script) = AreReady (faces_of members session.faces) session (steps_of script.items)
   IsReady (dues.Answers session probes) = IsSound (faces_of members session.faces) session
+  IsReady (dues.Pages session) = IsSound (faces_of members session.faces) session × IsTurnable (rules_in session) (state_of session.document)
   IsReady (dues.Refused cause place) = ⊤
 
   -- what is due is this, where the other says which bytes are due with which end

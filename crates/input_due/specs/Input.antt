@@ -1,5 +1,7 @@
 -- What comes of an input, refusal by refusal; which bytes are due for it, and how it ends.
-use Rattle.std.specs.Prelude.{◌≡◌, ◌⊎◌, ℕ, ◌<◌, ◌≤◌, List, length, drop, codes, Option, Ok, Err, ⊤}
+use Rattle.modes_job.specs.Telling.{modes_of}
+use Rattle.style_modes.specs.Tying.{first_of, tying_places}
+use Rattle.std.specs.Prelude.{◌≡◌, ◌⊎◌, ℕ, ◌<◌, ◌≤◌, List, length, drop, codes, Option, Some, None, Ok, Err, ⊤}
 use Rattle.wm_units.specs.declared.view.View.{View}
 use Rattle.reading.specs.Readers.{Read, ReadOr}
 use Rattle.html_tokens.specs.Error.{Fault, kind_word, syntax}
@@ -20,7 +22,7 @@ use Rattle.edit_job.specs.Refusal.{refusal}
 use Rattle.edit_job.specs.Steps.{AreSteps}
 use Rattle.probe_job.specs.Answers.{answers}
 use Rattle.input_due.specs.declared.follows.Follows.{Follows}
-use Rattle.input_due.specs.Asked.{Asked, AskedOr, steps, probes, asked_behind, has_lines}
+use Rattle.input_due.specs.Asked.{Asked, AskedOr, steps, probes, asked_behind, has_lines, modes}
 use Rattle.input_due.specs.Due.{End, Done, Refused, node_of}
 
 -- the greatest length of an input, in bytes
@@ -31,6 +33,12 @@ longest_input = 1048576
 abbrev pub opened_with : (faces : List (Option Table)) → List Node → Styling → State
 opened_with faces nodes styles = record { tree = opened nodes styles.own; rules = styles.rules; faces = faces }
 
+-- Pages in each mode are asked of a document of which no declaration names anything of the page: else the first that does stands against it.
+abbrev pub tied : State → Asked → Option ℕ
+tied state (steps said) = None
+tied state (probes asked) = None
+tied state modes = first_of (tying_places state.rules state.tree)
+
 -- ---- what comes of an input
 
 -- What is told of an input is told of its document where that can be opened, else of the one refusal that comes first. `Over` tells it of a
@@ -40,9 +48,14 @@ module _ {X : Type 0} (Over : State → Asked → X → Type 0) (RefusedAs : (wo
   abbrev pub ComesOfFault : (size : ℕ) → Fault → X → Type 0
   ComesOfFault size fault told = RefusedAs (kind_word fault.0) (place_in size fault.1) told
 
+  -- of a document that is open, by the place of the first declaration that stands against what is asked of it
+  abbrev pub ComesOfOpen : (tied : Option ℕ) → State → Asked → X → Type 0
+  ComesOfOpen None state asked told = Over state asked told
+  ComesOfOpen (Some place) state asked told = RefusedAs (codes "NotTurnable") place told
+
   -- of a document with its styles and what is asked of it: that where it can be opened, else a refusal with the number of a node
   abbrev pub ComesOfOpened : List Node → Styling → Asked → X → Type 0
-  ComesOfOpened nodes styles asked told = (CanOpen nodes styles.own styles.rules × Over (opened_with faces nodes styles) asked told)
+  ComesOfOpened nodes styles asked told = (CanOpen nodes styles.own styles.rules × ComesOfOpen (tied (opened_with faces nodes styles) asked) (opened_with faces nodes styles) asked told)
       ⊎ ((error : OpenError) × IsRefused nodes styles.own styles.rules error × RefusedAs (open_word error) (node_of error) told)
 
   -- of a document with its styles, by what was read behind it
@@ -84,10 +97,11 @@ module _ {X : Type 0} (Over : State → Asked → X → Type 0) (RefusedAs : (wo
 abbrev pub Told : Type 0
 Told = End × List ℕ
 
--- over a document that is open what the steps write is due, or the answers over its page
+-- over a document that is open what the steps write is due, or the answers over its page, or its flow and its page in each mode
 abbrev pub IsDueOver : View → State → Asked → Told → Type 0
 IsDueOver view state (steps said) told = (told.0 ≡ Done) × (last : State) × AreSteps view state said last told.1
 IsDueOver view state (probes asked) told = (told.0 ≡ Done) × (told.1 ≡ answers (page_of state.faces view (styled_of state)) asked)
+IsDueOver view state modes told = (told.0 ≡ Done) × (told.1 ≡ modes_of state.faces view state.rules state.tree)
 
 -- of a refusal its line is due
 abbrev pub IsDueOfRefusal : (word : List ℕ) → (place : ℕ) → Told → Type 0

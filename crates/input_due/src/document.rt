@@ -30,6 +30,7 @@ use session::Session;
 use session::laws::one_answer;
 use std::alloc::{AllocError, Global};
 use std::str;
+use style_modes::laws::none_is_first_where_turnable;
 use wm_units::View;
 
 /// What is due for an input that isn't too long: a script or the lines of a probe may follow its document, or neither; then the
@@ -177,6 +178,7 @@ fn opened(
     ensures outcome { IfOk result (λ due. IsDueAs ⟦<dyn Face as Face>⟧ (ComesOfOpened IsOpening IsRefusing (faces_of ⟦<dyn Face as Face>⟧ faces) (nodes_of read.now.nodes.items) (styled_of styles.now) (asked_of lines)) view due) }
     ensures ready { IfOk result (λ due. IsReady ⟦<dyn Face as Face>⟧ due) }
 {
+    none_is_first_where_turnable();
     match Session::open(alloc, read, styles, faces, view) {
         Ok(session) => Ok(lines.over(session)),
         Err(error) => match Due::not_opened(error) {

@@ -1,11 +1,17 @@
-//! What is due for an input: the steps over its document, the answers over its page, or its refusal.
+//! What is due for an input: the steps over its document, the answers over its page, its flow with the page in each mode, or its refusal.
 
 ghost use Rattle.std.specs.Prelude.{◌≡◌, ◌≤◌, length};
+ghost use Rattle.face_api.specs.Faces.{faces_of};
+ghost use Rattle.dom_store.specs.State.{state_of};
+ghost use Rattle.session.specs.State.{IsSound, rules_in};
+ghost use Rattle.style_modes.specs.Tying.{first_of, tying_places};
+ghost use Rattle.input_due.specs.Document.{due_by_tie};
 ghost use Rattle.input_due.specs.Due.{cause_word, not_opened};
 ghost use Rattle.input_due.specs.declared.due.Cause.TheVariants as Causes;
 ghost use Rattle.input_due.specs.declared.due.Due.TheVariants as Dues;
 
 use edit_script::Script;
+use face_api::Face;
 use hit_caret::Probes;
 use html_read::Refusal;
 use session::{OpenError, Session};
@@ -17,6 +23,8 @@ pub enum Due {
     Steps { session: Session, script: Script },
     /// The answers to the lines of a probe over the page of a document.
     Answers { session: Session, probes: Probes },
+    /// The flow of a document, which no declaration ties to one mode, and its page in each of four modes.
+    Pages { session: Session },
     /// A line of refusal, with its cause, and its place in bytes or the number of its node.
     Refused { cause: Cause, place: usize },
 }
@@ -39,6 +47,20 @@ impl Due {
         Due::Refused {
             cause: Cause::Style(kind),
             place,
+        }
+    }
+
+    /// The flow of a document and its pages; the refusal of one that a declaration ties to a mode.
+    pub(crate) fn in_modes(session: Session) -> Due
+        requires { IsSound (faces_of ⟦<dyn Face as Face>⟧ session.faces) session }
+        ensures { result ≡ due_by_tie session (first_of (tying_places (rules_in session) (state_of session.document))) }
+    {
+        match session.physical() {
+            Some(place) => Due::Refused {
+                cause: Cause::NotTurnable,
+                place,
+            },
+            None => Due::Pages { session },
         }
     }
 
@@ -69,6 +91,8 @@ pub enum Cause {
     Probe(hit_caret::Refusal),
     /// Its document can't be opened.
     Opening(OpenError),
+    /// A declaration ties its document to one mode.
+    NotTurnable,
 }
 
 impl Cause {
@@ -85,6 +109,7 @@ impl Cause {
             Cause::Script(kind) => kind.word(),
             Cause::Probe(kind) => kind.word(),
             Cause::Opening(error) => error.word(),
+            Cause::NotTurnable => "NotTurnable",
         }
     }
 }

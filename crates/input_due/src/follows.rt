@@ -12,6 +12,8 @@ pub enum Follows {
     Script,
     /// The lines of a probe, from the next line on, of which there may be none.
     Probe,
+    /// No lines: white space and comments alone, and the flow is listed, and the page in each mode.
+    Modes,
 }
 
 impl Follows {
@@ -20,7 +22,7 @@ impl Follows {
         ensures { result ≡ has_lines self }
     {
         match self {
-            Follows::Nothing => false,
+            Follows::Nothing | Follows::Modes => false,
             Follows::Script | Follows::Probe => true,
         }
     }

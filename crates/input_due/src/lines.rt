@@ -1,9 +1,11 @@
-//! The lines behind a document: the steps of a script, or a probe.
+//! What stands behind a document: the steps of a script, a probe, or no lines.
 
 ghost use Rattle.std.specs.Prelude.{◌≡◌, ◌≤◌, length, IfOk};
 ghost use Rattle.edit_script.specs.Script as scripts;
 ghost use Rattle.edit_script.specs.Views.{steps_of};
+ghost use Rattle.face_api.specs.Faces.{faces_of};
 ghost use Rattle.hit_caret.specs.Probing as probing;
+ghost use Rattle.session.specs.State.{IsSound};
 ghost use Rattle.input_due.specs.Asked.{FitsAsked, bytes_asked, one_page, probes_at, steps_at};
 ghost use Rattle.input_due.specs.Document.{ReadsLines, asked_in, asked_of, due_over};
 ghost use Rattle.input_due.specs.declared.due.Cause.TheVariants as Causes;
@@ -12,6 +14,7 @@ ghost use Rattle.input_due.specs.declared.lines.Halt.TheVariants as halts;
 use crate::due::{Cause, Due};
 use crate::follows::Follows;
 use edit_script::{Script, ScriptError, ScriptLine, ScriptStep, read_script};
+use face_api::Face;
 use hit_caret::{ProbeError, Probes, read_probe};
 use session::Session;
 use std::alloc::{AllocError, Global};
@@ -29,6 +32,7 @@ pub(crate) struct Behind<'a> {
 pub(crate) enum Lines {
     Steps(Script),
     Probes(Probes),
+    Modes,
 }
 
 /// Why it was not read.
@@ -81,11 +85,13 @@ impl From<AllocError> for Halt {
 impl Lines {
     /// What is due for them over a session.
     pub(crate) fn over(self, session: Session) -> Due
+        requires { IsSound (faces_of ⟦<dyn Face as Face>⟧ session.faces) session }
         ensures { result ≡ due_over session self }
     {
         match self {
             Lines::Steps(script) => Due::Steps { session, script },
             Lines::Probes(probes) => Due::Answers { session, probes },
+            Lines::Modes => Due::in_modes(session),
         }
     }
 }
@@ -104,6 +110,7 @@ pub(crate) fn read_lines(alloc: Global, behind: Behind<'_>) -> Result<Lines, Hal
         }
         Follows::Script => script_lines(alloc, behind.text, behind.start),
         Follows::Probe => probe_lines(alloc, behind.text, behind.start),
+        Follows::Modes => Ok(Lines::Modes),
     }
 }
 

@@ -63,6 +63,12 @@ module _ {I : Type 0} {D : I → Type 0} (members : (x : I) → Ghosts (D x)) wh
       → (owed : Owed) → IsOwedFor members due owed → RiseBy owed p q a b
   answers_count due session asked p q a b is rise owed owes = subst (λ (o : Owed). RiseBy o p q a b) (sym (subst (λ (d : Due I D). IsOwedFor members d owed) is owes)) rise
 
+  -- a run that listed the pages in each mode counts what their flow owes
+  pub pages_count : (due : Due I D) (session : Session I D) (p q a b : ℕ) → due ≡ dues.Pages session
+      → RiseBy (owed_so_far (after_page_in (faces_of members session.faces) session (at_first (state_in (faces_of members session.faces) session)))) p q a b
+      → (owed : Owed) → IsOwedFor members due owed → RiseBy owed p q a b
+  pages_count due session p q a b is rise owed owes = subst (λ (o : Owed). RiseBy o p q a b) (sym (subst (λ (d : Due I D). IsOwedFor members d owed) is owes)) rise
+
 -- for words that give a job what is owed is what that owes
 pub owed_by_job : (faces : List (Option Table)) (words : List (List ℕ)) (job : Job) (input : List ℕ) (owed : Owed) → IsJob words job → ((other : Job) → IsJob words other → other ≡ job)
     → IsOwed faces words input owed → IsOwedByJob faces job input owed

@@ -10,9 +10,11 @@ use Rattle.face_api.specs.Faces.{faces_of}
 use Rattle.face_api.specs.declared.face.Face.{Ghosts}
 use Rattle.wm_units.specs.declared.view.View.{View}
 use Rattle.edits.specs.State.{State}
+use Rattle.dom_store.specs.State.{state_of}
+use Rattle.modes_job.specs.Telling.{modes_of}
 use Rattle.hit_caret.specs.declared.probes.Probe.{Probe}
 use Rattle.probe_job.specs.Answers.{answers}
-use Rattle.session.specs.State.{page_in, state_in}
+use Rattle.session.specs.State.{page_in, rules_in, state_in}
 use Rattle.edit_script.specs.declared.step.ScriptLine.{ScriptLine}
 use Rattle.edit_script.specs.Views.{steps_of}
 use Rattle.edit_job.specs.Steps.{AreStepsIn, HaveOneEnd}
@@ -39,6 +41,7 @@ module _ {I : Type 0} {D : I → Type 0} (members : (x : I) → Ghosts (D x)) wh
   one_text ends (dues.Steps session script) end_ other_end one other (is, last, steps) (is', last', steps') =
       (ends session.view (state_in (faces_of members session.faces) session) (steps_of script.items) last last' one other steps steps').1
   one_text ends (dues.Answers session probes) end_ other_end one other (is, d) (is', d') = d' ∙ sym d
+  one_text ends (dues.Pages session) end_ other_end one other (is, d) (is', d') = d' ∙ sym d
   one_text ends (dues.Refused cause place) end_ other_end one other (is, d) (is', d') = d' ∙ sym d
 
   -- what was told of it is that
@@ -70,6 +73,19 @@ module _ {I : Type 0} {D : I → Type 0} (members : (x : I) → Ghosts (D x)) wh
       (stands_told (IsOf members (dues.Answers session asked)) old new
       (λ end_ bytes q. subst (λ (b : List ℕ). AppendsFront old new b) (told ∙ sym q.1) front) written
       (on_ok written whole (λ w. (text lines, (refl, told), w))))
+
+  -- a run that listed the pages in each mode stands
+  pub stands_pages : (due : Due I D) (session : Session I D) (old new : Option (List ℕ)) (written : Result ⊤ WriteError)
+      → due ≡ dues.Pages session
+      → OnOk written (Appends old new (modes_of (faces_of members session.faces) session.view (rules_in session) (state_of session.document)))
+      → AppendsFront old new (modes_of (faces_of members session.faces) session.view (rules_in session) (state_of session.document))
+      → Stands (with_status (IsOf members due)) old new (ended written Done)
+  stands_pages due session old new written is whole front =
+      let text = modes_of (faces_of members session.faces) session.view (rules_in session) (state_of session.document) in
+      subst (λ (d : Due I D). Stands (with_status (IsOf members d)) old new (ended written Done)) (sym is)
+      (stands_told (IsOf members (dues.Pages session)) old new
+      (λ end_ bytes q. subst (λ (b : List ℕ). AppendsFront old new b) (sym q.1) front) written
+      (on_ok written whole (λ w. (text, (refl, refl), w))))
 
 -- the line of counts
 pub only_counted : (faces : List (Option Table)) (view : View) (count : ℕ) (written line : List ℕ) → (end_ : End) × IsDueOfDocument faces view Script (gen_input count) end_ written

@@ -7,10 +7,10 @@ use Rattle.command_line.specs.Command.{IsJob}
 use Rattle.command_line.specs.Laws.{IsReadAsSpelled}
 use Rattle.command_line.specs.Reading.{job_of}
 use Rattle.command_line.specs.declared.job.Command.{Command}
-use Rattle.command_line.specs.declared.job.Command.TheVariants.{Layout, Edit, Gen, Probe}
+use Rattle.command_line.specs.declared.job.Command.TheVariants.{Layout, Edit, Modes, Gen, Probe}
 use Rattle.command_line.specs.declared.job.Job.{Job}
 use Rattle.generator.specs.Generator.{gen_input}
-use Rattle.input_due.specs.declared.follows.Follows.TheVariants.{Nothing, Script, Probe as Points}
+use Rattle.input_due.specs.declared.follows.Follows.TheVariants.{Nothing, Script, Probe as Points, Modes as InModes}
 use Rattle.input_due.specs.Due.{End}
 use Rattle.input_due.specs.Due as ends
 use Rattle.input_due.specs.Input.{IsDueOfInput}
@@ -56,12 +56,14 @@ module _ (one : HaveOneDue) (faces : List (Option Table)) (view : View) (count :
   command_some : (command : Command) → (status : Status) × (due : List ℕ) × IsDueOfCommand command faces view count input status due
   command_some Layout = let some = one.some faces view Nothing input in with_end (IsDueOfInput faces view Nothing input) some.0 some.1 some.2
   command_some Edit = let some = one.some faces view Script input in with_end (IsDueOfInput faces view Script input) some.0 some.1 some.2
+  command_some Modes = let some = one.some faces view InModes input in with_end (IsDueOfInput faces view InModes input) some.0 some.1 some.2
   command_some Probe = let some = one.some faces view Points input in with_end (IsDueOfInput faces view Points input) some.0 some.1 some.2
   command_some Gen = let some = one.document_some faces view Script (gen_input count) in (Done, counted count some.1, (refl, some.0, some.1, some.2, refl))
 
   command_only : (command : Command) (status other : Status) (due more : List ℕ) → IsDueOfCommand command faces view count input status due → IsDueOfCommand command faces view count input other more → (other ≡ status) × (more ≡ due)
   command_only Layout status other due more is also = one_status (IsDueOfInput faces view Nothing input) (one.only faces view Nothing input) status other due more is also
   command_only Edit status other due more is also = one_status (IsDueOfInput faces view Script input) (one.only faces view Script input) status other due more is also
+  command_only Modes status other due more is also = one_status (IsDueOfInput faces view InModes input) (one.only faces view InModes input) status other due more is also
   command_only Probe status other due more is also = one_status (IsDueOfInput faces view Points input) (one.only faces view Points input) status other due more is also
   command_only Gen status other due more (is, end_, written, of, d) (is', end_', written', of', d') =
       (is' ∙ sym is, d' ∙ ap (counted count) (one.document_only faces view Script (gen_input count) end_ end_' written written' of of').1 ∙ sym d)
@@ -104,12 +106,14 @@ module _ (once : inputs.OweOnce) (faces : List (Option Table)) (view : View) (co
   command_owes : (command : Command) → (owed : Owed) × IsOwedByCommand command faces view count input owed
   command_owes Layout = once.some faces view Nothing input
   command_owes Edit = once.some faces view Script input
+  command_owes Modes = once.some faces view InModes input
   command_owes Probe = once.some faces view Points input
   command_owes Gen = once.document_some faces view Script (gen_input count)
 
   command_owes_once : (command : Command) (owed other : Owed) → IsOwedByCommand command faces view count input owed → IsOwedByCommand command faces view count input other → other ≡ owed
   command_owes_once Layout owed other is also = once.only faces view Nothing input owed other is also
   command_owes_once Edit owed other is also = once.only faces view Script input owed other is also
+  command_owes_once Modes owed other is also = once.only faces view InModes input owed other is also
   command_owes_once Probe owed other is also = once.only faces view Points input owed other is also
   command_owes_once Gen owed other is also = once.document_only faces view Script (gen_input count) owed other is also
 

@@ -5,9 +5,9 @@ use Rattle.face_api.specs.Table.{Table}
 use Rattle.generator.specs.Generator.{gen_input}
 use Rattle.command_line.specs.Command.{IsJob}
 use Rattle.command_line.specs.declared.job.Command.{Command}
-use Rattle.command_line.specs.declared.job.Command.TheVariants.{Layout, Edit, Gen, Probe}
+use Rattle.command_line.specs.declared.job.Command.TheVariants.{Layout, Edit, Modes, Gen, Probe}
 use Rattle.command_line.specs.declared.job.Job.{Job}
-use Rattle.input_due.specs.declared.follows.Follows.TheVariants.{Nothing, Script, Probe as Points}
+use Rattle.input_due.specs.declared.follows.Follows.TheVariants.{Nothing, Script, Probe as Points, Modes as InModes}
 use Rattle.input_due.specs.Due.{End}
 use Rattle.input_due.specs.Due as ends
 use Rattle.input_due.specs.Input.{IsDueOfDocument, IsDueOfInput}
@@ -45,14 +45,16 @@ IsDueOfGenerated faces view count status due = (status ≡ Done) × (end_ : End)
 abbrev pub Reads : Command → Type 0
 Reads Layout = ⊤
 Reads Edit = ⊤
+Reads Modes = ⊤
 Reads Gen = ⊥
 Reads Probe = ⊤
 
--- `layout` lists the page of a document, `edit` goes through the script that stands behind it, `probe` answers over its page the
--- lines that stand there
+-- `layout` lists the page of a document, `edit` goes through the script that stands behind it, `modes` lists its flow and its page in
+-- each mode, `probe` answers over its page the lines that stand there
 abbrev pub IsDueOfCommand : Command → (faces : List (Option Table)) → View → (count : ℕ) → (input : List ℕ) → Status → List ℕ → Type 0
 IsDueOfCommand Layout faces view count input status due = with_status (IsDueOfInput faces view Nothing input) status due
 IsDueOfCommand Edit faces view count input status due = with_status (IsDueOfInput faces view Script input) status due
+IsDueOfCommand Modes faces view count input status due = with_status (IsDueOfInput faces view InModes input) status due
 IsDueOfCommand Gen faces view count input status due = IsDueOfGenerated faces view count status due
 IsDueOfCommand Probe faces view count input status due = with_status (IsDueOfInput faces view Points input) status due
 

@@ -75,7 +75,7 @@ fn written_for<L: Ledger, M: Ledger>(
     let input = gen_input(alloc, count)?;
     let due = due_of_document(alloc, view, faces, &input, Follows::Script)?;
     let mut sink = SteadySink::new(alloc);
-    match tell(due, &mut sink, prepared, arranged) {
+    match tell(alloc, due, &mut sink, prepared, arranged) {
         Status::Done | Status::Refused => Ok(sink),
         Status::Usage | Status::Memory | Status::ReadFault | Status::WriteFault => Err(AllocError),
     }

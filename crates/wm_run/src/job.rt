@@ -29,9 +29,11 @@ use wm_units::{Steps, View};
 /// The words are those of a command with its options (docs/PROFILE/commands.md); with other words the usage line is written.
 /// `layout` lists the page of a document, `edit` goes through the script that stands behind a document, `gen` does the same
 /// with the generated input, of which it reads nothing, and counts what would be written. `probe` answers the lines that stand
-/// behind a document: what its page has at a point, and where the caret stands at a place of a text. An input has at most
+/// behind a document: what its page has at a point, and where the caret stands at a place of a text. `modes` lists the flow of a
+/// document, and its page in horizontal-tb, vertical-rl, sideways-rl and sideways-lr, all of one layout. An input has at most
 /// 1,048,576 bytes: a longer one is refused as `TooLong`, bytes that are no document by the kind and the place of what is
-/// wrong, styles, scripts and probes that are none by theirs, and a document past a limit by the number of a node.
+/// wrong, styles, scripts and probes that are none by theirs, a document past a limit by the number of a node, and, for `modes`,
+/// a document that a declaration ties to one mode as `NotTurnable`, by the place of the first such declaration.
 ///
 /// The faces are one to eight, by numbers from 0 in the order of the list. The run owns them, and drops them when
 /// it ends. `prepared` counts paragraphs whose text is prepared, `arranged` lists of lines and of blocks that are put down.
@@ -138,6 +140,16 @@ fn tell_job<S: Source, K: Sink, L: Ledger, M: Ledger>(
             prepared,
             arranged,
         ),
+        Command::Modes => tell_input(
+            alloc,
+            job.view,
+            faces,
+            Follows::Modes,
+            source,
+            sink,
+            prepared,
+            arranged,
+        ),
         Command::Probe => tell_input(
             alloc,
             job.view,
@@ -174,7 +186,7 @@ fn tell_input<S: Source, K: Sink, L: Ledger, M: Ledger>(
     ensures refused { (input : List ℕ) → S.left source.old ≡ Some input → length input ≤ longest_input → result ≡ Status.Refused → IsAtEnd (S.left source.new) }
 {
     match due_of_input(alloc, view, faces, follows, source) {
-        Ok(due) => tell(due, sink, prepared, arranged),
+        Ok(due) => tell(alloc, due, sink, prepared, arranged),
         Err(InputError::ReadFault) => Status::ReadFault,
         Err(InputError::Memory) => Status::Memory,
     }

@@ -3,9 +3,12 @@
 ghost use Rattle.std.specs.Prelude.{◌≡◌, ◌⊎◌, OnOk, IsErrOf};
 ghost use Rattle.std.specs.Io.KnownBytes.{Appends};
 ghost use Rattle.face_api.specs.Faces.{faces_of};
+ghost use Rattle.dom_store.specs.State.{state_of};
 ghost use Rattle.io_edge.specs.Edge.{AppendsFront, Rose};
+ghost use Rattle.modes_job.specs.Telling.{modes_of};
 ghost use Rattle.probe_job.specs.Answers.{answers};
-ghost use Rattle.session.specs.State.{IsSound, page_in, state_in};
+ghost use Rattle.session.specs.State.{IsSound, page_in, rules_in, state_in};
+ghost use Rattle.style_modes.specs.Turnable.{IsTurnable};
 ghost use Rattle.edit_job.specs.Owed.{Owed, RiseBy, after_page_in, at_first};
 ghost use Rattle.input_due.specs.Due.{IsOf, IsOpen, IsReady};
 ghost use Rattle.input_due.specs.Owed.{IsOwedFor, owed_so_far};
@@ -19,8 +22,11 @@ use face_api::Face;
 use hit_caret::Probe;
 use input_due::Due;
 use io_edge::{Sink, WriteError, write_all_of};
+use modes_job::laws::modes_are_turns;
+use modes_job::tell_modes;
 use probe_job::tell_answers;
 use session::Session;
+use std::alloc::Global;
 use std::sync::ledger::Ledger;
 use wm_units::Steps;
 
@@ -29,6 +35,7 @@ const USAGE: &[u8] =
 
 /// Writes what is due, and answers how the run ends.
 pub(crate) fn tell<K: Sink, L: Ledger, M: Ledger>(
+    alloc: Global,
     due: Due,
     sink: &mut K,
     prepared: &mut Steps<L>,
@@ -58,6 +65,10 @@ pub(crate) fn tell<K: Sink, L: Ledger, M: Ledger>(
             let written = tell_probes(&mut session, &probes, sink, prepared, arranged);
             ended(written, Status::Done)
         }
+        Due::Pages { mut session } => {
+            let written = tell_pages(alloc, &mut session, sink, prepared, arranged);
+            ended(written, Status::Done)
+        }
         Due::Refused { cause, place } => tell_line(
             refusal_line(cause.word(), place).as_bytes(),
             sink,
@@ -84,6 +95,28 @@ fn tell_probes<K: Sink, L: Ledger, M: Ledger>(
     all_are_owed_at_first();
     let placed = session.page(prepared, arranged)?;
     tell_answers(&placed, probes, sink)
+}
+
+// Lists the flow of a session, and its page in each mode.
+fn tell_pages<K: Sink, L: Ledger, M: Ledger>(
+    alloc: Global,
+    session: &mut Session,
+    sink: &mut K,
+    prepared: &mut Steps<L>,
+    arranged: &mut Steps<M>,
+) -> Result<(), WriteError>
+    requires sound { IsSound (faces_of ⟦<dyn Face as Face>⟧ session.old.faces) session.old }
+    requires turnable { IsTurnable (rules_in session.old) (state_of session.old.document) }
+    ensures whole { OnOk result (Appends (K.held sink.old) (K.held sink.new) (modes_of (faces_of ⟦<dyn Face as Face>⟧ session.old.faces) session.old.view (rules_in session.old) (state_of session.old.document))) }
+    ensures front { AppendsFront (K.held sink.old) (K.held sink.new) (modes_of (faces_of ⟦<dyn Face as Face>⟧ session.old.faces) session.old.view (rules_in session.old) (state_of session.old.document)) }
+    ensures counts { RiseBy (owed_so_far (after_page_in (faces_of ⟦<dyn Face as Face>⟧ session.old.faces) session.old (at_first (state_in (faces_of ⟦<dyn Face as Face>⟧ session.old.faces) session.old))))
+        prepared.old prepared.new arranged.old arranged.new }
+    ensures fault { IsErrOf result WriteError.WriteFault → Rose (K.faults sink.old) (K.faults sink.new) }
+{
+    all_are_owed_at_first();
+    modes_are_turns();
+    let flow = session.page(prepared, arranged)?;
+    tell_modes(alloc, &flow, sink)
 }
 
 /// Writes the line that tells of the commands.

@@ -18,6 +18,12 @@ returns-in-Edit-clause-stands g c = λ input told.
     let P : Command → Type 0 = λ command. Stands (IsDueOfCommand command faces c.args.job.view c.args.job.count input) (g.K.Sink.held c.args.sink.now) (g.K.Sink.held c.tell_input-in-Edit.new.sink) c.tell_input-in-Edit.result in
     subst P (sym c.in-Edit.is) (c.tell_input-in-Edit.ensures.stands input told)
 
+pub returns-in-Modes-clause-stands : goal.returns-in-Modes-clause-stands
+returns-in-Modes-clause-stands g c = λ input told.
+    let faces = faces_of (λ vtable. (g.dyn-1.0.entry vtable).1) c.args.faces in
+    let P : Command → Type 0 = λ command. Stands (IsDueOfCommand command faces c.args.job.view c.args.job.count input) (g.K.Sink.held c.args.sink.now) (g.K.Sink.held c.tell_input-in-Modes.new.sink) c.tell_input-in-Modes.result in
+    subst P (sym c.in-Modes.is) (c.tell_input-in-Modes.ensures.stands input told)
+
 pub returns-in-Probe-clause-stands : goal.returns-in-Probe-clause-stands
 returns-in-Probe-clause-stands g c = λ input told.
     let faces = faces_of (λ vtable. (g.dyn-1.0.entry vtable).1) c.args.faces in
@@ -39,6 +45,11 @@ pub returns-in-Edit-clause-counts : goal.returns-in-Edit-clause-counts
 returns-in-Edit-clause-counts g c = λ input owed told owes.
     let P : Command → Type 0 = λ command. IsOwedByCommand command (faces_of (λ vtable. (g.dyn-1.0.entry vtable).1) c.args.faces) c.args.job.view c.args.job.count input owed in
     c.tell_input-in-Edit.ensures.counts input owed told (subst P c.in-Edit.is owes)
+
+pub returns-in-Modes-clause-counts : goal.returns-in-Modes-clause-counts
+returns-in-Modes-clause-counts g c = λ input owed told owes.
+    let P : Command → Type 0 = λ command. IsOwedByCommand command (faces_of (λ vtable. (g.dyn-1.0.entry vtable).1) c.args.faces) c.args.job.view c.args.job.count input owed in
+    c.tell_input-in-Modes.ensures.counts input owed told (subst P c.in-Modes.is owes)
 
 pub returns-in-Probe-clause-counts : goal.returns-in-Probe-clause-counts
 returns-in-Probe-clause-counts g c = λ input owed told owes.

@@ -5,8 +5,8 @@ use Rattle.input_due.specs.Due.{IsOf}
 use Rattle.wm_run.specs.Job.{with_status}
 use Rattle.wm_run.specs.Standing.{Stands}
 use Rattle.wm_run.specs.declared.status.Status.{Status}
-use Rattle.wm_run.proofs.CountLaws.{answers_count, none_counted, steps_count}
-use Rattle.wm_run.proofs.JobLaws.{stands_answers, stands_steps}
+use Rattle.wm_run.proofs.CountLaws.{answers_count, none_counted, pages_count, steps_count}
+use Rattle.wm_run.proofs.JobLaws.{stands_answers, stands_pages, stands_steps}
 use Rattle.wm_run.proofs.tell.tell.Goals as goal
 
 pub returns-in-Steps-clause-stands : goal.returns-in-Steps-clause-stands
@@ -40,3 +40,16 @@ returns-in-Answers-clause-counts g c =
 
 pub returns-in-Refused-clause-counts : goal.returns-in-Refused-clause-counts
 returns-in-Refused-clause-counts g c = λ owed owes. none_counted owed c.args.prepared.now c.args.arranged.now
+
+pub returns-in-Pages-clause-stands : goal.returns-in-Pages-clause-stands
+returns-in-Pages-clause-stands g c =
+    let old = g.K.Sink.held c.args.sink.now in
+    let new = g.K.Sink.held c.tell_pages-written.new.sink in
+    let told = c.tell_pages-written.ensures in
+    subst (λ (s : Status). Stands (with_status (IsOf (λ vtable. (g.dyn-1.0.entry vtable).1) c.args.due)) old new s) (sym c.ended-in-Pages.ensures)
+    (stands_pages (λ vtable. (g.dyn-1.0.entry vtable).1) c.args.due c.in-Pages.session old new c.tell_pages-written.result c.in-Pages.is told.whole told.front)
+
+pub returns-in-Pages-clause-counts : goal.returns-in-Pages-clause-counts
+returns-in-Pages-clause-counts g c =
+    pages_count (λ vtable. (g.dyn-1.0.entry vtable).1) c.args.due c.in-Pages.session c.args.prepared.now c.tell_pages-written.new.prepared c.args.arranged.now c.tell_pages-written.new.arranged
+    c.in-Pages.is c.tell_pages-written.ensures.counts
