@@ -1,6 +1,4 @@
 -- What is due for an input, as its end and the bytes to be written.
-use Rattle.modes_job.specs.Telling.{modes_of}
-use Rattle.style_modes.specs.Turnable.{IsTurnable}
 use Rattle.std.specs.Prelude.{◌≡◌, ◌↔◌, ◌+◌, ◌≤◌, ℕ, List, codes, Option, option_map, unwrap_or, ⊤}
 use Rattle.face_api.specs.Faces.{faces_of}
 use Rattle.face_api.specs.Table.{Table}
@@ -8,6 +6,8 @@ use Rattle.face_api.specs.declared.face.Face.{Ghosts}
 use Rattle.css_values.specs.Error.{kind_word as style_word}
 use Rattle.html_tokens.specs.Error.{kind_word}
 use Rattle.dom_store.specs.State.{state_of}
+use Rattle.style_modes.specs.Turnable.{IsTurnable}
+use Rattle.modes_job.specs.Telling.{modes_of}
 use Rattle.edits.specs.State.{State}
 use Rattle.tree_laws.specs.Weight.{bytes, total}
 use Rattle.edit_script.specs.Error.{kind_word as script_word}

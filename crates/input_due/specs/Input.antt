@@ -1,6 +1,4 @@
 -- What comes of an input, refusal by refusal; which bytes are due for it, and how it ends.
-use Rattle.modes_job.specs.Telling.{modes_of}
-use Rattle.style_modes.specs.Tying.{first_of, tying_places}
 use Rattle.std.specs.Prelude.{◌≡◌, ◌⊎◌, ℕ, ◌<◌, ◌≤◌, List, length, drop, codes, Option, Some, None, Ok, Err, ⊤}
 use Rattle.wm_units.specs.declared.view.View.{View}
 use Rattle.reading.specs.Readers.{Read, ReadOr}
@@ -18,11 +16,13 @@ use Rattle.session.specs.Opening.{CanOpen, IsRefused}
 use Rattle.session.specs.Error.{open_word}
 use Rattle.session.specs.declared.error.OpenError.{OpenError}
 use Rattle.session.specs.State.{page_of, styled_of}
+use Rattle.style_modes.specs.Tying.{first_of, tying_places}
+use Rattle.modes_job.specs.Telling.{modes_of}
 use Rattle.edit_job.specs.Refusal.{refusal}
 use Rattle.edit_job.specs.Steps.{AreSteps}
 use Rattle.probe_job.specs.Answers.{answers}
 use Rattle.input_due.specs.declared.follows.Follows.{Follows}
-use Rattle.input_due.specs.Asked.{Asked, AskedOr, steps, probes, asked_behind, has_lines, modes}
+use Rattle.input_due.specs.Asked.{Asked, AskedOr, steps, probes, modes, asked_behind, has_lines}
 use Rattle.input_due.specs.Due.{End, Done, Refused, node_of}
 
 -- the greatest length of an input, in bytes

@@ -34,7 +34,7 @@ use style_modes::laws::none_is_first_where_turnable;
 use wm_units::View;
 
 /// What is due for an input that isn't too long: a script or the lines of a probe may follow its document, or neither; then the
-/// page is listed once. What is owed to its pages is owed for that.
+/// page is listed once, or the flow and the page in each mode. What is owed to its pages is owed for that.
 pub fn due_of_document(
     alloc: Global,
     view: View,

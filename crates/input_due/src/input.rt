@@ -22,8 +22,9 @@ use wm_units::View;
 const LONGEST_INPUT: usize = 1_048_576;
 
 /// Reads an input to its end, and finds out what is due for it: of more than 1,048,576 bytes its refusal. Behind the document
-/// stand a script or the lines of a probe, or neither may stand; then the page is listed once. `ReadFault` comes only where the source's count
-/// of faults rose in this call. The source has none left where its document is open, and where a shorter input is refused.
+/// stand a script or the lines of a probe, or neither may stand; then the page is listed once, or the flow and the page in each mode.
+/// `ReadFault` comes only where the source's count of faults rose in this call. The source has none left where its document is open,
+/// and where a shorter input is refused.
 pub fn due_of_input<S: Source>(
     alloc: Global,
     view: View,

@@ -1,5 +1,5 @@
-//! What is due for an input: the steps of a script over its document, the answers over its page, or its refusal
-//! (docs/PROFILE/commands.md).
+//! What is due for an input: the steps of a script over its document, the answers over its page, its flow with the page in each mode, or
+//! its refusal (docs/PROFILE/commands.md).
 #![tactic(auto)]
 
 mod document;

@@ -96,8 +96,8 @@ impl Lines {
     }
 }
 
-/// Reads what stands behind a document: the steps of a script or the lines of a probe, or the page once where neither is
-/// asked for.
+/// Reads what stands behind a document: the steps of a script or the lines of a probe; or none are asked for, and it is the page once,
+/// or the flow and the page in each mode.
 pub(crate) fn read_lines(alloc: Global, behind: Behind<'_>) -> Result<Lines, Halt>
     ensures read { ReadsLines result (asked_in behind.entry) }
     ensures fits { IfOk result (λ lines. FitsAsked (asked_of lines)) }
