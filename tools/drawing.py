@@ -166,7 +166,7 @@ def names_drawn(boxes: Iterable[listing.Box]) -> Iterator[str]:
 
 # Lines. Their mode is that of the runs on them; the listing says no more.
 
-OVER_BY_ORIENTATION = {"h": "top", "u": "right", "s": "right", "c": "right", "l": "left"}
+OVER_BY_ORIENTATION = {"h": "top", listing.UNTOLD: "top", "u": "right", "s": "right", "c": "right", "l": "left"}
 OVER_BY_MODE = {
     "horizontal-tb": "top",
     "vertical-rl": "right",
@@ -335,8 +335,8 @@ def along_text(run: listing.Run, size: float) -> str:
         "h": f"translate({number(x)} {number(y)})",
         "s": f"translate({number(rect.right / 64)} {number(y)}) rotate(90)",
         "l": f"translate({number(x)} {number(rect.bottom / 64)}) rotate(-90)",
-    }[run.orientation]
-    length = (rect.width if run.orientation == "h" else rect.height) / 64
+    }["h" if run.is_horizontal else run.orientation]
+    length = (rect.width if run.is_horizontal else rect.height) / 64
     return element("g", {"transform": turned}, "".join(parts_drawn(run, parts_of(run, length), size, 0, 0)))
 
 
@@ -371,7 +371,7 @@ def run_text(run: listing.Run) -> str:
         return "".join(upright_text(run))
     if run.orientation == "c":
         return combined_text(run) if run.natural else ""
-    return along_text(run, (run.rect.height if run.orientation == "h" else run.rect.width) / 64)
+    return along_text(run, (run.rect.height if run.is_horizontal else run.rect.width) / 64)
 
 
 def run_drawn(run: listing.Run) -> str:

@@ -55,6 +55,13 @@ PROPERTIES, BLOCK, INLINE = read_properties(), read_tags("Block"), read_tags("In
 REPERTOIRE = [range(int(row[1], 16), int(row[2] or row[1], 16) + 1) for row in CHARACTERS.finditer(read_page("characters.md"))]
 # What is taken more often than the rest.
 FAVOURED = "writing-mode direction display text-orientation text-combine-upright unicode-bidi inline-size height margin font-size".split()
+# Those that tie a document to one mode (docs/PROFILE/turned-pages.md): of a side or an axis of the page, and of how text is turned.
+SIDE = "top|right|bottom|left"
+TYING = re.compile(
+    "writing-mode|text-orientation|text-combine-upright"
+    rf"|(min-|max-)?(width|height)|(inset|{SIDE})|(margin|padding)(-({SIDE}))?|border(-({SIDE}))?(-(width|style))?"
+)
+UNTIED = [name for name in PROPERTIES if not TYING.fullmatch(name)]
 LETTERS = "aab  1.-( אב بت 東京、\u0301\u2067\u2069\u202e\u202c"
 USUAL = "0 1 3 7 12.5 16 33.33 50 100 200".split()
 EDGES = (
@@ -75,6 +82,8 @@ class Maker:
 
     def __init__(self, random: Random) -> None:
         self.random, self.choice, self.left = random, random.choice, 0
+        # The properties that declarations have, and those that they have more often.
+        self.names, self.favoured = list(PROPERTIES), FAVOURED
 
     def is_so(self, chance: float) -> bool:
         return self.random.random() < chance
@@ -83,7 +92,7 @@ class Maker:
         return ";".join(self.declaration() for _ in range(self.choice((0, 1, 1, 2, 3, 6))))
 
     def declaration(self) -> str:
-        name = self.choice(FAVOURED if self.is_so(0.5) else list(PROPERTIES))
+        name = self.choice(self.favoured if self.is_so(0.5) else self.names)
         words = [self.choice(each) for each in PROPERTIES[name][: self.random.randint(1, 4)]]
         numbers = USUAL if self.is_so(0.85) else EDGES
         value = " ".join(self.choice(numbers) + word[1:] if word[0] == "#" else word for word in words)

@@ -8,15 +8,15 @@ from random import Random
 from typing import NamedTuple
 
 import listing
-from fuzz_grammar import EDGES, TOP, Maker
+from fuzz_grammar import EDGES, FAVOURED, TOP, UNTIED, Maker
 from fuzz_trees import Edit, Tree, script_of
 from stored import bytes_of, lines_of
 
-COMMANDS = ("layout", "edit", "probe", "gen")
+COMMANDS = ("layout", "edit", "modes", "probe", "gen")
 OPTIONS = {"--view-inline": 16_384, "--view-block": 16_384, "--count": 1_000}
 # Each makes that good words give no job, where it stands before them.
 BAD_WORDS = (
-    ["", "modes", "--help", "-h", "-", "page.html", "Layout", "layout ", "edit", "\udcff", "-x", "--none", "--view=5", "--count"]
+    ["", "mode", "--help", "-h", "-", "page.html", "Layout", "layout ", "edit", "\udcff", "-x", "--none", "--view=5", "--count"]
     + ["--count=0", "--count=1001", "--count=1.5", "--count=000001", "--count=+1", "--count=1 ", "--count=\u0663", "--count="]
     + ["--view-inline=0", "--view-inline=16385", "--view-block=-1", "--view-block=99999999999999999999"]
 )
@@ -152,6 +152,13 @@ class JobMaker(Maker):
         steps = tuple(self.script(tree))
         return Job("script", self.good_words("edit"), tree.written() + script_of(steps), tree=tree, steps=steps)
 
+    def modes_job(self) -> Job:
+        """Most often a document that nothing ties to a mode."""
+        if self.is_so(0.85):
+            self.names, self.favoured = UNTIED, [name for name in FAVOURED if name in UNTIED]
+        tree = self.tree()
+        return Job("modes", self.good_words("modes"), tree.written(), tree=tree)
+
     def asked_line(self, tree: Tree) -> str:
         """A line of a probe: mostly of a point on the page or a place of a text that there is."""
         numbers, many = self.random, self.choice((12_800, 51_200, 9_999_999_999))
@@ -179,6 +186,7 @@ KINDS = {
     JobMaker.spliced: 12,
     JobMaker.document_job: 22,
     JobMaker.script_job: 18,
+    JobMaker.modes_job: 6,
     JobMaker.probe_job: 6,
     JobMaker.words_job: 5,
     JobMaker.made_job: 3,

@@ -17,11 +17,14 @@ from fuzz_trees import SHOW, Edit, Tree, script_of
 
 FACTS = refusals.read_facts(refusals.read_page())
 BYTES, NODES, LINES = ({fact.kind for fact in FACTS if fact.number == number} for number in ("byte", "node", "line"))
-OF_SCRIPTS = {"ScriptSyntax", "TooManyEdits", "TooManyShows"}
+OF_SCRIPTS, OF_MODES = {"ScriptSyntax", "TooManyEdits", "TooManyShows"}, {"NotTurnable"}
 USAGE = b"".join(re.findall(rb"^usage: .*\n", read_page("commands.md").encode(), re.MULTILINE))
 # The answer to a line of a probe, with the text node and two places of a hit.
 ANSWER = re.compile(rb"(?:hit ([0-9]+) ([0-9]+) ([0-9]+) [0-9]+|miss|caret(?: -?[0-9]+){4}|nocaret)\n")
 COUNTED = re.compile(rb"gen [0-9]+ bytes [0-9]+ lines [0-9]+\n")
+# A letter for each part of an output, and which parts each command writes where it refuses nothing.
+SIGNS = {listing.Page: "p", listing.Flow: "f", listing.Refusal: "r"}
+SHAPES = {"layout": "p", "edit": "[pr]*", "modes": "f" + "p" * len(listing.TURNED)}
 DOCUMENT_ENDS = re.compile(rb"</html[ \t\n\f\r]*>[ \t\n\f\r]*\Z", re.IGNORECASE)
 # After how many seconds by the clock a run is ended, whatever it did in them.
 LONGEST = 120
@@ -96,7 +99,7 @@ class Trial:
         self.parts: list[listing.Part] = []
         self.share = self.due.seconds / program.limits.seconds_of(job.input)
         self.wrong = list(self.wrong_end())
-        for law in (self.streamed, self.shown, self.undone, self.followed) if not self.wrong else ():
+        for law in (self.streamed, self.shown, self.undone, self.followed, self.turned) if not self.wrong else ():
             self.wrong += law()
 
     def again(self, command: str, data: bytes) -> Ended:
@@ -131,7 +134,7 @@ class Trial:
 
     def wrong_output(self) -> Iterator[str]:
         """What is wrong with what was written, by the command and the status."""
-        status, is_edit = self.due.status, self.job.command == "edit"
+        status = self.due.status
         if self.job.command == "gen":
             if status or not COUNTED.fullmatch(self.due.out):
                 yield f"`gen` ended with {self.due.told()}"
@@ -140,22 +143,27 @@ class Trial:
             yield from self.wrong_answers()
             return
         self.parts, last = self.due.parts(), 0
-        shape = "".join("p" if isinstance(part, listing.Page) else "r" for part in self.parts)
-        due = {0: "[pr]*" if is_edit else "p", 2: "r"}.get(status, "nothing")
+        shape = "".join(SIGNS[type(part)] for part in self.parts)
+        due = {0: SHAPES.get(self.job.command, ""), 2: "r"}.get(status, "nothing")
         if not re.fullmatch(due, shape):
-            yield f"with the status {status} pages and refusals are {shape[:40]}"
+            yield f"with the status {status} flows, pages and refusals are {shape[:40]}"
         for part in self.parts:
-            if isinstance(part, listing.Page):
-                yield from self.wrong_page(part)
+            if not isinstance(part, listing.Refusal):
+                yield from self.wrong_page(part if isinstance(part, listing.Page) else part.page())
             elif status == 2:
-                # What the grammar made can be refused by its nodes alone.
-                kinds = NODES if self.job.tree else NODES | BYTES if self.job.command in ("edit", "probe") else NODES | BYTES - OF_SCRIPTS
-                if part.kind not in kinds or part.number > len(self.job.input):
+                if part.kind not in self.due_kinds() or part.number > len(self.job.input):
                     yield f"no such input is refused so: {part}"
             elif part.kind not in LINES or not last < part.number <= self.job.input.count(b"\n"):
                 yield f"no line of a script is refused so: {part}"
             else:
                 last = part.number
+
+    def due_kinds(self) -> set[str]:
+        """The kinds by which an input can be refused under the command; what the grammar made, by its nodes and by what ties it to a mode."""
+        kinds = NODES if self.job.tree else NODES | BYTES - OF_MODES
+        if self.job.command not in ("edit", "probe"):
+            kinds = kinds - OF_SCRIPTS
+        return kinds | OF_MODES if self.job.command == "modes" else kinds
 
     def wrong_answers(self) -> Iterator[str]:
         """What is wrong with the answers to the lines of a probe: their form, how many there are, and the texts that are hit."""
@@ -221,7 +229,7 @@ class Trial:
         if again[:3] != due:
             yield f"with one byte a read it ended with {again.told()}"
         failed = 1 + int(chance * (len(data) + 1))
-        if self.job.command in ("layout", "edit", "probe") and len(data) <= listing.MOST_INPUT:
+        if self.job.command in ("layout", "edit", "modes", "probe") and len(data) <= listing.MOST_INPUT:
             again = self.program.run(words, data, SHORT_READ=1, FAILED_READ=failed)
             if again[:3] != (4, b"", b""):
                 yield f"where read {failed} fails it ended with {again.told()}"
@@ -290,3 +298,27 @@ class Trial:
             due = ended.out.decode().split()[1] if ended.status == 2 else None
         if kind != due:
             yield f"`{step.line()[:80]}` is refused by {kind}, due is {due}"
+
+    def turned(self) -> Iterator[str]:
+        """The pages of `modes` are its flow, turned, and the first is that of `layout`, which refuses all else but what ties to a mode."""
+        if self.job.command != "modes" or not self.parts:
+            return
+        told, ended, due = self.parts[0], self.again("layout", self.job.input), self.due[:2]
+        if isinstance(told, listing.Flow):
+            yield from self.wrong_turns(told)
+            due = 0, told.turned("horizontal-tb").text().encode()
+        elif isinstance(told, listing.Refusal) and told.kind in OF_MODES:
+            due = 0, ended.out
+        if ended[:2] != due:
+            yield f"`layout` lists or refuses it otherwise than `modes`: {ended.told()}"
+
+    def wrong_turns(self, flow: listing.Flow) -> Iterator[str]:
+        """What is wrong with the pages of a flow."""
+        for mode, page in zip(listing.TURNED, self.parts[1:]):
+            due = flow.turned(mode)
+            if isinstance(page, listing.Page) and len(page.fragments) != len(due.fragments):
+                yield f"the page in {mode} has another count of lines than the flow"
+            if page != due:
+                yield f"the page in {mode} isn't the flow, turned"
+        if self.job.tree:
+            yield from self.wrong_in_tree(self.job.tree, flow.page())

@@ -1,7 +1,8 @@
 """Reads the listings that wm_layout writes, for the tools beside this file.
 
-A text may have several listings in a row, with lines `refused KIND NUMBER` between them, as the command `edit` writes them.
-`read` gives them as a list of `Page` and `Refusal`, or raises one `ListingError` with the line at which the text is no listing.
+A text may have several listings in a row, with lines `refused KIND NUMBER` between them, as the command `edit` writes them, or
+the listing of a flow before those of its pages, as `modes` does. `read` gives them as a list of `Page`, `Flow` and `Refusal`, or
+raises one `ListingError` with the line at which the text is no listing.
 Every word of a listing is said in docs/PROFILE/listing.md.
 
 A listing doesn't say which fragment stands in which. `owners` finds it out, from the order of the lines, from places, and
@@ -18,6 +19,10 @@ from collections.abc import Callable, Iterable, Iterator, Sequence
 from typing import Any, ClassVar, Literal, NoReturn
 
 MODES = ("horizontal-tb", "vertical-rl", "vertical-lr", "sideways-rl", "sideways-lr")
+# The modes to which the command `modes` turns a flow, in the order of their pages, with how the runs on those stand; and how they
+# stand in the listing of the flow.
+TURNED = {"horizontal-tb": "h", "vertical-rl": "s", "sideways-rl": "s", "sideways-lr": "l"}
+UNTOLD = "-"
 UNITS_PER_PIXEL = 64
 # The most bytes that the program takes (docs/PROFILE/limits.md), and that are read as listings.
 MOST_INPUT, MOST_READ = 1_048_576, 1 << 30
@@ -126,6 +131,11 @@ class Run:
         clusters = ",".join("+".join(f"{ord(character):04X}" for character in cluster) for cluster in self.clusters)
         return (self.node, self.begin, self.end, *dataclasses.astuple(self.rect), stands, self.level, clusters)
 
+    @property
+    def is_horizontal(self) -> bool:
+        """Whether its units stand side by side and upright. In a flow they do, as it has the places of `horizontal-tb`."""
+        return self.orientation in ("h", UNTOLD)
+
     def logical(self) -> str:
         """The characters of the run in the order of the text, each as it was written."""
         if self.natural is not None or self.level % 2 == 0:
@@ -146,9 +156,51 @@ class Page:
 
     def text(self) -> str:
         """The listing as the program writes it."""
-        head = f"page {self.width} {self.height} {self.mode} {self.direction}"
-        rows = (" ".join(map(str, (fragment.kind, *fragment.words()))) for fragment in self.fragments)
-        return "\n".join((head, *rows, "end")) + "\n"
+        return listed(f"page {self.width} {self.height} {self.mode} {self.direction}", self.fragments)
+
+
+@dataclasses.dataclass(frozen=True)
+class Flow:
+    """The listing of a flow: what the pages of a document in its modes have in common. It has the places of the page in
+    `horizontal-tb`, and doesn't tell how runs stand: their orientation is `-`."""
+
+    inline: int
+    block: int
+    direction: str
+    fragments: tuple["Fragment", ...]
+
+    def text(self) -> str:
+        """The listing as the program writes it."""
+        return listed(f"flow {self.inline} {self.block} {self.direction}", self.fragments)
+
+    def page(self) -> Page:
+        """Its page in `horizontal-tb`, on which it stays untold how runs stand."""
+        return Page(self.inline, self.block, "horizontal-tb", self.direction, self.fragments)
+
+    def turned(self, mode: str) -> Page:
+        """Its page in one of `TURNED` (docs/PROFILE/turned-pages.md)."""
+        width, height = (self.inline, self.block) if mode == "horizontal-tb" else (self.block, self.inline)
+        return Page(width, height, mode, self.direction, tuple(self.fragment_turned(each, mode) for each in self.fragments))
+
+    def fragment_turned(self, fragment: "Fragment", mode: str) -> "Fragment":
+        rect = self.rect_turned(fragment.rect, mode)
+        if fragment.kind == "run":
+            return dataclasses.replace(fragment, rect=rect, orientation=TURNED[mode])
+        return dataclasses.replace(fragment, rect=rect)
+
+    def rect_turned(self, rect: Rect, mode: str) -> Rect:
+        """The rectangle that stands as far from line-left and from block-start."""
+        if mode == "horizontal-tb":
+            return rect
+        if mode == "sideways-lr":
+            return Rect(rect.y, self.inline - rect.right, rect.height, rect.width)
+        return Rect(self.block - rect.bottom, rect.x, rect.height, rect.width)
+
+
+def listed(head: str, fragments: Iterable["Fragment"]) -> str:
+    """A listing by its first line and its fragments."""
+    rows = (" ".join(map(str, (fragment.kind, *fragment.words()))) for fragment in fragments)
+    return "\n".join((head, *rows, "end")) + "\n"
 
 
 @dataclasses.dataclass(frozen=True)
@@ -164,8 +216,9 @@ class Refusal:
 
 
 Fragment = Box | Line | Span | Run
-# What a text has in a row.
-Part = Page | Refusal
+# What has fragments, and what a text has in a row.
+Listing = Page | Flow
+Part = Page | Flow | Refusal
 # The parent of each node of a document.
 Parents = dict[int, int | None]
 
@@ -182,12 +235,13 @@ CHARACTER = r"(?:[0-9A-F]{4}|[1-9A-F][0-9A-F]{4,5})"
 CLUSTER = rf"{CHARACTER}(?:\+{CHARACTER})*"
 CLUSTERS = rf"({CLUSTER}(?:,{CLUSTER})*)"
 PAGE_LINE = re.compile(rf"page {NUMBER} {NUMBER} ({'|'.join(MODES)}) (ltr|rtl)", re.ASCII)
+FLOW_LINE = re.compile(rf"flow {NUMBER} {NUMBER} (ltr|rtl)", re.ASCII)
 REFUSED_LINE = re.compile(rf"refused ([A-Za-z0-9]+) {NUMBER}", re.ASCII)
 FRAGMENT_LINES = {
     "box": re.compile(rf"box {NUMBER} {NUMBER} {RECT}", re.ASCII),
     "line": re.compile(rf"line {NUMBER} {NUMBER} {NUMBER} {RECT} {SIGNED}", re.ASCII),
     "span": re.compile(rf"span {NUMBER} {NUMBER} {RECT}", re.ASCII),
-    "run": re.compile(rf"run {NUMBER} {NUMBER} {NUMBER} {RECT} (?:([husl])|c{NUMBER}) {NUMBER} {CLUSTERS}", re.ASCII),
+    "run": re.compile(rf"run {NUMBER} {NUMBER} {NUMBER} {RECT} (?:([husl{UNTOLD}])|c{NUMBER}) {NUMBER} {CLUSTERS}", re.ASCII),
 }
 
 
@@ -256,13 +310,18 @@ def what_is_wrong(line: str, otherwise: str) -> str:
     return otherwise
 
 
-def no_page_line(line: str) -> str:
+def first_line(line: str) -> re.Match[str] | None:
+    """The first line of a listing, if this is one."""
+    return PAGE_LINE.fullmatch(line) or FLOW_LINE.fullmatch(line)
+
+
+def no_first_line(line: str) -> str:
     """Why a line begins no listing."""
     if line.startswith("usage: "):
         return f"the program was given words that are no job: {shown(line)}"
     if line.startswith("gen "):
         return f"this is what the command `gen` counted, and no listing: {shown(line)}"
-    return what_is_wrong(line, f"a listing begins with a line `page`, and this is {shown(line)}")
+    return what_is_wrong(line, f"a listing begins with a line `page` or `flow`, and this is {shown(line)}")
 
 
 def shown(line: str) -> str:
@@ -270,18 +329,30 @@ def shown(line: str) -> str:
     return f"`{line if len(line) <= MOST_SHOWN else line[:MOST_SHOWN] + '…'}`"
 
 
-def read_page(lines: list[str], at: int) -> tuple[Page, int]:
+def read_listing(lines: list[str], at: int) -> tuple[Listing, int]:
     """The listing that begins with the line at this place, and the place behind its `end`."""
-    head = PAGE_LINE.fullmatch(lines[at])
+    head = first_line(lines[at])
     if head is None:
-        raise ListingError(at + 1, no_page_line(lines[at]))
+        raise ListingError(at + 1, no_first_line(lines[at]))
+    is_flow = head.re is FLOW_LINE
     fragments: list[Fragment] = []
     for place in range(at + 1, len(lines)):
         if lines[place] == "end":
-            width, height, mode, direction = head.groups()
-            return Page(int(width), int(height), mode, direction, tuple(fragments)), place + 1
-        fragments.append(read_fragment(lines[place], place + 1))
+            return listing_of(head.groups(), tuple(fragments)), place + 1
+        fragment = read_fragment(lines[place], place + 1)
+        if fragment.kind == "run" and (fragment.orientation == UNTOLD) != is_flow:
+            raise ListingError(place + 1, f"in a flow a run has `{UNTOLD}` for how it stands, and on a page it doesn't")
+        fragments.append(fragment)
     raise ListingError(len(lines), "the listing was cut off: it has no `end`")
+
+
+def listing_of(head: Words, fragments: tuple[Fragment, ...]) -> Listing:
+    """A page or a flow, by the words of its first line."""
+    if len(head) == 4:
+        width, height, mode, direction = head
+        return Page(int(width), int(height), mode, direction, fragments)
+    inline, block, direction = head
+    return Flow(int(inline), int(block), direction, fragments)
 
 
 def read(text: str) -> list[Part]:
@@ -290,9 +361,9 @@ def read(text: str) -> list[Part]:
         raise ListingError(1, "nothing stands here")
     *lines, rest = text.split("\n")
     if rest:
-        if lines and (PAGE_LINE.fullmatch(lines[0]) or REFUSED_LINE.fullmatch(lines[0])):
+        if lines and (first_line(lines[0]) or REFUSED_LINE.fullmatch(lines[0])):
             raise ListingError(len(lines) + 1, "the listing was cut off within a line")
-        raise ListingError(1, no_page_line(lines[0] if lines else rest))
+        raise ListingError(1, no_first_line(lines[0] if lines else rest))
     parts: list[Part] = []
     at = 0
     while at < len(lines):
@@ -301,8 +372,8 @@ def read(text: str) -> list[Part]:
             parts.append(Refusal(refused[1], int(refused[2])))
             at += 1
         else:
-            page, at = read_page(lines, at)
-            parts.append(page)
+            found, at = read_listing(lines, at)
+            parts.append(found)
     return parts
 
 
@@ -345,7 +416,7 @@ class Owners:
     No more than `DEEPEST` boxes and inline boxes are open at once, so the work grows with the count of fragments alone.
     """
 
-    def __init__(self, page: Page, parents: Parents | None = None) -> None:
+    def __init__(self, page: Listing, parents: Parents | None = None) -> None:
         self.fragments = page.fragments
         self.parents = parents
         self.open: list[int] = []
@@ -482,8 +553,8 @@ class Owners:
         return -1.0 if holder.kind == "span" and found == 0 else found
 
 
-def owners(page: Page, parents: Parents | None = None) -> list[int | None]:
-    """For each fragment of a page the place in `fragments` of the one in which it stands, or nothing for the outermost."""
+def owners(page: Listing, parents: Parents | None = None) -> list[int | None]:
+    """For each fragment of a page or a flow the place in `fragments` of the one in which it stands, or nothing for the outermost."""
     return Owners(page, parents).find()
 
 
@@ -554,7 +625,7 @@ def read_given(path: str) -> bytes:
 
 def read_rest(path: str, first: bytes, chunks: Iterable[bytes]) -> bytes:
     """All of what may be listings. What doesn't begin as one isn't read to its end, which may never come."""
-    begins_as_one = any(first.startswith(word[: len(first)]) for word in (b"page ", b"refused "))
+    begins_as_one = any(first.startswith(word[: len(first)]) for word in (b"page ", b"flow ", b"refused "))
     data, is_longer = front_of(itertools.chain([first], chunks if begins_as_one else ()), MOST_READ)
     if is_longer:
         raise InputError(f"{name_of(path)}: it has more than {MOST_READ:,} bytes")
@@ -581,12 +652,21 @@ def read_listing_bytes(data: bytes) -> list[Part]:
         raise ListingError(number, f"the byte {data[error.start]:02X}, and all bytes of a listing are ASCII") from None
 
 
+def listings_of(parts: Sequence[Part]) -> list[Listing]:
+    """The pages and flows among what was read; at least one."""
+    found = [part for part in parts if not isinstance(part, Refusal)]
+    refused = next((part for part in parts if isinstance(part, Refusal)), None)
+    if not found and refused:
+        raise InputError(f"there is no page, but a refusal, which tools/where shows: {refused.text().strip()}")
+    return found
+
+
 def pages_of(parts: Sequence[Part]) -> list[Page]:
     """The pages among what was read; at least one."""
-    pages = [part for part in parts if isinstance(part, Page)]
-    refused = next((part for part in parts if isinstance(part, Refusal)), None)
-    if not pages and refused:
-        raise InputError(f"there is no page, but a refusal, which tools/where shows: {refused.text().strip()}")
+    found = listings_of(parts)
+    pages = [part for part in found if isinstance(part, Page)]
+    if found and not pages:
+        raise InputError("there is no page, but a flow: `modes` writes its pages behind it")
     return pages
 
 

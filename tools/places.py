@@ -183,7 +183,7 @@ def without_limits(rows: Facts) -> tuple[Fact, ...]:
 
 
 def is_style_attribute(given: Input, kind: str, at: int) -> bool:
-    return kind in ("CssSyntax", "Unsupported") and not in_sheet(given, at) and STYLE.match(given.text, at) is not None
+    return kind in ("CssSyntax", "Unsupported", "NotTurnable") and not in_sheet(given, at) and STYLE.match(given.text, at) is not None
 
 
 def place_in_attribute(given: Input, kind: str, rows: Facts, known: Known, at: int) -> Place:

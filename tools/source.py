@@ -166,7 +166,7 @@ def parents_of(nodes: list[Node]) -> listing.Parents:
 
 def check_nodes(nodes: list[Node], parts: Iterable[listing.Part]) -> None:
     """Refuses a document that is of another listing. Nodes past its own may have come by a script."""
-    pages = [part for part in parts if isinstance(part, listing.Page)]
+    pages = [part for part in parts if not isinstance(part, listing.Refusal)]
     for fragment in itertools.chain.from_iterable(page.fragments for page in pages):
         if fragment.node < len(nodes) and (nodes[fragment.node].tag is None) != (fragment.kind == "run"):
             found = "a text" if fragment.kind == "run" else "an element"

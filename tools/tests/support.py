@@ -50,6 +50,23 @@ run 7 0 1 0 3328 512 1024 h 0 0063
 end
 """
 REFUSED = "refused UnknownTag 12\n"
+# The flow of a letter in an inline box that is shifted, and its page in sideways-lr.
+FLOW = """\
+flow 6400 3200 rtl
+box 0 0 0 0 6400 1024
+line 0 0 0 0 0 6400 1024 768
+span 1 0 5888 128 512 1024
+run 2 0 1 5888 128 512 1024 - 1 0061
+end
+"""
+FLOW_TURNED = """\
+page 3200 6400 sideways-lr rtl
+box 0 0 0 0 1024 6400
+line 0 0 0 0 0 1024 6400 768
+span 1 0 128 0 1024 512
+run 2 0 1 128 0 1024 512 l 1 0061
+end
+"""
 
 
 class Ended(NamedTuple):
@@ -139,6 +156,14 @@ def page_of(path: str) -> listing.Page:
     return listing.pages_of(listing.read(held(path)))[0]
 
 
+def flow_and_pages(text: str) -> tuple[listing.Flow, list[listing.Page]]:
+    """The flow with which a text begins, and the pages behind it."""
+    parts = listing.read(text)
+    flow = parts[0]
+    assert isinstance(flow, listing.Flow)
+    return flow, [part for part in parts if isinstance(part, listing.Page)]
+
+
 def put_input(path: str, text: str) -> None:
     with open(path, "w", encoding="utf-8", newline="") as file:
         file.write(text)
@@ -157,6 +182,12 @@ def all_listings() -> list[str]:
     folders = (os.path.join(TOP, "examples"), os.path.join(TOP, "docs", "gallery"))
     paths = sorted(itertools.chain.from_iterable(glob.glob(os.path.join(folder, "*.listing")) for folder in folders))
     return [path for path in paths if held(path).startswith("page ") and os.path.exists(path[: -len(".listing")] + ".html")]
+
+
+def all_flow_listings() -> list[str]:
+    """What the command `modes` writes for documents in examples/."""
+    paths = sorted(glob.glob(os.path.join(TOP, "examples", "*.listing")))
+    return [path for path in paths if held(path).startswith("flow ")]
 
 
 def all_script_listings() -> list[str]:

@@ -2,7 +2,7 @@
 import json
 
 from tools.tests import support
-from tools.tests.support import SCRIPT, example, tried
+from tools.tests.support import FLOW, FLOW_TURNED, SCRIPT, example, tried
 
 SCRIPT_CHANGES = """\
 page 1 to page 2:
@@ -26,6 +26,10 @@ class Changes(support.ToolCase):
         self.same(tried("changes", signs, signs).out, "  nothing changed\n", "changes of a listing to itself")
         there, back = tried("changes", signs, other).out, tried("changes", other, signs).out
         self.hold("- box 3" in there and "+ box 3" in back, "changes: what goes on the way there comes on the way back")
+        turned = tried("changes", "-", given=FLOW + 2 * FLOW_TURNED).out
+        self.same(turned, "page 1 to page 2:\n  nothing changed\n", "changes of pages with a flow before them")
+        twice = json.loads(tried("changes", "--json", "-", given=FLOW + 2 * FLOW_TURNED).out)
+        self.same(twice, [{"from": 1, "to": 2, "boxes": []}], "changes --json of pages with a flow before them")
         self.same(json.loads(tried("changes", "--json", signs, signs).out), [{"from": 1, "to": 2, "boxes": []}], "changes --json: none")
         for words in ((signs,), (signs, "-"), ("-", signs)):
             self.same(tried("changes", *words, given=SCRIPT).status, 1, f"changes {words}: the count of pages")

@@ -26,6 +26,10 @@ WRONG = (
     ("shows another page, or", 'case "$*" in *edit*) sed "s/^show/#/" | "$P" "$@";; *) exec "$P" "$@";; esac'),
     ("shows another page than", 'case "$*" in *edit*) sed "s/^text .*/#/" | "$P" "$@";; *) exec "$P" "$@";; esac'),
     ("shows another page: ", 'case "$*" in *edit*) sed "s/^remove .*/#/" | "$P" "$@";; *) exec "$P" "$@";; esac'),
+    ("isn't the flow, turned", '"$P" "$@" >"$0.out"; status=$?; sed "s/ l \\([0-9]\\)/ s \\1/" "$0.out"; exit $status'),
+    ("another count of lines", '"$P" "$@" >"$0.out"; status=$?; sed "/^run .* l /d" "$0.out"; exit $status'),
+    ("`layout` lists or refuses it otherwise", 'case "$*" in *modes*) sed "s/1/2/g" | "$P" "$@";; *) exec "$P" "$@";; esac'),
+    ("flows, pages and refusals are", 'case "$*" in *modes*) "$P" "$@" >"$0.out"; status=$?; sed "1,/^end/d" "$0.out"; exit $status;; *) exec "$P" "$@";; esac'),
     ("is refused by None, due is", '"$P" "$@" >"$0.out"; status=$?; sed "/^refused No/d" "$0.out"; exit $status'),
 )
 
@@ -51,6 +55,8 @@ class Fuzz(support.ToolCase):
         self.same(properties["margin-block"], (properties["margin-top"][0],) * 2, "the values of a shorthand")
         combined = ["none", "all", "digits", "digits 2", "digits 3", "digits 4", "initial", "inherit"]
         self.same(properties["text-combine-upright"], (combined,), "the values of a property")
+        tied = set(properties) - set(fuzz_grammar.UNTIED)
+        self.same((len(tied), sum(name.startswith("border") for name in tied)), (39, 15), "properties that tie a document to one mode")
 
     def test_jobs_are_made_again(self) -> None:
         for number in range(40):

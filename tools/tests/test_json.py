@@ -5,7 +5,7 @@ import os
 from typing import Any
 
 from tools.tests import support
-from tools.tests.support import REFUSED, SCRIPT, TOOLS, all_listings, example, held, tried
+from tools.tests.support import FLOW, FLOW_TURNED, REFUSED, SCRIPT, TOOLS, all_listings, example, held, tried
 
 # The words with which listings are written as JSON.
 WAYS: tuple[list[str], ...] = ([], ["--tree"], ["--list", "--indent", "1"])
@@ -16,7 +16,7 @@ class Json(support.ToolCase):
 
     def test_listings_as_json(self) -> None:
         schema = validator()
-        inputs = [held(path) for path in all_listings()[::9]] + [SCRIPT, REFUSED, held(example("signs")) + REFUSED]
+        inputs = [held(path) for path in all_listings()[::9]] + [SCRIPT, REFUSED, held(example("signs")) + REFUSED, FLOW, FLOW + FLOW_TURNED]
         for given, words in itertools.product(inputs, WAYS):
             ended = tried("json", *words, given=given)
             said = json.loads(ended.out)
@@ -30,6 +30,12 @@ class Json(support.ToolCase):
         said = json.loads(tried("json", example("two_digits_combined")).out)
         run = next(each for each in said["fragments"] if each["kind"] == "run" and each["orientation"] == "c")
         self.same(run["clusters"], [["1"], ["2"]], "json: the clusters of a combined run")
+
+    def test_flows(self) -> None:
+        said = json.loads(tried("json", given=FLOW).out)
+        head = {key: said[key] for key in said if key != "fragments"}
+        self.same(head, {"inline": 6400, "block": 3200, "direction": "rtl"}, "json: what a flow says")
+        self.same(said["fragments"][3]["orientation"], "-", "json: how text stands in a flow")
 
     def test_what_the_schema_refuses(self) -> None:
         """The schema refuses what no listing says."""

@@ -6,7 +6,7 @@ import source
 import texts
 
 from tools.tests import support
-from tools.tests.support import all_listings, all_script_listings, example, held, page_of
+from tools.tests.support import FLOW, FLOW_TURNED, all_flow_listings, all_listings, all_script_listings, example, flow_and_pages, held, page_of
 
 
 class Listings(support.ToolCase):
@@ -22,9 +22,20 @@ class Listings(support.ToolCase):
             elements = {fragment.node for fragment in page.fragments} - texts
             self.hold(all(nodes[number].tag is None for number in texts), f"{path}: runs are of texts")
             self.hold(all(nodes[number].tag for number in elements), f"{path}: boxes are of elements")
-        for path in all_script_listings():
+        for path in all_script_listings() + all_flow_listings():
             parts = listing.read(held(path))
             self.same("".join(part.text() for part in parts), held(path), f"{path} read and written again")
+
+    def test_flows(self) -> None:
+        """A flow doesn't say how text stands, its pages do, and each of them is the flow, turned."""
+        flow, pages = flow_and_pages(FLOW + FLOW_TURNED)
+        self.same([flow.turned("sideways-lr")], pages, "a flow turned to sideways-lr")
+        self.same(flow.page().text(), FLOW.replace("flow 6400 3200", "page 6400 3200 horizontal-tb"), "a flow as a page")
+        self.same(listing.owners(flow), [None, 0, 1, 2], "what stands in what in a flow")
+        self.hold(all_flow_listings(), "a flow in examples/")
+        for path in all_flow_listings():
+            flow, pages = flow_and_pages(held(path))
+            self.same(pages, [flow.turned(mode) for mode in listing.TURNED], f"{path}: the pages of the flow")
 
     def test_nodes_of_documents(self) -> None:
         """The nodes of documents, with what may look like a tag and is none."""
@@ -68,13 +79,13 @@ class Listings(support.ToolCase):
 
     def test_no_front_of_a_listing_is_one(self) -> None:
         """No front of a listing is one."""
-        whole = held(example("isolate_in_a_line"))
-        for length in range(len(whole)):
-            try:
-                listing.read(whole[:length])
-                self.hold(False, f"the first {length} bytes of a listing are read")
-            except listing.ListingError:
-                self.hold(True, "")
+        for whole in (held(example("isolate_in_a_line")), FLOW):
+            for length in range(len(whole)):
+                try:
+                    listing.read(whole[:length])
+                    self.hold(False, f"the first {length} bytes of a listing are read")
+                except listing.ListingError:
+                    self.hold(True, "")
 
     def test_boxes_that_overflow(self) -> None:
         """Boxes that flow out of their container stand beside each other, and their count alone makes the work."""

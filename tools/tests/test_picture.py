@@ -14,7 +14,7 @@ import listing
 import raster
 
 from tools.tests import support
-from tools.tests.support import SCRIPT, TOP, all_listings, example, held, page_of, tried
+from tools.tests.support import FLOW, FLOW_TURNED, SCRIPT, TOP, all_listings, example, held, page_of, tried
 
 SVG = "{http://www.w3.org/2000/svg}"
 # Documents of each mode and of both directions, by their names in examples/, and one in which text lies over text.
@@ -65,6 +65,21 @@ class Pictures(support.ToolCase):
         self.hold('width="1648"' in tried("picture", "--scale", "2", "--no-legend", example("signs")).out, "picture --scale")
         self.hold(">1 3</text>" in tried("picture", "--names", example("signs")).out, "picture --names")
         self.same(tried("picture", "--node", "99", example("signs")).status, 1, "picture of a node that isn't there")
+
+    def test_flows(self) -> None:
+        """A flow is drawn beside its pages, as its page in horizontal-tb, or one of them alone by its mode."""
+        both = FLOW + FLOW_TURNED
+        flow = tried("picture", "--mode", "flow", given=both)
+        self.same(drawn_kinds(given=both), {"box": 2, "line": 2, "span": 2, "run": 2}, "picture of a flow and a page")
+        svg = tried("picture", given=both).out
+        self.hold(">flow</text>" in svg and ">page 1: sideways-lr</text>" in svg, "picture: the words over a flow and its page")
+        self.same(flow.out, tried("picture", given=FLOW).out, "picture --mode flow")
+        self.same(tried("picture", "--mode", "sideways-lr", given=both).out, tried("picture", given=FLOW_TURNED).out, "picture --mode sideways-lr")
+        untold = flow.out.replace("run 2 0 1 5888 128 512 1024 - 1 0061", "run 2 0 1 5888 128 512 1024 h 1 0061")
+        horizontal = FLOW.replace("flow 6400 3200", "page 6400 3200 horizontal-tb").replace("1024 - 1", "1024 h 1")
+        self.same(untold, tried("picture", given=horizontal).out, "picture of a flow as a page")
+        for words, given in ((("--mode", "vertical-rl"), both), (("--mode", "flow"), FLOW_TURNED), (("--mode", "none"), both)):
+            self.refuses("picture", words, given)
 
     def test_png(self) -> None:
         """A PNG is as large as the picture, by either program."""

@@ -1,6 +1,6 @@
 """Tests of tools/text."""
 from tools.tests import support
-from tools.tests.support import SCRIPT, example, tried
+from tools.tests.support import FLOW, FLOW_TURNED, SCRIPT, example, tried
 
 SCRIPT_TEXT = "a\n---\na b\n--- refused NoNode 4\n---\na b\n\nc\n"
 # The text of each example, as it is read.
@@ -25,3 +25,4 @@ class Text(support.ToolCase):
             if due is not None:
                 self.same(ended.out, due, f"text {name}")
         self.same(tried("text", given=SCRIPT).out, SCRIPT_TEXT, "text of a script's listings")
+        self.same(tried("text", given=FLOW + FLOW_TURNED).out, "a\n", "text of a flow and its page")

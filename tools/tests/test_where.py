@@ -20,6 +20,7 @@ WHERE_CASES = (
     ("<html><body>東<hr>", "UnknownTag 14", "1:13", "<html><body>東<hr>", " " * 12 + "^"),
     ("a" * 200 + "<hr>" + "b" * 200, "UnknownTag 200", "1:201", "…" + "a" * 60 + "<hr>" + "b" * 56 + "…", " " * 61 + "^"),
     ("<html><body>\n\n</body></html> \nshow\ntext 9 a\r\n", "NoNode 2", "5:1", "text 9 a", "^"),
+    ("<html><head><style>p{top:0}</style></head><body></body></html>", "NotTurnable 21", "1:22", "<html><head><style>p{top:0}</style></head><body></body></html>", " " * 21 + "^"),
 )
 # The same for refusals by the number of a node.
 WHERE_NODES = (
@@ -34,6 +35,7 @@ WHERE_ROWS = (
     ("<html><head><style>dir:x{}</style></head><body></body></html>", "Unsupported 22", "with this sign"),
     ("<html><head><!-- <style> --></head><body><p dir='x'></p></body></html>", "Unsupported 44", "`dir` has"),
     ("<html><body></body></html>\nshow\n", "Syntax 27", "no document"),
+    ("<html><body><p style='width:9px'></p></body></html>", "NotTurnable 15", "under `modes`, this declaration ties"),
 )
 # The same of a limit on rules, which a sheet, a line `rule` and an edit can pass: the words, and the place that is pointed at.
 WHERE_RULES = (
@@ -63,6 +65,11 @@ WHERE_INSIDE = (
     ("<html><body>a</body></html>\nrule p{float:left}\r\n", "edit", "2:8"),
     ("<html><body>a</body></html>\nrule p{a:b", "edit", "2:11"),
     ("<html><body>a</body></html>\nrule p{}</style>", "edit", "2:1"),
+    ("<html><body><p style='inline-size:9px;width:-1px;width:9px'>a</p></body></html>", "modes", "1:50"),
+    ('<html>\n<body style = "color:red;&#x6D;argin:0"></body></html>', "modes", "2:7"),
+    ("<html><head><style>p{color:red}\ni{color:red;writing-mode:inherit}</style></head><body>a</body></html>", "modes", "2:13"),
+    ("<html><body><p style='width:9px;float:left'>a</p></body></html>", "modes", "1:33"),
+    ("<html><body>a</body></html>\nshow", "modes", "2:1"),
 )
 # Documents that are refused as Syntax, with the place of the byte, and how the hint for it begins.
 HINTS = (
@@ -106,7 +113,7 @@ class Where(support.ToolCase):
         rows = re.findall(r"^\| `refused [^|]*\| .*$", held(os.path.join(TOP, "docs", "PROFILE", "commands.md")), re.MULTILINE)
         named = set(re.findall(r"`(?:refused )?([A-Z][A-Za-z0-9]+)(?: [0-9A-Z]+)?`", " ".join(rows))) - {"KIND", "PLACE", "LINE"}
         self.same({fact.kind for fact in facts}, named, "the kinds of docs/REFUSALS.md")
-        self.same(len(facts), 32, "the count of rows of docs/REFUSALS.md")
+        self.same(len(facts), 33, "the count of rows of docs/REFUSALS.md")
         for fact in (each for each in facts if each.answer):
             self.same(fact.answer.split()[1], fact.kind, f"docs/REFUSALS.md: the example of {fact.kind}")
 
