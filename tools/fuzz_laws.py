@@ -159,7 +159,8 @@ class Trial:
                 last = part.number
 
     def due_kinds(self) -> set[str]:
-        """The kinds by which an input can be refused under the command; what the grammar made, by its nodes and by what ties it to a mode."""
+        """The kinds by which an input can be refused under the command."""
+        # What the grammar made can be refused by its nodes alone, and by what ties it to a mode.
         kinds = NODES if self.job.tree else NODES | BYTES - OF_MODES
         if self.job.command not in ("edit", "probe"):
             kinds = kinds - OF_SCRIPTS
