@@ -191,9 +191,18 @@ class Where(support.ToolCase):
             put_input(path, given)
             ended = tried("where", path, "--program", self.program, "--words", command)
             self.hold(ended.out.startswith(f"{path}:{place}: "), f"where inside {given!r}: {ended}")
+        self.check_probe(path)
         for example_text, answer in refusals.examples(refusals.read_page()):
             with open(path, "wb") as file:
                 file.write(refusals.input_of(example_text))
             ended = tried("where", path, "--program", self.program, "--words", refusals.command_of(example_text))
             first = ended.out.split("\n", 1)[0]
             self.hold(first.endswith(f": {answer}") and "\ncause: " in ended.out, f"{example_text} gives {answer}: {ended}")
+
+    def check_probe(self, path: str) -> None:
+        """A line of a probe that is refused is told by its number; what is answered is no refusal."""
+        words = (path, "--program", self.program, "--words", "probe")
+        put_input(path, "<html><body>a</body></html>\npoint 1 1\npoint 1\n")
+        self.hold("\nhere: line 2 of the probe\n" in tried("where", *words).out, "where a line of a probe is refused")
+        put_input(path, "<html><body>a</body></html>\npoint 1 1\n")
+        self.same(tried("where", *words), Ended(0, f"{path}: nothing is refused\n", ""), "where of a probe that is answered")
