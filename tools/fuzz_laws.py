@@ -172,7 +172,8 @@ class Trial:
         if any(not ANSWER.fullmatch(answer) for answer in answers) or self.job.asked not in (0, len(answers)):
             yield f"these aren't the answers to {self.job.asked} lines: {self.due.out[:80]!r}"
         living = self.job.tree.living() if self.job.tree else {}
-        for hit in filter(None, (living and re.fullmatch(ANSWER, answer) for answer in answers)):
+        found = [ANSWER.fullmatch(answer) for answer in answers] if living else []
+        for hit in filter(None, found):
             node, first, end = map(int, hit.groups(default=0)) if hit[1] else (0, 0, 0)
             if hit[1] and not (node in living and not living[node].tag and first < end <= len(living[node].text)):
                 yield f"no text has what is hit: {hit[0]!r}"
@@ -304,7 +305,8 @@ class Trial:
         """The pages of `modes` are its flow, turned, and the first is that of `layout`, which refuses all else but what ties to a mode."""
         if self.job.command != "modes" or not self.parts:
             return
-        told, ended, due = self.parts[0], self.again("layout", self.job.input), self.due[:2]
+        told, ended = self.parts[0], self.again("layout", self.job.input)
+        due: tuple[int, bytes] = self.due.status, self.due.out
         if isinstance(told, listing.Flow):
             yield from self.wrong_turns(told)
             due = 0, told.turned("horizontal-tb").text().encode()

@@ -55,8 +55,14 @@ class Fuzz(support.ToolCase):
         self.same(properties["margin-block"], (properties["margin-top"][0],) * 2, "the values of a shorthand")
         combined = ["none", "all", "digits", "digits 2", "digits 3", "digits 4", "initial", "inherit"]
         self.same(properties["text-combine-upright"], (combined,), "the values of a property")
-        tied = set(properties) - set(fuzz_grammar.UNTIED)
-        self.same((len(tied), sum(name.startswith("border") for name in tied)), (39, 15), "properties that tie a document to one mode")
+
+    def test_untied(self) -> None:
+        """The properties by which documents of `modes` are made are those that the program takes there."""
+        self.needs(self.program, "which properties tie a document to a mode")
+        for name in fuzz_grammar.PROPERTIES:
+            document = f'<html><body><p style="{name}:initial">a</p></body></html>'
+            is_refused = self.ran("modes", document.encode()) == "refused NotTurnable 15\n"
+            self.same(is_refused, name not in fuzz_grammar.UNTIED, f"{name} ties a document to a mode")
 
     def test_jobs_are_made_again(self) -> None:
         for number in range(40):

@@ -102,7 +102,8 @@ class Pictures(support.ToolCase):
             self.skipTest("carets: there is no chromium")
         chance = random.Random(41)
         documents = [(name, held(example(name).replace(".listing", ".html")), options_of(name)) for name in POINTED]
-        for name, document, options in [*documents, ("text over text", OVER_TEXT, [])]:
+        documents.append(("text over text", OVER_TEXT, []))
+        for name, document, options in documents:
             words = " ".join(["layout", *options])
             page = listing.pages_of(listing.read(self.ran(words, document.encode("utf-8"))))[0]
             runs = [fragment.rect for fragment in page.fragments if fragment.kind == "run"]
