@@ -6,10 +6,11 @@ use std::test::*;
 use wm_units::View;
 
 /// Words that give a job: the command, the sizes of the view in pixels, and the count.
-const JOBS: [(&[&str], Command, i64, i64, u32); 9] = [
+const JOBS: [(&[&str], Command, i64, i64, u32); 10] = [
     (&["layout"], Command::Layout, 800, 600, 100),
     (&["edit", "--"], Command::Edit, 800, 600, 100),
     (&["--", "gen"], Command::Gen, 800, 600, 100),
+    (&["modes"], Command::Modes, 800, 600, 100),
     (
         &["probe", "--view-inline=200"],
         Command::Probe,
@@ -66,7 +67,7 @@ const NONE: [&[&str]; 28] = [
     &[""],
     &["--"],
     &["-"],
-    &["modes"],
+    &["Modes"],
     &["Layout"],
     &["--help"],
     &["-h"],
