@@ -24,14 +24,16 @@ const VIEW: View = View {
 /// The greatest length of an input, in bytes.
 const LONGEST_INPUT: usize = 1_048_576;
 
-/// A document with a script that puts a block into an inline box, is refused twice, and shows a page.
+/// A document with a script that puts a block into an inline box, is refused twice, goes back and ahead, shows a page, and goes back as far as
+/// it can.
 const INPUT: &[u8] =
-    b"<html><body><span>a</span></body></html>\ntext 3 b\ntext 2 x\ninsert 2 1 <p>c</p>\nremove 1\nshow\n";
+    b"<html><body><span>a</span></body></html>\ntext 3 b\ntext 2 x\ninsert 2 1 <p>c</p>\nremove 1\nredo\nremove 4\nundo\nredo\nundo\nshow\nundo\nundo\nundo\n";
 
 /// The listing and the refusals that are due for it.
 const DUE: &str = "\
 refused NotText 2
 refused IsRoot 4
+refused NoRedo 5
 page 51200 38400 horizontal-tb ltr
 box 0 0 0 0 51200 4608
 box 1 0 512 512 50176 3072
@@ -43,6 +45,7 @@ box 4 0 512 2560 50176 1024
 line 4 0 0 512 2560 50176 1024 768
 run 5 0 1 512 2560 512 1024 h 0 0063
 end
+refused NoUndo 13
 ";
 
 /// A document with a probe behind it, and the answers that are due for it.

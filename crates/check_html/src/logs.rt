@@ -1,6 +1,7 @@
 //! The log of an editor's steps: more of them than it keeps, taken back and taken again.
 
-use dom_store::{ExactEdit, Step};
+use dom_store::ExactEdit as ExactTreeEdit;
+use edits::{ExactEdit, Step};
 use std::alloc::{AllocError, Global};
 use std::test::*;
 use undo_log::UndoLog;
@@ -10,18 +11,18 @@ fn step_of(alloc: Global, number: u32) -> Result<Step, AllocError> {
     let mut nodes = Vec::new(alloc);
     nodes.push(number)?;
     Ok(Step {
-        back: ExactEdit::Take { parent: 1, nodes },
-        again: ExactEdit::Move {
+        back: ExactEdit::Tree(ExactTreeEdit::Take { parent: 1, nodes }),
+        again: ExactEdit::Tree(ExactTreeEdit::Move {
             node: number,
             parent: 1,
             index: 0,
-        },
+        }),
     })
 }
 
 fn number_of(step: &Step) -> Option<u32> {
     match &step.back {
-        ExactEdit::Take { parent: _, nodes } => nodes.first().copied(),
+        ExactEdit::Tree(ExactTreeEdit::Take { parent: _, nodes }) => nodes.first().copied(),
         _ => None,
     }
 }

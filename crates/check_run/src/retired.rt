@@ -2,14 +2,12 @@
 
 ghost use Rattle.std.specs.Prelude.{◌≡◌, ◌≤◌, ◌<◌, length};
 
-use cascade::laws::what_is_read_is_said;
-use css_sheet::read_styled;
+use crate::opening::opened;
 use edits::Edit;
 use face_api::{Face, FaceError, Faces, Metrics, MonoFace, TableFace};
-use html_read::read_document;
 use io_edge::SteadySink;
 use listing::write_listing;
-use session::{ApplyError, Session};
+use session::ApplyError;
 use std::alloc::Global;
 use std::cell::Cell;
 use std::marker::Brand;
@@ -100,7 +98,6 @@ fn given_up<L: Ledger, M: Ledger>(
     requires second_parts { second.parts ≡ M.parts }
     requires second_some { 0 < second.parts }
 {
-    what_is_read_is_said();
     let drops = Rc::new(alloc, Cell::new(0))?;
     let face = LentFace {
         face: TableFace::new(alloc)?,
@@ -110,13 +107,7 @@ fn given_up<L: Ledger, M: Ledger>(
     own.push(Box::new(alloc, MonoFace::new())?)?;
     own.push(Box::new(alloc, face)?)?;
     let faces = Faces::new(alloc, own)?;
-    let Ok(read) = read_document(alloc, input) else {
-        return Ok(None);
-    };
-    let Ok(styles) = read_styled(alloc, &read) else {
-        return Ok(None);
-    };
-    let Ok(mut session) = Session::open(alloc, &read, &styles, faces, VIEW) else {
+    let Some(mut session) = opened(alloc, input, faces, VIEW)? else {
         return Ok(None);
     };
     let mut prepared = Steps::<L>::open(first);

@@ -3,14 +3,11 @@
 ghost use Rattle.std.specs.Prelude.{◌≡◌, ◌≤◌, ◌<◌, length};
 
 use crate::asked::AskedFace;
-use cascade::laws::what_is_read_is_said;
-use css_sheet::read_styled;
+use crate::opening::opened;
 use face_api::{Face, Faces};
-use html_read::read_document;
 use io_edge::SteadySink;
 use listing::write_listing;
 use place_map::Placed;
-use session::Session;
 use std::alloc::Global;
 use std::cell::Cell;
 use std::marker::Brand;
@@ -59,19 +56,12 @@ fn shown_twice<L: Ledger, M: Ledger>(
     requires second_parts { second.parts ≡ M.parts }
     requires second_some { 0 < second.parts }
 {
-    what_is_read_is_said();
     let asked = Rc::new(alloc, Cell::new(0))?;
     let face = AskedFace::new(asked.clone()?);
     let mut own: Vec<Box<dyn Face>> = Vec::new(alloc);
     own.push(Box::new(alloc, face)?)?;
     let faces = Faces::new(alloc, own)?;
-    let Ok(read) = read_document(alloc, input) else {
-        return Ok(None);
-    };
-    let Ok(styles) = read_styled(alloc, &read) else {
-        return Ok(None);
-    };
-    let Ok(mut session) = Session::open(alloc, &read, &styles, faces, VIEW) else {
+    let Some(mut session) = opened(alloc, input, faces, VIEW)? else {
         return Ok(None);
     };
     let mut prepared = Steps::<L>::open(first);

@@ -1,3 +1,4 @@
 pub mod Owed
 pub mod Refusal
 pub mod Steps
+pub mod Told

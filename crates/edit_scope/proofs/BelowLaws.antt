@@ -10,8 +10,7 @@ use Rattle.style_types.specs.Tree.{Nodes}
 use Rattle.style_types.specs.Tree as styled
 use Rattle.dom_store.specs.State.{What, element, text, Entry, State, IsRooted, Tree, greatest_depth, line, tree_to, tree_with}
 use Rattle.dom_store.specs.State as dom
-use Rattle.dom_store.specs.Standing.{ancestors_to, children_at, inclusive_ancestors, inclusive_descendants, lives}
-use Rattle.dom_store.specs.Edits.{EditOf, after}
+use Rattle.dom_store.specs.Standing.{children_at, inclusive_ancestors, inclusive_descendants, lives}
 use Rattle.dom_store.specs.Refusals.{is_element, is_of}
 use Rattle.tree_laws.specs.Reached.{IsReached}
 use Rattle.tree_laws.specs.Wholeness.{IsWhole}
@@ -22,10 +21,10 @@ use Rattle.computed.specs.Step.{style_of}
 use Rattle.style_tree.specs.Styling.{kind_of, style_at, styled_in}
 use Rattle.box_limits.proofs.Among.{IsIn, contained, found, in_all}
 use Rattle.box_limits.proofs.Levels.{child_line, child_lives, parent_is}
-use Rattle.edit_scope.specs.Scope.{display_at, holder, tree_scope}
-use Rattle.edit_scope.proofs.HolderLaws.{few_levels, held_at}
-use Rattle.edit_scope.proofs.LineLaws.{IsSame, IsTaken, element_lives, itself_same}
-use Rattle.edit_scope.proofs.PartLaws.{IsKept, filled, filled_held, kept_by}
+use Rattle.edit_scope.specs.Scope.{display_at, holder}
+use Rattle.edit_scope.proofs.HolderLaws.{few_levels, held_at, is_reached}
+use Rattle.edit_scope.proofs.LineLaws.{IsSame, element_lives, itself_same}
+use Rattle.edit_scope.proofs.Taking.{IsKept, IsTaken}
 
 -- ---- a node that keeps its line and its children
 
@@ -76,41 +75,36 @@ same_style rules state next child (text letters) style lines = refl
 
 -- ---- below an element that isn't touched
 
-module _ (rules : List Ruling) (state : State) (edit : EditOf) (t : IsTaken state edit) (number : ℕ) (is_one : is_of is_element (after state edit) number ≡ true)
-    (apart : display_at rules (after state edit) number ≡ Inline → ⊥) (away : IsIn number (flat_map (inclusive_ancestors (after state edit)) (tree_scope rules state edit)) → ⊥) where
-  abbrev now : State
-  now = after state edit
-
-  -- an element isn't below itself only
-  pub outside : IsIn number (tree_scope rules state edit) → ⊥
-  unfolding ancestors_to
-  outside there = away (in_all (inclusive_ancestors now) number number (tree_scope rules state edit) there (inl refl))
+module _ (rules : List Ruling) (state now : State) (scoped : List ℕ) (t : IsTaken rules state now scoped) (number : ℕ) (is_one : is_of is_element now number ≡ true)
+    (apart : display_at rules now number ≡ Inline → ⊥) (away : IsIn number (flat_map (inclusive_ancestors now) scoped) → ⊥) where
+  pub outside : IsIn number scoped → ⊥
+  outside there = away (is_reached now scoped number there)
 
   alive : lives now number ≡ true
   alive = element_lives (now.node_at number) is_one
 
   pub same : IsSame state now number
-  same = itself_same rules state edit t number is_one outside
+  same = itself_same rules state now scoped t number is_one outside
 
   settled_itself : IsSettled state now number
   settled_itself = record { alive = alive; lived = same.lived; lines = same.lines 64 }
 
-  -- no element below it is filled otherwise
-  unfilled : (levels upper : ℕ) → IsBelow now number levels upper → lives now upper ≡ true → IsIn upper (filled state edit) → ⊥
+  -- no holder below it is in the scope
+  unfilled : (levels upper : ℕ) → IsBelow now number levels upper → lives now upper ≡ true → IsIn (holder rules now upper) scoped → ⊥
   unfilled levels upper below lives_ there =
-      let low : levels < greatest_depth = few_levels now t.whole t.reached number levels upper alive lives_ below in
-      let above : IsIn number (inclusive_ancestors now upper) = found number (inclusive_ancestors now upper) (ancestor_of_chain now t.whole levels greatest_depth number upper low below) in
+      let low : levels < greatest_depth = few_levels now t.later.whole t.later.reached number levels upper alive lives_ below in
+      let above : IsIn number (inclusive_ancestors now upper) = found number (inclusive_ancestors now upper) (ancestor_of_chain now t.later.whole levels greatest_depth number upper low below) in
       let held : IsIn number (inclusive_ancestors now (holder rules now upper)) = held_at now (display_at rules now) number apart greatest_depth (Some upper) above in
-      away (in_all (inclusive_ancestors now) number (holder rules now upper) (tree_scope rules state edit) (filled_held rules state edit t.reached number upper is_one outside there) held)
+      away (in_all (inclusive_ancestors now) number (holder rules now upper) scoped there held)
 
   pub keeps_below : (levels upper : ℕ) → IsBelow now number levels upper → IsSettled state now upper → IsKept state now upper
-  keeps_below levels upper below settled = kept_by state edit t.whole_before t.unrefused t.whole upper settled.lived settled.alive (unfilled levels upper below settled.alive)
+  keeps_below levels upper below settled = t.keeps number upper is_one outside settled.lived settled.alive (unfilled levels upper below settled.alive)
 
   pub settled_below : (levels upper : ℕ) → IsBelow now number levels upper → IsSettled state now upper
   settled_below zero upper below = subst (IsSettled state now) (sym below) settled_itself
   settled_below (suc levels) upper (parent, below, there) =
       let over = settled_below levels parent below in
-      child_settled state now t.whole_before t.reached_before t.whole t.reached parent upper over (keeps_below levels parent below over) (found upper (children_at now parent) there)
+      child_settled state now t.before.whole t.before.reached t.later.whole t.later.reached parent upper over (keeps_below levels parent below over) (found upper (children_at now parent) there)
 
   -- so all below it is what it was
   pub node_below : (levels upper : ℕ) → IsBelow now number levels upper → now.node_at upper ≡ state.node_at upper
@@ -118,7 +112,7 @@ module _ (rules : List Ruling) (state : State) (edit : EditOf) (t : IsTaken stat
       subst (λ (n : ℕ). now.node_at n ≡ state.node_at n) (sym below)
       (node_same (now.node_at number) (state.node_at number) same.parent (keeps_below 0 number refl settled_itself).children same.whats)
   node_below (suc levels) upper (parent, below, there) =
-      child_same state now t.whole_before t.reached_before t.whole t.reached parent upper
+      child_same state now t.before.whole t.before.reached t.later.whole t.later.reached parent upper
       (keeps_below levels parent below (settled_below levels parent below)) (found upper (children_at now parent) there)
       (keeps_below (suc levels) upper (parent, below, there) (settled_below (suc levels) upper (parent, below, there)))
 
@@ -135,7 +129,7 @@ module _ (rules : List Ruling) (state : State) (edit : EditOf) (t : IsTaken stat
     tree_row (child ∷ numbers) within =
         let there = within child (inl refl) in
         let further : IsBelow now number (suc levels) child = (upper, below, contained child (children_at now upper) there) in
-        let (entry, here, stands) = child_lives now t.whole upper child there in
+        let (entry, here, stands) = child_lives now t.later.whole upper child there in
         let was : state.node_at child ≡ Some entry = sym (node_below (suc levels) child further) ∙ here in
         let children : entry.children ≡ children_at now child = sym (ap (λ (o : Option Entry). children_of o) here) in
         ap (λ (o : Option Entry). tree_with o child (tree_to depth now) (tree_to (suc depth) now numbers)) here
@@ -163,7 +157,7 @@ module _ (rules : List Ruling) (state : State) (edit : EditOf) (t : IsTaken stat
     styled_row (child ∷ numbers) within =
         let there = within child (inl refl) in
         let further : IsBelow now number (suc levels) child = (upper, below, contained child (children_at now upper) there) in
-        let (entry, here, stands) = child_lives now t.whole upper child there in
+        let (entry, here, stands) = child_lives now t.later.whole upper child there in
         let was : state.node_at child ≡ Some entry = sym (node_below (suc levels) child further) ∙ here in
         let children : entry.children ≡ children_at now child = sym (ap (λ (o : Option Entry). children_of o) here) in
         let own : Style = style_at rules now child entry.what style in

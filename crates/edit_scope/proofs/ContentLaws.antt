@@ -11,7 +11,6 @@ use Rattle.css_types.specs.Rule.{Ruling}
 use Rattle.dom_store.specs.State as dom
 use Rattle.dom_store.specs.State.{What, Entry, State, line, tree_to, tree_with}
 use Rattle.dom_store.specs.Standing.{children_at, inclusive_ancestors}
-use Rattle.dom_store.specs.Edits.{EditOf, after}
 use Rattle.dom_store.specs.Refusals.{is_element, is_of}
 use Rattle.tree_laws.specs.Reached.{IsAtLevel}
 use Rattle.tree_laws.proofs.Keeping.{children_of}
@@ -25,14 +24,14 @@ use Rattle.box_limits.proofs.Levels.{child_line, child_lives, parent_is}
 use Rattle.box_limits.proofs.Parts.{two_at}
 use Rattle.box_limits.proofs.Walks.{HasTwo, style_at_is}
 use Rattle.edit_scope.specs.Boxes.{body_in, box_of, inside_of, own_boxes}
-use Rattle.edit_scope.specs.Scope.{display_at, element_style, holder, holder_in, tree_scope, unless_inline}
+use Rattle.edit_scope.specs.Scope.{display_at, element_style, holder, holder_in, unless_inline}
 use Rattle.edit_scope.proofs.BelowLaws.{IsSettled, child_settled, same_style}
 use Rattle.edit_scope.proofs.BoxLaws.{body_stays, style_stays}
 use Rattle.edit_scope.proofs.HolderLaws.{ancestors_are, ancestors_of_child, not_inline}
 use Rattle.edit_scope.proofs.InsideLaws.{is_inline}
-use Rattle.edit_scope.proofs.LineLaws.{IsTaken, element_lives, itself_same}
-use Rattle.edit_scope.proofs.PartLaws.{IsKept, filled_held, kept_by}
+use Rattle.edit_scope.proofs.LineLaws.{element_lives, itself_same}
 use Rattle.edit_scope.proofs.ShellLaws.{AreLike, like_append, made_like, parts_like}
+use Rattle.edit_scope.proofs.Taking.{IsKept, IsTaken}
 
 -- ---- inline boxes
 
@@ -57,42 +56,37 @@ style_below rules what (one ∷ other ∷ others) two = refl
 
 -- ---- in an element whose holder isn't in the scope
 
-module _ (rules : List Ruling) (state : State) (edit : EditOf) (t : IsTaken state edit) (number : ℕ) (element : is_of is_element (after state edit) number ≡ true)
-    (apart : display_at rules (after state edit) number ≡ Inline → ⊥) (outside : IsIn number (tree_scope rules state edit) → ⊥) where
-  abbrev now : State
-  now = after state edit
-
+module _ (rules : List Ruling) (state now : State) (scoped : List ℕ) (t : IsTaken rules state now scoped) (number : ℕ) (element : is_of is_element now number ≡ true)
+    (apart : display_at rules now number ≡ Inline → ⊥) (outside : IsIn number scoped → ⊥) where
   -- what is inline in the element
   record IsHeld (upper : ℕ) : Type 0 where
     settled : IsSettled state now upper
     held : holder rules now upper ≡ number
 
   keeps : (upper : ℕ) → IsHeld upper → IsKept state now upper
-  keeps upper h =
-      kept_by state edit t.whole_before t.unrefused t.whole upper h.settled.lived h.settled.alive
-      (λ there. outside (subst (λ (n : ℕ). IsIn n (tree_scope rules state edit)) h.held (filled_held rules state edit t.reached number upper element outside there)))
+  keeps upper h = t.keeps number upper element outside h.settled.lived h.settled.alive (λ there. outside (subst (λ (n : ℕ). IsIn n scoped) h.held there))
 
   child_stays : (upper child : ℕ) → IsHeld upper → IsIn child (children_at now upper) → IsSettled state now child
-  child_stays upper child h there = child_settled state now t.whole_before t.reached_before t.whole t.reached upper child h.settled (keeps upper h) there
+  child_stays upper child h there = child_settled state now t.before.whole t.before.reached t.later.whole t.later.reached upper child h.settled (keeps upper h) there
 
   -- a child that is an inline box has the same holder
   child_held : (upper child : ℕ) → IsHeld upper → IsIn child (children_at now upper) → display_at rules now child ≡ Inline → holder rules now child ≡ number
   unfolding holder_in
   child_held upper child h there inline =
-      ap (holder_in (display_at rules now)) (ancestors_of_child now t.whole t.reached upper child (contained child (children_at now upper) there))
+      ap (holder_in (display_at rules now)) (ancestors_of_child now t.later.whole t.later.reached upper child (contained child (children_at now upper) there))
       ∙ ap (λ (d : Display). unless_inline d child (holder_in (display_at rules now) (inclusive_ancestors now upper))) inline
       ∙ h.held
 
   two_in : (upper child : ℕ) → IsHeld upper → IsIn child (children_at now upper) → HasTwo (line now child)
   two_in upper child h there =
-      let (level, low, at) = t.reached.reached upper h.settled.alive in
-      two_at now t.rooted t.whole t.reached level child (upper, at, contained child (children_at now upper) there)
+      let (level, low, at) = t.later.reached.reached upper h.settled.alive in
+      two_at now t.later.rooted t.later.whole t.later.reached level child (upper, at, contained child (children_at now upper) there)
 
   abbrev place_style : (upper : ℕ) → Style
   place_style upper = (place_on rules (line now upper)).style
 
   not_html : (upper child : ℕ) → IsIn child (children_at now upper) → element_style rules now child ≡ place_style child
-  not_html upper zero there = absurd (none-some upper (sym t.whole.html ∙ parent_is now t.whole upper 0 there))
+  not_html upper zero there = absurd (none-some upper (sym t.later.whole.html ∙ parent_is now t.later.whole upper 0 there))
   not_html upper (suc child) there = refl
 
   -- what stands in such an element, down to a depth
@@ -132,9 +126,9 @@ module _ (rules : List Ruling) (state : State) (edit : EditOf) (t : IsTaken stat
     row_like [] within = refl
     row_like (child ∷ numbers) within =
         let there = within child (inl refl) in
-        let (level, low, at) = t.reached.reached upper h.settled.alive in
-        let (entry, here, stands, lines) = child_line now t.whole t.reached level upper child at there in
-        let (old, was, stood) = child_lives state t.whole_before upper child (subst (IsIn child) (keeps upper h).children there) in
+        let (level, low, at) = t.later.reached.reached upper h.settled.alive in
+        let (entry, here, stands, lines) = child_line now t.later.whole t.later.reached level upper child at there in
+        let (old, was, stood) = child_lives state t.before.whole upper child (subst (IsIn child) (keeps upper h).children there) in
         let same : entry.what ≡ old.what = same_Some entry.what old.what (sym (ap (option_map (λ (e : Entry). e.what)) here) ∙ (keeps upper h).whats child there ∙ ap (option_map (λ (e : Entry). e.what)) was) in
         let own : Style = style_at rules now child entry.what style in
         let own_same : own ≡ style_at rules state child old.what style =
@@ -164,14 +158,14 @@ module _ (rules : List Ruling) (state : State) (edit : EditOf) (t : IsTaken stat
   itself : IsHeld number
   unfolding holder_in
   itself =
-      let same = itself_same rules state edit t number element outside in
+      let same = itself_same rules state now scoped t number element outside in
       record {
         settled = record { alive = element_lives (now.node_at number) element; lived = same.lived; lines = same.lines 64 };
         held = ap (holder_in (display_at rules now)) (ancestors_are now 63 number) ∙ not_inline (display_at rules now number) number _ apart;
       }
 
   below_html : number ≡ 0 → IsIn 1 (children_at now number)
-  below_html is = subst (λ (n : ℕ). IsIn 1 (children_at now n)) (sym is) (subst (IsIn 1) (sym (html_children rules now t.rooted)) (inl refl))
+  below_html is = subst (λ (n : ℕ). IsIn 1 (children_at now n)) (sym is) (subst (IsIn 1) (sym (html_children rules now t.later.rooted)) (inl refl))
 
   pub body : number ≡ 0 → line now 1 ≡ line state 1
   body is = (child_stays number 1 itself (below_html is)).lines
@@ -181,10 +175,10 @@ module _ (rules : List Ruling) (state : State) (edit : EditOf) (t : IsTaken stat
   body_like is zero = refl
   body_like is (suc depth) =
       let there = below_html is in
-      let (entry, here, stands) = child_lives now t.whole number 1 there in
-      let (old, was, stood) = child_lives state t.whole_before number 1 (subst (IsIn 1) (keeps number itself).children there) in
+      let (entry, here, stands) = child_lives now t.later.whole number 1 there in
+      let (old, was, stood) = child_lives state t.before.whole number 1 (subst (IsIn 1) (keeps number itself).children there) in
       let same : entry.what ≡ old.what = same_Some entry.what old.what (sym (ap (option_map (λ (e : Entry). e.what)) here) ∙ (keeps number itself).whats 1 there ∙ ap (option_map (λ (e : Entry). e.what)) was) in
-      let style = body_stays rules state edit t number element outside body in
+      let style = body_stays rules state now scoped t number element outside body in
       let children : children_at now 1 ≡ entry.children = ap (λ (o : Option Entry). children_of o) here in
       let before : children_at state 1 ≡ old.children = ap (λ (o : Option Entry). children_of o) was in
       let first : AreLike (parts_of now depth 1 entry.what (body_style rules now) entry.children) (parts_of state depth 1 old.what (body_style rules state) old.children) =
@@ -193,32 +187,32 @@ module _ (rules : List Ruling) (state : State) (edit : EditOf) (t : IsTaken stat
       (ap (λ (w : What). parts_of state depth 1 w (body_style rules now) (children_at state 1)) same
       ∙ ap (λ (s : Style). parts_of state depth 1 old.what s (children_at state 1)) style
       ∙ ap (parts_of state depth 1 old.what (body_style rules state)) before)
-      (child_like depth (alike depth) number 1 itself there entry.what (body_style rules now) (ap (λ p. p.style) (body_place_is rules now t.rooted t.whole t.reached)))) in
+      (child_like depth (alike depth) number 1 itself there entry.what (body_style rules now) (ap (λ p. p.style) (body_place_is rules now t.later.rooted t.later.whole t.later.reached)))) in
       subst (λ (o : Option Entry). AreLike (content (body_in rules now (tree_with o 1 (tree_to depth now) dom.none))) (content (body_in rules state (tree_to (suc depth) state (1 ∷ []))))) (sym here)
       (subst (λ (o : Option Entry). AreLike (content (body_in rules now (tree_with (Some entry) 1 (tree_to depth now) dom.none))) (content (body_in rules state (tree_with o 1 (tree_to depth state) dom.none)))) (sym was)
       (like_append (parts_of now depth 1 entry.what (body_style rules now) entry.children) [] (parts_of state depth 1 old.what (body_style rules state) old.children) [] first refl))
 
   two_own : (upper some : ℕ) → upper ≡ suc some → IsHeld upper → HasTwo (line now upper)
-  two_own upper some is h = let (level, low, at) = t.reached.reached upper h.settled.alive in by level at
+  two_own upper some is h = let (level, low, at) = t.later.reached.reached upper h.settled.alive in by level at
     where
       by : (level : ℕ) → IsAtLevel now level upper → HasTwo (line now upper)
       by zero at = absurd (omega (arith, is, at))
-      by (suc level) at = two_at now t.rooted t.whole t.reached level upper at
+      by (suc level) at = two_at now t.later.rooted t.later.whole t.later.reached level upper at
 
   inside_like : (depth some : ℕ) → some ≡ number → AreLike (content (inside_of rules now depth some)) (content (inside_of rules state depth some))
   inside_like depth zero is =
-      let one = html_children rules now t.rooted in
+      let one = html_children rules now t.later.rooted in
       let kept = subst (λ (n : ℕ). children_at now n ≡ children_at state n) (sym is) (keeps number itself).children in
       subst (λ (l : List ℕ). AreLike (content (body_in rules now (tree_to depth now l))) (content (body_in rules state (tree_to depth state (children_at state 0))))) (sym one)
       (subst (λ (l : List ℕ). AreLike (content (body_in rules now (tree_to depth now (1 ∷ [])))) (content (body_in rules state (tree_to depth state l)))) (sym one ∙ kept) (body_like (sym is) depth))
   inside_like depth (suc some) is =
       let h = subst IsHeld (sym is) itself in
-      let style = subst (λ (n : ℕ). element_style rules now n ≡ element_style rules state n) (sym is) (style_stays rules state edit t number element outside body) in
+      let style = subst (λ (n : ℕ). element_style rules now n ≡ element_style rules state n) (sym is) (style_stays rules state now scoped t number element outside body) in
       subst (λ (s : Style). AreLike (content (styled_in rules now (element_style rules now (suc some)) (tree_to depth now (children_at now (suc some))))) (content (styled_in rules state s (tree_to depth state (children_at state (suc some)))))) style
       (subst (λ (l : List ℕ). AreLike (content (styled_in rules now (element_style rules now (suc some)) (tree_to depth now (children_at now (suc some))))) (content (styled_in rules state (element_style rules now (suc some)) (tree_to depth state l)))) (keeps (suc some) h).children
       (alike depth (suc some) h (two_own (suc some) some refl h) (element_style rules now (suc some)) refl (children_at now (suc some)) (λ child there. there)))
 
   pub content_stays : (depth : ℕ) → own_boxes (box_of rules now depth number) ≡ own_boxes (box_of rules state depth number)
   content_stays depth =
-      ap (λ (s : Style). own_boxes (made number s (content (inside_of rules now depth number)))) (style_stays rules state edit t number element outside body)
+      ap (λ (s : Style). own_boxes (made number s (content (inside_of rules now depth number)))) (style_stays rules state now scoped t number element outside body)
       ∙ made_like number (element_style rules state number) (content (inside_of rules now depth number)) (content (inside_of rules state depth number)) (inside_like depth number refl)

@@ -9,7 +9,6 @@ use Rattle.dom_store.specs.State as dom
 use Rattle.dom_store.specs.State.{IsRooted, line}
 use Rattle.dom_store.specs.Standing.{inclusive_ancestors, parent_at}
 use Rattle.dom_store.specs.Edits as tree
-use Rattle.dom_store.specs.Edits.{EditOf}
 use Rattle.dom_store.specs.Refusals.{is_element, is_of}
 use Rattle.tree_laws.specs.Reached.{IsReached}
 use Rattle.tree_laws.specs.Wholeness.{IsWhole}
@@ -18,21 +17,21 @@ use Rattle.style_tree.specs.Styling.{styled_document}
 use Rattle.box_gen.specs.Boxes.{Role, content, root_boxes}
 use Rattle.box_gen.specs.Places.{AreAlike, IsAmong, IsPlaceOf, Place, RunAlike}
 use Rattle.box_gen.specs.Tree.{Boxes}
-use Rattle.box_limits.proofs.Among.{IsIn, contained}
-use Rattle.edits.specs.Change.{Change, of_tree, metric, retire, rule, unrule}
+use Rattle.box_limits.proofs.Among.{IsIn, contained, found}
+use Rattle.edits.specs.Change.{of_tree, metric, retire, rule, unrule}
 use Rattle.edits.specs.Edited.{after}
-use Rattle.edits.specs.State.{State}
 use Rattle.edit_scope.specs.Boxes.{Shell, box_of, inside_of, own_boxes}
-use Rattle.edit_scope.specs.Laws.{Takes}
 use Rattle.edit_scope.specs.Pages.{BoxesAreOfElements, UnscopedPlaces, UntouchedPlaces, WasBox, WasTree}
-use Rattle.edit_scope.specs.Scope.{display_at, element_style, every_element, holder_above, reached, scope, tree_scope}
+use Rattle.edit_scope.specs.Scope.{display_at, element_style, every_element, holder_above, tree_scope}
 use Rattle.edit_scope.proofs.BoxLaws.{around_stays, root_stays, style_above}
 use Rattle.edit_scope.proofs.ContentLaws.{body, content_stays}
-use Rattle.edit_scope.proofs.HolderLaws.{child_of_parent}
+use Rattle.edit_scope.proofs.EditLaws.{takes_tree}
+use Rattle.edit_scope.proofs.HolderLaws.{child_of_parent, is_reached}
 use Rattle.edit_scope.proofs.InsideLaws.{IsShell, inner_of, inner_there, is_box, is_inline, right_shell, shell_of, shell_there}
-use Rattle.edit_scope.proofs.LineLaws.{IsTaken, every_in, same_above, what_at}
+use Rattle.edit_scope.proofs.LineLaws.{every_in, same_above}
 use Rattle.edit_scope.proofs.PlaceLaws.{IsAround, IsBoxed, IsFound, IsShown, Stands, boxed_apart, boxed_element, page_found, role_for, role_in, stands}
-use Rattle.edit_scope.proofs.Untouched.{box_stays, none_left, scope_reached, takes_tree}
+use Rattle.edit_scope.proofs.Taking.{IsTaken, what_at}
+use Rattle.edit_scope.proofs.Untouched.{box_stays}
 
 -- ---- boxes that stand in boxes whose lines run alike
 
@@ -57,40 +56,37 @@ alike_by rules state now (suc number) (Some one) (Some other) here there same =
 
 -- ---- an edit of the tree
 
-module _ (rules : List Ruling) (state : dom.State) (rooted : IsRooted state) (edit : EditOf) (t : IsTaken state edit) (place : Place)
-    (stood : IsPlaceOf (root_boxes (styled_document rules (tree.after state edit))) place) (outside : IsIn place.name.node (tree_scope rules state edit) → ⊥) where
-  abbrev now : dom.State
-  now = tree.after state edit
-
+module _ (rules : List Ruling) (state now : dom.State) (scoped : List ℕ) (t : IsTaken rules state now scoped) (place : Place)
+    (stood : IsPlaceOf (root_boxes (styled_document rules now)) place) (outside : IsIn place.name.node scoped → ⊥) where
   abbrev number : ℕ
   number = place.name.node
 
   unfoldable is_found : IsFound rules now place
-  is_found = page_found rules now t.rooted t.whole t.reached place stood
+  is_found = page_found rules now t.later.rooted t.later.whole t.later.reached place stood
 
   element : is_of is_element now number ≡ true
-  element = boxed_element rules now t.rooted t.whole t.reached number is_found.boxed
+  element = boxed_element rules now t.later.rooted t.later.whole t.later.reached number is_found.boxed
 
   apart : display_at rules now number ≡ Inline → ⊥
-  apart = boxed_apart rules now t.rooted t.whole t.reached number is_found.boxed
+  apart = boxed_apart rules now t.later.rooted t.later.whole t.later.reached number is_found.boxed
 
   lines : number ≡ 0 → line now 1 ≡ line state 1
-  lines = body rules state edit t number element apart outside
+  lines = body rules state now scoped t number element apart outside
 
   -- ---- it was shown
 
   role_before : (levels upper : ℕ) → IsBelow now upper levels number → role_for rules now upper ≡ role_for rules state upper
   role_before levels upper below =
-      ap (λ (o : Option dom.What). role_in o (element_style rules now upper)) (same_above rules state edit t number element outside levels upper below).whats
-      ∙ ap (role_in (what_at state upper)) (style_above rules state edit t number element outside lines upper levels below)
+      ap (λ (o : Option dom.What). role_in o (element_style rules now upper)) (same_above rules state now scoped t number element outside levels upper below).whats
+      ∙ ap (role_in (what_at state upper)) (style_above rules state now scoped t number element outside lines upper levels below)
 
   shown_before : (level upper levels : ℕ) → IsBelow now upper levels number → IsShown rules now level upper → IsShown rules state level upper
   shown_before zero upper levels below shown = shown
   shown_before (suc level) upper levels below (parent, shown, there, is) =
-      let parent_was : parent_at state upper ≡ Some parent = sym (same_above rules state edit t number element outside levels upper below).parent ∙ parent_of_child now t.whole parent upper there in (
+      let parent_was : parent_at state upper ≡ Some parent = sym (same_above rules state now scoped t number element outside levels upper below).parent ∙ parent_of_child now t.later.whole parent upper there in (
         parent,
         shown_before level parent (suc levels) (below_child now levels parent upper number there below) shown,
-        (child_of_parent state t.whole_before t.reached_before upper parent parent_was).0,
+        (child_of_parent state t.before.whole t.before.reached upper parent parent_was).0,
         subst (λ (r : Role). (is_inline r ≡ true) ⊎ (is_box r ≡ true)) (role_before levels upper below) is,
       )
 
@@ -98,9 +94,9 @@ module _ (rules : List Ruling) (state : dom.State) (rooted : IsRooted state) (ed
   boxed_before (inl html) = inl html
   boxed_before (inr boxed) = inr (subst (λ (r : Role). is_box r ≡ true) (role_before 0 number refl) boxed)
 
-  stood_before : Stands rules state rooted t.whole_before t.reached_before is_found.depth number
+  stood_before : Stands rules state t.before.rooted t.before.whole t.before.reached is_found.depth number
   stood_before =
-      stands rules state rooted t.whole_before t.reached_before is_found.level is_found.depth number is_found.sum (shown_before is_found.level number 0 refl is_found.shown) (boxed_before is_found.boxed)
+      stands rules state t.before.rooted t.before.whole t.before.reached is_found.level is_found.depth number is_found.sum (shown_before is_found.level number 0 refl is_found.shown) (boxed_before is_found.boxed)
 
   -- ---- it was there
 
@@ -112,7 +108,7 @@ module _ (rules : List Ruling) (state : dom.State) (rooted : IsRooted state) (ed
 
   box_was : WasBox (root_boxes (styled_document rules state)) place
   box_was =
-      let same = content_stays rules state edit t number element apart outside is_found.depth in
+      let same = content_stays rules state now scoped t number element apart outside is_found.depth in
       let (around, is, hosts) = stood_before in
       let (was, among, shell) = shell_there around (box_of rules state is_found.depth number) (shell_of place) (subst (IsShell (shell_of place)) same own_shell) in
       record {
@@ -124,15 +120,15 @@ module _ (rules : List Ruling) (state : dom.State) (rooted : IsRooted state) (ed
       }
 
   mode_stays : (element_style rules now 0).mode ≡ (element_style rules state 0).mode
-  mode_stays = ap (λ (s : Style). s.mode) (root_stays rules state edit t number element outside lines)
+  mode_stays = ap (λ (s : Style). s.mode) (root_stays rules state now scoped t number element outside lines)
 
   -- ---- with all inside it
 
-  module _ (away : IsIn number (flat_map (inclusive_ancestors now) (tree_scope rules state edit)) → ⊥) where
+  module _ (away : IsIn number (flat_map (inclusive_ancestors now) scoped) → ⊥) where
     tree_was : WasTree (root_boxes (styled_document rules state)) place
     tree_was =
-        let same = box_stays rules state edit t number element apart away is_found.depth in
-        let style = style_above rules state edit t number element outside lines number 0 refl in
+        let same = box_stays rules state now scoped t number element apart away is_found.depth in
+        let style = style_above rules state now scoped t number element outside lines number 0 refl in
         let (around, is, hosts) = stood_before in
         elim is_found.here [
           | inl (itself, here) ↦
@@ -141,7 +137,7 @@ module _ (rules : List Ruling) (state : dom.State) (rooted : IsRooted state) (ed
                 was = was;
                 stood = hosts was (subst (λ (b : Boxes). IsAmong around b was) (itself ∙ same) (inl refl));
                 tree = refl;
-                around = alike_by rules state now number around place.around is here (around_stays rules state edit t number element outside lines);
+                around = alike_by rules state now number around place.around is here (around_stays rules state now scoped t number element outside lines);
               }
           | inr (anonymous, among) ↦
               record {
@@ -164,41 +160,45 @@ boxes_of_elements rules state place rooted whole reached stood =
     let is_found = page_found rules state rooted whole reached place stood in
     contained number (every_element state) (every_in state reached number (boxed_element rules state rooted whole reached number is_found.boxed))
 
+-- ---- in the words of the laws
+
+module _ (rules : List Ruling) (state now : dom.State) (scoped : List ℕ) (t : IsTaken rules state now scoped) (place : Place) (stood : IsPlaceOf (root_boxes (styled_document rules now)) place) where
+  abbrev Keeps : Type 0
+  Keeps = (element_style rules now 0).mode ≡ (element_style rules state 0).mode
+
+  pub was_box : (Contains scoped place.name.node → ⊥) → WasBox (root_boxes (styled_document rules state)) place × Keeps
+  was_box outside =
+      let out : IsIn place.name.node scoped → ⊥ = λ there. outside (contained place.name.node scoped there) in
+      (box_was rules state now scoped t place stood out, mode_stays rules state now scoped t place stood out)
+
+  pub was_tree : (Contains (flat_map (inclusive_ancestors now) scoped) place.name.node → ⊥) → WasTree (root_boxes (styled_document rules state)) place × Keeps
+  was_tree outside =
+      let away : IsIn place.name.node (flat_map (inclusive_ancestors now) scoped) → ⊥ = λ there. outside (contained place.name.node (flat_map (inclusive_ancestors now) scoped) there) in
+      let out : IsIn place.name.node scoped → ⊥ = λ there. away (is_reached now scoped place.name.node there) in
+      (tree_was rules state now scoped t place stood out away, mode_stays rules state now scoped t place stood out)
+
+-- an edit that has every element in its scope leaves no box out
+module _ {A : Type 0} (rules : List Ruling) (state : dom.State) (place : Place) (rooted : IsRooted state) (whole : IsWhole state) (reached : IsReached state)
+    (stood : IsPlaceOf (root_boxes (styled_document rules state)) place) where
+  pub all_scoped : (Contains (every_element state) place.name.node → ⊥) → A
+  all_scoped outside = absurd (outside (boxes_of_elements rules state place rooted whole reached stood))
+
+  pub all_touched : (Contains (flat_map (inclusive_ancestors state) (every_element state)) place.name.node → ⊥) → A
+  all_touched outside =
+      all_scoped (λ there. outside (contained place.name.node (flat_map (inclusive_ancestors state) (every_element state)) (is_reached state (every_element state) place.name.node (found place.name.node (every_element state) there))))
+
 -- ---- each edit
 
-module _ {A : Type 0} (state : State) (change : Change) (place : Place) (takes : Takes state change) (stood : IsPlaceOf (root_boxes (styled_document (after state change).rules (after state change).tree)) place)
-    (same : (after state change).tree ≡ state.tree) (every : scope state change ≡ every_element state.tree) where
-  -- where every element is in the scope
-  all_scoped : (Contains (scope state change) place.name.node → ⊥) → A
-  all_scoped outside =
-      let rooted : IsRooted (after state change).tree = subst IsRooted (sym same) takes.rooted in
-      let whole : IsWhole (after state change).tree = subst IsWhole (sym same) takes.whole in
-      let all : IsReached (after state change).tree = subst IsReached (sym same) takes.reached in
-      let is_found = page_found (after state change).rules (after state change).tree rooted whole all place stood in
-      let element = boxed_element (after state change).rules (after state change).tree rooted whole all place.name.node is_found.boxed in
-      none_left state.tree takes.reached place.name.node (subst (λ (s : dom.State). is_of is_element s place.name.node ≡ true) same element)
-      (λ there. outside (subst (λ (l : List ℕ). Contains l place.name.node) (sym every) there))
-
-  all_touched : (Contains (reached state change) place.name.node → ⊥) → A
-  all_touched outside = all_scoped (λ there. outside (scope_reached state change place.name.node there))
-
 pub unscoped_places : UnscopedPlaces
-unscoped_places state (of_tree edit) place takes stood outside =
-    let t = takes_tree state edit takes in
-    let out : IsIn place.name.node (tree_scope state.rules state.tree edit) → ⊥ = λ there. outside (contained place.name.node (scope state (of_tree edit)) there) in
-    (box_was state.rules state.tree takes.rooted edit t place stood out, mode_stays state.rules state.tree takes.rooted edit t place stood out)
-unscoped_places state (metric face c upright value) place takes stood outside = all_scoped state (metric face c upright value) place takes stood refl refl outside
-unscoped_places state (retire face) place takes stood outside = all_scoped state (retire face) place takes stood refl refl outside
-unscoped_places state (rule rules) place takes stood outside = all_scoped state (rule rules) place takes stood refl refl outside
-unscoped_places state (unrule index) place takes stood outside = all_scoped state (unrule index) place takes stood refl refl outside
+unscoped_places state (of_tree edit) place takes stood outside = was_box state.rules state.tree (tree.after state.tree edit) (tree_scope state.rules state.tree edit) (takes_tree state edit takes) place stood outside
+unscoped_places state (metric face c upright value) place takes stood outside = all_scoped state.rules state.tree place takes.rooted takes.whole takes.reached stood outside
+unscoped_places state (retire face) place takes stood outside = all_scoped state.rules state.tree place takes.rooted takes.whole takes.reached stood outside
+unscoped_places state (rule rules) place takes stood outside = all_scoped (after state (rule rules)).rules state.tree place takes.rooted takes.whole takes.reached stood outside
+unscoped_places state (unrule index) place takes stood outside = all_scoped (after state (unrule index)).rules state.tree place takes.rooted takes.whole takes.reached stood outside
 
 pub untouched_places : UntouchedPlaces
-untouched_places state (of_tree edit) place takes stood outside =
-    let t = takes_tree state edit takes in
-    let out : IsIn place.name.node (tree_scope state.rules state.tree edit) → ⊥ = λ there. outside (scope_reached state (of_tree edit) place.name.node (contained place.name.node (scope state (of_tree edit)) there)) in
-    let away : IsIn place.name.node (reached state (of_tree edit)) → ⊥ = λ there. outside (contained place.name.node (reached state (of_tree edit)) there) in
-    (tree_was state.rules state.tree takes.rooted edit t place stood out away, mode_stays state.rules state.tree takes.rooted edit t place stood out)
-untouched_places state (metric face c upright value) place takes stood outside = all_touched state (metric face c upright value) place takes stood refl refl outside
-untouched_places state (retire face) place takes stood outside = all_touched state (retire face) place takes stood refl refl outside
-untouched_places state (rule rules) place takes stood outside = all_touched state (rule rules) place takes stood refl refl outside
-untouched_places state (unrule index) place takes stood outside = all_touched state (unrule index) place takes stood refl refl outside
+untouched_places state (of_tree edit) place takes stood outside = was_tree state.rules state.tree (tree.after state.tree edit) (tree_scope state.rules state.tree edit) (takes_tree state edit takes) place stood outside
+untouched_places state (metric face c upright value) place takes stood outside = all_touched state.rules state.tree place takes.rooted takes.whole takes.reached stood outside
+untouched_places state (retire face) place takes stood outside = all_touched state.rules state.tree place takes.rooted takes.whole takes.reached stood outside
+untouched_places state (rule rules) place takes stood outside = all_touched (after state (rule rules)).rules state.tree place takes.rooted takes.whole takes.reached stood outside
+untouched_places state (unrule index) place takes stood outside = all_touched (after state (unrule index)).rules state.tree place takes.rooted takes.whole takes.reached stood outside

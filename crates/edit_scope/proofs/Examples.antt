@@ -21,6 +21,7 @@ use Rattle.dom_store.specs.Opening.{children_from}
 use Rattle.dom_store.specs.Standing.{ancestors_to, below_levels}
 use Rattle.dom_store.specs.Edits as tree
 use Rattle.dom_store.specs.Edits.{set_text, set_style, set_class, insert, remove, move_to}
+use Rattle.dom_store.specs.Exact.{exact_text, take_nodes, restore, taken}
 use Rattle.cascade.specs.Matching.{matches_from, some, each, tails}
 use Rattle.cascade.specs.Claims.{is_less, stated, claims_of_rules}
 use Rattle.cascade.specs.Winners.{greatest_from}
@@ -31,9 +32,10 @@ use Rattle.style_tree.specs.Styling.{styled_in}
 use Rattle.box_gen.specs.Boxes.{closed, content, is_blank, join, opened_again, runs, stacked}
 use Rattle.box_limits.specs.Lines.{place_on}
 use Rattle.edits.specs.Change.{Change, of_tree, retire, rule}
-use Rattle.edits.specs.Edited.{after}
+use Rattle.edits.specs.Exact.{ExactChange, exact_tree, put_rules}
 use Rattle.edits.specs.State as whole
 use Rattle.edit_scope.specs.Boxes.{anonymous_among, box_of, own_boxes}
+use Rattle.edit_scope.specs.Exactly.{exact_reached, exact_scope}
 use Rattle.edit_scope.specs.Scope.{holder_in, reached, scope}
 
 abbrev all_of : (one other : List ℕ) → Bool
@@ -138,6 +140,36 @@ rules_come = (refl, refl)
 a_face_goes : IsScope small (retire 1) (0 ∷ 1 ∷ 2 ∷ 3 ∷ 5 ∷ 7 ∷ 9 ∷ []) (0 ∷ 1 ∷ 2 ∷ 3 ∷ 5 ∷ 7 ∷ 9 ∷ [])
 unfolding small entries below_levels ancestors_to
 a_face_goes = (refl, refl)
+
+-- ---- exact edits
+
+abbrev IsExactScope : whole.State → ExactChange → (elements touched : List ℕ) → Type 0
+IsExactScope state edit elements touched = (same_set (exact_scope state edit) elements ≡ true) × (same_set (exact_reached state edit) touched ≡ true)
+
+-- as its namesake
+a_text_is_set_exactly : IsExactScope small (exact_tree (exact_text 8 (120 ∷ []))) (7 ∷ []) (0 ∷ 1 ∷ 2 ∷ 7 ∷ [])
+unfolding small entries matches_from some each tails tag_names.tags is_less stated claims_of_rules greatest_from sum default_rules initial won said margin_at padding_at size_at border_at margins paddings borders own_font_size own_mode own_display own_direction own_orientation own_combine own_bidi own_face own_line_height own_align own_shift sized place_on line_to holder_in below_levels ancestors_to
+a_text_is_set_exactly = (refl, refl)
+
+-- the holder of the parent
+nodes_are_taken : IsExactScope small (exact_tree (take_nodes 3 (4 ∷ 5 ∷ []))) (2 ∷ []) (0 ∷ 1 ∷ 2 ∷ [])
+unfolding small entries matches_from some each tails tag_names.tags is_less stated claims_of_rules greatest_from sum default_rules initial won said margin_at padding_at size_at border_at margins paddings borders own_font_size own_mode own_display own_direction own_orientation own_combine own_bidi own_face own_line_height own_align own_shift sized place_on line_to holder_in below_levels ancestors_to
+nodes_are_taken = (refl, refl)
+
+unfoldable without_span : whole.State
+without_span = record { tree = taken small.tree 2 (3 ∷ []); rules = []; faces = [] }
+
+-- the holder of the parent, and the elements that stand again
+nodes_are_restored : IsExactScope without_span (exact_tree (restore 2 0 ((record { number = 3; parent = 2; what = plain tags.Span [] }) ∷ (record { number = 4; parent = 3; what = text (97 ∷ []) }) ∷ (record { number = 5; parent = 3; what = plain tags.I [] }) ∷ (record { number = 6; parent = 5; what = text (98 ∷ []) }) ∷ []))) (2 ∷ 3 ∷ 5 ∷ []) (0 ∷ 1 ∷ 2 ∷ 3 ∷ 5 ∷ [])
+unfolding small entries matches_from some each tails tag_names.tags is_less stated claims_of_rules greatest_from sum default_rules initial won said margin_at padding_at size_at border_at margins paddings borders own_font_size own_mode own_display own_direction own_orientation own_combine own_bidi own_face own_line_height own_align own_shift sized place_on line_to holder_in below_levels ancestors_to without_span
+nodes_are_restored = (refl, refl)
+
+-- rules that are put have every element in their scope
+rules_are_put : IsExactScope small (put_rules 0 []) (0 ∷ 1 ∷ 2 ∷ 3 ∷ 5 ∷ 7 ∷ 9 ∷ []) (0 ∷ 1 ∷ 2 ∷ 3 ∷ 5 ∷ 7 ∷ 9 ∷ [])
+unfolding small entries below_levels ancestors_to
+rules_are_put = (refl, refl)
+
+-- ---- content
 
 -- an inline-block of which the text is edited is in a block that has the content that it had
 outer_content_stays : own_boxes (box_of [] (tree.after small.tree (set_text 8 (120 ∷ []))) 61 2) ≡ own_boxes (box_of [] small.tree 61 2)

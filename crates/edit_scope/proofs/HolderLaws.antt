@@ -1,6 +1,6 @@
 -- Nodes above a node, and the nearest of them that isn't inline.
 use Rattle.std.proofs.Common.{◌≡◌, ◌∙◌, ◌⊎◌, ℕ, zero, suc, ◌+◌, ◌<◌, true, List, [], ◌∷◌, refl, ap, sym, subst, arith, Option, Some, None, option_map, inl, inr}
-use Rattle.std.specs.Prelude.{is_some, map, unwrap_or}
+use Rattle.std.specs.Prelude.{flat_map, is_some, map, unwrap_or}
 use Rattle.std.specs.List.{Contains}
 use Rattle.std.proofs.lemmas.Option.{none-some}
 use Rattle.style_types.specs.declared.style.Display.{Display}
@@ -12,7 +12,7 @@ use Rattle.tree_laws.specs.Reached.{IsAtLevel, IsReached}
 use Rattle.tree_laws.specs.Wholeness.{IsWhole}
 use Rattle.tree_laws.proofs.Holding.{child_lives}
 use Rattle.tree_laws.proofs.Levels.{IsBelow, level_below, parent_of_child}
-use Rattle.box_limits.proofs.Among.{IsIn, found}
+use Rattle.box_limits.proofs.Among.{IsIn, found, in_all}
 use Rattle.box_limits.proofs.Levels.{one_level}
 use Rattle.edit_scope.specs.Scope.{holder_in, unless_inline}
 
@@ -86,6 +86,11 @@ module _ (state : State) where
   ]
 
 -- ---- nodes above a node
+
+-- what is in the scope is touched
+pub is_reached : (state : State) (numbers : List ℕ) (number : ℕ) → IsIn number numbers → IsIn number (flat_map (inclusive_ancestors state) numbers)
+unfolding ancestors_to
+is_reached state numbers number there = in_all (inclusive_ancestors state) number number numbers there (inl refl)
 
 lives_with : (o : Option Entry) (child : ℕ) → IsIn child (unwrap_or (option_map (λ entry. entry.children) o) []) → is_some o ≡ true
 lives_with None child there = absurd there

@@ -1,28 +1,20 @@
 -- Which elements stand where they stood after an edit, below the same nodes.
-use Rattle.std.proofs.Common.{◌≡◌, ◌∙◌, ◌⊎◌, ℕ, zero, suc, ◌+◌, Bool, true, false, List, [], ◌∷◌, refl, ap, sym, subst, arith, Option, Some, None, option_map, inl, inr}
-use Rattle.std.specs.Prelude.{flat_map, is_some, nat_lt, option_and_then, option_to_list, unwrap_or}
+use Rattle.std.proofs.Common.{◌≡◌, ◌∙◌, ◌⊎◌, ℕ, zero, suc, true, false, List, ◌∷◌, refl, ap, sym, subst, arith, Option, Some, None, option_map, inl, inr}
+use Rattle.std.specs.Prelude.{is_some, option_and_then, unwrap_or}
 use Rattle.std.proofs.lemmas.Bool.{false≢true}
-use Rattle.std.proofs.lemmas.Option.{none-some}
+use Rattle.std.proofs.lemmas.Option.{none-some, same_Some}
 use Rattle.css_types.specs.Rule.{Ruling}
-use Rattle.dom_store.specs.State.{What, Entry, State, IsElement, IsRooted, greatest_depth, line_to, line_with}
-use Rattle.dom_store.specs.Building.{tops_from}
+use Rattle.dom_store.specs.State.{What, Entry, State, IsElement, greatest_depth, line_to, line_with}
 use Rattle.dom_store.specs.Standing.{ancestors_to, below_levels, children_at, inclusive_descendants, lives, parent_at}
-use Rattle.dom_store.specs.Edits.{EditOf, set_text, set_style, set_class, insert, remove, move_to, after, concerned}
-use Rattle.dom_store.specs.Refusals.{is_element, is_of, refusal}
+use Rattle.dom_store.specs.Refusals.{is_element, is_of}
 use Rattle.dom_store.proofs.StandLaws.{up_none}
 use Rattle.tree_laws.specs.Reached.{IsAtLevel, IsReached}
-use Rattle.tree_laws.specs.Wholeness.{IsWhole}
 use Rattle.tree_laws.proofs.Levels.{IsBelow, below_first, chain_of_descendant, descendant_of_chain, level_above}
-use Rattle.tree_laws.proofs.Refusing.{lives_below}
-use Rattle.box_limits.specs.Limits.{touched}
-use Rattle.box_limits.proofs.Among.{IsIn, contained, found, in_all, in_first, in_second, kept, only}
+use Rattle.box_limits.proofs.Among.{IsIn, contained, found, kept}
 use Rattle.box_limits.proofs.Levels.{child_below, child_line, first_below, level_below, no_line, up_to}
-use Rattle.box_limits.proofs.Origins.{IsText, Origin, origin}
-use Rattle.edit_scope.specs.Leaves.{TextsAreLeaves}
-use Rattle.edit_scope.specs.Scope.{content_scope, elements_below, every_element, holders, styled_scope, tree_scope}
-
-abbrev pub what_at : State → (number : ℕ) → Option What
-what_at state number = option_map (λ entry. entry.what) (state.node_at number)
+use Rattle.box_limits.proofs.Origins.{IsText}
+use Rattle.edit_scope.specs.Scope.{every_element}
+use Rattle.edit_scope.proofs.Taking.{IsCovered, IsTaken, Source, what_at}
 
 -- ---- all elements
 
@@ -37,16 +29,6 @@ every_in state reached number is =
 
 -- ---- the nodes after an edit
 
--- a document that takes an edit of its tree, and what holds of the document after it
-pub record IsTaken (state : State) (edit : EditOf) : Type 0 where
-  pub unrefused : refusal state edit ≡ None
-  pub whole_before : IsWhole state
-  pub reached_before : IsReached state
-  pub rooted : IsRooted (after state edit)
-  pub whole : IsWhole (after state edit)
-  pub reached : IsReached (after state edit)
-  pub leaves : TextsAreLeaves (after state edit)
-
 -- a node lived, below the same nodes
 pub record IsSame (state next : State) (number : ℕ) : Type 0 where
   pub lived : lives state number ≡ true
@@ -55,13 +37,10 @@ pub record IsSame (state next : State) (number : ℕ) : Type 0 where
   pub ancestors : (most : ℕ) → ancestors_to most next (Some number) ≡ ancestors_to most state (Some number)
   pub lines : (most : ℕ) → line_to most next (Some number) ≡ line_to most state (Some number)
 
-module _ (state : State) (edit : EditOf) (t : IsTaken state edit) where
-  abbrev next : State
-  next = after state edit
-
+module _ (rules : List Ruling) (state next : State) (scoped : List ℕ) (t : IsTaken rules state next scoped) where
   -- the edit makes or changes it, or a node above it
   abbrev IsInside : (level number : ℕ) → Type 0
-  IsInside level number = (first : ℕ) × IsIn first (touched state edit) × IsIn number (below_levels 0 (suc level) next first)
+  IsInside level number = (first : ℕ) × IsCovered next scoped first × IsIn number (below_levels 0 (suc level) next first)
 
   abbrev ComesTo : (level number : ℕ) → Type 0
   ComesTo level number = IsInside level number ⊎ ((is_of is_element next number ≡ false) ⊎ IsSame state next number)
@@ -105,67 +84,38 @@ module _ (state : State) (edit : EditOf) (t : IsTaken state edit) where
       lines = lines_by;
     }
 
-  html_stays : (entry : Entry) → next.node_at 0 ≡ Some entry → entry.parent ≡ None → IsElement entry.what → Origin state edit 0 entry → ComesTo 0 0
+  html_stays : (entry : Entry) → next.node_at 0 ≡ Some entry → entry.parent ≡ None → IsElement entry.what → Source state next scoped 0 entry → ComesTo 0 0
   html_stays entry here top is (inl there) = inl (0, there, first_below next 0 0)
-  html_stays entry here top is (inr (inl (place, above))) = absurd (none-some (state.next + place) (sym top ∙ above))
+  html_stays entry here top is (inr (inl (parent, above, none))) = absurd (none-some parent (sym top ∙ above))
   html_stays entry here top is (inr (inr (inl (old, was, parents, told)))) = absurd (not_element entry.what told is)
   html_stays entry here top is (inr (inr (inr (old, was, parents, whats)))) =
       inr (inr (same_by 0 entry old here was whats parents
-      (λ most. ap (line_to most next) top ∙ no_line next t.whole most ∙ sym (ap (line_to most state) (parents ∙ top) ∙ no_line state t.whole_before most))
+      (λ most. ap (line_to most next) top ∙ no_line next t.later.whole most ∙ sym (ap (line_to most state) (parents ∙ top) ∙ no_line state t.before.whole most))
       (λ most. ap (ancestors_to most next) top ∙ up_none most next ∙ sym (ap (ancestors_to most state) (parents ∙ top) ∙ up_none most state))))
 
-  child_stays : (level parent number : ℕ) (entry : Entry) → next.node_at number ≡ Some entry → entry.parent ≡ Some parent → IsSame state next parent → Origin state edit number entry → ComesTo (suc level) number
-  child_stays level parent number entry here stands same (inl first) = inl (number, first, first_below next (suc level) number)
-  child_stays level parent number entry here stands same (inr (inl (place, under))) =
-      let is : parent ≡ state.next + place = ap (λ (o : Option ℕ). unwrap_or o parent) (sym stands ∙ under) in
-      absurd (omega (arith, is, lives_below state t.whole_before parent same.lived))
-  child_stays level parent number entry here stands same (inr (inr (inl (old, was, parents, told)))) = inr (inl (told_text number entry here told))
-  child_stays level parent number entry here stands same (inr (inr (inr (old, was, over, whats)))) =
+  child_stays : (level parent number : ℕ) (entry : Entry) → next.node_at number ≡ Some entry → entry.parent ≡ Some parent → IsSame state next parent → Source state next scoped number entry → ComesTo (suc level) number
+  child_stays level parent number entry here under same (inl first) = inl (number, first, first_below next (suc level) number)
+  child_stays level parent number entry here under same (inr (inl (upper, above, none))) =
+      let is : parent ≡ upper = same_Some parent upper (sym under ∙ above) in
+      absurd (false≢true (sym (ap (λ (o : Option Entry). is_some o) (ap state.node_at is ∙ none)) ∙ same.lived))
+  child_stays level parent number entry here under same (inr (inr (inl (old, was, parents, told)))) = inr (inl (told_text number entry here told))
+  child_stays level parent number entry here under same (inr (inr (inr (old, was, over, whats)))) =
       inr (inr (same_by number entry old here was whats over
-      (λ most. ap (line_to most next) stands ∙ same.lines most ∙ sym (ap (line_to most state) (over ∙ stands)))
-      (λ most. ap (ancestors_to most next) stands ∙ same.ancestors most ∙ sym (ap (ancestors_to most state) (over ∙ stands)))))
+      (λ most. ap (line_to most next) under ∙ same.lines most ∙ sym (ap (line_to most state) (over ∙ under)))
+      (λ most. ap (ancestors_to most next) under ∙ same.ancestors most ∙ sym (ap (ancestors_to most state) (over ∙ under)))))
 
   stays : (level number : ℕ) → IsAtLevel next level number → ComesTo level number
   stays zero number at =
-      let html = t.rooted.html in
-      subst (ComesTo 0) (sym at) (html_stays html.0 html.1 html.3 html.2 (origin state edit 0 html.0 html.1))
+      let html = t.later.rooted.html in
+      subst (ComesTo 0) (sym at) (html_stays html.0 html.1 html.3 html.2 (t.source 0 html.0 html.1))
   stays (suc level) number (parent, above, contains) =
       let there = found number (children_at next parent) contains in
-      let (entry, here, stands, lines) = child_line next t.whole t.reached level parent number above there in
+      let (entry, here, stands, lines) = child_line next t.later.whole t.later.reached level parent number above there in
       elim (stays level parent above) [
         | inl (first, among, at) ↦ inl (first, among, child_below next (suc level) first parent number at there)
-        | inr (inl told) ↦ absurd (subst (IsIn number) (t.leaves parent told) there)
-        | inr (inr same) ↦ child_stays level parent number entry here stands same (origin state edit number entry here)
+        | inr (inl told) ↦ absurd (subst (IsIn number) (t.later.leaves parent told) there)
+        | inr (inr same) ↦ child_stays level parent number entry here stands same (t.source number entry here)
       ]
-
--- ---- what comes, and what has other styles, is in the scope
-
-module _ (rules : List Ruling) (state : State) where
-  styled_inside : (outermost : Bool) (next : State) → IsReached next → (number other : ℕ) → is_of is_element next other ≡ true → IsIn other (inclusive_descendants next number) → IsIn other (styled_scope outermost rules next number)
-  styled_inside true next reached number other is there = every_in next reached other is
-  styled_inside false next reached number other is there =
-      in_first other (elements_below next number) (holders rules next (option_to_list (parent_at next number))) (kept (is_of is_element next) other (inclusive_descendants next number) there is)
-
-  brought_inside : (next : State) (concerned tops : List ℕ) (first other : ℕ) → IsIn first tops → is_of is_element next other ≡ true → IsIn other (inclusive_descendants next first) → IsIn other (content_scope rules next concerned tops)
-  brought_inside next concerned tops first other among is there =
-      in_second other (holders rules next concerned) (flat_map (elements_below next) tops)
-      (in_all (elements_below next) other first tops among (kept (is_of is_element next) other (inclusive_descendants next first) there is))
-
-  below_one : (next : State) (number first other : ℕ) → IsIn first (number ∷ []) → IsIn other (inclusive_descendants next first) → IsIn other (inclusive_descendants next number)
-  below_one next number first other among there = subst (λ (n : ℕ). IsIn other (inclusive_descendants next n)) (only number first among) there
-
-  pub inside_scope : (edit : EditOf) → IsReached (after state edit) → (first other : ℕ) → IsIn first (touched state edit) → is_of is_element (after state edit) other ≡ true
-      → IsIn other (inclusive_descendants (after state edit) first) → IsIn other (tree_scope rules state edit)
-  inside_scope (set_text number letters) reached first other among is there = absurd among
-  inside_scope (set_style number own) reached first other among is there =
-      styled_inside (nat_lt number 2) (after state (set_style number own)) reached number other is (below_one (after state (set_style number own)) number first other among there)
-  inside_scope (set_class number words) reached first other among is there =
-      styled_inside (nat_lt number 2) (after state (set_class number words)) reached number other is (below_one (after state (set_class number words)) number first other among there)
-  inside_scope (insert parent index nodes own) reached first other among is there =
-      brought_inside (after state (insert parent index nodes own)) (parent ∷ []) (tops_from state.next nodes) first other among is there
-  inside_scope (remove number) reached first other among is there = absurd among
-  inside_scope (move_to number parent index) reached first other among is there =
-      brought_inside (after state (move_to number parent index)) (concerned state (move_to number parent index)) (number ∷ []) first other among is there
 
 -- ---- elements that aren't in the scope, and the nodes above them
 
@@ -173,24 +123,21 @@ chain_on : (state : State) (one two top between number : ℕ) → IsBelow state 
 chain_on state one zero top between number below same = (one, subst (IsBelow state top one) (sym same) below)
 chain_on state one (suc two) top between number below (parent, lower, there) = let (levels, all) = chain_on state one two top between parent below lower in (suc levels, (parent, all, there))
 
-module _ (rules : List Ruling) (state : State) (edit : EditOf) (t : IsTaken state edit) (number : ℕ) (element : is_of is_element (after state edit) number ≡ true) (outside : IsIn number (tree_scope rules state edit) → ⊥) where
-  abbrev now : State
-  now = after state edit
-
+module _ (rules : List Ruling) (state now : State) (scoped : List ℕ) (t : IsTaken rules state now scoped) (number : ℕ) (element : is_of is_element now number ≡ true) (outside : IsIn number scoped → ⊥) where
   not_leaf : (levels upper : ℕ) → IsBelow now upper levels number → is_of is_element now upper ≡ false → ⊥
   not_leaf zero upper below told = false≢true (sym told ∙ (ap (is_of is_element now) (sym below) ∙ element))
-  not_leaf (suc levels) upper below told = let (child, there, rest) = below_first now levels upper number below in subst (IsIn child) (t.leaves upper told) (found child (children_at now upper) there)
+  not_leaf (suc levels) upper below told = let (child, there, rest) = below_first now levels upper number below in subst (IsIn child) (t.later.leaves upper told) (found child (children_at now upper) there)
 
   pub same_above : (levels upper : ℕ) → IsBelow now upper levels number → IsSame state now upper
   same_above levels upper below =
-      let (level, low, at) = t.reached.reached number (element_lives (now.node_at number) element) in
-      let (above, sum, its) = level_above now t.whole levels level upper number at below in
-      elim (stays state edit t above upper its) [
+      let (level, low, at) = t.later.reached.reached number (element_lives (now.node_at number) element) in
+      let (above, sum, its) = level_above now t.later.whole levels level upper number at below in
+      elim (stays rules state now scoped t above upper its) [
         | inl (first, among, there) ↦
             let (few, none, less, over) = chain_of_descendant now (suc above) 0 first upper (contained upper (below_levels 0 (suc above) now first) there) in
             let (many, all) = chain_on now few levels first upper number over below in
-            let (top, whole_sum, top_at) = level_above now t.whole many level first number at all in
-            absurd (outside (inside_scope rules state edit t.reached first number among element
+            let (top, whole_sum, top_at) = level_above now t.later.whole many level first number at all in
+            absurd (outside (among number element
             (found number (inclusive_descendants now first) (descendant_of_chain now many 0 greatest_depth first number (omega arith) (omega (arith, low, whole_sum)) all))))
         | inr (inl told) ↦ absurd (not_leaf levels upper below told)
         | inr (inr same) ↦ same

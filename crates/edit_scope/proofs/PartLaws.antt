@@ -10,7 +10,7 @@ use Rattle.html_read.specs.Values.{Node}
 use Rattle.dom_store.specs.State.{What, text, Entry, State}
 use Rattle.dom_store.specs.Opening.{children_from}
 use Rattle.dom_store.specs.Standing.{children_at, inclusive_descendants, lives, parent_at}
-use Rattle.dom_store.specs.Edits.{EditOf, set_text, set_style, set_class, insert, remove, move_to, after, both, changed, concerned, inserted, inserted_at, moved, removed, under, with_children, with_classes, with_moved, with_own, with_parent, with_put, with_what, without}
+use Rattle.dom_store.specs.Edits.{EditOf, set_text, set_style, set_class, insert, remove, move_to, after, both, changed, changed_if, concerned, inserted, inserted_at, moved, under, with_children, with_classes, with_moved, with_own, with_parent, with_put, with_what, without, without_nodes}
 use Rattle.dom_store.specs.Refusals.{is_element, is_of, refusal}
 use Rattle.tree_laws.specs.Reached.{IsReached}
 use Rattle.tree_laws.specs.Wholeness.{IsWhole}
@@ -20,12 +20,8 @@ use Rattle.box_limits.proofs.Among.{IsIn, in_first, in_second}
 use Rattle.box_limits.proofs.Levels.{child_lives, parent_is}
 use Rattle.edit_scope.specs.Scope.{content_scope, elements_below, holder, holders, styled_scope, tree_scope}
 use Rattle.edit_scope.proofs.HolderLaws.{in_map}
-use Rattle.edit_scope.proofs.LineLaws.{every_in, what_at}
-
--- an element has the children that it had, and each of them is what it was
-pub record IsKept (state next : State) (number : ℕ) : Type 0 where
-  pub children : children_at next number ≡ children_at state number
-  pub whats : (child : ℕ) → IsIn child (children_at next number) → what_at next child ≡ what_at state child
+use Rattle.edit_scope.proofs.LineLaws.{every_in}
+use Rattle.edit_scope.proofs.Taking.{IsKept, what_at}
 
 -- the elements that may have other children after an edit, or children that are changed
 abbrev pub filled : State → EditOf → List ℕ
@@ -59,13 +55,13 @@ not_out false o alive = refl
 apart_from : (number other : ℕ) → (IsIn number (other ∷ []) → ⊥) → number ≢ other
 apart_from number other none same = none (inl (sym same))
 
-left_children : (state : State) (number : ℕ) (parent : Option ℕ) (other : ℕ) → (IsIn other (option_to_list parent) → ⊥) → children_at (left state number parent) other ≡ children_at state other
-left_children state number None other none = refl
-left_children state number (Some parent) other none = children_stay (without number) (nat_eq other parent) (state.node_at other) (ne_eqb other parent (apart_from other parent none))
+pub other_children : (state : State) (change : List ℕ → List ℕ) (parent : Option ℕ) (other : ℕ) → (IsIn other (option_to_list parent) → ⊥) → children_at (changed_if state parent (with_children change)) other ≡ children_at state other
+other_children state change None other none = refl
+other_children state change (Some parent) other none = children_stay change (nat_eq other parent) (state.node_at other) (ne_eqb other parent (apart_from other parent none))
 
-left_what : (state : State) (number : ℕ) (parent : Option ℕ) (other : ℕ) → what_at (left state number parent) other ≡ what_at state other
-left_what state number None other = refl
-left_what state number (Some parent) other = what_stays (without number) (nat_eq other parent) (state.node_at other)
+pub same_what : (state : State) (change : List ℕ → List ℕ) (parent : Option ℕ) (other : ℕ) → what_at (changed_if state parent (with_children change)) other ≡ what_at state other
+same_what state change None other = refl
+same_what state change (Some parent) other = what_stays change (nat_eq other parent) (state.node_at other)
 
 -- ---- one node is changed
 
@@ -107,22 +103,25 @@ module _ (state : State) (whole : IsWhole state) (parent index : ℕ) (nodes : L
         ap (λ (b : Bool). option_map (λ (entry : Entry). entry.what) (entry_by child b)) (lt-ltb child state.next early) ∙ what_stays change (nat_eq child parent) (state.node_at child);
   }
 
--- ---- a node goes
+-- ---- nodes go, and a node that stays has other children
 
-module _ (state : State) (number : ℕ) (whole : IsWhole (removed state number)) (upper : ℕ) (alive : lives (removed state number) upper ≡ true) (none : IsIn upper (option_to_list (parent_at state number)) → ⊥) where
+module _ (state : State) (numbers : List ℕ) (parent : Option ℕ) (change : List ℕ → List ℕ) where
   abbrev mid : State
-  mid = left state number (parent_at state number)
+  mid = changed_if state parent (with_children change)
+
+  abbrev rest : State
+  rest = without_nodes numbers mid
 
   abbrev gone : ℕ → Bool
-  gone other = list_any (nat_eq other) (inclusive_descendants state number)
+  gone other = list_any (nat_eq other) numbers
 
-  removed_kept : IsKept state (removed state number) upper
-  removed_kept = record {
-    children = ap (λ (b : Bool). children_of (if b then None else mid.node_at upper)) (not_out (gone upper) (mid.node_at upper) alive) ∙ left_children state number (parent_at state number) upper none;
+  pub rest_kept : IsWhole rest → (upper : ℕ) → lives rest upper ≡ true → (IsIn upper (option_to_list parent) → ⊥) → IsKept state rest upper
+  rest_kept whole upper alive none = record {
+    children = ap (λ (b : Bool). children_of (if b then None else mid.node_at upper)) (not_out (gone upper) (mid.node_at upper) alive) ∙ other_children state change parent upper none;
     whats = λ child there.
-        let (entry, here, stands) = child_lives (removed state number) whole upper child there in
+        let (entry, here, stands) = child_lives rest whole upper child there in
         ap (λ (b : Bool). option_map (λ (entry : Entry). entry.what) (if b then None else mid.node_at child)) (not_out (gone child) (mid.node_at child) (ap (λ (o : Option Entry). is_some o) here))
-        ∙ left_what state number (parent_at state number) child;
+        ∙ same_what state change parent child;
   }
 
 -- ---- a node is moved
@@ -155,11 +154,11 @@ module _ (state : State) (whole : IsWhole state) (number parent index : ℕ) (al
     children =
         moved_children state whole number parent index alive root upper
         ∙ children_stay (with_moved number index) (nat_eq upper parent) (away.node_at upper) (ne_eqb upper parent (λ same. none (subst (λ (n : ℕ). IsIn n (both (parent_at state number) parent)) (sym same) (in_new (parent_at state number) parent))))
-        ∙ left_children state number (parent_at state number) upper (λ there. none (in_old (parent_at state number) parent upper there));
+        ∙ other_children state (without number) (parent_at state number) upper (λ there. none (in_old (parent_at state number) parent upper there));
     whats = λ child there.
         parent_what parent (nat_eq child number) (put.node_at child)
         ∙ what_stays (with_moved number index) (nat_eq child parent) (away.node_at child)
-        ∙ left_what state number (parent_at state number) child;
+        ∙ same_what state (without number) (parent_at state number) child;
   }
 
 -- ---- each edit
@@ -170,7 +169,7 @@ kept_by state (set_text number letters) whole unrefused now upper lived alive no
 kept_by state (set_style number own) whole unrefused now upper lived alive none = what_kept state whole number (with_own own) upper none
 kept_by state (set_class number words) whole unrefused now upper lived alive none = what_kept state whole number (with_classes words) upper none
 kept_by state (insert parent index nodes own) whole unrefused now upper lived alive none = inserted_kept state whole parent index nodes own upper lived none
-kept_by state (remove number) whole unrefused now upper lived alive none = removed_kept state number now upper alive none
+kept_by state (remove number) whole unrefused now upper lived alive none = rest_kept state (inclusive_descendants state number) (parent_at state number) (without number) now upper alive none
 kept_by state (move_to number parent index) whole unrefused now upper lived alive none =
     let passes = move_passes state number parent index unrefused in
     moved_kept state whole number parent index passes.0 passes.1 upper none
@@ -178,7 +177,7 @@ kept_by state (move_to number parent index) whole unrefused now upper lived aliv
 -- ---- their holders are in the scope
 
 module _ (rules : List Ruling) (state : State) where
-  in_content : (next : State) (concerned tops : List ℕ) (upper : ℕ) → IsIn upper concerned → IsIn (holder rules next upper) (content_scope rules next concerned tops)
+  pub in_content : (next : State) (concerned tops : List ℕ) (upper : ℕ) → IsIn upper concerned → IsIn (holder rules next upper) (content_scope rules next concerned tops)
   in_content next concerned tops upper there = in_first (holder rules next upper) (holders rules next concerned) _ (in_map (holder rules next) upper concerned there)
 
   -- where some element isn't in the scope

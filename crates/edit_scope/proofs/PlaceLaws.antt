@@ -35,8 +35,8 @@ use Rattle.edit_scope.proofs.ContentLaws.{inline_display, style_below}
 use Rattle.edit_scope.proofs.DepthLaws.{tree_below}
 use Rattle.edit_scope.proofs.HolderLaws.{ancestors_are, ancestors_of_child, not_inline}
 use Rattle.edit_scope.proofs.InsideLaws.{Hosts, IsOwnOf, IsRightIn, inner_of, is_box, is_inline, made_hosts, made_split, no_own, own_either, own_first, own_inline, own_made, own_of, own_second, shell_of}
-use Rattle.edit_scope.proofs.LineLaws.{what_at}
 use Rattle.edit_scope.proofs.PageLaws.{pages_are_boxes}
+use Rattle.edit_scope.proofs.Taking.{what_at}
 
 -- ---- the boxes of many parts
 

@@ -1,4 +1,5 @@
 pub mod Boxes
+pub mod Exactly
 pub mod Laws
 pub mod Leaves
 pub mod Pages

@@ -1,6 +1,7 @@
 //! What an edit leaves as it is.
 
 ghost use Rattle.edit_scope.specs.Boxes.{PagesAreBoxesOfHtml};
+ghost use Rattle.edit_scope.specs.Exactly.{ExactUnscopedPlaces, ExactUntouchedPlaces};
 ghost use Rattle.edit_scope.specs.Laws.{UnscopedContent, UnscopedLines, UntouchedBelow, UntouchedBoxes, UntouchedLines};
 ghost use Rattle.edit_scope.specs.Leaves.{EditsKeepLeaves, OpenedTextsAreLeaves};
 ghost use Rattle.edit_scope.specs.Pages.{BoxesAreOfElements, PagesHaveBoxes, PagesNameBoxesOnce, UnscopedPlaces, UntouchedPlaces};
@@ -70,4 +71,15 @@ pub fn boxes_outside_the_scope_were_there()
 /// A box of an element that isn't touched was there with all inside it, in a box whose lines ran alike.
 pub fn untouched_boxes_were_there()
     ensures { UntouchedPlaces }
+{}
+
+/// A box of an element that isn't in the scope of an exact edit was there before it, with its name, its style and its content, on a page whose
+/// `html` had the same mode.
+pub fn boxes_outside_the_scope_of_an_exact_edit_were_there()
+    ensures { ExactUnscopedPlaces }
+{}
+
+/// A box of an element that an exact edit doesn't touch was there with all inside it, in a box whose lines ran alike.
+pub fn boxes_untouched_by_an_exact_edit_were_there()
+    ensures { ExactUntouchedPlaces }
 {}

@@ -139,6 +139,8 @@ arguments_spell words_.Metric = metric_spells
 arguments_spell words_.Retire = mapped_spells (λ face. commands.retire face) (within_last 1 7)
 arguments_spell words_.Rule = mapped_spells (λ behind. commands.rule behind) rest_spells
 arguments_spell words_.Unrule = mapped_spells (λ index. commands.unrule index) argument_last
+arguments_spell words_.Undo = spells_before (give_spells commands.undo) (λ behind last. tt)
+arguments_spell words_.Redo = spells_before (give_spells commands.redo) (λ behind last. tt)
 arguments_spell words_.Show = spells_before (give_spells commands.show) (λ behind last. tt)
 
 -- ---- to the end of the line

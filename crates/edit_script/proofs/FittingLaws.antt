@@ -37,6 +37,8 @@ rest_of (commands.metric face c upright value) = []
 rest_of (commands.retire face) = []
 rest_of (commands.rule rest) = rest
 rest_of (commands.unrule index) = []
+rest_of commands.undo = []
+rest_of commands.redo = []
 rest_of commands.show = []
 
 rest_within : (text rest : List ℕ) → IsRest text rest → length rest ≤ length text
@@ -72,6 +74,8 @@ arguments_within words_.Metric text c (face, f1, b1, number, (code, f2, b2, char
 arguments_within words_.Retire text c (face, is, same) = let long = same_rest c (commands.retire face) same in omega (arith, long)
 arguments_within words_.Rule text c (rest, is, same) = let within = rest_within text rest is in let long = same_rest c (commands.rule rest) same in omega (arith, within, long)
 arguments_within words_.Unrule text c (index, is, same) = let long = same_rest c (commands.unrule index) same in omega (arith, long)
+arguments_within words_.Undo text c (none, same) = let long = same_rest c commands.undo same in omega (arith, long)
+arguments_within words_.Redo text c (none, same) = let long = same_rest c commands.redo same in omega (arith, long)
 arguments_within words_.Show text c (none, same) = let long = same_rest c commands.show same in omega (arith, long)
 
 command_within : (line : List ℕ) (c : Command) → IsCommand line c → length (rest_of c) ≤ length line
@@ -93,6 +97,8 @@ arguments_fit words_.Metric text c (face, f1, b1, number, (code, f2, b2, charact
 arguments_fit words_.Retire text c (face, is, same) = subst HasFitting (sym same) is.1
 arguments_fit words_.Rule text c (rest, is, same) = subst HasFitting (sym same) tt
 arguments_fit words_.Unrule text c (index, is, same) = subst HasFitting (sym same) tt
+arguments_fit words_.Undo text c (none, same) = subst HasFitting (sym same) tt
+arguments_fit words_.Redo text c (none, same) = subst HasFitting (sym same) tt
 arguments_fit words_.Show text c (none, same) = subst HasFitting (sym same) tt
 
 pub command_fits : (line rest : List ℕ) (c : Command) → command line ≡ good (c, rest) → HasFitting c
@@ -146,6 +152,8 @@ module _ (shorter : (text letters : List ℕ) → IsGap text letters → length 
   means_within (commands.retire face) what same = let long = same_bytes what _ same in omega (arith, long)
   means_within (commands.rule rest) what (all, is, same) = let long = same_bytes what _ same in omega (arith, long)
   means_within (commands.unrule index) what same = let long = same_bytes what _ same in omega (arith, long)
+  means_within commands.undo what same = let long = same_bytes what _ same in omega (arith, long)
+  means_within commands.redo what same = let long = same_bytes what _ same in omega (arith, long)
   means_within commands.show what same = let long = same_bytes what _ same in omega (arith, long)
 
   lines_within : (number : ℕ) (lines : List (List ℕ)) (said : List StepAt) → AreLines number lines said → bytes_of said ≤ total lines

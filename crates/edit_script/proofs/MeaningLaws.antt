@@ -276,6 +276,8 @@ means spelled (commands.rule rest) what e =
     let is = sheet_is spelled.sheets rest a.0 a.1 in
     (is.0, is.1, sym (same_there (meanings.edit (changes.rule a.0)) what a.2) ∙ ap (λ (rules : List Ruling). meanings.edit (changes.rule rules)) is.2)
 means spelled (commands.unrule index) what e = cc
+means spelled commands.undo what e = cc
+means spelled commands.redo what e = cc
 means spelled commands.show what e = cc
 
 pub means_again : AreSpelled → (c : Command) (what : Step) → Means c what → meaning c ≡ there what
@@ -295,4 +297,6 @@ means_again spelled (commands.retire face) what m = ap (λ (s : Step). there s) 
 means_again spelled (commands.rule rest) what m =
     ap (λ (r : Said (List Ruling)). and_then r (λ rules. there (meanings.edit (changes.rule rules)))) (sheet_again spelled.sheets rest m.0 m.1) ∙ ap (λ (s : Step). there s) (sym m.2)
 means_again spelled (commands.unrule index) what m = ap (λ (s : Step). there s) (sym m)
+means_again spelled commands.undo what m = ap (λ (s : Step). there s) (sym m)
+means_again spelled commands.redo what m = ap (λ (s : Step). there s) (sym m)
 means_again spelled commands.show what m = ap (λ (s : Step). there s) (sym m)

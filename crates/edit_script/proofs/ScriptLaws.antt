@@ -38,21 +38,25 @@ edit_more b = record { said = b.said; lines = b.lines; edits = b.edits + 1; show
 show_more : Begun → Begun
 show_more b = record { said = b.said; lines = b.lines; edits = b.edits; shows = b.shows + 1 }
 
-edit_counts : (b : Begun) (change : Change) → b.edits < 10000 → IsCounted b (meanings.edit change) (edit_more b)
+-- a step counts as one edit
+abbrev IsOneEdit : Step → Type 0
+IsOneEdit what = (edits_in what ≡ 1) × (shows_in what ≡ 0)
+
+edit_counts : (b : Begun) (what : Step) → IsOneEdit what → b.edits < 10000 → IsCounted b what (edit_more b)
 unfolding edit_more
-edit_counts b change lt = record { said = refl; lines = refl; edits = refl; shows = omega arith; few_edits = λ few. omega (arith, lt); few_shows = λ few. few }
+edit_counts b what (one, none) lt = record { said = refl; lines = refl; edits = omega (arith, one); shows = omega (arith, none); few_edits = λ few. omega (arith, lt); few_shows = λ few. few }
 
 show_counts : (b : Begun) → b.shows < 64 → IsCounted b meanings.show (show_more b)
 unfolding show_more
 show_counts b lt = record { said = refl; lines = refl; edits = omega arith; shows = refl; few_edits = λ few. few; few_shows = λ few. omega (arith, lt) }
 
-edit_by : (b next : Begun) (change : Change) (t : Bool) → nat_lt b.edits 10000 ≡ t → cond t (there (edit_more b)) (Err kinds.TooManyEdits) ≡ there next → IsCounted b (meanings.edit change) next
-edit_by b next change true lt e = subst (λ (z : Begun). IsCounted b (meanings.edit change) z) (same_there (edit_more b) next e) (edit_counts b change (ltb-true b.edits 10000 lt))
-edit_by b next change false lt e = absurd cc
+edit_by : (b next : Begun) (what : Step) (t : Bool) → IsOneEdit what → nat_lt b.edits 10000 ≡ t → cond t (there (edit_more b)) (Err kinds.TooManyEdits) ≡ there next → IsCounted b what next
+edit_by b next what true one lt e = subst (λ (z : Begun). IsCounted b what z) (same_there (edit_more b) next e) (edit_counts b what one (ltb-true b.edits 10000 lt))
+edit_by b next what false one lt e = absurd cc
 
-edit_counted : (b next : Begun) (change : Change) → counted_edit b ≡ there next → IsCounted b (meanings.edit change) next
+edit_counted : (b next : Begun) (what : Step) → IsOneEdit what → counted_edit b ≡ there next → IsCounted b what next
 unfolding edit_more edit_by
-edit_counted b next change e = edit_by b next change (nat_lt b.edits 10000) refl e
+edit_counted b next what one e = edit_by b next what (nat_lt b.edits 10000) one refl e
 
 show_by : (b next : Begun) (t : Bool) → nat_lt b.shows 64 ≡ t → cond t (there (show_more b)) (Err kinds.TooManyShows) ≡ there next → IsCounted b meanings.show next
 show_by b next true lt e = subst (λ (z : Begun). IsCounted b meanings.show z) (same_there (show_more b) next e) (show_counts b (ltb-true b.shows 64 lt))
@@ -63,7 +67,7 @@ unfolding show_more show_by
 show_counted b next e = show_by b next (nat_lt b.shows 64) refl e
 
 an_edit : (b next : Begun) (change : Change) (what : Step) → what ≡ meanings.edit change → counted_edit b ≡ there next → IsCounted b what next
-an_edit b next change what is e = subst (λ (w : Step). IsCounted b w next) (sym is) (edit_counted b next change e)
+an_edit b next change what is e = subst (λ (w : Step). IsCounted b w next) (sym is) (edit_counted b next (meanings.edit change) (refl, refl) e)
 
 is_counted : (c : Command) (b next : Begun) (what : Step) → Means c what → counted c b ≡ there next → IsCounted b what next
 is_counted commands.show b next what m e = subst (λ (w : Step). IsCounted b w next) (sym m) (show_counted b next e)
@@ -77,6 +81,8 @@ is_counted (commands.metric face c upright value) b next what m e = an_edit b ne
 is_counted (commands.retire face) b next what m e = an_edit b next (changes.retire face) what m e
 is_counted (commands.rule rest) b next what m e = an_edit b next (changes.rule m.0.rules) what m.2 e
 is_counted (commands.unrule index) b next what m e = an_edit b next (changes.unrule index) what m e
+is_counted commands.undo b next what m e = subst (λ (w : Step). IsCounted b w next) (sym m) (edit_counted b next meanings.undo (refl, refl) e)
+is_counted commands.redo b next what m e = subst (λ (w : Step). IsCounted b w next) (sym m) (edit_counted b next meanings.redo (refl, refl) e)
 
 -- a step that may still come is counted
 record Counts (c : Command) (b : Begun) : Type 0 where
@@ -96,6 +102,11 @@ edit_fits b change what is few =
     let one : edits_in what ≡ 1 = ap edits_in is in
     omega (arith, one, few)
 
+step_fits : (b : Begun) (step what : Step) → IsOneEdit step → what ≡ step → b.edits + edits_in what ≤ 10000 → b.edits < 10000
+step_fits b step what one is few =
+    let same : edits_in what ≡ 1 = ap edits_in is ∙ one.0 in
+    omega (arith, same, few)
+
 show_fits : (b : Begun) (what : Step) → what ≡ meanings.show → b.shows + shows_in what ≤ 64 → b.shows < 64
 show_fits b what is few =
     let one : shows_in what ≡ 1 = ap shows_in is in
@@ -113,6 +124,8 @@ may_count (commands.metric face c upright value) b what m edits shows = record {
 may_count (commands.retire face) b what m edits shows = record { next = edit_more b; is = edit_may b (edit_fits b (changes.retire face) what m edits) }
 may_count (commands.rule rest) b what m edits shows = record { next = edit_more b; is = edit_may b (edit_fits b (changes.rule m.0.rules) what m.2 edits) }
 may_count (commands.unrule index) b what m edits shows = record { next = edit_more b; is = edit_may b (edit_fits b (changes.unrule index) what m edits) }
+may_count commands.undo b what m edits shows = record { next = edit_more b; is = edit_may b (step_fits b meanings.undo what (refl, refl) m edits) }
+may_count commands.redo b what m edits shows = record { next = edit_more b; is = edit_may b (step_fits b meanings.redo what (refl, refl) m edits) }
 
 -- ---- a line
 

@@ -18,6 +18,8 @@ word_rows =
     (codes "retire", word.Retire) ∷
     (codes "rule", word.Rule) ∷
     (codes "unrule", word.Unrule) ∷
+    (codes "undo", word.Undo) ∷
+    (codes "redo", word.Redo) ∷
     (codes "show", word.Show) ∷ []
 
 the_words : words ≡ word_rows

@@ -21,6 +21,8 @@ pub data Command : Type 0 where
   retire : (face : ℕ) → Command
   rule : (rest : List ℕ) → Command
   unrule : (index : ℕ) → Command
+  undo : Command
+  redo : Command
   show : Command
 
 unfoldable pub words : List (List ℕ × Word)
@@ -92,6 +94,8 @@ arguments words_.Metric = metric_arguments
 arguments words_.Retire = mapped (λ face. retire face) (argument_within 1 7)
 arguments words_.Rule = mapped (λ behind. rule behind) rest
 arguments words_.Unrule = mapped (λ index. unrule index) argument
+arguments words_.Undo = give undo
+arguments words_.Redo = give redo
 arguments words_.Show = give show
 
 -- the end of the line

@@ -5,7 +5,7 @@ use Rattle.edits.specs.Change.{IsFitting, IsSaid, bytes_brought}
 use Rattle.edit_script.specs.Command.{Command}
 use Rattle.edit_script.specs.Command as commands
 use Rattle.edit_script.specs.Grammar.{IsScript}
-use Rattle.edit_script.specs.Meaning.{Step, show, edit}
+use Rattle.edit_script.specs.Meaning.{Step, show, edit, undo, redo}
 use Rattle.edit_script.specs.Script.{StepAt}
 
 -- an edit has the nodes of a fragment, each with its own declarations; numbers of declarations, in rules too, are such as a
@@ -13,6 +13,8 @@ use Rattle.edit_script.specs.Script.{StepAt}
 abbrev pub Fits : Step → Type 0
 Fits show = ⊤
 Fits (edit change) = IsFitting change × IsSaid change
+Fits undo = ⊤
+Fits redo = ⊤
 
 -- the words of a line bring no greater advance, and don't retire face 0
 abbrev pub HasFitting : Command → Type 0
@@ -27,6 +29,8 @@ AllFit said = All (λ s. Fits s.what) said
 abbrev pub bytes_in : Step → ℕ
 bytes_in show = 0
 bytes_in (edit change) = bytes_brought change
+bytes_in undo = 0
+bytes_in redo = 0
 
 abbrev pub bytes_of : List StepAt → ℕ
 bytes_of [] = 0

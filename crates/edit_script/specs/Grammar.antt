@@ -5,7 +5,7 @@
 --   command   = "text" argument rest | "style" argument rest | "class" argument rest
 --             | "insert" argument argument rest | "remove" argument | "move" argument argument argument
 --             | "metric" argument character (" h" | " u") argument | "retire" argument | "rule" rest | "unrule" argument
---             | "show"
+--             | "undo" | "redo" | "show"
 --   argument  = " " 1 to 7 decimal digits
 --   character = " U+" 4 or 5 hexadecimal digits
 --   rest      = (" " bytes)?
@@ -36,7 +36,7 @@ use Rattle.edit_script.specs.declared.command.Word.{Word}
 use Rattle.edit_script.specs.declared.command.Word.TheVariants as words_
 use Rattle.edit_script.specs.Command.{Command, is_hexadecimal, words}
 use Rattle.edit_script.specs.Command as commands
-use Rattle.edit_script.specs.Meaning.{Step, is_less, show, edit}
+use Rattle.edit_script.specs.Meaning.{Step, is_less, show, edit, undo, redo}
 use Rattle.edit_script.specs.Script.{StepAt, is_blank, is_lf}
 
 -- ---- the words of a line
@@ -82,6 +82,8 @@ AreArguments words_.Metric = IsMetric
 AreArguments words_.Retire = Mapped (λ face. commands.retire face) (IsArgumentWithin 1 7)
 AreArguments words_.Rule = Mapped (λ behind. commands.rule behind) IsRest
 AreArguments words_.Unrule = Mapped (λ index. commands.unrule index) IsArgument
+AreArguments words_.Undo = Given commands.undo
+AreArguments words_.Redo = Given commands.redo
 AreArguments words_.Show = Given commands.show
 
 abbrev pub IsCommand : Grammar Command
@@ -107,6 +109,8 @@ Means (commands.metric face c upright value) what = what ≡ edit (metric face c
 Means (commands.retire face) what = what ≡ edit (retire face)
 Means (commands.rule rest) what = (all : Sheet) × IsWholeSheet 0 rest all × (what ≡ edit (rule all.rules))
 Means (commands.unrule index) what = what ≡ edit (unrule index)
+Means commands.undo what = what ≡ undo
+Means commands.redo what = what ≡ redo
 Means commands.show what = what ≡ show
 
 -- ---- lines
@@ -126,14 +130,18 @@ AreLines number [] said = said ≡ []
 AreLines number (line ∷ others) said = (first : Option Step) × (more : List StepAt)
     × Says (strip_carriage_return line) first × AreLines (number + 1) others more × (said ≡ numbered number first more)
 
--- how many edits there are, and how often pages are listed
+-- how many edits there are, those that are taken back or done again too, and how often pages are listed
 abbrev pub edits_in : Step → ℕ
 edits_in show = 0
 edits_in (edit change) = 1
+edits_in undo = 1
+edits_in redo = 1
 
 abbrev pub shows_in : Step → ℕ
 shows_in show = 1
 shows_in (edit change) = 0
+shows_in undo = 0
+shows_in redo = 0
 
 abbrev pub edits_of : List StepAt → ℕ
 edits_of [] = 0

@@ -27,6 +27,8 @@ use Rattle.edit_script.specs.Command as commands
 pub data Step : Type 0 where
   show : Step
   edit : (change : Change) → Step
+  undo : Step
+  redo : Step
 
 -- a value, or what is wrong
 abbrev pub Said : Type 0 → Type 0
@@ -93,4 +95,6 @@ meaning (commands.metric face c upright value) = Ok (edit (metric face c upright
 meaning (commands.retire face) = Ok (edit (retire face))
 meaning (commands.rule rest) = and_then (sheet_rules rest) (λ rules. Ok (edit (rule rules)))
 meaning (commands.unrule index) = Ok (edit (unrule index))
+meaning commands.undo = Ok undo
+meaning commands.redo = Ok redo
 meaning commands.show = Ok show

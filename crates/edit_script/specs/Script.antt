@@ -55,6 +55,8 @@ counted (commands.metric face c upright value) b = counted_edit b
 counted (commands.retire face) b = counted_edit b
 counted (commands.rule rest) b = counted_edit b
 counted (commands.unrule index) b = counted_edit b
+counted commands.undo b = counted_edit b
+counted commands.redo b = counted_edit b
 
 abbrev pub with_step : Begun → Step → Begun
 with_step b what = record { said = b.said ++ record { line = b.lines; what = what } ∷ []; lines = b.lines; edits = b.edits; shows = b.shows }

@@ -11,7 +11,7 @@ use Rattle.edit_script.specs.declared.command.Command as code_command
 use Rattle.edit_script.specs.declared.command.Command.TheVariants as commands
 use Rattle.edit_script.specs.Command.{Command}
 use Rattle.edit_script.specs.Command as words
-use Rattle.edit_script.specs.Meaning.{Step, show, edit}
+use Rattle.edit_script.specs.Meaning.{Step, show, edit, undo, redo}
 use Rattle.edit_script.specs.declared.script.Begun as code_begun
 use Rattle.dom_store.specs.declared.edit.NewNodes as code_new
 use Rattle.edit_script.specs.Script.{Begun, StepAt, is_lf}
@@ -22,6 +22,8 @@ new_of new = (nodes_of new.read.items, map (λ own. own.items) new.styles.items)
 abbrev pub step_of : code_step.ScriptStep → Step
 step_of steps.Show = show
 step_of (steps.Edit change) = edit (change_of change)
+step_of steps.Undo = undo
+step_of steps.Redo = redo
 
 abbrev pub step_at : code_line.ScriptLine → StepAt
 step_at l = record { line = l.line; what = step_of l.what }
@@ -40,6 +42,8 @@ command_of (commands.Metric face c upright value) = words.metric face c upright 
 command_of (commands.Retire face) = words.retire face
 command_of (commands.Rule rest) = words.rule rest.now
 command_of (commands.Unrule index) = words.unrule index
+command_of commands.Undo = words.undo
+command_of commands.Redo = words.redo
 command_of commands.Show = words.show
 
 abbrev pub begun_of : code_begun.Begun → Begun

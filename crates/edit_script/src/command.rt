@@ -30,11 +30,13 @@ pub(crate) enum Word {
     Retire,
     Rule,
     Unrule,
+    Undo,
+    Redo,
     Show,
 }
 
 /// The words, as they stand in lines.
-pub(crate) static WORDS: [(&str, Word); 11] = [
+pub(crate) static WORDS: [(&str, Word); 13] = [
     ("text", Word::Text),
     ("style", Word::Style),
     ("class", Word::Class),
@@ -45,6 +47,8 @@ pub(crate) static WORDS: [(&str, Word); 11] = [
     ("retire", Word::Retire),
     ("rule", Word::Rule),
     ("unrule", Word::Unrule),
+    ("undo", Word::Undo),
+    ("redo", Word::Redo),
     ("show", Word::Show),
 ];
 
@@ -94,6 +98,8 @@ pub(crate) enum Command<'a> {
     Unrule {
         index: u32,
     },
+    Undo,
+    Redo,
     Show,
 }
 
@@ -152,6 +158,8 @@ fn arguments(word: Word, text: &str) -> Result<(Command<'_>, &str), &[u8]>
             let (index, left) = argument(text)?;
             Ok((Command::Unrule { index }, left))
         }
+        Word::Undo => Ok((Command::Undo, text)),
+        Word::Redo => Ok((Command::Redo, text)),
         Word::Show => Ok((Command::Show, text)),
     }
 }

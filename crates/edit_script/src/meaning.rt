@@ -84,6 +84,8 @@ pub(crate) fn meaning(alloc: Global, command: Command<'_>) -> Result<ScriptStep,
             Ok(ScriptStep::Edit(Edit::Rule { rules }))
         }
         Command::Unrule { index } => Ok(ScriptStep::Edit(Edit::Unrule { index })),
+        Command::Undo => Ok(ScriptStep::Undo),
+        Command::Redo => Ok(ScriptStep::Redo),
         Command::Show => Ok(ScriptStep::Show),
     }
 }

@@ -168,7 +168,9 @@ fn count(begun: &mut Begun, command: Command<'_>) -> Result<(), Halt>
         | Command::Metric { .. }
         | Command::Retire { .. }
         | Command::Rule { .. }
-        | Command::Unrule { .. } => count_edit(begun),
+        | Command::Unrule { .. }
+        | Command::Undo
+        | Command::Redo => count_edit(begun),
     }
 }
 

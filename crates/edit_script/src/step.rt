@@ -9,6 +9,10 @@ pub enum ScriptStep {
     Show,
     /// The document is edited.
     Edit(Edit),
+    /// The last edit is taken back, where one can be.
+    Undo,
+    /// The edit that was taken back last is done again, where there is one.
+    Redo,
 }
 
 /// What a line says, and the line's number. Lines count from 1.

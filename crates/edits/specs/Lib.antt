@@ -1,3 +1,4 @@
 pub mod Change
 pub mod Edited
+pub mod Exact
 pub mod State

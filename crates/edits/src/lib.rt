@@ -2,6 +2,8 @@
 #![tactic(auto)]
 
 mod edit;
+mod exact;
 
 pub use dom_store::Edit as TreeEdit;
 pub use edit::Edit;
+pub use exact::{ExactEdit, Step};

@@ -25,7 +25,8 @@ use Rattle.html_read.specs.Values.{Node, Whole, nodes_of, whole_of}
 use Rattle.dom_store.specs.Opening.{opened}
 use Rattle.dom_store.specs.State.{State, state_of}
 use Rattle.edits.specs.State as edited
-use Rattle.session.specs.State.{IsSound, rules_in, state_in}
+use Rattle.session.specs.History.{unedited}
+use Rattle.session.specs.State.{IsSound, IsUnedited, rules_in, state_in}
 use Rattle.edit_script.specs.Views.{steps_of}
 use Rattle.session.specs.Error.{open_word}
 use Rattle.session.specs.Opening.{CanOpen, HasOneAnswer, IsRefused}
@@ -264,14 +265,19 @@ module _ {I : Type 0} {D : I → Type 0} (members : (x : I) → Ghosts (D x)) (v
 module _ {I : Type 0} {D : I → Type 0} (members : (x : I) → Ghosts (D x)) (none_tie : NoneIsFirstWhereTurnable) where
   ready_by_tie : (session : Session I D) → IsSound (faces_of members session.faces) session → (tie : Option ℕ) → first_of (tying_places (rules_in session) (state_of session.document)) ≡ tie
       → IsReady members (due_by_tie session tie)
-  ready_by_tie session sound None is = (sound, (none_tie (rules_in session) (state_of session.document) sound.reached).0 is)
+  ready_by_tie session sound None is = (sound, (none_tie (rules_in session) (state_of session.document) sound.document.reached).0 is)
   ready_by_tie session sound (Some place) is = tt
 
-  pub ready_over : (session : Session I D) (lines : Lines) → IsSound (faces_of members session.faces) session → FitsAsked (asked_of lines)
+  pub ready_over : (session : Session I D) (lines : Lines) → IsSound (faces_of members session.faces) session → IsUnedited (faces_of members session.faces) session → FitsAsked (asked_of lines)
       → weight.total weight.bytes (state_of session.document) + bytes_asked (asked_of lines) ≤ 1048576 → IsReady members (due_over session lines)
-  ready_over session (code.Steps script) sound fits room = record { sound = sound; fit = fits; room = room }
-  ready_over session (code.Probes asked) sound fits room = sound
-  ready_over session code.Modes sound fits room = ready_by_tie session sound (first_of (tying_places (rules_in session) (state_of session.document))) refl
+  ready_over session (code.Steps script) sound new fits room = record {
+    sound = sound;
+    unedited = new;
+    fit = fits;
+    room = (weight.total weight.bytes (state_of session.document), unedited (state_in (faces_of members session.faces) session), new.holds, room);
+  }
+  ready_over session (code.Probes asked) sound new fits room = sound
+  ready_over session code.Modes sound new fits room = ready_by_tie session sound (first_of (tying_places (rules_in session) (state_of session.document))) refl
 
 -- ---- answers
 

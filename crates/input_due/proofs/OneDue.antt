@@ -15,7 +15,7 @@ use Rattle.html_read.specs.Values.{Node, Whole}
 use Rattle.edits.specs.State.{State}
 use Rattle.session.specs.Opening.{CanOpen, HasOneAnswer, IsRefused}
 use Rattle.session.specs.declared.error.OpenError.{OpenError}
-use Rattle.edit_job.specs.Owed.{AreOwedOnce, Owed, after_page, at_first}
+use Rattle.edit_job.specs.Owed.{AreOwedOnce, Owed, after_page, at_first, unlogged}
 use Rattle.edit_job.specs.Refusal.{refusal}
 use Rattle.edit_job.specs.Steps.{HaveAnEnd, HaveOneEnd}
 use Rattle.session.specs.Error.{open_word}
@@ -23,7 +23,9 @@ use Rattle.input_due.specs.Due.{Done, Refused, node_of}
 use Rattle.input_due.specs.declared.follows.Follows.{Follows}
 use Rattle.modes_job.specs.Telling.{modes_of}
 use Rattle.probe_job.specs.Answers.{answers}
-use Rattle.session.specs.State.{page_of, styled_of}
+use Rattle.page_modes.specs.Pages.{page_of}
+use Rattle.session.specs.Document.{styled_of}
+use Rattle.session.specs.History.{unedited}
 use Rattle.input_due.specs.Asked.{Asked, AskedOr, asked_behind, has_lines, modes, probes, steps}
 use Rattle.input_due.specs.Input.{ComesOfAsked, ComesOfInput, ComesOfOpen, ComesOfOpened, ComesOfRead, ComesOfStyling, ComesOfTail, IsDueOfRefusal, IsDueOver, Told, longest_input, opened_with, tied}
 use Rattle.input_due.specs.Owed.{OwesNothing, OwesOver, nothing_owed, owed_so_far}
@@ -114,7 +116,7 @@ module _ {X : Type 0} (Over : State → Asked → X → Type 0) (RefusedAs : Lis
 -- ---- what is due
 
 due_some : HaveAnEnd → (view : View) (state : State) (asked : Asked) → (told : Told) × IsDueOver view state asked told
-due_some leads view state (steps said) = let end_ = leads view state said in ((Done, end_.1), (refl, end_.0, end_.2))
+due_some leads view state (steps said) = let end_ = leads view (unedited state) said in ((Done, end_.1), (refl, end_.0, end_.2))
 due_some leads view state (probes asked) = ((Done, answers (page_of state.faces view (styled_of state)) asked), (refl, refl))
 due_some leads view state modes = ((Done, modes_of state.faces view state.rules state.tree), (refl, refl))
 
@@ -122,7 +124,7 @@ same_told : (one other : Told) → other.0 ≡ one.0 → other.1 ≡ one.1 → o
 same_told one other ends bytes = ap (λ e. (e, other.1)) ends ∙ ap (λ b. (one.0, b)) bytes
 
 due_only : HaveOneEnd → (view : View) (state : State) (asked : Asked) (one other : Told) → IsDueOver view state asked one → IsDueOver view state asked other → other ≡ one
-due_only ends view state (steps said) one other (is, last, here) (is', last', there) = same_told one other (is' ∙ sym is) (ends view state said last last' one.1 other.1 here there).1
+due_only ends view state (steps said) one other (is, last, here) (is', last', there) = same_told one other (is' ∙ sym is) (ends view (unedited state) said last last' one.1 other.1 here there).1
 due_only ends view state (probes asked) one other (is, d) (is', d') = same_told one other (is' ∙ sym is) (d' ∙ sym d)
 due_only ends view state modes one other (is, d) (is', d') = same_told one other (is' ∙ sym is) (d' ∙ sym d)
 
@@ -149,12 +151,12 @@ one_due answer leads ends = record {
 -- ---- what is owed
 
 owed_some : AreOwedOnce → (view : View) (state : State) (asked : Asked) → (owed : Owed) × OwesOver view state asked owed
-owed_some owes view state (steps said) = let last = owes.some view state (at_first state) said in (owed_so_far last.0, (last.0, last.1, refl))
+owed_some owes view state (steps said) = let last = owes.some view (unlogged state) (at_first state) said in (owed_so_far last.0, (last.0, last.1, refl))
 owed_some owes view state (probes asked) = (owed_so_far (after_page view state (at_first state)), refl)
 owed_some owes view state modes = (owed_so_far (after_page view state (at_first state)), refl)
 
 owed_only : AreOwedOnce → (view : View) (state : State) (asked : Asked) (one other : Owed) → OwesOver view state asked one → OwesOver view state asked other → other ≡ one
-owed_only owes view state (steps said) one other (last, here, is) (last', there, is') = is' ∙ ap owed_so_far (owes.only view state (at_first state) said last last' here there) ∙ sym is
+owed_only owes view state (steps said) one other (last, here, is) (last', there, is') = is' ∙ ap owed_so_far (owes.only view (unlogged state) (at_first state) said last last' here there) ∙ sym is
 owed_only owes view state (probes asked) one other is is' = is' ∙ sym is
 owed_only owes view state modes one other is is' = is' ∙ sym is
 

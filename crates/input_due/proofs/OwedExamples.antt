@@ -30,8 +30,9 @@ use Rattle.edit_scope.specs.Scope.{holder_in}
 use Rattle.edit_script.specs.Meaning.{Step, show, edit}
 use Rattle.edit_script.specs.Script.{StepAt}
 use Rattle.hit_caret.specs.declared.probes.Probe.{Probe}
-use Rattle.session.specs.Editing.{CanApply}
-use Rattle.edit_job.specs.Owed.{Owed, Owing, after_edit, after_page, at_first}
+use Rattle.session.specs.Editing.{CanApply, log_after}
+use Rattle.undo_log.specs.Log.{empty}
+use Rattle.edit_job.specs.Owed.{Logged, Owed, Owing, after_edit, after_page, at_first, unlogged}
 use Rattle.input_due.specs.Asked.{probes, steps}
 use Rattle.input_due.specs.Owed.{OwesOver}
 
@@ -62,10 +63,18 @@ first_page = after_page view two_paragraphs (at_first two_paragraphs)
 -- both texts, and what the two paragraphs, `body` and `html` come to: after it a page owes nothing
 two_pages : OwesOver view two_paragraphs (steps (at_line 1 show ∷ at_line 2 show ∷ [])) (amount 2 4)
 unfolding entries two_paragraphs matches_from some each tails tag_names.tags stated claims_of_rules greatest_from default_rules initial won said margin_at padding_at size_at border_at margins paddings borders own_mode own_display own_direction sized line_to tree_to below_levels ancestors_to styled_in content join runs stacked handed_on equation_of inline_size known_size or_zero rest
-two_pages = (after_page view two_paragraphs first_page, (two_paragraphs, first_page, (refl, refl), (two_paragraphs, after_page view two_paragraphs first_page, (refl, refl), refl)), refl)
+two_pages = (
+  after_page view two_paragraphs first_page,
+  (unlogged two_paragraphs, first_page, (refl, refl), (unlogged two_paragraphs, after_page view two_paragraphs first_page, (refl, refl), refl)),
+  refl,
+)
 
 abbrev other_text : Change
 other_text = of_tree (set_text 3 (120 ∷ 121 ∷ 122 ∷ []))
+
+-- the document after that edit, with its step in the log
+abbrev edited : Logged
+edited = record { state = after two_paragraphs other_text; log = log_after two_paragraphs other_text empty }
 
 abbrev second_page : Owing
 second_page = after_page view (after two_paragraphs other_text) (after_edit two_paragraphs other_text first_page)
@@ -76,15 +85,10 @@ unfolding entries two_paragraphs place_on matches_from some each tails tag_names
 a_page_after_an_edit can = (
   second_page,
   (
-    two_paragraphs,
+    unlogged two_paragraphs,
     first_page,
     (refl, refl),
-    (
-      after two_paragraphs other_text,
-      after_edit two_paragraphs other_text first_page,
-      inl (can, refl, refl),
-      (after two_paragraphs other_text, second_page, (refl, refl), refl),
-    ),
+    (edited, after_edit two_paragraphs other_text first_page, inl (can, refl, refl), (edited, second_page, (refl, refl), refl)),
   ),
   refl,
 )

@@ -1,5 +1,5 @@
 -- What is due for an input, as its end and the bytes to be written.
-use Rattle.std.specs.Prelude.{◌≡◌, ◌↔◌, ◌+◌, ◌≤◌, ℕ, List, codes, Option, option_map, unwrap_or, ⊤}
+use Rattle.std.specs.Prelude.{◌≡◌, ◌↔◌, ℕ, List, codes, Option, option_map, unwrap_or, ⊤}
 use Rattle.face_api.specs.Faces.{faces_of}
 use Rattle.face_api.specs.Table.{Table}
 use Rattle.face_api.specs.declared.face.Face.{Ghosts}
@@ -8,18 +8,18 @@ use Rattle.html_tokens.specs.Error.{kind_word}
 use Rattle.dom_store.specs.State.{state_of}
 use Rattle.style_modes.specs.Turnable.{IsTurnable}
 use Rattle.modes_job.specs.Telling.{modes_of}
-use Rattle.edits.specs.State.{State}
-use Rattle.tree_laws.specs.Weight.{bytes, total}
 use Rattle.edit_script.specs.Error.{kind_word as script_word}
-use Rattle.edit_script.specs.Fitting.{AllFit, bytes_of}
+use Rattle.edit_script.specs.Fitting.{AllFit}
 use Rattle.edit_script.specs.Script.{StepAt}
 use Rattle.edit_script.specs.Views.{steps_of}
 use Rattle.session.specs.declared.error.OpenError.{OpenError}
 use Rattle.session.specs.declared.session.Session.{Session}
 use Rattle.session.specs.Error.{open_node, open_word}
-use Rattle.session.specs.State.{IsSound, page_in, rules_in}
+use Rattle.session.specs.History.{Opened}
+use Rattle.session.specs.State.{IsSound, IsUnedited, page_in, rules_in}
 use Rattle.edit_job.specs.Refusal.{refusal}
 use Rattle.edit_job.specs.Steps.{AreStepsIn}
+use Rattle.edit_job.specs.Told.{HasRoom}
 use Rattle.hit_caret.specs.Error.{kind_word as probe_word}
 use Rattle.probe_job.specs.Answers.{answers}
 use Rattle.input_due.specs.declared.due.Due.{Due}
@@ -60,13 +60,14 @@ module _ {I : Type 0} {D : I → Type 0} where
   -- steps can be gone through over a session
   pub record AreReady (faces : List (Option Table)) (session : Session I D) (steps : List StepAt) : Type 0 where
     pub sound : IsSound faces session
+    pub unedited : IsUnedited faces session
     pub fit : AllFit steps
-    pub room : total bytes (state_of session.document) + bytes_of steps ≤ 1048576
+    pub room : HasRoom faces session steps
 
 module _ {I : Type 0} {D : I → Type 0} (members : (x : I) → Ghosts (D x)) where
   -- these bytes are those of what is due, with its end
   abbrev pub IsOf : Due I D → End → (due : List ℕ) → Type 0
-  IsOf (dues.Steps session script) end_ due = (end_ ≡ Done) × (last : State) × AreStepsIn (faces_of members session.faces) session (steps_of script.items) last due
+  IsOf (dues.Steps session script) end_ due = (end_ ≡ Done) × (last : Opened) × AreStepsIn (faces_of members session.faces) session (steps_of script.items) last due
   IsOf (dues.Answers session probes) end_ due = (end_ ≡ Done) × (due ≡ answers (page_in (faces_of members session.faces) session) probes.items)
   IsOf (dues.Pages session) end_ due = (end_ ≡ Done) × (due ≡ modes_of (faces_of members session.faces) session.view (rules_in session) (state_of session.document))
   IsOf (dues.Refused cause place) end_ due = (end_ ≡ Refused) × (due ≡ refusal (cause_word cause) place)

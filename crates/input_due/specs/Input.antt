@@ -15,7 +15,9 @@ use Rattle.face_api.specs.Table.{Table}
 use Rattle.session.specs.Opening.{CanOpen, IsRefused}
 use Rattle.session.specs.Error.{open_word}
 use Rattle.session.specs.declared.error.OpenError.{OpenError}
-use Rattle.session.specs.State.{page_of, styled_of}
+use Rattle.page_modes.specs.Pages.{page_of}
+use Rattle.session.specs.Document.{styled_of}
+use Rattle.session.specs.History.{Opened}
 use Rattle.style_modes.specs.Tying.{first_of, tying_places}
 use Rattle.modes_job.specs.Telling.{modes_of}
 use Rattle.edit_job.specs.Refusal.{refusal}
@@ -33,7 +35,7 @@ longest_input = 1048576
 abbrev pub opened_with : (faces : List (Option Table)) → List Node → Styling → State
 opened_with faces nodes styles = record { tree = opened nodes styles.own; rules = styles.rules; faces = faces }
 
--- Pages in each mode are asked of a document of which no declaration names anything of the page: else the first that does stands against it.
+-- Pages in each of four modes are asked of a document that no declaration ties to one of them: else the first that does stands against it.
 abbrev pub tied : State → Asked → Option ℕ
 tied state (steps said) = None
 tied state (probes asked) = None
@@ -99,7 +101,7 @@ Told = End × List ℕ
 
 -- over a document that is open what the steps write is due, or the answers over its page, or its flow and its page in each mode
 abbrev pub IsDueOver : View → State → Asked → Told → Type 0
-IsDueOver view state (steps said) told = (told.0 ≡ Done) × (last : State) × AreSteps view state said last told.1
+IsDueOver view state (steps said) told = (told.0 ≡ Done) × (last : Opened) × AreSteps view state said last told.1
 IsDueOver view state (probes asked) told = (told.0 ≡ Done) × (told.1 ≡ answers (page_of state.faces view (styled_of state)) asked)
 IsDueOver view state modes told = (told.0 ≡ Done) × (told.1 ≡ modes_of state.faces view state.rules state.tree)
 

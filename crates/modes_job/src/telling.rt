@@ -19,8 +19,8 @@ use std::alloc::Global;
 use wm_modes::WritingMode;
 
 /// Writes a flow, which was placed in horizontal-tb, and its pages in horizontal-tb, vertical-rl, sideways-rl and sideways-lr: whole at
-/// Ok, else a front of them. Takes memory for one turned page at a time; `WriteFault` comes only where the sink's count of faults
-/// rose in this call.
+/// Ok, else a front of them. For an open document the flow is the page of `Session::page`, with its shifts, not that of `Session::flow`.
+/// Takes memory for one turned page at a time; `WriteFault` comes only where the sink's count of faults rose in this call.
 ///
 /// The sizes of the view are from 0 to 2^32 units, and all rectangles of the page and their content areas lie within 2^60 units
 /// of 0.

@@ -21,9 +21,6 @@ use Rattle.style_modes.specs.Turned.{turned_document}
 
 -- ---- a page
 
--- `flow_page_of` and `page_of` are the words of session, which stands above this crate, so that they can't be cited here: its law
--- `turnable_pages_turn` has these laws in its own words.
-
 -- the flow of the boxes of a styled tree, carried to the page, before any of it is shifted
 abbrev pub flow_page_of : (faces : List (Option Table)) → View → Nodes → Page
 flow_page_of faces view nodes = place view (layout faces view.inline view.block (root_boxes nodes))

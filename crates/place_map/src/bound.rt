@@ -37,7 +37,7 @@ impl Bound {
         self.first <= node && node <= self.last
     }
 
-    /// The narrowest bound of a fragment alone.
+    /// A bound of a fragment alone, by the edges of its rectangle and the number of its node.
     pub(crate) fn of_fragment(node: u32, rect: Rect) -> Bound
         requires edges { HasEdges rect }
         ensures { IsIn result node rect }
@@ -52,7 +52,7 @@ impl Bound {
         }
     }
 
-    /// The narrowest bound of what lies in one of two.
+    /// A bound of all that lies in one of two: of each edge and each number the one that is further out.
     pub(crate) fn joined(self, other: &Bound) -> Bound
         ensures own { IsNoWider self result }
         ensures other { IsNoWider other.now result }

@@ -30,7 +30,6 @@ pub type PlacedParts = Vec<PlacedPart>;
 
 impl Model for PlacedPart {
     ghost use Rattle.std.specs.Coded.{codes};
-    ghost use Rattle.std.specs.Prelude.{ℕ};
     ghost use Rattle.std.proofs.Common.{arith};
     ghost use Rattle.fragment_types.specs.Fragment.{kind_of};
     ghost use Rattle.place_map.specs.Bound.{AreIn};
@@ -110,7 +109,7 @@ impl PlacedPart {
     }
 }
 
-// The narrowest bound of what lies in a bound, and of these fragments with all inside them.
+// A bound of all that lies in a bound, and of these fragments with all inside them.
 fn bound_of(own: Bound, parts: &[PlacedPart]) -> Bound
     ensures own { IsNoWider own result }
     ensures parts { AreIn result (parts_of parts.now) }

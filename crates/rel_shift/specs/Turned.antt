@@ -34,7 +34,8 @@ HasRoot (part name rect kind inner next) = IsBox kind
 abbrev pub PositionsTurn : Type 0
 PositionsTurn = (way : Way) (nodes : Nodes) → positions_of (nodes_in way nodes) ≡ map (position_in way) (positions_of nodes)
 
--- a turned page, shifted by the positions of a document in a way, is the page shifted by those of the document, turned
+-- a page of the flow whose root is a box, turned and then shifted by the positions of a document in the way, is what it is in horizontal-tb,
+-- shifted by those of the document and then turned
 abbrev pub ShiftsTurn : Type 0
 ShiftsTurn = (way : Way) (page : Page) (nodes : Nodes) → HasRoot page.parts
     → shift (turned (mode_of way) page) (positions_of (nodes_in way nodes)) ≡ turned (mode_of way) (shift (turned HorizontalTb page) (positions_of nodes))

@@ -38,7 +38,7 @@ pub fn positions_turn()
     ensures { PositionsTurn }
 {}
 
-/// A page that is turned to a mode and shifted there is the page that is shifted and then turned.
+/// A page of the flow whose root is a box, turned to a mode and shifted there, is the page that is shifted and then turned.
 pub fn shifts_turn()
     ensures { ShiftsTurn }
 {}

@@ -9,7 +9,7 @@ use Rattle.edits.specs.Change.{metric, retire}
 use Rattle.edits.specs.State.{State}
 use Rattle.session.specs.declared.error.ApplyError.TheVariants as applying
 use Rattle.session.specs.Editing.{CanApply, IsRefusedEdit, of_faces_error}
-use Rattle.session.specs.State.{styled_of}
+use Rattle.session.specs.Document.{styled_of}
 use Rattle.edits.specs.Edited.{fixed, full, has_room, metric_reason, no_face, retire_reason}
 
 -- ---- an advance

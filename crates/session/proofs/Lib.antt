@@ -1,12 +1,15 @@
 pub mod Answering
+pub mod Drawn
 mod Examples
 pub mod FaceEdits
 pub mod Finding
 pub mod Former
 pub mod Fresh
+pub mod Histories
 pub mod Holding
 pub mod Limiting
 pub mod Losing
+pub mod Moves
 pub mod Near
 pub mod Outcomes
 pub mod Refusals

@@ -17,8 +17,10 @@ use Rattle.box_limits.proofs.Among.{contained, found, in_all}
 use Rattle.box_arena.specs.At.{Node, Slots}
 use Rattle.edits.specs.Change.{Change}
 use Rattle.edits.specs.Edited.{after}
+use Rattle.edits.specs.Exact.{ExactChange, exactly}
 use Rattle.edits.specs.State.{State}
 use Rattle.edit_scope.specs.Boxes.{PagesAreBoxesOfHtml, inside_of}
+use Rattle.edit_scope.specs.Exactly.{ExactUnscopedPlaces, ExactUntouchedPlaces, TakesExactly, exact_reached, exact_scope}
 use Rattle.edit_scope.specs.Laws.{Takes}
 use Rattle.edit_scope.specs.Pages.{BoxesAreOfElements, KeepsMode, UnscopedPlaces, UntouchedPlaces, WasBox, WasTree, page_boxes}
 use Rattle.edit_scope.specs.Scope.{element_style, every_element, reached, scope}
@@ -28,7 +30,7 @@ use Rattle.relayout.specs.Named.{FindsResult, FindsText, HasMode, HasResultOf, H
 use Rattle.session.specs.declared.keeping.KeptBoxes.{KeptBoxes}
 use Rattle.session.specs.declared.keeping.KeptBoxes.TheVariants.{Current, Former}
 use Rattle.session.specs.declared.session.Session.{Session}
-use Rattle.session.specs.Found.{HasResultIn, HasTextIn, KeepsAll, LosesTouched, page_boxes_in}
+use Rattle.session.specs.Found.{HasResultIn, HasTextIn, KeepsAll, Loses, LosesExactly, LosesTouched, page_boxes_in}
 use Rattle.session.specs.State.{IsSound, rules_in, state_in}
 
 -- ---- what is found for a box that was there
@@ -103,52 +105,70 @@ module _ (html : PagesAreBoxesOfHtml) (old new : State) (before : IsRooted old.t
 
 -- ---- an edit that leaves boxes
 
-module _ (html : PagesAreBoxesOfHtml) (held : NamesAreOfPlaces) (unscoped : UnscopedPlaces) (untouched : UntouchedPlaces) (state : State) (change : Change) (takes : Takes state change)
-    (rooted : IsRooted (after state change).tree) (kept : Option KeptBoxes) where
-  abbrev next : State
-  next = after state change
-
-  text_stays : (name : BoxName) → Contains (paragraphs (page_boxes next)) name → (Contains (scope state change) name.node → ⊥)
+-- from one state to the next, which leave alone what isn't of these elements
+module _ (html : PagesAreBoxesOfHtml) (held : NamesAreOfPlaces) (state next : State) (before : IsRooted state.tree) (behind : IsRooted next.tree) (scoped touched : List ℕ)
+    (unscoped : (place : Place) → IsPlaceOf (page_boxes next) place → (Contains scoped place.name.node → ⊥) → WasBox (page_boxes state) place × KeepsMode state next)
+    (untouched : (place : Place) → IsPlaceOf (page_boxes next) place → (Contains touched place.name.node → ⊥) → WasTree (page_boxes state) place × KeepsMode state next)
+    (kept : Option KeptBoxes) where
+  text_stays : (name : BoxName) → Contains (paragraphs (page_boxes next)) name → (Contains scoped name.node → ⊥)
       → Contains (paragraphs (page_boxes state)) name × (HasTextIn kept (page_boxes state) name → HasTextIn kept (page_boxes next) name)
   text_stays name here apart =
       let there = λ (place : Place) (at : IsPlaceOf (page_boxes next) place) (same : place.name ≡ name).
-      unscoped state change place takes at (λ within. apart (subst (λ (n : BoxName). Contains (scope state change) n.node) same within)) in
+      unscoped place at (λ within. apart (subst (λ (n : BoxName). Contains scoped n.node) same within)) in
       let (place, items, at, same, holds) = held.holds (page_boxes next) name here in
       let own = there place at same in (
         subst (λ (n : BoxName). Contains (paragraphs (page_boxes state)) n) (own.0.name ∙ same) (held.paragraph (page_boxes state) own.0.was items own.0.stood (own.0.content ∙ holds)),
         text_kept kept (page_boxes state) (page_boxes next) name (λ slots root.
-            text_found slots root (page_boxes state) (page_boxes next) (mode_stays html state next takes.rooted rooted own.1 slots root) name (λ place at same. (there place at same).0)),
+            text_found slots root (page_boxes state) (page_boxes next) (mode_stays html state next before behind own.1 slots root) name (λ place at same. (there place at same).0)),
       )
 
-  result_stays : (pair : Pair) → Contains (names (page_boxes next)) pair.name → (Contains (reached state change) pair.name.node → ⊥)
+  result_stays : (pair : Pair) → Contains (names (page_boxes next)) pair.name → (Contains touched pair.name.node → ⊥)
       → Contains (names (page_boxes state)) pair.name × (HasResultIn kept (page_boxes state) pair → HasResultIn kept (page_boxes next) pair)
   result_stays pair here apart =
       let there = λ (place : Place) (at : IsPlaceOf (page_boxes next) place) (same : place.name ≡ pair.name).
-      untouched state change place takes at (λ within. apart (subst (λ (n : BoxName). Contains (reached state change) n.node) same within)) in
+      untouched place at (λ within. apart (subst (λ (n : BoxName). Contains touched n.node) same within)) in
       let (place, at, same) = held.place (page_boxes next) pair.name here in
       let own = there place at same in
       let named : own.0.was.name ≡ pair.name = sym (ap (λ (p : Place). p.name) own.0.tree) ∙ same in (
         subst (λ (n : BoxName). Contains (names (page_boxes state)) n) named (held.name (page_boxes state) own.0.was own.0.stood),
         result_kept kept (page_boxes state) (page_boxes next) pair (λ slots root.
-            result_found slots root (page_boxes state) (page_boxes next) (mode_stays html state next takes.rooted rooted own.1 slots root) pair (λ place at same. (there place at same).0)),
+            result_found slots root (page_boxes state) (page_boxes next) (mode_stays html state next before behind own.1 slots root) pair (λ place at same. (there place at same).0)),
       )
 
-module _ {I : Type 0} {D : I → Type 0} (before : List (Option Table)) (old new : Session I D) (change : Change) where
-  pub loses_touched : PagesAreBoxesOfHtml → NamesAreOfPlaces → UnscopedPlaces → UntouchedPlaces → Takes (state_in before old) change → IsRooted (state_of new.document)
+  loses_by : {I : Type 0} {D : I → Type 0} (old new : Session I D) → page_boxes_in old ≡ page_boxes state → page_boxes_in new ≡ page_boxes next → old.boxes ≡ kept
+      → ((page : Boxes) → KeepsAll kept new.boxes page) → Loses old new scoped touched
+  loses_by old new was page same keeps = record {
+    texts = λ name here apart.
+        let stays = text_stays name (subst (λ (p : Boxes). Contains (paragraphs p) name) page here) apart in
+        let P : Option KeptBoxes → Boxes → Type 0 = λ (boxes : Option KeptBoxes) (p : Boxes). HasTextIn boxes p name in
+        record {
+          was = subst (λ (p : Boxes). Contains (paragraphs p) name) (sym was) stays.0;
+          has = λ has. subst (P new.boxes) (sym page) ((keeps (page_boxes next)).texts name (stays.1 (subst (λ (boxes : Option KeptBoxes). P boxes (page_boxes state)) same (subst (P old.boxes) was has))));
+        };
+    results = λ pair here apart.
+        let stays = result_stays pair (subst (λ (p : Boxes). Contains (names p) pair.name) page here) apart in
+        let P : Option KeptBoxes → Boxes → Type 0 = λ (boxes : Option KeptBoxes) (p : Boxes). HasResultIn boxes p pair in
+        record {
+          was = subst (λ (p : Boxes). Contains (names p) pair.name) (sym was) stays.0;
+          has = λ has. subst (P new.boxes) (sym page) ((keeps (page_boxes next)).results pair (stays.1 (subst (λ (boxes : Option KeptBoxes). P boxes (page_boxes state)) same (subst (P old.boxes) was has))));
+        };
+  }
+
+module _ {I : Type 0} {D : I → Type 0} (before : List (Option Table)) (old new : Session I D) where
+  pub loses_touched : (change : Change) → PagesAreBoxesOfHtml → NamesAreOfPlaces → UnscopedPlaces → UntouchedPlaces → Takes (state_in before old) change → IsRooted (state_of new.document)
       → state_in before new ≡ after (state_in before old) change → ((page : Boxes) → KeepsAll old.boxes new.boxes page) → LosesTouched before old new change
-  loses_touched html held unscoped untouched takes rooted same keeps =
+  loses_touched change html held unscoped untouched takes rooted same keeps =
       let state : State = state_in before old in
       let next : State = after state change in
-      let page : page_boxes_in new ≡ page_boxes next = ap page_boxes same in
-      let root : IsRooted next.tree = subst (λ (s : State). IsRooted s.tree) same rooted in
-      record {
-        texts = λ name here apart.
-            let stays = text_stays html held unscoped untouched state change takes root old.boxes name (subst (λ (p : Boxes). Contains (paragraphs p) name) page here) apart in
-            record { was = stays.0; has = λ has. subst (λ (p : Boxes). HasTextIn new.boxes p name) (sym page) ((keeps (page_boxes next)).texts name (stays.1 has)) };
-        results = λ pair here apart.
-            let stays = result_stays html held unscoped untouched state change takes root old.boxes pair (subst (λ (p : Boxes). Contains (names p) pair.name) page here) apart in
-            record { was = stays.0; has = λ has. subst (λ (p : Boxes). HasResultIn new.boxes p pair) (sym page) ((keeps (page_boxes next)).results pair (stays.1 has)) };
-      }
+      loses_by html held state next takes.rooted (subst (λ (s : State). IsRooted s.tree) same rooted) (scope state change) (reached state change)
+      (λ place. unscoped state change place takes) (λ place. untouched state change place takes) old.boxes old new refl (ap page_boxes same) refl keeps
+
+  pub loses_exactly : (edit : ExactChange) → PagesAreBoxesOfHtml → NamesAreOfPlaces → ExactUnscopedPlaces → ExactUntouchedPlaces → TakesExactly (state_in before old) edit
+      → state_in before new ≡ exactly (state_in before old) edit → ((page : Boxes) → KeepsAll old.boxes new.boxes page) → LosesExactly before old new edit
+  loses_exactly edit html held unscoped untouched takes same keeps =
+      let state : State = state_in before old in
+      loses_by html held state (exactly state edit) takes.before.rooted takes.later.rooted (exact_scope state edit) (exact_reached state edit)
+      (λ place. unscoped state edit place takes) (λ place. untouched state edit place takes) old.boxes old new refl (ap page_boxes same) refl keeps
 
 -- ---- an edit that has every element in its scope
 
@@ -156,19 +176,27 @@ in_reached : (tree : dom.State) (numbers : List ℕ) (number : ℕ) → Contains
 unfolding ancestors_to
 in_reached tree numbers number there = contained number (flat_map (inclusive_ancestors tree) numbers) (in_all (inclusive_ancestors tree) number number numbers (found number numbers there) (inl refl))
 
-module _ {I : Type 0} {D : I → Type 0} (held : NamesAreOfPlaces) (of_elements : BoxesAreOfElements) (before : List (Option Table)) (old new : Session I D) (change : Change)
-    (all : scope (state_in before old) change ≡ every_element (state_of old.document)) (same : state_of new.document ≡ state_of old.document) (sound : IsSound before old) where
-  in_scope : (name : BoxName) (place : Place) → IsPlaceOf (page_boxes_in new) place → place.name ≡ name → Contains (scope (state_in before old) change) name.node
-  in_scope name place here named =
-      let there : Contains (every_element (state_of new.document)) place.name.node =
-      of_elements (rules_in new) (state_of new.document) place (subst IsRooted (sym same) sound.rooted) (subst IsWhole (sym same) sound.whole) (subst IsReached (sym same) sound.reached) here in
-      subst (λ (numbers : List ℕ). Contains numbers name.node) (sym all)
-      (subst (λ (tree : dom.State). Contains (every_element tree) name.node) same (subst (λ (n : BoxName). Contains (every_element (state_of new.document)) n.node) named there))
+module _ {I : Type 0} {D : I → Type 0} (held : NamesAreOfPlaces) (of_elements : BoxesAreOfElements) (before : List (Option Table)) (old new : Session I D)
+    (same : state_of new.document ≡ state_of old.document) (sound : IsSound before old) where
+  module _ (scoped : List ℕ) (all : scoped ≡ every_element (state_of old.document)) (tree : dom.State) where
+    in_scope : (name : BoxName) (place : Place) → IsPlaceOf (page_boxes_in new) place → place.name ≡ name → Contains scoped name.node
+    in_scope name place here named =
+        let own = sound.document in
+        let there : Contains (every_element (state_of new.document)) place.name.node =
+        of_elements (rules_in new) (state_of new.document) place (subst IsRooted (sym same) own.rooted) (subst IsWhole (sym same) own.whole) (subst IsReached (sym same) own.reached) here in
+        subst (λ (numbers : List ℕ). Contains numbers name.node) (sym all)
+        (subst (λ (tree : dom.State). Contains (every_element tree) name.node) same (subst (λ (n : BoxName). Contains (every_element (state_of new.document)) n.node) named there))
 
-  pub loses_all : LosesTouched before old new change
-  loses_all = record {
-    texts = λ name here apart. let (place, items, at, named, holds) = held.holds (page_boxes_in new) name here in absurd (apart (in_scope name place at named));
-    results = λ pair here apart.
-        let (place, at, named) = held.place (page_boxes_in new) pair.name here in
-        absurd (apart (in_reached (after (state_in before old) change).tree (scope (state_in before old) change) pair.name.node (in_scope pair.name place at named)));
-  }
+    loses_each : Loses old new scoped (flat_map (inclusive_ancestors tree) scoped)
+    loses_each = record {
+      texts = λ name here apart. let (place, items, at, named, holds) = held.holds (page_boxes_in new) name here in absurd (apart (in_scope name place at named));
+      results = λ pair here apart.
+          let (place, at, named) = held.place (page_boxes_in new) pair.name here in
+          absurd (apart (in_reached tree scoped pair.name.node (in_scope pair.name place at named)));
+    }
+
+  pub loses_all : (change : Change) → scope (state_in before old) change ≡ every_element (state_of old.document) → LosesTouched before old new change
+  loses_all change all = loses_each (scope (state_in before old) change) all (after (state_in before old) change).tree
+
+  pub loses_all_exactly : (edit : ExactChange) → exact_scope (state_in before old) edit ≡ every_element (state_of old.document) → LosesExactly before old new edit
+  loses_all_exactly edit all = loses_each (exact_scope (state_in before old) edit) all (exactly (state_in before old) edit).tree

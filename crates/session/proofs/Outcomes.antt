@@ -18,6 +18,7 @@ use Rattle.edits.specs.Edited.{Reason, after, by_tree, fixed, full, no_face, no_
 use Rattle.edits.specs.State.{State}
 use Rattle.edit_scope.specs.Leaves.{EditsKeepLeaves, TextsAreLeaves}
 use Rattle.face_api.specs.Table.{Table}
+use Rattle.tree_laws.specs.Held.{AreHeld, EditsKeepHeld}
 use Rattle.tree_laws.specs.Laws.{AcceptedAreDone, ChildrenHaveParents, EditsKeepWhole, EditsWeigh}
 use Rattle.tree_laws.specs.Reached.{EditsKeepReached, IsReached}
 use Rattle.tree_laws.specs.Weight.{bytes, total}
@@ -28,6 +29,7 @@ use Rattle.box_gen.specs.Limit.{IsWithinLimits, Passes}
 use Rattle.box_limits.specs.declared.error.LimitError.{LimitError}
 use Rattle.box_limits.specs.declared.error.LimitError.TheVariants as limits
 use Rattle.box_limits.specs.Limits.{Answers, IsEditedFrom}
+use Rattle.session.specs.Document.{CanBeOpen}
 use Rattle.session.specs.declared.error.ApplyError.{ApplyError}
 use Rattle.session.specs.declared.error.ApplyError.TheVariants as applying
 use Rattle.session.specs.Editing.{CanApply, HasOneOutcome, IsRefusedEdit, of_limit_error, of_refusal, styled_after}
@@ -45,8 +47,8 @@ error_of too_many_rules = applying.TooManyRules
 error_of no_rule = applying.NoRule
 
 module _ (state : State) (change : Change) where
-  taken : (reason : Reason) → refusal state change ≡ Some reason → refusal state change ≡ None → ⊥
-  taken reason is none = absurd cc
+  not_both : (reason : Reason) → refusal state change ≡ Some reason → refusal state change ≡ None → ⊥
+  not_both reason is none = absurd cc
 
   same_some : (one other : Reason) → refusal state change ≡ Some one → refusal state change ≡ Some other → other ≡ one
   same_some one other is also = cc
@@ -77,13 +79,13 @@ module _ (state : State) (change : Change) where
   refused_for no_rule is = is
 
   not_applied : (error : ApplyError) → IsOfReason error ⊎ IsOfLimit error → CanApply state change → ⊥
-  not_applied error (inl (reason, of, is)) can = taken reason is can.taken
+  not_applied error (inl (reason, of, is)) can = not_both reason is can.taken
   not_applied error (inr (limit, of, none, passes)) can = not_within (styled_after state change) limit passes can.within
 
   same : (error other : ApplyError) → IsOfReason error ⊎ IsOfLimit error → IsOfReason other ⊎ IsOfLimit other → other ≡ error
   same error other (inl (reason, of, is)) (inl (reason', of', is')) = of' ∙ ap error_of (same_some reason reason' is is') ∙ sym of
-  same error other (inl (reason, of, is)) (inr (limit, of', none, passes)) = absurd (taken reason is none)
-  same error other (inr (limit, of, none, passes)) (inl (reason, of', is)) = absurd (taken reason is none)
+  same error other (inl (reason, of, is)) (inr (limit, of', none, passes)) = absurd (not_both reason is none)
+  same error other (inr (limit, of, none, passes)) (inl (reason, of', is)) = absurd (not_both reason is none)
   same error other (inr (limit, of, none, passes)) (inr (limit', of', none', passes')) =
       of' ∙ ap (λ (x : BoxLimit). applying.Limit x) (one_limit (styled_after state change) limit limit' passes passes') ∙ sym of
 
@@ -129,6 +131,11 @@ module _ (state : State) (edit : EditOf) where
   told (refusals.TooDeep number) is = inr (by_document (refusals.TooDeep number) is)
   told refusals.Memory is = inl refl
 
+  -- the document refuses the step of an edit as the edit
+  pub refused_step : (error : EditError) → (error ≡ refusals.Memory) ⊎ (tree_refusals.refusal state.tree edit ≡ Some error) → (of_refusal error ≡ applying.Memory) ⊎ IsRefusedEdit state (of_tree edit) (of_refusal error)
+  refused_step error (inl is) = inl (ap of_refusal is)
+  refused_step error (inr is) = told error is
+
   pub refused_edit : (error : EditError) → (error ≡ refusals.Memory) ⊎ (edited state.tree edit ≡ refused error)
       → (of_refusal error ≡ applying.Memory) ⊎ IsRefusedEdit state (of_tree edit) (of_refusal error)
   refused_edit error (inl is) = inl (ap of_refusal is)
@@ -151,16 +158,17 @@ module _ (faces : List (Option Table)) (rules : List Ruling) (old next : dom.Sta
   pub is_after : next ≡ trees.after old edit
   is_after = done.1
 
-  none : refusal before (of_tree edit) ≡ None
-  none = ap (option_map by_tree) done.0
+  -- it isn't refused
+  pub taken : refusal before (of_tree edit) ≡ None
+  taken = ap (option_map by_tree) done.0
 
   -- what its boxes are refused for is what it is refused for
   pub boxes_refuse : (error : LimitError) → Answers rules next (Err error) → (of_limit_error error ≡ applying.Memory) ⊎ IsRefusedEdit before (of_tree edit) (of_limit_error error)
-  boxes_refuse (limits.Limit limit) passes = inr (none, subst (λ (s : dom.State). Passes (styled_document rules s) limit) done.1 passes)
+  boxes_refuse (limits.Limit limit) passes = inr (taken, subst (λ (s : dom.State). Passes (styled_document rules s) limit) done.1 passes)
   boxes_refuse limits.Memory answers = inl refl
 
   pub can_apply : IsWithinLimits (styled_document rules next) → CanApply before (of_tree edit)
-  can_apply within = record { taken = none; within = subst (λ (s : dom.State). IsWithinLimits (styled_document rules s)) done.1 within }
+  can_apply within = record { taken = taken; within = subst (λ (s : dom.State). IsWithinLimits (styled_document rules s)) done.1 within }
 
   pub state_after : with_tree faces rules next ≡ after before (of_tree edit)
   state_after = ap (with_tree faces rules) done.1
@@ -175,17 +183,21 @@ module _ (faces : List (Option Table)) (rules : List Ruling) (old next : dom.Sta
   pub said_after : KeepSaid → tree.IsSaidEdit edit → IsSaidState old → IsSaidState next
   said_after keep said is = subst IsSaidState (sym done.1) (keep old edit is said)
 
-  pub whole_after : EditsKeepWhole → IsWhole old → IsWhole next
-  whole_after keep whole = subst IsWhole (sym done.1) (keep old edit whole done.0)
-
-  pub reached_after : EditsKeepReached → tree.IsFitting edit → IsRooted old → IsWhole old → IsReached old → IsReached next
-  reached_after keep fitting rooted whole reached = subst IsReached (sym done.1) (keep old edit fitting rooted whole reached done.0)
-
-  pub leaves_after : EditsKeepLeaves → tree.IsFitting edit → IsWhole old → TextsAreLeaves old → TextsAreLeaves next
-  leaves_after keep fitting whole leaves = subst TextsAreLeaves (sym done.1) (keep old edit fitting whole done.0 leaves)
-
-  pub few_after : EditsWeigh → live_count old ≤ greatest_count → live_count next ≤ greatest_count
-  few_after weigh few = subst (λ (s : dom.State). live_count s ≤ greatest_count) (sym done.1) ((weigh old edit done.0).0 few)
+  -- a document that can be open can be so after it, where its boxes can stand and its texts hold no more bytes than so many
+  pub open_after : KeepRoots → ChildrenHaveParents → KeepSaid → EditsKeepWhole → EditsKeepReached → EditsKeepHeld → EditsKeepLeaves → EditsWeigh → tree.IsFitting edit → tree.IsSaidEdit edit
+      → (most : ℕ) → CanBeOpen most before → IsWithinLimits (styled_document rules next) → total bytes next ≤ most → CanBeOpen most (with_tree faces rules next)
+  open_after roots parents keep_said keep_whole keep_reached keep_held keep_leaves weigh fitting said most can within short = record {
+    rooted = rooted_after roots parents can.whole can.rooted;
+    said = said_after keep_said said can.said;
+    whole = subst IsWhole (sym done.1) (keep_whole old edit can.whole done.0);
+    reached = subst IsReached (sym done.1) (keep_reached old edit fitting can.rooted can.whole can.reached done.0);
+    held = subst AreHeld (sym done.1) (keep_held old edit (record { fitting = fitting; rooted = can.rooted; whole = can.whole; reached = can.reached; unrefused = done.0 }) can.held);
+    leaves = subst TextsAreLeaves (sym done.1) (keep_leaves old edit fitting can.whole done.0 can.leaves);
+    few = subst (λ (s : dom.State). live_count s ≤ greatest_count) (sym done.1) ((weigh old edit done.0).0 can.few);
+    short = short;
+    rules = can.rules;
+    within = within;
+  }
 
   pub bytes_after : EditsWeigh → total bytes next ≤ total bytes old + tree.bytes_brought edit
   bytes_after weigh = subst (λ (s : dom.State). total bytes s ≤ total bytes old + tree.bytes_brought edit) (sym done.1) (weigh old edit done.0).1

@@ -16,6 +16,7 @@ use Rattle.box_limits.specs.declared.error.LimitError.{LimitError}
 use Rattle.box_limits.specs.declared.error.LimitError.TheVariants as limits
 use Rattle.edits.specs.Change.{Change, rule, unrule}
 use Rattle.edits.specs.Edited.{are_too_many, no_rule, refusal, too_many_rules, without}
+use Rattle.edits.specs.Exact.{put_at, taken_at}
 use Rattle.edits.specs.State.{State}
 use Rattle.session.specs.declared.error.ApplyError.TheVariants as applying
 use Rattle.session.specs.Editing.{IsRefusedEdit, of_limit_error, styled_after}
@@ -61,6 +62,21 @@ rulings_without index rules =
     map-append ruling_of (take index rules) (drop (index + 1) rules)
     ∙ ap (λ (front : List Ruling). front ++ rulings_of (drop (index + 1) rules)) (sym (take-map ruling_of index rules))
     ∙ ap (λ (back : List Ruling). take index (rulings_of rules) ++ back) (sym (drop-map ruling_of (index + 1) rules))
+
+-- rules come among others
+pub rulings_put : (index : ℕ) (rules more : List Rule) → rulings_of (take index rules ++ (more ++ drop index rules)) ≡ put_at index (rulings_of more) (rulings_of rules)
+rulings_put index rules more =
+    map-append ruling_of (take index rules) (more ++ drop index rules)
+    ∙ ap (λ (back : List Ruling). rulings_of (take index rules) ++ back) (map-append ruling_of more (drop index rules))
+    ∙ ap (λ (front : List Ruling). front ++ (rulings_of more ++ rulings_of (drop index rules))) (sym (take-map ruling_of index rules))
+    ∙ ap (λ (back : List Ruling). take index (rulings_of rules) ++ (rulings_of more ++ back)) (sym (drop-map ruling_of index rules))
+
+-- and go from among them
+pub rulings_taken : (index count : ℕ) (rules : List Rule) → rulings_of (take index rules ++ drop (index + count) rules) ≡ taken_at index count (rulings_of rules)
+rulings_taken index count rules =
+    map-append ruling_of (take index rules) (drop (index + count) rules)
+    ∙ ap (λ (front : List Ruling). front ++ rulings_of (drop (index + count) rules)) (sym (take-map ruling_of index rules))
+    ∙ ap (λ (back : List Ruling). take index (rulings_of rules) ++ back) (sym (drop-map ruling_of (index + count) rules))
 
 -- there are as many
 pub has_rule : (index : ℕ) (rules : List Rule) → index < length rules → nat_lt index (length (rulings_of rules)) ≡ true

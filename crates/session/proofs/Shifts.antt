@@ -29,7 +29,7 @@ use Rattle.rel_shift.specs.Shifting.{shift}
 use Rattle.style_types.specs.declared.position.Position.{Position}
 use Rattle.session.specs.Kept.{ArePositions, shifted_by}
 use Rattle.session.specs.Limits.{IsWithin}
-use Rattle.session.specs.State.{flow_page_of, page_of}
+use Rattle.page_modes.specs.Pages.{flow_page_of, page_of}
 
 -- ---- positions
 

@@ -1,14 +1,8 @@
 -- The boxes of a session stand in its arena through all that is laid out and forgotten.
-use Rattle.std.proofs.Common.{◌≡◌, ◌≤◌, ◌∙◌, sym, ap, subst, ℕ, List, Option, Some, None, IfSome}
+use Rattle.std.proofs.Common.{◌≡◌, ◌∙◌, sym, ap, subst, ℕ, List, Option, Some, None, IfSome}
 use Rattle.dom_store.specs.declared.document.Document.{Document}
-use Rattle.dom_store.specs.Opening.{greatest_count}
-use Rattle.dom_store.specs.Standing.{live_count}
-use Rattle.dom_store.specs.State.{IsRooted, IsSaidState, State, state_of}
-use Rattle.tree_laws.specs.Reached.{IsReached}
-use Rattle.tree_laws.specs.Weight.{bytes, total}
-use Rattle.tree_laws.specs.Wholeness.{IsWhole}
+use Rattle.dom_store.specs.State.{State, state_of}
 use Rattle.cascade.specs.Index.{index_rules}
-use Rattle.cascade.specs.Winners.{AreSaidRules}
 use Rattle.cascade.specs.declared.index.RuleIndex.{RuleIndex}
 use Rattle.css_types.specs.Rule.{Ruling, rulings_of}
 use Rattle.css_types.specs.declared.rule.Rule.{Rule}
@@ -17,7 +11,6 @@ use Rattle.std.specs.declared.vec.Vec.{Vec}
 use Rattle.style_tree.specs.Styling.{styled_document}
 use Rattle.style_types.specs.Tree.{Nodes}
 use Rattle.box_gen.specs.Boxes.{root_boxes}
-use Rattle.box_gen.specs.Limit.{IsWithinLimits}
 use Rattle.box_gen.specs.Tree.{Boxes, box, none}
 use Rattle.box_arena.specs.Arena.{SameLinks, SameNodes}
 use Rattle.box_arena.specs.At as arenas
@@ -26,13 +19,16 @@ use Rattle.box_arena.specs.Links as links
 use Rattle.box_arena.specs.Boxes.{StandFrom, Stands}
 use Rattle.box_arena.specs.Reusing.{AreNamedOnce}
 use Rattle.box_arena.specs.declared.entry.Entry.{Entry}
-use Rattle.edit_scope.specs.Leaves.{TextsAreLeaves}
+use Rattle.edits.specs.State as edited
+use Rattle.undo_log.specs.History.{standing_of}
 use Rattle.face_api.specs.Table.{Table}
 use Rattle.face_api.specs.declared.faces.Faces.{Faces}
 use Rattle.para_prepare.specs.Preparation.{Preparation}
 use Rattle.relayout.specs.Counts.{AreFoundedUnder}
 use Rattle.relayout.specs.Named.{IsPageUnder}
 use Rattle.relayout.specs.Relayout.{AreRightUnder, IsSteadyUnder}
+use Rattle.session.specs.Document.{CanBeOpen, most_bytes}
+use Rattle.session.specs.History.{IsHistory}
 use Rattle.session.specs.State.{AreKept, AreReady, IsSound, rules_in, styled_in}
 use Rattle.session.specs.declared.keeping.KeptBoxes.{KeptBoxes}
 use Rattle.session.specs.declared.planting.Rooted.{Rooted}
@@ -101,125 +97,45 @@ indexed_by index one rules is indexed = subst (λ (o : Option RuleIndex). IfSome
 module _ {I : Type 0} {D : I → Type 0} where
   -- a session with other boxes is sound where those are ready
   pub sound_on : (faces : List (Option Table)) (session : Session I D) (boxes : Option KeptBoxes) → IsSound faces session → IfSome boxes (AreKept faces session.view (styled_in session)) → IsSound faces (record session { boxes = boxes })
-  sound_on faces session boxes sound ready = record {
-    rooted = sound.rooted;
-    said = sound.said;
-    whole = sound.whole;
-    reached = sound.reached;
-    leaves = sound.leaves;
-    few = sound.few;
-    short = sound.short;
-    rules = sound.rules;
-    index = sound.index;
-    within = sound.within;
-    view = sound.view;
-    ready = ready;
-  }
+  sound_on faces session boxes sound ready = record { document = sound.document; index = sound.index; view = sound.view; ready = ready; history = sound.history }
 
   -- so it is with another index of the same rules
   pub sound_by : (faces : List (Option Table)) (session : Session I D) (index : Option RuleIndex) → IfSome index (λ index. index_rules index ≡ rules_in session) → IsSound faces session
       → IsSound faces (record session { index = index })
-  sound_by faces session index indexed sound = record {
-    rooted = sound.rooted;
-    said = sound.said;
-    whole = sound.whole;
-    reached = sound.reached;
-    leaves = sound.leaves;
-    few = sound.few;
-    short = sound.short;
-    rules = sound.rules;
-    index = indexed;
-    within = sound.within;
-    view = sound.view;
-    ready = sound.ready;
-  }
+  sound_by faces session index indexed sound = record { document = sound.document; index = indexed; view = sound.view; ready = sound.ready; history = sound.history }
 
   -- so it is where its document has the same state
   pub sound_in : (faces : List (Option Table)) (session : Session I D) (document : Document) → state_of document ≡ state_of session.document → IsSound faces session → IsSound faces (record session { document = document })
   sound_in faces session document same sound =
-      let styled = λ (state : State). styled_document (rules_in session) state in
+      let at : State → edited.State = λ (state : State). record { tree = state; rules = rules_in session; faces = faces } in
       record {
-        rooted = subst IsRooted (sym same) sound.rooted;
-        said = subst IsSaidState (sym same) sound.said;
-        whole = subst IsWhole (sym same) sound.whole;
-        reached = subst IsReached (sym same) sound.reached;
-        leaves = subst TextsAreLeaves (sym same) sound.leaves;
-        few = subst (λ (state : State). live_count state ≤ greatest_count) (sym same) sound.few;
-        short = subst (λ (state : State). total bytes state ≤ 1048576) (sym same) sound.short;
-        rules = sound.rules;
+        document = subst (λ (state : State). CanBeOpen most_bytes (at state)) (sym same) sound.document;
         index = sound.index;
-        within = subst (λ (state : State). IsWithinLimits (styled state)) (sym same) sound.within;
         view = sound.view;
-        ready = subst (λ (state : State). IfSome session.boxes (AreKept faces session.view (styled state))) (sym same) sound.ready;
+        ready = subst (λ (state : State). IfSome session.boxes (AreKept faces session.view (styled_document (rules_in session) state))) (sym same) sound.ready;
+        history = (sound.history.0, subst (λ (state : State). IsHistory state.next most_bytes session.log sound.history.0 (standing_of (at state))) (sym same) sound.history.1);
       }
 
   -- and where its faces have the same tables
   pub sound_with : (old new : List (Option Table)) (session : Session I D) (faces : Faces I D) → new ≡ old → IsSound old session → IsSound new (record session { faces = faces })
-  sound_with old new session faces same sound = record {
-    rooted = sound.rooted;
-    said = sound.said;
-    whole = sound.whole;
-    reached = sound.reached;
-    leaves = sound.leaves;
-    few = sound.few;
-    short = sound.short;
-    rules = sound.rules;
-    index = sound.index;
-    within = sound.within;
-    view = sound.view;
-    ready = subst (λ (tables : List (Option Table)). IfSome session.boxes (AreKept tables session.view (styled_in session))) (sym same) sound.ready;
-  }
-
-  -- with other faces it is sound where no boxes are kept
-  pub sound_bare : (old new : List (Option Table)) (session : Session I D) (faces : Faces I D) → IsSound old session → IsSound new (record session { faces = faces; boxes = None })
-  sound_bare old new session faces sound = record {
-    rooted = sound.rooted;
-    said = sound.said;
-    whole = sound.whole;
-    reached = sound.reached;
-    leaves = sound.leaves;
-    few = sound.few;
-    short = sound.short;
-    rules = sound.rules;
-    index = sound.index;
-    within = sound.within;
-    view = sound.view;
-    ready = tt;
-  }
-
-  -- with other rules too, where the boxes can stand under them
-  pub sound_under : (faces : List (Option Table)) (session : Session I D) (rules : Vec Rule Global) (index : Option RuleIndex) → AreSaidRules (rulings_of rules.items)
-      → IfSome index (λ index. index_rules index ≡ rulings_of rules.items) → IsWithinLimits (styled_document (rulings_of rules.items) (state_of session.document)) → IsSound faces session
-      → IsSound faces (record session { rules = rules; index = index; boxes = None })
-  sound_under faces session rules index said indexed within sound = record {
-    rooted = sound.rooted;
-    said = sound.said;
-    whole = sound.whole;
-    reached = sound.reached;
-    leaves = sound.leaves;
-    few = sound.few;
-    short = sound.short;
-    rules = said;
-    index = indexed;
-    within = within;
-    view = sound.view;
-    ready = tt;
-  }
+  sound_with old new session faces same sound =
+      let at : List (Option Table) → edited.State = λ (tables : List (Option Table)). record { tree = state_of session.document; rules = rules_in session; faces = tables } in
+      record {
+        document = subst (λ (tables : List (Option Table)). CanBeOpen most_bytes (at tables)) (sym same) sound.document;
+        index = sound.index;
+        view = sound.view;
+        ready = subst (λ (tables : List (Option Table)). IfSome session.boxes (AreKept tables session.view (styled_in session))) (sym same) sound.ready;
+        history = (sound.history.0, subst (λ (tables : List (Option Table)). IsHistory (at tables).tree.next most_bytes session.log sound.history.0 (standing_of (at tables))) (sym same) sound.history.1);
+      }
 
   -- rules that lie elsewhere are the same
   pub sound_moved : (faces : List (Option Table)) (session : Session I D) (rules : Vec Rule Global) → rules.items ≡ session.rules.items → IsSound faces session → IsSound faces (record session { rules = rules })
   sound_moved faces session rules same sound =
+      let at : List Rule → edited.State = λ (items : List Rule). record { tree = state_of session.document; rules = rulings_of items; faces = faces } in
       record {
-        rooted = sound.rooted;
-        said = sound.said;
-        whole = sound.whole;
-        reached = sound.reached;
-        leaves = sound.leaves;
-        few = sound.few;
-        short = sound.short;
-        rules = subst (λ (items : List Rule). AreSaidRules (rulings_of items)) (sym same) sound.rules;
+        document = subst (λ (items : List Rule). CanBeOpen most_bytes (at items)) (sym same) sound.document;
         index = subst (λ (items : List Rule). IfSome session.index (λ index. index_rules index ≡ rulings_of items)) (sym same) sound.index;
-        within = subst (λ (items : List Rule). IsWithinLimits (styled_document (rulings_of items) (state_of session.document))) (sym same) sound.within;
         view = sound.view;
         ready = subst (λ (items : List Rule). IfSome session.boxes (AreKept faces session.view (styled_document (rulings_of items) (state_of session.document)))) (sym same) sound.ready;
+        history = (sound.history.0, subst (λ (items : List Rule). IsHistory (at items).tree.next most_bytes session.log sound.history.0 (standing_of (at items))) (sym same) sound.history.1);
       }

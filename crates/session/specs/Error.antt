@@ -1,4 +1,4 @@
--- What lines of refusal tell of why a document can't be opened, or an edit isn't done (docs/PROFILE/commands.md).
+-- What lines of refusal tell of why a document can't be opened, an edit isn't done, or none is taken back or done again (docs/PROFILE/commands.md).
 use Rattle.std.specs.Prelude.{ℕ, List, codes, Option, Some, None}
 use Rattle.dom_store.specs.Error.{error_word}
 use Rattle.box_gen.specs.Limit.{limit_node, limit_word}
@@ -6,6 +6,8 @@ use Rattle.session.specs.declared.error.ApplyError.{ApplyError}
 use Rattle.session.specs.declared.error.ApplyError.TheVariants as applying
 use Rattle.session.specs.declared.error.OpenError.{OpenError}
 use Rattle.session.specs.declared.error.OpenError.TheVariants as opening
+use Rattle.session.specs.declared.error.UndoError.{UndoError}
+use Rattle.session.specs.declared.error.UndoError.TheVariants as undoing
 
 -- the word of why a document can't be opened
 unfoldable pub open_word : OpenError → List ℕ
@@ -31,3 +33,9 @@ apply_word applying.TooManyRules = codes "TooManyRules"
 apply_word applying.NoRule = codes "NoRule"
 apply_word (applying.Limit limit) = limit_word limit
 apply_word applying.Memory = codes "Memory"
+
+-- the word of why no edit is taken back, or done again
+unfoldable pub undo_word : UndoError → List ℕ
+undo_word undoing.NoUndo = codes "NoUndo"
+undo_word undoing.NoRedo = codes "NoRedo"
+undo_word undoing.Memory = codes "Memory"

@@ -7,9 +7,12 @@ use Rattle.box_gen.specs.Boxes.{root_boxes}
 use Rattle.box_gen.specs.Places.{names, paragraphs}
 use Rattle.box_gen.specs.Tree.{Boxes}
 use Rattle.edits.specs.Change.{Change}
+use Rattle.edits.specs.Exact.{ExactChange, StepOf}
+use Rattle.edit_scope.specs.Exactly.{exact_reached, exact_scope}
 use Rattle.edit_scope.specs.Scope.{reached, scope}
 use Rattle.relayout.specs.Asks.{Pair, asks}
 use Rattle.relayout.specs.Named.{FindsResult, FindsText}
+use Rattle.undo_log.specs.Log.{next_ahead, next_back}
 use Rattle.session.specs.declared.keeping.KeptBoxes.{KeptBoxes}
 use Rattle.session.specs.declared.keeping.KeptBoxes.TheVariants.{Current, Former}
 use Rattle.session.specs.declared.session.Session.{Session}
@@ -82,10 +85,24 @@ module _ {I : Type 0} {D : I → Type 0} where
     pub was : Contains (names (page_boxes_in old)) pair.name
     pub has : HasResult old pair → HasResult new pair
 
-  -- Each paragraph of the page after the edit that isn't of an element in its scope was one before, and its text isn't lost; each box there of
-  -- an element that the edit doesn't touch stood before, and no result of it is lost. `before` has the tables of the faces before the edit.
-  pub record LosesTouched (before : List (Option Table)) (old new : Session I D) (change : Change) : Type 0 where
-    pub texts : (name : BoxName) → Contains (paragraphs (page_boxes_in new)) name → (Contains (scope (state_in before old) change) name.node → ⊥)
-        → KeepsText old new name
-    pub results : (pair : Pair) → Contains (names (page_boxes_in new)) pair.name → (Contains (reached (state_in before old) change) pair.name.node → ⊥)
-        → KeepsResult old new pair
+  -- Each paragraph of the later page that isn't of one of the scoped elements was one before, and its text isn't lost; each box there that isn't
+  -- of one of the touched elements stood before, and no result of it is lost.
+  pub record Loses (old new : Session I D) (scoped touched : List ℕ) : Type 0 where
+    pub texts : (name : BoxName) → Contains (paragraphs (page_boxes_in new)) name → (Contains scoped name.node → ⊥) → KeepsText old new name
+    pub results : (pair : Pair) → Contains (names (page_boxes_in new)) pair.name → (Contains touched pair.name.node → ⊥) → KeepsResult old new pair
+
+  -- an edit loses no more than the texts of the elements in its scope and the results of those that it touches; `before` has the tables of the
+  -- faces before it
+  abbrev pub LosesTouched : (before : List (Option Table)) → (old new : Session I D) → Change → Type 0
+  LosesTouched before old new change = Loses old new (scope (state_in before old) change) (reached (state_in before old) change)
+
+  -- so does an exact edit
+  abbrev pub LosesExactly : (before : List (Option Table)) → (old new : Session I D) → ExactChange → Type 0
+  LosesExactly before old new edit = Loses old new (exact_scope (state_in before old) edit) (exact_reached (state_in before old) edit)
+
+  -- undo and redo lose by the exact edit that they do
+  abbrev pub LosesDown : (before : List (Option Table)) → (old new : Session I D) → Type 0
+  LosesDown before old new = (step : StepOf) → next_back old.log ≡ Some step → LosesExactly before old new step.back
+
+  abbrev pub LosesUp : (before : List (Option Table)) → (old new : Session I D) → Type 0
+  LosesUp before old new = (step : StepOf) → next_ahead old.log ≡ Some step → LosesExactly before old new step.again

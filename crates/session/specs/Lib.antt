@@ -1,9 +1,12 @@
+pub mod Document
 pub mod Editing
 pub mod Error
 pub mod Found
+pub mod History
 pub mod Kept
 pub mod Limits
 pub mod Opening
 pub mod Spread
 pub mod State
 pub mod Turning
+pub mod Undoing

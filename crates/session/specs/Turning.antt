@@ -13,9 +13,11 @@ use Rattle.page_turn.specs.Turning.{turned}
 use Rattle.style_modes.specs.Turnable.{IsTurnable}
 use Rattle.style_modes.specs.Turned.{turned_document}
 use Rattle.session.specs.declared.session.Session.{Session}
-use Rattle.session.specs.State.{flow_page_of, page_of, rules_in, styled_of}
+use Rattle.page_modes.specs.Pages.{flow_page_of, page_of}
+use Rattle.session.specs.Document.{styled_of}
+use Rattle.session.specs.State.{rules_in}
 
--- the way of a flow that can be turned to any mode: horizontal-tb, with sideways text
+-- the way of a flow that can be turned to each of the four modes: horizontal-tb, with sideways text
 abbrev pub flow_way : Way
 flow_way = across Sideways Never
 

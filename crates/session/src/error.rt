@@ -1,11 +1,12 @@
-//! Why a document can't be opened, and why an edit isn't done.
+//! Why a document can't be opened, why an edit isn't done, and why none is taken back or done again.
 
 ghost use Rattle.std.specs.Prelude.{◌≡◌, ◌≤◌, length};
 ghost use Rattle.session.specs.Opening.{of_edit_error};
 ghost use Rattle.session.specs.declared.error.OpenError.TheVariants.{Limit, Memory};
 ghost use Rattle.session.specs.Editing.{of_faces_error, of_limit_error, of_refusal};
 ghost use Rattle.session.specs.declared.error.ApplyError.TheVariants.{Memory as apply_memory};
-ghost use Rattle.session.specs.Error.{apply_word, open_node, open_word};
+ghost use Rattle.session.specs.declared.error.UndoError.TheVariants.{Memory as undo_memory};
+ghost use Rattle.session.specs.Error.{apply_word, open_node, open_word, undo_word};
 
 use box_gen::BoxLimit;
 use box_limits::LimitError;
@@ -188,5 +189,41 @@ impl From<LimitError> for ApplyError {
             LimitError::Limit(limit) => ApplyError::Limit(limit),
             LimitError::Memory => ApplyError::Memory,
         }
+    }
+}
+
+/// Why no edit is taken back, or done again.
+#[derive(Error, Clone, Copy, Debug, PartialEq, Eq)]
+pub enum UndoError {
+    /// None is to be taken back: none was done, all were taken back that are kept, or the last one was of a face.
+    #[error("NoUndo")]
+    NoUndo,
+    /// None is to be done again: none was taken back since the last edit.
+    #[error("NoRedo")]
+    NoRedo,
+    #[error("Memory")]
+    Memory,
+}
+
+impl UndoError {
+    /// The word that a line of refusal has for it.
+    #[tactic(auto, unfolding(crate::specs::Error::undo_word))]
+    pub fn word(self) -> &'static str
+        ensures word { result.now ≡ undo_word self }
+        ensures short { length result.now ≤ 17 }
+    {
+        match self {
+            UndoError::NoUndo => "NoUndo",
+            UndoError::NoRedo => "NoRedo",
+            UndoError::Memory => "Memory",
+        }
+    }
+}
+
+impl From<AllocError> for UndoError {
+    ghost from_gives = { λ _ own. own ≡ undo_memory };
+
+    fn from(_: AllocError) -> UndoError {
+        UndoError::Memory
     }
 }

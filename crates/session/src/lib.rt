@@ -5,6 +5,7 @@ mod boxes;
 mod editing;
 mod error;
 mod generated;
+mod history;
 mod indexed;
 mod keeping;
 pub mod laws;
@@ -15,5 +16,5 @@ mod shifted;
 mod stored;
 mod turning;
 
-pub use error::{ApplyError, OpenError};
+pub use error::{ApplyError, OpenError, UndoError};
 pub use session::Session;

@@ -1,11 +1,12 @@
-//! The author's rules of a session, with one more or one less.
+//! The author's rules of a session, with some more or some less, and the steps of such edits.
 
-ghost use Rattle.std.specs.Prelude.{◌≡◌, ◌-◌, ◌<◌, ◌^◌, ◌++◌, IfErr, IfOk, drop, length, min, take};
+ghost use Rattle.std.specs.Prelude.{◌≡◌, ◌+◌, ◌-◌, ◌<◌, ◌≤◌, ◌^◌, ◌++◌, IfErr, IfOk, OnErr, OnOk, false, drop, length, min, take};
 ghost use Rattle.css_types.specs.Rule.{rulings_of};
 ghost use Rattle.cascade.specs.Index.{index_rules};
 ghost use Rattle.cascade.specs.Winners.{AreSaidRules};
 ghost use Rattle.dom_store.specs.State.{IsRooted, IsSaidState, state_of};
 ghost use Rattle.edits.specs.Edited as rule;
+ghost use Rattle.edits.specs.Exact.{put_at, rule_step as rule_step_of, step_as, taken_at, unrule_step as unrule_step_of};
 ghost use Rattle.style_tree.specs.Styling.{styled_document};
 ghost use Rattle.box_limits.specs.Limits.{Answers};
 ghost use Rattle.box_limits.specs.Rules.{turn_none};
@@ -13,8 +14,9 @@ ghost use Rattle.box_limits.specs.Rules.{turn_none};
 use box_gen::check_boxes;
 use box_limits::{LimitError, turn_none};
 use cascade::RuleIndex;
-use css_types::{Rule, Rules, copy_of_rule, copy_of_rules};
+use css_types::{Rule, Rules, copy_of_rules};
 use dom_store::Document;
+use edits::{ExactEdit, Step};
 use std::alloc::{AllocError, Global};
 use style_tree::styled;
 
@@ -64,6 +66,76 @@ pub(crate) fn rules_behind(
     let mut made = copy_of_rules(alloc, rules)?;
     put_behind(alloc, &mut made, more)?;
     Ok(made)
+}
+
+/// The step of rules that come behind these.
+pub(crate) fn step_of_rules(
+    alloc: Global,
+    rules: &[Rule],
+    more: &[Rule],
+) -> Result<Step, AllocError>
+    requires { rule.are_too_many (rulings_of rules.now ++ rulings_of more.now) ≡ false }
+    ensures { IfOk result (λ step. step_as step ≡ rule_step_of (rulings_of rules.now) (rulings_of more.now)) }
+{
+    let index = rules.len() as u32;
+    let back = ExactEdit::TakeRules {
+        index,
+        count: more.len() as u32,
+    };
+    let again = ExactEdit::PutRules {
+        index,
+        rules: copy_of_rules(alloc, more)?,
+    };
+    Ok(Step { back, again })
+}
+
+/// The step of a rule that goes.
+pub(crate) fn step_without(alloc: Global, rules: &[Rule], index: u32) -> Result<Step, AllocError>
+    requires { index < length rules.now }
+    ensures { IfOk result (λ step. step_as step ≡ unrule_step_of (rulings_of rules.now) index) }
+{
+    let (_, behind) = rules.split_at(index as usize);
+    let (one, _) = behind.split_at(1);
+    let back = ExactEdit::PutRules {
+        index,
+        rules: copy_of_rules(alloc, one)?,
+    };
+    let again = ExactEdit::TakeRules { index, count: 1 };
+    Ok(Step { back, again })
+}
+
+/// Puts copies of rules among the others, the first of them at this index. Where memory runs out nothing is put.
+pub(crate) fn put_among(
+    alloc: Global,
+    rules: &mut Rules,
+    index: usize,
+    more: &[Rule],
+) -> Result<(), AllocError>
+    requires { index ≤ length rules.old.items }
+    ensures put { OnOk result (rulings_of rules.new.items ≡ put_at index (rulings_of more.now) (rulings_of rules.old.items)) }
+    ensures same { OnErr result (rules.new.items ≡ rules.old.items) }
+{
+    let copies = copy_of_rules(alloc, more)?;
+    rules.splice(index..index, copies)?;
+    Ok(())
+}
+
+/// Takes so many rules away, the first of them at this index. Takes no memory.
+pub(crate) fn take_among(rules: &mut Rules, index: usize, count: usize)
+    requires { index + count ≤ length rules.old.items }
+    ensures { rulings_of rules.new.items ≡ taken_at index count (rulings_of rules.old.items) }
+{
+    take_run(rules, index, count);
+}
+
+// Takes a run of rules out of their list.
+fn take_run(rules: &mut Rules, index: usize, count: usize)
+    requires { index + count ≤ length rules.old.items }
+    ensures { rules.new.items ≡ take index rules.old.items ++ drop (index + count) rules.old.items }
+{
+    let (_, behind) = rules.split_at_mut(index);
+    behind.rotate_left(count);
+    rules.truncate(rules.len() - count);
 }
 
 /// Copies of all rules but one.

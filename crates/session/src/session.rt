@@ -19,7 +19,7 @@ ghost use Rattle.rel_shift.specs.Laws.{ArePlacesWithin};
 ghost use Rattle.rel_shift.specs.Positions.{positions_of};
 ghost use Rattle.session.specs.declared.keeping.KeptBoxes.TheVariants.{Current};
 ghost use Rattle.session.specs.Found.{ArrangesFor, HasAll, KeepsAll, PreparesFor, page_boxes_in};
-ghost use Rattle.session.specs.State.{AreReady, IsSound, Opens, flow_page_in, page_in, styled_in};
+ghost use Rattle.session.specs.State.{AreReady, IsSound, IsUnedited, Opens, flow_page_in, page_in, styled_in};
 
 use crate::boxes::{boxes_in, made_boxes};
 use crate::error::OpenError;
@@ -50,8 +50,11 @@ use std::sync::ledger::Ledger;
 use style_tree::styled;
 use style_types::Positions;
 use tree_laws::laws::{
-    live_counts_are_totals, opened_documents_are_reached, opened_documents_are_whole,
+    live_counts_are_totals, opened_documents_are_held, opened_documents_are_reached,
+    opened_documents_are_whole,
 };
+use undo_log::UndoLog;
+use undo_log::laws::logs_stand_for_states;
 use wm_units::{Steps, View};
 
 /// A document that is open in a view, and ready to be shown.
@@ -68,13 +71,15 @@ pub struct Session {
     pub(crate) view: View,
     /// The boxes, with what is kept of them and the positions of the nodes; none where nothing is kept.
     pub(crate) boxes: Option<KeptBoxes>,
+    /// The steps of its edits.
+    pub(crate) log: UndoLog,
 }
 
 impl Session {
     /// Opens a document that was read, with its styles, its faces and the sizes of its view in units of 1/64 px. Refused are more
     /// than 65,536 nodes, nodes deeper than 64, and more than six boxes on a line of ancestors that are orthogonal to their
     /// containing blocks, in this order, each with the least number of such a node. Its texts together hold at most 1,048,576
-    /// bytes.
+    /// bytes. It has no history yet.
     pub fn open(
         alloc: Global,
         read: &ReadDocument,
@@ -93,10 +98,13 @@ impl Session {
         ensures bytes { IfOk result (λ session. total bytes (state_of session.document) ≡ text_bytes (nodes_of read.now.nodes.items)) }
         ensures faces { IfOk result (λ session. session.faces ≡ faces) }
         ensures view { IfOk result (λ session. session.view ≡ view) }
+        ensures unedited { IfOk result (λ session. IsUnedited (faces_of ⟦<dyn Face as Face>⟧ session.faces) session) }
         ensures sound { IfOk result (λ session. IsSound (faces_of ⟦<dyn Face as Face>⟧ session.faces) session) }
     {
         opened_documents_are_whole();
         opened_documents_are_reached();
+        opened_documents_are_held();
+        logs_stand_for_states();
         live_counts_are_totals();
         documents_within_limits_fit();
         boxes_within_limits_fit();
@@ -109,6 +117,7 @@ impl Session {
         let index = RuleIndex::new(alloc, &rules)?;
         let boxes = boxes_in(alloc, &document, &index)?;
         let grown = grown(alloc, boxes)?;
+        let log = UndoLog::new(alloc)?;
         Ok(Session {
             alloc,
             document,
@@ -117,6 +126,7 @@ impl Session {
             faces,
             view,
             boxes: Some(KeptBoxes::Current(grown)),
+            log,
         })
     }
 

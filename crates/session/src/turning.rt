@@ -1,4 +1,4 @@
-//! Documents that can be set in any mode, and the flow of one (CSS Writing Modes 4, 6.2 and 6.4; docs/PROFILE/turned-pages.md).
+//! Documents that can be set in any of four modes, and the flow of one (CSS Writing Modes 4, 6.2 and 6.4; docs/PROFILE/turned-pages.md).
 
 ghost use Rattle.std.specs.Prelude.{◌≡◌, ◌↔◌, ◌-◌, ◌^◌, IfErr, IfOk, None};
 ghost use Rattle.face_api.specs.Faces.{faces_of};
@@ -26,7 +26,7 @@ impl Session {
     /// The place of the first declaration that ties the document as it is now to one writing mode: of the author's rules, whether or not
     /// they match, and of the style attributes, also of elements that aren't shown. It is told in bytes of the text that the declaration
     /// was read from, and of one in a style attribute it is the place of the attribute's name. `None` exactly where the document can be
-    /// turned to any mode. Takes no memory.
+    /// turned to any of the four modes. Takes no memory.
     pub fn physical(&self) -> Option<usize>
         requires sound { IsSound (faces_of ⟦<dyn Face as Face>⟧ self.now.faces) self.now }
         ensures value { result ≡ first_of (tying_places (rules_in self.now) (state_of self.now.document)) }

@@ -1,5 +1,5 @@
--- Documents that can be set in any mode: no declaration names a side or an axis of the page, a mode, or how text turns in one. CSS Logical
--- Properties 1, 4; CSS Writing Modes 4, 3.2, 5.1 and 9.1.
+-- Documents that can be set in any of four modes, horizontal-tb, vertical-rl, sideways-rl and sideways-lr: no declaration ties them to one,
+-- by a side or an axis of the page, by a mode, or by how text turns in one. CSS Logical Properties 1, 4; CSS Writing Modes 4, 3.2, 5.1 and 9.1.
 use Rattle.std.specs.Prelude.{◌≡◌, ℕ, Bool, true, false, List, Option, Some, None, ⊤}
 use Rattle.std.specs.List.{All}
 use Rattle.css_types.specs.declared.property.Property.{Property}

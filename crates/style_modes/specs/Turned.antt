@@ -1,4 +1,4 @@
--- A document that is set in a mode: `html` computes to it, and to sideways text, from which all below it inherit. CSS Writing Modes 4, 3.1 and 5.1.
+-- A document that is set in a mode: `html` computes to it, and to sideways text, from which all below it inherit. CSS Writing Modes 4, 3.2 and 5.1.
 use Rattle.std.specs.Prelude.{◌≡◌, ℕ, false, List}
 use Rattle.css_types.specs.Rule.{Ruling}
 use Rattle.style_types.specs.declared.style.Style.{Style}

@@ -3,7 +3,7 @@
 ghost use Rattle.style_modes.specs.Tying.{NoneIsFirstWhereTurnable, NoneTiesWhereTurnable};
 ghost use Rattle.style_modes.specs.Turned.{TurnableDocumentsArePlain, TurnableDocumentsTurn};
 
-/// A document whose declarations name nothing of the page has in each way the styled tree, in that way, that it has else.
+/// A document that no declaration ties to one mode has, in each way in which no text is upright, the styled tree that it has else, in that way.
 pub fn turnable_documents_turn()
     ensures { TurnableDocumentsTurn }
 {}

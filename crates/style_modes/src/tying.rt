@@ -33,7 +33,8 @@ fn is_of_page(reach: Reach) -> bool
 }
 
 /// The place in bytes of the first declaration that ties a document with these rules to one mode: of the rules, whether or not they match,
-/// and of the style attributes, also of elements that aren't shown. None where the document can be set in any mode. Takes no memory.
+/// and of the style attributes, also of elements that aren't shown. None where the document can be set in any of the four modes. Takes no
+/// memory.
 pub fn first_tying(rules: &[Rule], document: &Document) -> Option<usize>
     ensures { result ≡ places.first_of (places.tying_places (rulings_of rules.now) (state_of document.now)) }
 {

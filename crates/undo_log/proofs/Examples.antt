@@ -1,6 +1,9 @@
--- Logs of numbers in place of steps, by computation.
+-- Logs of numbers in place of steps, and what stands in a state, by computation.
 use Rattle.std.specs.Prelude.{◌≡◌, ℕ, List, [], ◌∷◌, fold, refl, Some}
 use Rattle.std.specs.List.{range_with_len}
+use Rattle.dom_store.specs.Building.{with_next}
+use Rattle.edits.specs.State.{State}
+use Rattle.undo_log.specs.History.{standing_of, state_with}
 use Rattle.undo_log.specs.Log.{Log, empty, gone_down, gone_up, next_ahead, next_back, recorded}
 
 data Call : Type 0 where
@@ -56,3 +59,11 @@ all_are_taken_again = refl
 
 the_next_ones : (next_back (after (step 1 ∷ step 2 ∷ down ∷ [])) ≡ Some 1) × (next_ahead (after (step 1 ∷ step 2 ∷ down ∷ [])) ≡ Some 2)
 the_next_ones = (refl, refl)
+
+-- ---- what stands in a state
+
+the_state_itself : (state : State) → state_with state.tree.next (standing_of state) ≡ state
+the_state_itself state = refl
+
+another_number_is_next : (state : State) (next : ℕ) → state_with next (standing_of state) ≡ record state { tree = with_next next state.tree }
+another_number_is_next state next = refl

@@ -1,5 +1,7 @@
+mod DrawnLaws
+mod EditLaws
 mod HistoryLaws
-mod LogLaws
+pub mod LogLaws
 mod NextLaws
 mod RingLaws
 mod Examples

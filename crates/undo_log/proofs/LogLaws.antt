@@ -4,7 +4,7 @@ use Rattle.std.specs.List.{slice_get}
 use Rattle.std.proofs.lemmas.List.{drop-append-le, drop_all, drop_at, length_push, take-append-drop, take_at}
 use Rattle.circular_buffer.specs.Buffer.{keep_last, last_item}
 use Rattle.basic_laws.proofs.Lists.{slice_get_last}
-use Rattle.dom_store.specs.Steps.{StepOf}
+use Rattle.edits.specs.Exact.{StepOf}
 use Rattle.dom_store.proofs.Places as places
 use Rattle.undo_log.specs.Log.{IsFew, Log, gone_down, gone_up, greatest_count, next_back, recorded}
 use Rattle.undo_log.specs.Laws.{ComeBack, ComeLast, StayFew}

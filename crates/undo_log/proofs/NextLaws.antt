@@ -1,12 +1,11 @@
--- Exact edits ask nothing of the number that is given next, and leave it as it is.
-use Rattle.std.proofs.Common.{◌≡◌, ◌∙◌, ℕ, zero, suc, ◌-◌, List, ◌++◌, refl, ap, Option, Some, None}
+-- Exact edits of the tree ask nothing of the number that is given next, and leave it as it is.
+use Rattle.std.proofs.Common.{◌≡◌, ℕ, zero, suc, ◌-◌, List, ◌++◌, refl, ap, Option, Some, None}
 use Rattle.std.specs.Prelude.{flat_map}
 use Rattle.dom_store.specs.State.{Entry, State, greatest_depth}
 use Rattle.dom_store.specs.Building.{with_next}
 use Rattle.dom_store.specs.Standing.{below_levels, children_at, parent_at, unless_skipped}
 use Rattle.dom_store.specs.Edits.{changed, changed_if, with_children, with_moved, with_parent, without, without_nodes}
 use Rattle.dom_store.specs.Exact.{ExactEditOf, exact_text, exact_style, exact_class, exact_move, take_nodes, restore, exactly, without_each}
-use Rattle.undo_log.specs.Laws.{LeadWhateverIsNext}
 
 below_alike : (next : ℕ) (state : State) (skipped levels number : ℕ) → below_levels skipped levels (with_next next state) number ≡ below_levels skipped levels state number
 unfolding below_levels
@@ -17,7 +16,7 @@ changed_alike : (next : ℕ) (state : State) (parent : Option ℕ) (change : Ent
 changed_alike next state None change = refl
 changed_alike next state (Some parent) change = refl
 
-exactly_alike : (next : ℕ) (state : State) (edit : ExactEditOf) → exactly (with_next next state) edit ≡ with_next next (exactly state edit)
+pub exactly_alike : (next : ℕ) (state : State) (edit : ExactEditOf) → exactly (with_next next state) edit ≡ with_next next (exactly state edit)
 exactly_alike next state (exact_text number letters) = refl
 exactly_alike next state (exact_style number own) = refl
 exactly_alike next state (exact_class number words) = refl
@@ -26,9 +25,3 @@ exactly_alike next state (exact_move number parent index) =
 exactly_alike next state (take_nodes parent numbers) =
     ap (λ (below : ℕ → List ℕ). without_nodes (flat_map below numbers) (changed (with_next next state) parent (with_children (without_each numbers)))) (λ i number. below_alike next state 0 greatest_depth number i)
 exactly_alike next state (restore parent index nodes) = refl
-
-pub lead_whatever_is_next : LeadWhateverIsNext
-lead_whatever_is_next before later step back again = record {
-  back = λ next. exactly_alike next later step.back ∙ ap (with_next next) back;
-  again = λ next. exactly_alike next (with_next later.next before) step.again ∙ ap (with_next next) again;
-}

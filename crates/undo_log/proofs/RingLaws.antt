@@ -6,8 +6,8 @@ use Rattle.std.specs.List.{slice_get}
 use Rattle.std.proofs.lemmas.List.{drop-append-le, drop-drop, drop-map, drop-take, drop_all, length-map, length-take-le, map_push, take-append-drop, take-map, take-take}
 use Rattle.std.proofs.lemmas.Option.{slice_get-get_or, slice_get-map, slice_get_within}
 use Rattle.circular_buffer.specs.Buffer.{Buffer, buffer, keep_last, last_item}
-use Rattle.dom_store.specs.declared.exact.Step.{Step}
-use Rattle.dom_store.specs.Steps.{StepOf, step_as}
+use Rattle.edits.specs.declared.exact.Step.{Step}
+use Rattle.edits.specs.Exact.{StepOf, step_as}
 use Rattle.undo_log.specs.Log.{IsFew, IsSound, Log, cut, gone_down, gone_up, greatest_count, next_ahead, next_back, recorded}
 use Rattle.undo_log.proofs.LogLaws.{kept_few}
 

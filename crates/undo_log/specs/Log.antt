@@ -2,7 +2,7 @@
 -- is taken back next, the future's first one is taken again next.
 use Rattle.std.specs.Prelude.{◌≡◌, ℕ, ◌+◌, ◌-◌, ◌≤◌, List, [], ◌∷◌, ◌++◌, length, take, drop, slice_get, Option}
 use Rattle.circular_buffer.specs.Buffer.{Buffer, keep_last, last_item}
-use Rattle.dom_store.specs.declared.exact.Step.{Step}
+use Rattle.edits.specs.declared.exact.Step.{Step}
 
 -- how many steps are kept
 abbrev pub greatest_count : ℕ

@@ -1,11 +1,11 @@
 //! The log: steps that lead back from now, and steps that lead ahead again.
 
 ghost use Rattle.std.specs.Prelude.{◌≡◌, ◌<◌, ◌↔◌, length, IfOk, IsSome, option_copied, option_map};
-ghost use Rattle.dom_store.specs.Steps.{step_as};
+ghost use Rattle.edits.specs.Exact.{step_as};
 ghost use Rattle.undo_log.specs.Log.{IsFew, empty, gone_down, gone_up, next_ahead, next_back, recorded};
 
 use circular_buffer::HeapCircularBuffer;
-use dom_store::Step;
+use edits::Step;
 use std::alloc::{AllocError, Global};
 use std::marker::Model;
 
@@ -24,7 +24,7 @@ pub struct UndoLog {
 
 impl Model for UndoLog {
     ghost use Rattle.std.specs.Prelude.{map};
-    ghost use Rattle.dom_store.specs.Steps.{StepOf, step_as};
+    ghost use Rattle.edits.specs.Exact.{StepOf, step_as};
     ghost use Rattle.undo_log.specs.Log.{IsSound, Log, cut};
 
     ghost Value = { Log StepOf };

@@ -4,14 +4,16 @@ use Rattle.std.specs.Global.{Vec}
 use Rattle.face_api.specs.Faces.{faces_of}
 use Rattle.face_api.specs.Table.{Table}
 use Rattle.face_api.specs.declared.face.Face.{Ghosts}
+use Rattle.edits.specs.Exact.{StepOf}
 use Rattle.edits.specs.State.{State}
+use Rattle.undo_log.specs.Log.{Log}
 use Rattle.hit_caret.specs.declared.probes.Probe.{Probe}
 use Rattle.edit_script.specs.declared.step.ScriptLine.{ScriptLine}
 use Rattle.edit_script.specs.Views.{steps_of}
 use Rattle.session.specs.Found.{ArrangesFor, PreparesFor}
 use Rattle.session.specs.State.{IsSound, state_in}
 use Rattle.session.specs.declared.session.Session.{Session}
-use Rattle.edit_job.specs.Owed.{AllAreOwedAtFirst, IsPaid, OweStepsIn, Owed, Owing, RiseBy, RiseTo, after_page_in, at_first}
+use Rattle.edit_job.specs.Owed.{AllAreOwedAtFirst, IsPaid, OweStepsFrom, OweStepsIn, Owed, Owing, RiseBy, RiseTo, after_page_in, at_first, logged_in}
 use Rattle.edit_job.proofs.OwedLaws.{page_costs, paid_at_first}
 use Rattle.input_due.specs.Due.{IsReady}
 use Rattle.input_due.specs.Owed.{IsOwedFor, owed_so_far}
@@ -46,15 +48,17 @@ module _ {I : Type 0} {D : I → Type 0} (members : (x : I) → Ghosts (D x)) wh
   -- a run that went through steps counts what they owe
   pub steps_count : AllAreOwedAtFirst → (due : Due I D) (session : Session I D) (script : Vec ScriptLine) (lines : List ScriptLine) (p q a b : ℕ) → due ≡ dues.Steps session script → lines ≡ script.items
       → IsReady members due
-      → ((owing last : Owing) → IsPaid session owing → OweStepsIn (faces_of members session.faces) session owing (steps_of lines) last → RiseTo owing last p q a b)
+      → ((owing last : Owing) → IsPaid session owing → OweStepsFrom session.view (logged_in (faces_of members session.faces) session) owing (steps_of lines) last → RiseTo owing last p q a b)
       → (owed : Owed) → IsOwedFor members due owed → RiseBy owed p q a b
   steps_count all due session script lines p q a b is same ready costs owed owes = by (subst (λ (d : Due I D). IsOwedFor members d owed) is owes) where
     by : IsOwedFor members (dues.Steps session script) owed → RiseBy owed p q a b
     by (last, over, sum) =
         let faces = faces_of members session.faces in
         let first = at_first (state_in faces session) in
-        let sound = (subst (λ (d : Due I D). IsReady members d) is ready).sound in
-        let steps = subst (λ (l : List ScriptLine). OweStepsIn faces session first (steps_of l) last) (sym same) over in
+        let own = subst (λ (d : Due I D). IsReady members d) is ready in
+        let sound = own.sound in
+        let script_ = subst (λ (l : List ScriptLine). OweStepsIn faces session first (steps_of l) last) (sym same) over in
+        let steps = subst (λ (log : Log StepOf). OweStepsFrom session.view (record { state = state_in faces session; log = log }) first (steps_of lines) last) (sym own.unedited.log) script_ in
         subst (λ (o : Owed). RiseBy o p q a b) (sym sum) (rise_from_first (state_in faces session) last p q a b (costs first last (paid_at_first faces all session sound) steps))
 
   -- a run that answered a probe counts what its page owes

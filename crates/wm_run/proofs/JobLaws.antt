@@ -9,15 +9,17 @@ use Rattle.face_api.specs.Table.{Table}
 use Rattle.face_api.specs.Faces.{faces_of}
 use Rattle.face_api.specs.declared.face.Face.{Ghosts}
 use Rattle.wm_units.specs.declared.view.View.{View}
-use Rattle.edits.specs.State.{State}
 use Rattle.dom_store.specs.State.{state_of}
 use Rattle.modes_job.specs.Telling.{modes_of}
 use Rattle.hit_caret.specs.declared.probes.Probe.{Probe}
 use Rattle.probe_job.specs.Answers.{answers}
-use Rattle.session.specs.State.{page_in, rules_in, state_in}
+use Rattle.session.specs.History.{Opened, unedited}
+use Rattle.session.specs.State.{Holds, IsUnedited, page_in, rules_in, state_in}
+use Rattle.tree_laws.specs.Weight.{bytes, total}
 use Rattle.edit_script.specs.declared.step.ScriptLine.{ScriptLine}
 use Rattle.edit_script.specs.Views.{steps_of}
-use Rattle.edit_job.specs.Steps.{AreStepsIn, HaveOneEnd}
+use Rattle.edit_job.specs.Steps.{AreStepsFrom, AreStepsIn, HaveOneEnd}
+use Rattle.edit_job.specs.Told.{GoThrough}
 use Rattle.generator.specs.Generator.{gen_input}
 use Rattle.input_due.specs.declared.follows.Follows.TheVariants.{Script}
 use Rattle.input_due.specs.Due.{End, IsDueBy, IsOf}
@@ -39,7 +41,7 @@ module _ {I : Type 0} {D : I → Type 0} (members : (x : I) → Ghosts (D x)) wh
   -- what is due is one text
   pub one_text : HaveOneEnd → (due : Due I D) (end_ other_end : End) (one other : List ℕ) → IsOf members due end_ one → IsOf members due other_end other → other ≡ one
   one_text ends (dues.Steps session script) end_ other_end one other (is, last, steps) (is', last', steps') =
-      (ends session.view (state_in (faces_of members session.faces) session) (steps_of script.items) last last' one other steps steps').1
+      (ends session.view (unedited (state_in (faces_of members session.faces) session)) (steps_of script.items) last last' one other steps steps').1
   one_text ends (dues.Answers session probes) end_ other_end one other (is, d) (is', d') = d' ∙ sym d
   one_text ends (dues.Pages session) end_ other_end one other (is, d) (is', d') = d' ∙ sym d
   one_text ends (dues.Refused cause place) end_ other_end one other (is, d) (is', d') = d' ∙ sym d
@@ -50,16 +52,21 @@ module _ {I : Type 0} {D : I → Type 0} (members : (x : I) → Ghosts (D x)) wh
   told_text ends IsDueWith due end_ told by is other_end other also = one_text ends due end_ other_end told other is ((by other_end other).0 also)
 
   -- a run that went through steps stands
-  pub stands_steps : (due : Due I D) (session : Session I D) (script : Vec ScriptLine) (lines : List ScriptLine) (state : State) (old new : Option (List ℕ)) (written : Result ⊤ WriteError)
-      → due ≡ dues.Steps session script → lines ≡ script.items
-      → OnOk written ((told : List ℕ) × AreStepsIn (faces_of members session.faces) session (steps_of lines) state told × Appends old new told)
-      → ((last : State) (told : List ℕ) → AreStepsIn (faces_of members session.faces) session (steps_of lines) last told → AppendsFront old new told)
+  pub stands_steps : (due : Due I D) (session after_ : Session I D) (behind : List (Option Table)) (script : Vec ScriptLine) (lines : List ScriptLine) (old new : Option (List ℕ)) (written : Result ⊤ WriteError)
+      → due ≡ dues.Steps session script → lines ≡ script.items → IsUnedited (faces_of members session.faces) session
+      → OnOk written ((most : ℕ) (opened : Opened) → Holds (faces_of members session.faces) most session opened → GoThrough behind session after_ (steps_of lines) old new opened)
+      → ((most : ℕ) (opened last : Opened) (told : List ℕ) → Holds (faces_of members session.faces) most session opened → AreStepsFrom session.view opened (steps_of lines) last told → AppendsFront old new told)
       → Stands (with_status (IsOf members due)) old new (ended written Done)
-  stands_steps due session script lines state old new written is same whole front =
+  stands_steps due session after_ behind script lines old new written is same begun whole front =
+      let faces = faces_of members session.faces in
+      let most = total bytes (state_of session.document) in
+      let opened = unedited (state_in faces session) in
       subst (λ (d : Due I D). Stands (with_status (IsOf members d)) old new (ended written Done)) (sym is)
       (stands_told (IsOf members (dues.Steps session script)) old new
-      (λ end_ told q. front q.1 told (subst (λ (l : List ScriptLine). AreStepsIn (faces_of members session.faces) session (steps_of l) q.1 told) (sym same) q.2)) written
-      (on_ok written whole (λ w. (w.0, (refl, state, subst (λ (l : List ScriptLine). AreStepsIn (faces_of members session.faces) session (steps_of l) state w.0) same w.1), w.2))))
+      (λ end_ told q. front most opened q.1 told begun.holds (subst (λ (l : List ScriptLine). AreStepsIn faces session (steps_of l) q.1 told) (sym same) q.2)) written
+      (on_ok written whole (λ goes.
+      let w = goes most opened begun.holds in
+      (w.due, (refl, w.last, subst (λ (l : List ScriptLine). AreStepsIn faces session (steps_of l) w.last w.due) same w.steps_are), w.appended))))
 
   -- a run that answered a probe stands
   pub stands_answers : (due : Due I D) (session : Session I D) (asked : Vec Probe) (lines : List Probe) (old new : Option (List ℕ)) (written : Result ⊤ WriteError)

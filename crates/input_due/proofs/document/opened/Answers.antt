@@ -23,7 +23,7 @@ returns-in-Ok-clause-ready g c =
     let before = c.requires.read.bytes in
     let short = c.requires.short in
     subst (λ due. IsReady (λ vtable. (g.dyn-1.0.entry vtable).1) due) (sym c.over.ensures)
-    (ready_over (λ vtable. (g.dyn-1.0.entry vtable).1) c.none_is_first_where_turnable.ensures c.in-Ok.session c.args.lines own.sound c.requires.fits (omega (arith, held, before, short)))
+    (ready_over (λ vtable. (g.dyn-1.0.entry vtable).1) c.none_is_first_where_turnable.ensures c.in-Ok.session c.args.lines own.sound own.unedited c.requires.fits (omega (arith, held, before, short)))
 
 pub returns-in-Some-clause-outcome : goal.returns-in-Some-clause-outcome
 returns-in-Some-clause-outcome g c =

@@ -1,7 +1,10 @@
-use Rattle.std.proofs.Common.{subst, sym}
+use Rattle.std.proofs.Common.{List, subst, sym}
 use Rattle.face_api.specs.Faces.{faces_of}
-use Rattle.session.specs.State.{state_in}
-use Rattle.input_due.specs.Due.{IsOf}
+use Rattle.edit_script.specs.declared.step.ScriptLine.{ScriptLine}
+use Rattle.edit_script.specs.Views.{steps_of}
+use Rattle.edit_job.specs.Told.{HasRoom}
+use Rattle.input_due.specs.declared.due.Due.{Due}
+use Rattle.input_due.specs.Due.{IsOf, IsReady}
 use Rattle.wm_run.specs.Job.{with_status}
 use Rattle.wm_run.specs.Standing.{Stands}
 use Rattle.wm_run.specs.declared.status.Status.{Status}
@@ -9,15 +12,21 @@ use Rattle.wm_run.proofs.CountLaws.{answers_count, none_counted, pages_count, st
 use Rattle.wm_run.proofs.JobLaws.{stands_answers, stands_pages, stands_steps}
 use Rattle.wm_run.proofs.tell.tell.Goals as goal
 
+pub tell_steps-written-requires-clause-room : goal.tell_steps-written-requires-clause-room
+tell_steps-written-requires-clause-room g c =
+    let ready = subst (λ (d : Due _ _). IsReady (λ vtable. (g.dyn-1.0.entry vtable).1) d) c.in-Steps.is c.requires.ready in
+    let faces = faces_of (λ vtable. (g.dyn-1.0.entry vtable).1) c.in-Steps.session.faces in
+    subst (λ (l : List ScriptLine). HasRoom faces c.in-Steps.session (steps_of l)) (sym c.deref.ensures.value) ready.room
+
 pub returns-in-Steps-clause-stands : goal.returns-in-Steps-clause-stands
 returns-in-Steps-clause-stands g c =
     let old = g.K.Sink.held c.args.sink.now in
     let new = g.K.Sink.held c.tell_steps-written.new.sink in
     let steps = c.tell_steps-written.ensures in
-    let last = c.tell_steps-written.new.session in
     subst (λ (s : Status). Stands (with_status (IsOf (λ vtable. (g.dyn-1.0.entry vtable).1) c.args.due)) old new s) (sym c.ended.ensures)
-    (stands_steps (λ vtable. (g.dyn-1.0.entry vtable).1) c.args.due c.in-Steps.session c.in-Steps.script c.deref.result.now (state_in (faces_of (λ vtable. (g.dyn-1.0.entry vtable).1) last.faces) last) old new c.tell_steps-written.result
-    c.in-Steps.is c.deref.ensures.value steps.whole steps.front)
+    (stands_steps (λ vtable. (g.dyn-1.0.entry vtable).1) c.args.due c.in-Steps.session c.tell_steps-written.new.session (faces_of (λ vtable. (g.dyn-1.0.entry vtable).1) c.tell_steps-written.new.session.faces)
+    c.in-Steps.script c.deref.result.now old new c.tell_steps-written.result c.in-Steps.is c.deref.ensures.value
+    (subst (λ (d : Due _ _). IsReady (λ vtable. (g.dyn-1.0.entry vtable).1) d) c.in-Steps.is c.requires.ready).unedited steps.whole steps.front)
 
 pub returns-in-Answers-clause-stands : goal.returns-in-Answers-clause-stands
 returns-in-Answers-clause-stands g c =

@@ -1,0 +1,74 @@
+use Rattle.std.proofs.Common.{◌∙◌, ℕ, Option, refl, subst, sym}
+use Rattle.std.proofs.lemmas.Option.{same_Some}
+use Rattle.dom_store.specs.State.{state_of}
+use Rattle.cascade.specs.declared.index.RuleIndex.{RuleIndex}
+use Rattle.face_api.specs.Faces.{faces_of}
+use Rattle.edits.specs.Exact.{StepOf, step_as}
+use Rattle.undo_log.specs.History.{Standing}
+use Rattle.undo_log.specs.Log.{Log, gone_up}
+use Rattle.session.specs.declared.keeping.KeptBoxes.{KeptBoxes}
+use Rattle.session.specs.Document.{most_bytes}
+use Rattle.session.specs.Found.{LosesExactly}
+use Rattle.session.specs.History.{redone}
+use Rattle.session.specs.State.{HasHistory, rules_in, state_in}
+use Rattle.session.specs.Undoing.{BoxesStay, IndexStays, IsDoneBy}
+use Rattle.session.proofs.Moves.{MovesTo, can_bare, done_whole, leads_to, loses_there, moves_ahead, sound_there}
+use Rattle.session.proofs.session.Session.redo.Goals as goal
+
+pub do_exactly-requires : goal.do_exactly-requires
+do_exactly-requires g c =
+    let old = c.args.self.now in
+    let faces = faces_of (λ vtable. (g.dyn-1.0.entry vtable).1) old.faces in
+    let step = step_as c.in-Some.step.now in
+    let history = c.requires.sound.history in
+    let moves = moves_ahead c.logs_stand_for_states.ensures (state_in faces old) old.log step most_bytes history.0 history.1 (sym c.in-Some.ensures.step) in
+    can_bare (state_in faces old) step.again moves.goes_there.can
+
+pub returns-in_ok-do_exactly-in-Some-clause-redoes : goal.returns-in_ok-do_exactly-in-Some-clause-redoes
+returns-in_ok-do_exactly-in-Some-clause-redoes g c =
+    let old = c.args.self.now in
+    let faces = faces_of (λ vtable. (g.dyn-1.0.entry vtable).1) old.faces in
+    let step = step_as c.in-Some.step.now in
+    let new = record old { document = c.do_exactly.new.document; rules = c.do_exactly.new.rules; index = c.index_after.result; boxes = c.boxes_after.result; log = c.up.new.self } in
+    let moves : (most : ℕ) (history : Log Standing) → HasHistory faces most old history → MovesTo redone (state_in faces old) old.log (gone_up old.log) step.again most history =
+    λ most history has. moves_ahead c.logs_stand_for_states.ensures (state_in faces old) old.log step most history has (sym c.in-Some.ensures.step) in
+    let done : IsDoneBy faces faces old new step.again (gone_up old.log) = record {
+      state = done_whole faces (state_of old.document) (state_of new.document) (rules_in old) (rules_in new) step.again c.in_ok-do_exactly-in-Some.ensures.done;
+      log = c.up.ensures;
+    } in
+    leads_to faces old new step.again (gone_up old.log) redone moves done
+
+pub returns-in_ok-do_exactly-in-Some-clause-loses : goal.returns-in_ok-do_exactly-in-Some-clause-loses
+returns-in_ok-do_exactly-in-Some-clause-loses g c =
+    let old = c.args.self.now in
+    let faces = faces_of (λ vtable. (g.dyn-1.0.entry vtable).1) old.faces in
+    let step = step_as c.in-Some.step.now in
+    let new = record old { document = c.do_exactly.new.document; rules = c.do_exactly.new.rules; index = c.index_after.result; boxes = c.boxes_after.result; log = c.up.new.self } in
+    let moves : (most : ℕ) (history : Log Standing) → HasHistory faces most old history → MovesTo redone (state_in faces old) old.log (gone_up old.log) step.again most history =
+    λ most history has. moves_ahead c.logs_stand_for_states.ensures (state_in faces old) old.log step most history has (sym c.in-Some.ensures.step) in
+    let done : IsDoneBy faces faces old new step.again (gone_up old.log) = record {
+      state = done_whole faces (state_of old.document) (state_of new.document) (rules_in old) (rules_in new) step.again c.in_ok-do_exactly-in-Some.ensures.done;
+      log = c.up.ensures;
+    } in
+    let index = subst (λ (o : Option RuleIndex). IndexStays o step.again new.index) c.take.ensures.value c.index_after.ensures in
+    let boxes = subst (λ (o : Option KeptBoxes). BoxesStay o step.again new.boxes) c.take-in-Some.ensures.value c.boxes_after.ensures in
+    λ other is.
+    subst (λ (s : StepOf). LosesExactly faces old new s.again) (same_Some step other (c.in-Some.ensures.step ∙ is))
+    (loses_there faces old new step.again (gone_up old.log) redone moves done c.requires.sound refl index boxes c.pages_are_boxes_of_html.ensures c.names_are_of_places.ensures
+    c.boxes_are_of_elements.ensures c.boxes_outside_the_scope_of_an_exact_edit_were_there.ensures c.boxes_untouched_by_an_exact_edit_were_there.ensures)
+
+pub returns-in_ok-do_exactly-in-Some-clause-sound : goal.returns-in_ok-do_exactly-in-Some-clause-sound
+returns-in_ok-do_exactly-in-Some-clause-sound g c =
+    let old = c.args.self.now in
+    let faces = faces_of (λ vtable. (g.dyn-1.0.entry vtable).1) old.faces in
+    let step = step_as c.in-Some.step.now in
+    let new = record old { document = c.do_exactly.new.document; rules = c.do_exactly.new.rules; index = c.index_after.result; boxes = c.boxes_after.result; log = c.up.new.self } in
+    let moves : (most : ℕ) (history : Log Standing) → HasHistory faces most old history → MovesTo redone (state_in faces old) old.log (gone_up old.log) step.again most history =
+    λ most history has. moves_ahead c.logs_stand_for_states.ensures (state_in faces old) old.log step most history has (sym c.in-Some.ensures.step) in
+    let done : IsDoneBy faces faces old new step.again (gone_up old.log) = record {
+      state = done_whole faces (state_of old.document) (state_of new.document) (rules_in old) (rules_in new) step.again c.in_ok-do_exactly-in-Some.ensures.done;
+      log = c.up.ensures;
+    } in
+    let index = subst (λ (o : Option RuleIndex). IndexStays o step.again new.index) c.take.ensures.value c.index_after.ensures in
+    let boxes = subst (λ (o : Option KeptBoxes). BoxesStay o step.again new.boxes) c.take-in-Some.ensures.value c.boxes_after.ensures in
+    sound_there faces old new step.again (gone_up old.log) redone moves done c.requires.sound refl index boxes
