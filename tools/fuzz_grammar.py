@@ -5,7 +5,7 @@ import os
 import re
 from random import Random
 
-from fuzz_trees import SHOW, Edit, Node, Tree
+from fuzz_trees import NOTHING, REDO, SHOW, UNDO, Edit, Node, Tree
 
 TOP = os.path.dirname(os.path.dirname(os.path.abspath(__file__)))
 KEPT = re.compile(r"\| (`.*?) \| (.*?) \| [^|]* \| (yes|no) \| .*\|")
@@ -64,6 +64,9 @@ TYING = re.compile(
 UNTIED = [name for name in PROPERTIES if not TYING.fullmatch(name)]
 LETTERS = "aab  1.-( אב بت 東京、\u0301\u2067\u2069\u202e\u202c"
 USUAL = "0 1 3 7 12.5 16 33.33 50 100 200".split()
+# The words of edits, and those of the lines of a script that change the document.
+EDITS = "text text style class insert remove move rule"
+SCRIPTED = f"{EDITS} undo undo redo"
 EDGES = (
     "-1 -0.001 .005 0.01 00 63 64 65 255 256 1023 1024 4096 4097 9999 10000 10001 16384 16385 65535 65536 65537 1048575 1048576"
     " 9999999 9999999.99 10000000 67108864 2147483648 4294967295 4294967296 18446744073709551616"
@@ -142,9 +145,11 @@ class Maker:
         sheet = "\n".join(self.rule() for _ in range(self.choice((0, 0, 1, 2, 5))))
         return Tree(sheet, Node("body", attributes=self.attributes(), children=content))
 
-    def edit(self, tree: Tree, words: str = "text text style class insert remove move rule") -> Edit:
+    def edit(self, tree: Tree, words: str = EDITS) -> Edit:
         """An edit of one of these words, most often one that the tree doesn't refuse."""
         word, living = self.choice(words.split()), tree.living()
+        if word in NOTHING:
+            return Edit(word)
         if word == "rule":
             return Edit(word, text=self.rule())
         fitting = [number for number, node in living.items() if is_fitting(word, node)]
@@ -160,10 +165,23 @@ class Maker:
         """Edits of a document with pages between them."""
         tree, steps = tree.copied(), [SHOW] * self.is_so(0.5)
         for _ in range(self.random.randint(1, 12)):
-            steps.append(self.edit(tree) if self.is_so(0.7) else self.choice((SHOW, SHOW, SHOW, Edit(""), Edit("#", text="show"))))
+            steps.append(self.edit(tree, SCRIPTED) if self.is_so(0.7) else self.choice((SHOW, SHOW, SHOW, Edit(""), Edit("#", text="show"))))
             if steps[-1].is_edit() and not tree.refusal(steps[-1]):
                 tree.apply(steps[-1])
+        if self.is_so(0.03):
+            # About as many edits as are kept, about as many taken back, and some of them done again.
+            many = [self.edit(tree, "text class") for _ in range(self.random.randint(60, 70))]
+            steps += [*many, *[UNDO] * self.random.randint(60, 70), SHOW, *[REDO] * self.random.randint(0, 70)]
         return [*steps, SHOW]
+
+    def edits(self, tree: Tree) -> list[Edit]:
+        """Edits of a document, none of which takes another back."""
+        tree, edits = tree.copied(), list[Edit]()
+        for _ in range(self.random.randint(1, 8)):
+            edits.append(self.edit(tree))
+            if not tree.refusal(edits[-1]):
+                tree.apply(edits[-1])
+        return edits
 
     def undone(self, tree: Tree) -> list[Edit]:
         """Edits of a document, each with what leads back from it; an insertion draws numbers, where it isn't refused, so it is the last."""

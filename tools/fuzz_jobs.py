@@ -8,7 +8,7 @@ from random import Random
 from typing import NamedTuple
 
 import listing
-from fuzz_grammar import EDGES, FAVOURED, TOP, UNTIED, Maker
+from fuzz_grammar import EDGES, FAVOURED, SCRIPTED, TOP, UNTIED, Maker
 from fuzz_trees import Edit, Tree, script_of
 from stored import bytes_of, lines_of
 
@@ -29,7 +29,8 @@ DECLARATION, LINE = rb"([a-z-]+:[^;\"{}<>]+)", rb"(\n[^\n]*)"
 
 class Job(NamedTuple):
     """A job: its words and its input; and where it is of the grammar, its document, the script behind it, edits that undo one
-    another, and how many points and places of a text are asked for. Where a stream is to fail is told by a number from 0 to 1."""
+    another, edits that are to be taken back, and how many points and places of a text are asked for. Where a stream is to fail is
+    told by a number from 0 to 1."""
 
     kind: str
     words: list[str]
@@ -38,6 +39,7 @@ class Job(NamedTuple):
     tree: Tree | None = None
     steps: tuple[Edit, ...] = ()
     undone: tuple[Edit, ...] = ()
+    edits: tuple[Edit, ...] = ()
     asked: int = 0
     failing: float = 0.0
 
@@ -112,7 +114,7 @@ class JobMaker(Maker):
     def put_piece(self, data: bytes) -> bytes:
         """A piece of the grammar behind another one, or in its place."""
         pattern, pieces, at, _ = self.pieces_of(data, ELEMENT, DECLARATION, LINE)
-        made = {DECLARATION: f";{self.declaration()}", LINE: f"\n{self.edit(self.tree()).line()}"}.get(pattern)
+        made = {DECLARATION: f";{self.declaration()}", LINE: f"\n{self.edit(self.tree(), SCRIPTED).line()}"}.get(pattern)
         pieces[at] = pieces[at] * self.random.randrange(2) + (made or self.nodes(2, 0.5)[0].written()).encode()
         return b"".join(pieces)
 
@@ -145,7 +147,7 @@ class JobMaker(Maker):
 
     def document_job(self) -> Job:
         tree = self.tree()
-        return Job("document", self.good_words("layout"), tree.written(), tree=tree, undone=tuple(self.undone(tree)))
+        return Job("document", self.good_words("layout"), tree.written(), tree=tree, undone=tuple(self.undone(tree)), edits=tuple(self.edits(tree)))
 
     def script_job(self) -> Job:
         tree = self.tree()

@@ -13,7 +13,7 @@ import listing
 import refusals
 from fuzz_grammar import read_page
 from fuzz_jobs import Job
-from fuzz_trees import SHOW, Edit, Tree, script_of
+from fuzz_trees import MOST_KEPT, REDO, SHOW, UNDO, Edit, Tree, script_of
 
 FACTS = refusals.read_facts(refusals.read_page())
 BYTES, NODES, LINES = ({fact.kind for fact in FACTS if fact.number == number} for number in ("byte", "node", "line"))
@@ -99,7 +99,7 @@ class Trial:
         self.parts: list[listing.Part] = []
         self.share = self.due.seconds / program.limits.seconds_of(job.input)
         self.wrong = list(self.wrong_end())
-        for law in (self.streamed, self.shown, self.undone, self.followed, self.turned) if not self.wrong else ():
+        for law in (self.streamed, self.shown, self.undone, self.taken_back, self.kept, self.followed, self.turned) if not self.wrong else ():
             self.wrong += law()
 
     def again(self, command: str, data: bytes) -> Ended:
@@ -261,6 +261,39 @@ class Trial:
             again = self.again("edit", self.job.input + script_of([*self.job.undone, SHOW]))
             if again.status or again.parts()[-1:] != self.parts:
                 yield f"after {script_of(self.job.undone)!r} `edit` shows another page: {again.told()}"
+
+    def taken_back(self) -> Iterator[str]:
+        """After edits `undo` for each that was done leads to the page before them, and `redo` to the page after them; then there is none."""
+        if not self.job.edits or self.due.status:
+            return
+        more = len(self.job.edits) + 1
+        again = self.again("edit", self.job.input + script_of([*self.job.edits, SHOW, *[UNDO] * more, SHOW, *[REDO] * more, SHOW]))
+        kinds, pages = self.kinds_and_pages(again.parts())
+        # One more line than edits that were done, and one for each that was refused.
+        none = kinds.index("") + 1 if "" in kinds else 0
+        due = [*kinds[: none - 1], "", *["NoUndo"] * none, "", *["NoRedo"] * none, ""]
+        if again.status or kinds != due or pages[1:] != [*self.parts, pages[0]]:
+            yield f"after {script_of(self.job.edits)!r} `undo` or `redo` leads to another page: {again.told()}"
+
+    def kept(self) -> Iterator[str]:
+        """All that is kept of a script's edits, taken back and done again, leads to the page that there was."""
+        if self.job.command != "edit" or self.due.status:
+            return
+        undo, redo = [UNDO] * (MOST_KEPT + 1), [REDO] * (MOST_KEPT + 1)
+        again = self.again("edit", self.job.input + script_of([*redo, SHOW, *undo, *redo, SHOW]))
+        if not again.status:
+            kinds, pages = self.kinds_and_pages(again.parts()[len(self.parts) :])
+            none = kinds.count("NoUndo")
+            first = kinds.index("") if "" in kinds else 0
+            due = [*["NoRedo"] * first, "", *["NoUndo"] * none, *["NoRedo"] * none, ""]
+            if kinds != due or not first or not none or pages[:1] != pages[1:]:
+                yield f"what `undo` and `redo` lead to isn't the page that there was: {again.told()}"
+
+    @staticmethod
+    def kinds_and_pages(parts: list[listing.Part]) -> tuple[list[str], list[listing.Part]]:
+        """The kinds of the refusals in order, with no kind where a page stands, and the pages."""
+        kinds = [part.kind if isinstance(part, listing.Refusal) else "" for part in parts]
+        return kinds, [part for part in parts if not isinstance(part, listing.Refusal)]
 
     def followed(self) -> Iterator[str]:
         """Each page of a script is that of the document as the edits left it, and what is refused would be so in a document."""

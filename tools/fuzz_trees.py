@@ -67,15 +67,17 @@ class Edit(NamedTuple):
     nodes: tuple[Node, ...] = ()
 
     def is_edit(self) -> bool:
-        """Whether the line changes the document: its tree, by numbers of nodes, or its rules."""
-        return bool(self.numbers) or self.word == "rule"
+        """Whether the line changes the document: its tree, by numbers of nodes, its rules, or all of it as the history has it."""
+        return bool(self.numbers) or self.word in ("rule", *NOTHING)
 
     def line(self) -> str:
         rest = letters_of(self.text) if self.word == "text" else self.text + "".join(node.written() for node in self.nodes)
         return " ".join((self.word, *map(str, self.numbers))) + (f" {rest}" if rest else "")
 
 
-SHOW = Edit("show")
+SHOW, UNDO, REDO = Edit("show"), Edit("undo"), Edit("redo")
+# By which kind it is refused to take an edit back, or to do it again, where there is none; and how many are kept.
+NOTHING, MOST_KEPT = {"undo": "NoUndo", "redo": "NoRedo"}, 64
 
 
 def script_of(steps: Sequence[Edit]) -> bytes:
@@ -84,10 +86,12 @@ def script_of(steps: Sequence[Edit]) -> bytes:
 
 
 class Tree:
-    """A document, whose nodes keep their numbers under edits."""
+    """A document, whose nodes keep their numbers under edits, with copies of what it was before them and before they were taken back."""
 
     def __init__(self, sheet: str, body: Node) -> None:
         self.sheet, self.root, self.next = sheet, Node("html", children=[body]), 0
+        self.past: list[tuple[str, Node]] = []
+        self.future: list[tuple[str, Node]] = []
         self.number([self.root])
 
     def number(self, nodes: Sequence[Node]) -> None:
@@ -99,7 +103,7 @@ class Tree:
 
     def copied(self) -> "Tree":
         made = copy.copy(self)
-        made.root = self.root.copied()
+        made.root, made.past, made.future = self.root.copied(), [*self.past], [*self.future]
         return made
 
     def written(self) -> bytes:
@@ -116,6 +120,8 @@ class Tree:
 
     def refusal(self, edit: Edit) -> str | None:
         """Why an edit is refused by its numbers alone: the first reason in the order of docs/PROFILE/edits.md."""
+        if edit.word in NOTHING:
+            return None if self.side(edit.word) else NOTHING[edit.word]
         if edit.word == "rule":
             return None
         living, word, numbers, is_move = self.living(), edit.word, edit.numbers, edit.word == "move"
@@ -131,8 +137,22 @@ class Tree:
         }
         return next((kind for kind, is_so in reasons.items() if is_so), None)
 
+    def side(self, word: str) -> list[tuple[str, Node]]:
+        """The side of the history from which an edit is taken back or done again, the next one last."""
+        return self.past if word == "undo" else self.future
+
+    def go(self, word: str) -> None:
+        """Takes the last edit back, or does it again; the next number stays."""
+        self.side("redo" if word == "undo" else "undo").append((self.sheet, self.root))
+        self.sheet, root = self.side(word).pop()
+        self.root = root.copied()
+
     def apply(self, edit: Edit) -> None:
         """Does an edit that isn't refused."""
+        if edit.word in NOTHING:
+            self.go(edit.word)
+            return
+        self.past, self.future = [*self.past, (self.sheet, self.root.copied())][-MOST_KEPT:], []
         if edit.word == "rule":
             self.sheet += f"\n{edit.text}"
             return

@@ -7,7 +7,7 @@ from collections.abc import Sequence
 import fuzz_grammar
 from fuzz_jobs import Job, job_of
 from fuzz_laws import Limits, Program, Trial
-from fuzz_trees import Edit, Node, Tree
+from fuzz_trees import REDO, UNDO, Edit, Node, Tree
 
 from tools.tests import support
 from tools.tests.support import tried
@@ -22,15 +22,29 @@ WRONG = (
     ("seconds", 'i=0; while [ $i -lt 200000 ]; do i=$((i+1)); done; exec "$P" "$@"'),
     ("stands twice", '"$P" "$@" >"$0.out"; status=$?; sed "/^box 1 0 /d" "$0.out"; exit $status'),
     ("have characters in common", '"$P" "$@" >"$0.out"; status=$?; sed "s/^\\(run .*\\)/\\1\\n\\1/" "$0.out"; exit $status'),
-    ("due is (2, b'refused Utf8", '[ "$1" = edit ] || exec "$P" "$@"; tr -d "\\200-\\377" | "$P" "$@"'),
+    ("due is (2, b'refused Utf8", 'case "$*" in *edit*) tr -d "\\200-\\377" | "$P" "$@";; *) exec "$P" "$@";; esac'),
     ("shows another page, or", 'case "$*" in *edit*) sed "s/^show/#/" | "$P" "$@";; *) exec "$P" "$@";; esac'),
     ("shows another page than", 'case "$*" in *edit*) sed "s/^text .*/#/" | "$P" "$@";; *) exec "$P" "$@";; esac'),
     ("shows another page: ", 'case "$*" in *edit*) sed "s/^remove .*/#/" | "$P" "$@";; *) exec "$P" "$@";; esac'),
+    ("`undo` or `redo` leads to another page", 'case "$*" in *edit*) sed "s/^redo/#/" | "$P" "$@";; *) exec "$P" "$@";; esac'),
+    ("isn't the page that there was", 'case "$*" in *edit*) sed "s/^undo/#/" | "$P" "$@";; *) exec "$P" "$@";; esac'),
     ("isn't the flow, turned", '"$P" "$@" >"$0.out"; status=$?; sed "s/ l \\([0-9]\\)/ s \\1/" "$0.out"; exit $status'),
     ("another count of lines", '"$P" "$@" >"$0.out"; status=$?; sed "/^run .* l /d" "$0.out"; exit $status'),
     ("`layout` lists or refuses it otherwise", 'case "$*" in *modes*) sed "s/1/2/g" | "$P" "$@";; *) exec "$P" "$@";; esac'),
     ("flows, pages and refusals are", 'case "$*" in *modes*) "$P" "$@" >"$0.out"; status=$?; sed "1,/^end/d" "$0.out"; exit $status;; *) exec "$P" "$@";; esac'),
     ("is refused by None, due is", '"$P" "$@" >"$0.out"; status=$?; sed "/^refused No/d" "$0.out"; exit $status'),
+)
+
+# Lines of a script with the nodes that they bring, how each is refused, and which nodes there are then (docs/PROFILE/edits.md).
+HISTORY: tuple[tuple[str, tuple[int, ...], tuple[Node, ...], str | None, list[int]], ...] = (
+    ("undo", (), (), "NoUndo", [0, 1, 2, 3, 4]),
+    ("insert", (1, 0), (Node("b", children=[Node(text="x")]),), None, [0, 1, 5, 6, 2, 3, 4]),
+    ("remove", (2,), (), None, [0, 1, 5, 6, 4]),
+    ("undo", (), (), None, [0, 1, 5, 6, 2, 3, 4]),
+    ("undo", (), (), None, [0, 1, 2, 3, 4]),
+    ("redo", (), (), None, [0, 1, 5, 6, 2, 3, 4]),
+    ("insert", (1, 0), (Node(text="y"),), None, [0, 1, 7, 5, 6, 2, 3, 4]),
+    ("redo", (), (), "NoRedo", [0, 1, 7, 5, 6, 2, 3, 4]),
 )
 
 
@@ -86,6 +100,28 @@ class Fuzz(support.ToolCase):
             for each in back:
                 tree.apply(each)
             self.same(tree.written().replace(b' style=""', b""), before, f"{edit.line()} is undone")
+
+    def test_history(self) -> None:
+        """The examples of docs/PROFILE/edits.md that take edits back, and how many are kept."""
+        tree = Tree("", Node("body", children=[Node("p", children=[Node(text="a")]), Node("br")]))
+        before = tree.written()
+        for word, numbers, nodes, kind, living in HISTORY:
+            edit = Edit(word, numbers, nodes=nodes)
+            self.same(tree.refusal(edit), kind, edit.line())
+            if not kind:
+                tree.apply(edit)
+            self.same([*tree.living()], living, f"the nodes after {edit.line()}")
+        for length in range(70):
+            tree.apply(Edit("text", (7,), "a" * length))
+        for _ in range(64):
+            tree.apply(UNDO)
+        self.same((tree.refusal(UNDO), tree.living()[7].text), ("NoUndo", "a" * 5), "the oldest state that is kept")
+        for _ in range(64):
+            tree.apply(REDO)
+        self.same((tree.refusal(REDO), tree.living()[7].text), ("NoRedo", "a" * 69), "the newest state")
+        copied = tree.copied()
+        copied.apply(UNDO)
+        self.hold(copied.living()[7].text != tree.living()[7].text and tree.written() != before, "a copy has a history of its own")
 
     def test_wrong_programs(self) -> None:
         self.needs(self.program, "what tools/fuzz finds")

@@ -20,6 +20,8 @@ WHERE_CASES = (
     ("<html><body>東<hr>", "UnknownTag 14", "1:13", "<html><body>東<hr>", " " * 12 + "^"),
     ("a" * 200 + "<hr>" + "b" * 200, "UnknownTag 200", "1:201", "…" + "a" * 60 + "<hr>" + "b" * 56 + "…", " " * 61 + "^"),
     ("<html><body>\n\n</body></html> \nshow\ntext 9 a\r\n", "NoNode 2", "5:1", "text 9 a", "^"),
+    ("<html><body></body></html>\nshow\nundo\n", "NoUndo 2", "3:1", "undo", "^"),
+    ("<html><body></body></html>\nredo", "NoRedo 1", "2:1", "redo", "^"),
     ("<html><head><style>p{top:0}</style></head><body></body></html>", "NotTurnable 21", "1:22", "<html><head><style>p{top:0}</style></head><body></body></html>", " " * 21 + "^"),
 )
 # The same for refusals by the number of a node.
@@ -113,7 +115,7 @@ class Where(support.ToolCase):
         rows = re.findall(r"^\| `refused [^|]*\| .*$", held(os.path.join(TOP, "docs", "PROFILE", "commands.md")), re.MULTILINE)
         named = set(re.findall(r"`(?:refused )?([A-Z][A-Za-z0-9]+)(?: [0-9A-Z]+)?`", " ".join(rows))) - {"KIND", "PLACE", "LINE"}
         self.same({fact.kind for fact in facts}, named, "the kinds of docs/REFUSALS.md")
-        self.same(len(facts), 33, "the count of rows of docs/REFUSALS.md")
+        self.same(len(facts), 35, "the count of rows of docs/REFUSALS.md")
         for fact in (each for each in facts if each.answer):
             self.same(fact.answer.split()[1], fact.kind, f"docs/REFUSALS.md: the example of {fact.kind}")
 
