@@ -10,3 +10,5 @@ mod counters;
 mod faces;
 #[cfg(test)]
 mod rules;
+#[cfg(test)]
+mod texts;

@@ -1,0 +1,10 @@
+pub mod Entries
+pub mod SetArenas
+pub mod SetBoxes
+pub mod SetDocuments
+pub mod SetFounded
+pub mod SetLetters
+pub mod SetPlaces
+pub mod SetPositions
+pub mod Walk
+pub mod WhiteSpace

@@ -1,0 +1,5 @@
+pub mod Boxes
+pub mod Documents
+pub mod Finding
+pub mod Laws
+pub mod Setting
