@@ -5,6 +5,7 @@ pub mod FaceEdits
 pub mod Finding
 pub mod Former
 pub mod Fresh
+pub mod GoingOn
 pub mod Histories
 pub mod Holding
 pub mod Limiting
@@ -14,6 +15,7 @@ pub mod Near
 pub mod Outcomes
 pub mod Refusals
 pub mod RuleEdits
+pub mod SetTexts
 pub mod Shifts
 pub mod Standing
 pub mod Styled

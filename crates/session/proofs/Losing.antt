@@ -136,27 +136,27 @@ module _ (html : PagesAreBoxesOfHtml) (held : NamesAreOfPlaces) (state next : St
       )
 
   loses_by : {I : Type 0} {D : I → Type 0} (old new : Session I D) → page_boxes_in old ≡ page_boxes state → page_boxes_in new ≡ page_boxes next → old.boxes ≡ kept
-      → ((page : Boxes) → KeepsAll kept new.boxes page) → Loses old new scoped touched
+      → KeepsAll kept new.boxes (page_boxes next) → Loses old new scoped touched
   loses_by old new was page same keeps = record {
     texts = λ name here apart.
         let stays = text_stays name (subst (λ (p : Boxes). Contains (paragraphs p) name) page here) apart in
         let P : Option KeptBoxes → Boxes → Type 0 = λ (boxes : Option KeptBoxes) (p : Boxes). HasTextIn boxes p name in
         record {
           was = subst (λ (p : Boxes). Contains (paragraphs p) name) (sym was) stays.0;
-          has = λ has. subst (P new.boxes) (sym page) ((keeps (page_boxes next)).texts name (stays.1 (subst (λ (boxes : Option KeptBoxes). P boxes (page_boxes state)) same (subst (P old.boxes) was has))));
+          has = λ has. subst (P new.boxes) (sym page) (keeps.texts name (stays.1 (subst (λ (boxes : Option KeptBoxes). P boxes (page_boxes state)) same (subst (P old.boxes) was has))));
         };
     results = λ pair here apart.
         let stays = result_stays pair (subst (λ (p : Boxes). Contains (names p) pair.name) page here) apart in
         let P : Option KeptBoxes → Boxes → Type 0 = λ (boxes : Option KeptBoxes) (p : Boxes). HasResultIn boxes p pair in
         record {
           was = subst (λ (p : Boxes). Contains (names p) pair.name) (sym was) stays.0;
-          has = λ has. subst (P new.boxes) (sym page) ((keeps (page_boxes next)).results pair (stays.1 (subst (λ (boxes : Option KeptBoxes). P boxes (page_boxes state)) same (subst (P old.boxes) was has))));
+          has = λ has. subst (P new.boxes) (sym page) (keeps.results pair (stays.1 (subst (λ (boxes : Option KeptBoxes). P boxes (page_boxes state)) same (subst (P old.boxes) was has))));
         };
   }
 
 module _ {I : Type 0} {D : I → Type 0} (before : List (Option Table)) (old new : Session I D) where
   pub loses_touched : (change : Change) → PagesAreBoxesOfHtml → NamesAreOfPlaces → UnscopedPlaces → UntouchedPlaces → Takes (state_in before old) change → IsRooted (state_of new.document)
-      → state_in before new ≡ after (state_in before old) change → ((page : Boxes) → KeepsAll old.boxes new.boxes page) → LosesTouched before old new change
+      → state_in before new ≡ after (state_in before old) change → KeepsAll old.boxes new.boxes (page_boxes (after (state_in before old) change)) → LosesTouched before old new change
   loses_touched change html held unscoped untouched takes rooted same keeps =
       let state : State = state_in before old in
       let next : State = after state change in
@@ -164,7 +164,7 @@ module _ {I : Type 0} {D : I → Type 0} (before : List (Option Table)) (old new
       (λ place. unscoped state change place takes) (λ place. untouched state change place takes) old.boxes old new refl (ap page_boxes same) refl keeps
 
   pub loses_exactly : (edit : ExactChange) → PagesAreBoxesOfHtml → NamesAreOfPlaces → ExactUnscopedPlaces → ExactUntouchedPlaces → TakesExactly (state_in before old) edit
-      → state_in before new ≡ exactly (state_in before old) edit → ((page : Boxes) → KeepsAll old.boxes new.boxes page) → LosesExactly before old new edit
+      → state_in before new ≡ exactly (state_in before old) edit → KeepsAll old.boxes new.boxes (page_boxes (exactly (state_in before old) edit)) → LosesExactly before old new edit
   loses_exactly edit html held unscoped untouched takes same keeps =
       let state : State = state_in before old in
       loses_by html held state (exactly state edit) takes.before.rooted takes.later.rooted (exact_scope state edit) (exact_reached state edit)

@@ -1,5 +1,6 @@
 -- Undo and redo: an exact edit leads to the next document of the history.
-use Rattle.std.proofs.Common.{◌≡◌, ◌∙◌, ℕ, List, [], ◌∷◌, ◌++◌, drop, refl, ap, sym, subst, Option, Some, IfSome, option_map}
+use Rattle.std.proofs.Common.{◌≡◌, ◌∙◌, ℕ, Bool, List, [], ◌∷◌, ◌++◌, drop, refl, ap, sym, subst, Option, Some, IfSome, option_map, IsTrue}
+use Rattle.std.specs.Prelude.{⊤}
 use Rattle.face_api.specs.Table.{Table}
 use Rattle.wm_units.specs.View.{IsView}
 use Rattle.wm_units.specs.declared.view.View.{View}
@@ -8,7 +9,7 @@ use Rattle.dom_store.specs.State as dom
 use Rattle.dom_store.specs.State.{state_of}
 use Rattle.cascade.specs.Index.{index_rules}
 use Rattle.cascade.specs.declared.index.RuleIndex.{RuleIndex}
-use Rattle.style_types.specs.Tree.{Nodes}
+use Rattle.style_tree.specs.Styling.{styled_document}
 use Rattle.box_gen.specs.Places.{NamesAreOfPlaces}
 use Rattle.edits.specs.Exact.{CanBeDone, ExactChange, exact_tree, put_rules, take_rules, StepOf, exactly}
 use Rattle.edits.specs.State.{State}
@@ -23,10 +24,12 @@ use Rattle.session.specs.declared.session.Session.{Session}
 use Rattle.session.specs.Document.{CanBeOpen, most_bytes}
 use Rattle.session.specs.Found.{LosesExactly}
 use Rattle.session.specs.History.{IsHistory, Opened, ahead_to, back_to, but_last, redone, undone}
-use Rattle.session.specs.State.{AreKept, HasHistory, Holds, IsSound, state_in, styled_in}
-use Rattle.session.specs.Undoing.{BoxesStay, IndexStays, IsDoneBy, LeadsTo, bare}
+use Rattle.session.specs.Setting.{CanSetExactly, StepSetsAlike}
+use Rattle.session.specs.State.{AreKept, HasHistory, Holds, IsSound, rules_in, state_in, styled_in}
+use Rattle.session.specs.Undoing.{BoxesGoOn, IndexStays, IsDoneBy, LeadsTo, bare}
 use Rattle.session.proofs.Histories.{Goes, goes_ahead, goes_back}
 use Rattle.session.proofs.Losing.{loses_all_exactly, loses_exactly}
+use Rattle.session.proofs.SetTexts.{can_set_exactly}
 
 -- ---- faces don't matter to an exact edit
 
@@ -49,11 +52,25 @@ index_fits state (exact_tree edit) index left stays fits = subst (λ (o : Option
 index_fits state (put_rules at more) index left stays fits = subst (λ (o : Option RuleIndex). IfSome o (λ index. index_rules index ≡ (exactly state (put_rules at more)).rules)) (sym stays) tt
 index_fits state (take_rules at count) index left stays fits = subst (λ (o : Option RuleIndex). IfSome o (λ index. index_rules index ≡ (exactly state (take_rules at count)).rules)) (sym stays) tt
 
-boxes_fit : (faces : List (Option Table)) (view : View) (nodes later : Nodes) (edit : ExactChange) (boxes left : Option KeptBoxes) → BoxesStay boxes edit left → IfSome boxes (AreKept faces view nodes)
-    → IfSome left (AreKept faces view later)
-boxes_fit faces view nodes later (exact_tree edit) boxes left stays kept = stays.kept faces view nodes later kept
-boxes_fit faces view nodes later (put_rules at more) boxes left stays kept = subst (λ (o : Option KeptBoxes). IfSome o (AreKept faces view later)) (sym stays) tt
-boxes_fit faces view nodes later (take_rules at count) boxes left stays kept = subst (λ (o : Option KeptBoxes). IfSome o (AreKept faces view later)) (sym stays) tt
+-- where it is alike, letters can be set
+abbrev pub CanSetWhere : (alike : Bool) → dom.State → ExactChange → Type 0
+CanSetWhere alike state (exact_tree edit) = IsTrue alike → CanSetExactly state edit
+CanSetWhere alike state (put_rules at more) = ⊤
+CanSetWhere alike state (take_rules at count) = ⊤
+
+boxes_go_on : (faces : List (Option Table)) (view : View) (state : State) (edit : ExactChange) (alike : Bool) (boxes left : Option KeptBoxes) → BoxesGoOn alike boxes edit left → CanSetWhere alike state.tree edit
+    → IfSome boxes (AreKept faces view (styled_document state.rules state.tree)) → IfSome left (AreKept faces view (styled_document (exactly state edit).rules (exactly state edit).tree))
+boxes_go_on faces view state (exact_tree edit) alike boxes left goes can kept = goes.kept faces view state.rules state.tree can kept
+boxes_go_on faces view state (put_rules at more) alike boxes left goes can kept =
+    subst (λ (o : Option KeptBoxes). IfSome o (AreKept faces view (styled_document (exactly state (put_rules at more)).rules state.tree))) (sym goes) tt
+boxes_go_on faces view state (take_rules at count) alike boxes left goes can kept =
+    subst (λ (o : Option KeptBoxes). IfSome o (AreKept faces view (styled_document (exactly state (take_rules at count)).rules state.tree))) (sym goes) tt
+
+can_where : (state opened : State) (edit : ExactChange) (alike : Bool) → CanBeOpen most_bytes state → CanBeOpen most_bytes opened → opened ≡ exactly state edit
+    → (IsTrue alike → StepSetsAlike state.tree edit) → CanSetWhere alike state.tree edit
+can_where state opened (exact_tree edit) alike before behind is sets = λ true. can_set_exactly state opened edit before behind (ap (λ (s : State). s.tree) is) (sets true)
+can_where state opened (put_rules at more) alike before behind is sets = tt
+can_where state opened (take_rules at count) alike before behind is sets = tt
 
 -- ---- a move of a session
 
@@ -105,7 +122,8 @@ module _ {I : Type 0} {D : I → Type 0} (faces : List (Option Table)) (old new 
       subst (λ (s : State). (next : Opened) × (goes (record { state = s; history = opened.history }) ≡ Some next) × Holds faces most new next) holds.state
       (there most opened.history holds.history)
 
-  module _ (sound : IsSound faces old) (same_view : new.view ≡ old.view) (index : IndexStays old.index edit new.index) (boxes : BoxesStay old.boxes edit new.boxes) where
+  module _ (sound : IsSound faces old) (same_view : new.view ≡ old.view) (index : IndexStays old.index edit new.index)
+      (alike : Bool) (sets : IsTrue alike → StepSetsAlike (state_of old.document) edit) (boxes : BoxesGoOn alike old.boxes edit new.boxes) where
     -- it holds a document that can be open
     open_there : CanBeOpen most_bytes (state_in faces new)
     open_there =
@@ -120,8 +138,10 @@ module _ {I : Type 0} {D : I → Type 0} (faces : List (Option Table)) (old new 
           document = open_there;
           index = subst (λ (rules : List Ruling). IfSome new.index (λ index. index_rules index ≡ rules)) (sym (ap (λ (s : State). s.rules) done.state)) (index_fits state edit old.index new.index index sound.index);
           view = subst (λ (view : View). IsView view) (sym same_view) sound.view;
-          ready = boxes_fit faces new.view (styled_in old) (styled_in new) edit old.boxes new.boxes boxes
-              (subst (λ (view : View). IfSome old.boxes (AreKept faces view (styled_in old))) (sym same_view) sound.ready);
+          ready =
+              subst (λ (s : State). IfSome new.boxes (AreKept faces new.view (styled_document s.rules s.tree))) (sym done.state)
+              (boxes_go_on faces new.view state edit alike old.boxes new.boxes boxes (can_where state (state_in faces new) edit alike sound.document open_there done.state sets)
+              (subst (λ (view : View). IfSome old.boxes (AreKept faces view (styled_in old))) (sym same_view) sound.ready));
           history = (there_.0.history, there_.2.history);
         }
 
@@ -138,7 +158,9 @@ module _ {I : Type 0} {D : I → Type 0} (faces : List (Option Table)) (old new 
             can = subst (CanBeDone state) (sym is) to.goes_there.can;
             before = document_of state sound.document;
             later = document_of (exactly state (exact_tree own)) (subst (CanBeOpen most_bytes) led open_there);
-          }) led (subst (λ (e : ExactChange). BoxesStay old.boxes e new.boxes) (sym is) boxes).keeps
+          }) led
+          ((subst (λ (e : ExactChange). BoxesGoOn alike old.boxes e new.boxes) (sym is) boxes).keeps faces old.view (rules_in old) (state_of old.document)
+          (subst (CanSetWhere alike (state_of old.document)) (sym is) (can_where state (state_in faces new) edit alike sound.document open_there done.state sets)) sound.ready)
       by_kind (put_rules at more) is =
           let state = state_in faces old in
           loses_all_exactly held elements faces old new (ap (λ (s : State). s.tree) (done.state ∙ ap (exactly state) (sym is))) sound (put_rules at more) refl

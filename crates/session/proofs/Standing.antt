@@ -80,9 +80,9 @@ steady faces view old new root tree stands free under =
     )
 
 -- what was ready is ready after a layout
-pub steady_ready : (faces : List (Option Table)) (view : View) (nodes : Nodes) (made : Rooted) (arena : Slab (Entry Preparation)) → AreReady faces view nodes made → IsSteadyUnder faces view made.arena arena made.root
-    → (AreFoundedUnder faces view made.arena.slots made.root → AreFoundedUnder faces view arena.slots made.root) → AreReady faces view nodes (record made { arena = arena })
-steady_ready faces view nodes made arena ready under founds =
+pub steady_ready : (faces : List (Option Table)) (view : View) (nodes : Nodes) (made : Rooted) (arena : Slab (Entry Preparation)) (sets : ℕ) → AreReady faces view nodes made → IsSteadyUnder faces view made.arena arena made.root
+    → (AreFoundedUnder faces view made.arena.slots made.root → AreFoundedUnder faces view arena.slots made.root) → AreReady faces view nodes (record made { arena = arena; sets = sets })
+steady_ready faces view nodes made arena sets ready under founds =
     let all = steady faces view made.arena arena made.root (root_boxes nodes) ready.stands ready.free under in
     record { stands = all.0; free = all.1; fit = ready.fit; named = all.3 ready.named; right = all.2; founded = founds ready.founded; within = ready.within; positions = ready.positions }
 

@@ -1,8 +1,12 @@
 -- What a session has for its next page, told by the names of boxes: which texts a page prepares, which contents it arranges, and what an edit
 -- loses of them.
-use Rattle.std.specs.Prelude.{◌≡◌, ℕ, ◌+◌, ◌≤◌, Bool, false, List, Contains, filter, length, Option, Some, None}
+use Rattle.std.specs.Prelude.{◌≡◌, ℕ, ◌+◌, ◌≤◌, Bool, false, List, Contains, filter, length, Option, Some, None, IfSome}
 use Rattle.face_api.specs.Table.{Table}
+use Rattle.css_types.specs.Rule.{Ruling}
+use Rattle.wm_units.specs.declared.view.View.{View}
 use Rattle.fragment_types.specs.declared.item.BoxName.{BoxName}
+use Rattle.dom_store.specs.State as dom
+use Rattle.style_tree.specs.Styling.{styled_document}
 use Rattle.box_gen.specs.Boxes.{root_boxes}
 use Rattle.box_gen.specs.Places.{names, paragraphs}
 use Rattle.box_gen.specs.Tree.{Boxes}
@@ -16,7 +20,7 @@ use Rattle.undo_log.specs.Log.{next_ahead, next_back}
 use Rattle.session.specs.declared.keeping.KeptBoxes.{KeptBoxes}
 use Rattle.session.specs.declared.keeping.KeptBoxes.TheVariants.{Current, Former}
 use Rattle.session.specs.declared.session.Session.{Session}
-use Rattle.session.specs.State.{state_in, styled_in}
+use Rattle.session.specs.State.{AreKept, state_in, styled_in}
 
 -- ---- what is kept
 
@@ -36,6 +40,14 @@ HasResultIn (Some (Former made)) page pair = FindsResult made.arena.slots made.r
 pub record KeepsAll (old new : Option KeptBoxes) (page : Boxes) : Type 0 where
   pub texts : (name : BoxName) → HasTextIn old page name → HasTextIn new page name
   pub results : (pair : Pair) → HasResultIn old page pair → HasResultIn new page pair
+
+-- Where a document is one of these and another one is next, what is kept of its boxes leads to what is kept of those of the next one, and all
+-- that was found for the page of that one is found still.
+pub record GoOn (Is : dom.State → Type 0) (next : dom.State → dom.State) (boxes left : Option KeptBoxes) : Type 0 where
+  pub keeps : (faces : List (Option Table)) (view : View) (rules : List Ruling) (state : dom.State) → Is state → IfSome boxes (AreKept faces view (styled_document rules state))
+      → KeepsAll boxes left (root_boxes (styled_document rules (next state)))
+  pub kept : (faces : List (Option Table)) (view : View) (rules : List Ruling) (state : dom.State) → Is state → IfSome boxes (AreKept faces view (styled_document rules state))
+      → IfSome left (AreKept faces view (styled_document rules (next state)))
 
 -- ---- what a session has
 

@@ -6,6 +6,7 @@ pub mod History
 pub mod Kept
 pub mod Limits
 pub mod Opening
+pub mod Setting
 pub mod Spread
 pub mod State
 pub mod Turning

@@ -60,6 +60,11 @@ abbrev pub AreKept : (faces : List (Option Table)) → View → Nodes → KeptBo
 AreKept faces view nodes (Current made) = AreReady faces view nodes made
 AreKept faces view nodes (Former made) = IsFormer faces view made
 
+-- a box stands under the root, with those inside it
+abbrev pub AreRooted : KeptBoxes → Type 0
+AreRooted (Current made) = IsTree made.arena.slots made.root
+AreRooted (Former made) = IsTree made.arena.slots made.root
+
 module _ {I : Type 0} {D : I → Type 0} where
   -- its rules, of which the index is made when it is asked
   abbrev pub rules_in : Session I D → List Ruling

@@ -1,12 +1,10 @@
 -- What undo and redo answer, and what they leave of the index of the rules and of boxes.
-use Rattle.std.specs.Prelude.{◌≡◌, ℕ, List, [], Option, None, Some, IfSome, Result, Ok, Err, ⊤}
+use Rattle.std.specs.Prelude.{◌≡◌, ℕ, Bool, List, [], Option, None, Some, IsTrue, Result, Ok, Err, ⊤}
 use Rattle.face_api.specs.Table.{Table}
-use Rattle.wm_units.specs.declared.view.View.{View}
-use Rattle.style_types.specs.Tree.{Nodes}
 use Rattle.css_types.specs.Rule.{Ruling}
 use Rattle.cascade.specs.declared.index.RuleIndex.{RuleIndex}
 use Rattle.dom_store.specs.State as dom
-use Rattle.box_gen.specs.Tree.{Boxes}
+use Rattle.dom_store.specs.Exact as tree
 use Rattle.edits.specs.Exact.{ExactChange, exact_tree, put_rules, take_rules, StepOf, exactly}
 use Rattle.edits.specs.State.{State}
 use Rattle.undo_log.specs.Log.{Log, gone_down, gone_up, next_ahead, next_back}
@@ -14,9 +12,10 @@ use Rattle.session.specs.declared.error.UndoError.{UndoError}
 use Rattle.session.specs.declared.error.UndoError.TheVariants.{NoUndo, NoRedo, Memory}
 use Rattle.session.specs.declared.keeping.KeptBoxes.{KeptBoxes}
 use Rattle.session.specs.declared.session.Session.{Session}
-use Rattle.session.specs.Found.{KeepsAll}
+use Rattle.session.specs.Found.{GoOn}
 use Rattle.session.specs.History.{Opened, redone, undone}
-use Rattle.session.specs.State.{AreKept, Holds, state_in}
+use Rattle.session.specs.Setting.{CanSetExactly}
+use Rattle.session.specs.State.{Holds, state_in}
 
 -- a document and its rules by themselves, with no faces
 abbrev pub bare : dom.State → List Ruling → State
@@ -28,15 +27,11 @@ IndexStays index (exact_tree edit) left = left ≡ index
 IndexStays index (put_rules at rules) left = left ≡ None
 IndexStays index (take_rules at count) left = left ≡ None
 
--- and all that is kept of boxes
-pub record KeepsBoxes (boxes left : Option KeptBoxes) : Type 0 where
-  pub keeps : (page : Boxes) → KeepsAll boxes left page
-  pub kept : (faces : List (Option Table)) (view : View) (nodes edited : Nodes) → IfSome boxes (AreKept faces view nodes) → IfSome left (AreKept faces view edited)
-
-abbrev pub BoxesStay : Option KeptBoxes → ExactChange → Option KeptBoxes → Type 0
-BoxesStay boxes (exact_tree edit) left = KeepsBoxes boxes left
-BoxesStay boxes (put_rules at rules) left = left ≡ None
-BoxesStay boxes (take_rules at count) left = left ≡ None
+-- and what is kept of boxes goes on; where `alike` it gives a text letters that are white space alone exactly where its old ones are
+abbrev pub BoxesGoOn : (alike : Bool) → Option KeptBoxes → ExactChange → Option KeptBoxes → Type 0
+BoxesGoOn alike boxes (exact_tree edit) left = GoOn (λ state. IsTrue alike → CanSetExactly state edit) (λ state. tree.exactly state edit) boxes left
+BoxesGoOn alike boxes (put_rules at rules) left = left ≡ None
+BoxesGoOn alike boxes (take_rules at count) left = left ≡ None
 
 module _ {I : Type 0} {D : I → Type 0} where
   -- all that pages hang on is as it was, with the log, and nothing that is kept of boxes is lost

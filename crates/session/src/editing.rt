@@ -22,7 +22,7 @@ ghost use Rattle.session.specs.State.{IsSound, state_in};
 use crate::boxes::check_boxes_after;
 use crate::error::ApplyError;
 use crate::history::step_of_tree;
-use crate::keeping::outdated;
+use crate::keeping::{edited_boxes, sets_alike};
 use crate::laws::edits_bring_no_more;
 use crate::rules::{
     are_too_many, check_rules, put_behind, rules_behind, rules_without, step_of_rules,
@@ -56,12 +56,14 @@ impl Session {
     /// there; then a state with more than six boxes on a line of ancestors that are orthogonal to their containing blocks, with the
     /// least number of the node of such a box. A refused edit changes nothing: the state of the document, the rules, the faces and all
     /// that is kept of boxes stay as they were. After an accepted edit of the tree the next page uses what is kept of boxes that stand
-    /// as they did; after one of the rules or of a face nothing is kept. A face that is retired is dropped at once.
+    /// as they did; after one of the rules or of a face nothing is kept. A text whose letters are white space alone exactly where its old
+    /// ones are is set in the boxes that stand, and the next page makes none. A face that is retired is dropped at once.
     /// An accepted edit of the tree or of the rules is logged, and can be taken back; one of a face ends the history.
     /// Where the edit can be applied the texts of the next state together hold at most 1,048,576 bytes. An edit of the tree costs what
     /// it costs the document (`Document::apply`), and the styles of the nodes on which the boxes depend that it makes or changes, of all
     /// below these and of those above; one of the rules that names `display` or `writing-mode` costs the styles of all nodes, and any
-    /// other one the places of the rules. Boxes, and the index of the rules, are made when they are asked next.
+    /// other one the places of the rules. Where a text is set in boxes, that goes through all of them. Else boxes, and the index of the
+    /// rules, are made when they are asked next.
     pub fn apply(&mut self, edit: &Edit) -> Result<(), ApplyError>
         requires sound { IsSound (faces_of ⟦<dyn Face as Face>⟧ self.old.faces) self.old }
         requires fitting { IsFitting (change_of edit.now) }
@@ -123,6 +125,7 @@ impl Session {
         documents_stay_where_more_are_drawn();
         logs_stand_for_states();
         steps_of_edits_lead_both_ways();
+        let alike = sets_alike(&self.document, edit);
         let step = self.document.exact(self.alloc, edit)?;
         let change = self.document.apply(self.alloc, edit)?;
         match check_boxes_after(
@@ -133,7 +136,7 @@ impl Session {
             edit,
         ) {
             Ok(()) => {
-                self.boxes = outdated(self.boxes.take());
+                self.boxes = edited_boxes(self.alloc, self.boxes.take(), edit, alike);
                 self.log.record(step_of_tree(step));
                 Ok(())
             }

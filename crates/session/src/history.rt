@@ -1,6 +1,6 @@
 //! Edits are taken back, and done again (docs/PROFILE/edits.md).
 
-ghost use Rattle.std.specs.Prelude.{◌≡◌, IfErr, IsErrOf, None, OnErr, OnOk};
+ghost use Rattle.std.specs.Prelude.{◌≡◌, IfErr, IfSome, IsErrOf, None, OnErr, OnOk};
 ghost use Rattle.css_types.specs.Rule.{rulings_of};
 ghost use Rattle.dom_store.specs.State.{state_of};
 ghost use Rattle.dom_store.specs.Steps as tree;
@@ -9,11 +9,11 @@ ghost use Rattle.face_api.specs.Faces.{faces_of};
 ghost use Rattle.undo_log.specs.Log.{next_ahead, next_back};
 ghost use Rattle.session.specs.declared.error.UndoError.TheVariants.{Memory, NoRedo, NoUndo};
 ghost use Rattle.session.specs.Found.{LosesDown, LosesUp};
-ghost use Rattle.session.specs.State.{IsSound};
-ghost use Rattle.session.specs.Undoing.{BoxesStay, DoesAgain, IndexStays, IsStepDown, IsStepUp, TakesBack, bare};
+ghost use Rattle.session.specs.State.{AreRooted, IsSound};
+ghost use Rattle.session.specs.Undoing.{BoxesGoOn, DoesAgain, IndexStays, IsStepDown, IsStepUp, TakesBack, bare};
 
 use crate::error::UndoError;
-use crate::keeping::{KeptBoxes, outdated};
+use crate::keeping::{KeptBoxes, exactly_edited_boxes, sets_exactly_alike};
 use crate::rules::{put_among, take_among};
 use crate::session::Session;
 use box_gen::laws::names_are_of_places;
@@ -34,7 +34,7 @@ impl Session {
     /// that edit, but for the number that is given next. `NoUndo` comes exactly where there is none: the last 64 such edits can be taken
     /// back, and none from before an edit of a face. `Memory` comes only where there is one. Refused, nothing changes. The cost: that of the
     /// exact edit (`Document::apply_exact`); nothing is judged, since what stood once was within the limits. The next page uses what is
-    /// kept of boxes that stand as they did.
+    /// kept of boxes as after an edit (`Session::apply`).
     pub fn undo(&mut self) -> Result<(), UndoError>
         requires sound { IsSound (faces_of ⟦<dyn Face as Face>⟧ self.old.faces) self.old }
         ensures undoes { TakesBack (faces_of ⟦<dyn Face as Face>⟧ self.old.faces) (faces_of ⟦<dyn Face as Face>⟧ self.new.faces) self.old self.new result }
@@ -54,9 +54,10 @@ impl Session {
         match self.log.past() {
             None => Err(UndoError::NoUndo),
             Some(step) => {
+                let alike = sets_exactly_alike(&self.document, &step.back);
                 do_exactly(self.alloc, &mut self.document, &mut self.rules, &step.back)?;
                 self.index = index_after(self.index.take(), &step.back);
-                self.boxes = boxes_after(self.boxes.take(), &step.back);
+                self.boxes = boxes_after(self.alloc, self.boxes.take(), &step.back, alike);
                 self.log.down();
                 Ok(())
             }
@@ -84,9 +85,10 @@ impl Session {
         match self.log.future() {
             None => Err(UndoError::NoRedo),
             Some(step) => {
+                let alike = sets_exactly_alike(&self.document, &step.again);
                 do_exactly(self.alloc, &mut self.document, &mut self.rules, &step.again)?;
                 self.index = index_after(self.index.take(), &step.again);
-                self.boxes = boxes_after(self.boxes.take(), &step.again);
+                self.boxes = boxes_after(self.alloc, self.boxes.take(), &step.again, alike);
                 self.log.up();
                 Ok(())
             }
@@ -141,12 +143,19 @@ fn index_after(index: Option<RuleIndex>, edit: &ExactEdit) -> Option<RuleIndex>
     }
 }
 
-// What is kept of boxes after an exact edit.
-fn boxes_after(boxes: Option<KeptBoxes>, edit: &ExactEdit) -> Option<KeptBoxes>
-    ensures { BoxesStay boxes (exact_of edit.now) result }
+// What is kept of boxes after an exact edit, which gives a text letters that are white space alone exactly where its old ones are where
+// `alike`.
+fn boxes_after(
+    alloc: Global,
+    boxes: Option<KeptBoxes>,
+    edit: &ExactEdit,
+    alike: bool,
+) -> Option<KeptBoxes>
+    requires rooted { IfSome boxes AreRooted }
+    ensures { BoxesGoOn alike boxes (exact_of edit.now) result }
 {
     match edit {
-        ExactEdit::Tree(_) => outdated(boxes),
+        ExactEdit::Tree(edit) => exactly_edited_boxes(alloc, boxes, edit, alike),
         ExactEdit::PutRules { .. } | ExactEdit::TakeRules { .. } => None,
     }
 }

@@ -22,6 +22,8 @@ pub(crate) struct Rooted {
     pub(crate) root: BoxKey,
     /// None where no element is relatively positioned.
     pub(crate) positions: Option<Positions>,
+    /// How many texts were set in them since they were laid out.
+    pub(crate) sets: u32,
 }
 
 /// These boxes in an arena, where nothing is kept, and these positions.
@@ -43,5 +45,6 @@ pub(crate) fn grown(alloc: Global, generated: Generated) -> Result<Rooted, Alloc
         arena,
         root,
         positions: generated.positions,
+        sets: 0,
     })
 }

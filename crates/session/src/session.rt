@@ -236,6 +236,7 @@ impl Session {
         contents_have_sizes();
         sizes_of_boxes_suffice();
         arenas_are_sound(&made.arena);
+        made.sets = 0;
         let root = relayout(
             self.alloc,
             &mut made.arena,

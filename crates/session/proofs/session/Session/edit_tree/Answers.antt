@@ -4,6 +4,7 @@ use Rattle.face_api.specs.Faces.{faces_of}
 use Rattle.css_types.specs.Rule.{Ruling, rulings_of}
 use Rattle.cascade.specs.Index.{index_rules}
 use Rattle.style_tree.specs.Styling.{styled_document}
+use Rattle.box_gen.specs.Boxes.{root_boxes}
 use Rattle.box_gen.specs.Limit.{IsWithinLimits}
 use Rattle.box_limits.specs.Limits.{Answers, IsEditedFrom}
 use Rattle.dom_store.specs.Edited.{edit_of}
@@ -15,11 +16,12 @@ use Rattle.edits.specs.Change.{of_tree}
 use Rattle.edits.specs.Exact.{StepOf, of_tree_step}
 use Rattle.undo_log.specs.Log.{recorded}
 use Rattle.session.specs.Found.{KeepsAll}
-use Rattle.session.specs.State.{AreKept, rules_in, state_in}
+use Rattle.session.specs.State.{AreKept, AreRooted, rules_in, state_in, styled_in}
 use Rattle.session.specs.declared.keeping.KeptBoxes.{KeptBoxes}
 use Rattle.session.proofs.Losing.{loses_touched}
 use Rattle.session.proofs.Histories.{some_history}
 use Rattle.session.proofs.Outcomes.{boxes_refuse, bytes_after, can_apply, edited_from, is_after, open_after, refused_edit, refused_step, rooted_after, said_after, state_after, taken, with_tree}
+use Rattle.session.proofs.SetTexts.{are_rooted, can_set_by}
 use Rattle.session.proofs.Standing.{sound_by, sound_in}
 use Rattle.session.proofs.Within.{leads_back}
 use Rattle.session.proofs.session.Session.edit_tree.Goals as goal
@@ -72,6 +74,12 @@ check_boxes_after-requires-clause-edited g c =
     let sound = c.requires.sound.document in
     (old, subst (λ (r : List Ruling). IsEditedFrom r edit next old) (sym ruled) (edited_from tables rules old next edit elements done is c.requires.fitting sound.rooted sound.whole sound.reached sound.within))
 
+pub edited_boxes-requires : goal.edited_boxes-requires
+edited_boxes-requires g c =
+    let tables = faces_of (λ vtable. (g.dyn-1.0.entry vtable).1) c.args.self.now.faces in
+    let rooted = are_rooted tables c.args.self.now.view (styled_in c.args.self.now) c.args.self.now.boxes c.requires.sound.ready in
+    record { rooted = subst (λ (boxes : Option KeptBoxes). IfSome boxes AreRooted) (sym c.take.ensures.value) rooted }
+
 pub returns-in-Ok-clause-applies : goal.returns-in-Ok-clause-applies
 returns-in-Ok-clause-applies g c =
     let old = state_of c.args.self.now.document in
@@ -104,12 +112,20 @@ returns-in-Ok-clause-loses g c =
     let within = subst (λ (r : List Ruling). IsWithinLimits (styled_document r next)) ruled c.in-Ok.ensures.answers in
     let sound = c.requires.sound.document in
     let can = can_apply tables rules old next edit elements done is within in
-    loses_touched tables c.args.self.now (record c.args.self.now { document = c.apply.new.self; index = c.check_boxes_after.new.index; boxes = c.outdated.result; log = c.record.new.self }) (of_tree edit)
+    let room : total bytes (after old edit) ≤ 1048576 = c.requires.room can in
+    let short : total bytes next ≤ 1048576 = subst (λ (state : State). total bytes state ≤ 1048576) (sym (is_after tables rules old next edit elements done is)) room in
+    let opened =
+    open_after tables rules old next edit elements done is c.accepted_edits_keep_roots.ensures c.children_have_parents.ensures c.accepted_edits_stay_said.ensures c.accepted_edits_keep_documents_whole.ensures
+    c.accepted_edits_keep_documents_reached.ensures c.accepted_edits_keep_documents_held.ensures c.accepted_edits_keep_texts_leaves.ensures c.accepted_edits_weigh.ensures c.requires.fitting c.requires.said
+    1048576 sound within short in
+    let ready = subst (λ (boxes : Option KeptBoxes). IfSome boxes (AreKept tables c.args.self.now.view (styled_document rules old))) (sym c.take.ensures.value) c.requires.sound.ready in
+    loses_touched tables c.args.self.now (record c.args.self.now { document = c.apply.new.self; index = c.check_boxes_after.new.index; boxes = c.edited_boxes.result; log = c.record.new.self }) (of_tree edit)
     c.pages_are_boxes_of_html.ensures c.names_are_of_places.ensures c.boxes_outside_the_scope_were_there.ensures c.untouched_boxes_were_there.ensures
     (record { fitting = c.requires.fitting; rooted = sound.rooted; whole = sound.whole; reached = sound.reached; leaves = sound.leaves; unrefused = can.taken })
     (rooted_after tables rules old next edit elements done is c.accepted_edits_keep_roots.ensures c.children_have_parents.ensures sound.whole sound.rooted)
     (state_after tables rules old next edit elements done is)
-    (λ page. subst (λ (boxes : Option KeptBoxes). KeepsAll boxes c.outdated.result page) c.take.ensures.value (c.outdated.ensures.keeps page))
+    (subst (λ (boxes : Option KeptBoxes). KeepsAll boxes c.edited_boxes.result (root_boxes (styled_document rules (after old edit)))) c.take.ensures.value
+    (c.edited_boxes.ensures.keeps tables c.args.self.now.view rules old (λ alike. can_set_by (state_in tables c.args.self.now) (with_tree tables rules next) edit sound opened (is_after tables rules old next edit elements done is) (c.sets_alike-alike.ensures alike)) ready))
 
 pub returns-in-Ok-clause-bytes : goal.returns-in-Ok-clause-bytes
 returns-in-Ok-clause-bytes g c =
@@ -143,15 +159,19 @@ returns-in-Ok-clause-sound g c =
     open_after tables rules old next edit elements done is c.accepted_edits_keep_roots.ensures c.children_have_parents.ensures c.accepted_edits_stay_said.ensures c.accepted_edits_keep_documents_whole.ensures
     c.accepted_edits_keep_documents_reached.ensures c.accepted_edits_keep_documents_held.ensures c.accepted_edits_keep_texts_leaves.ensures c.accepted_edits_weigh.ensures c.requires.fitting c.requires.said
     1048576 sound.document within short in
+    let after_is = is_after tables rules old next edit elements done is in
     let logged = c.record.ensures ∙ ap (λ (step : StepOf). recorded step c.args.self.now.log) (c.step_of_tree.ensures ∙ ap of_tree_step c.in_ok-step.ensures.1) in
     record {
       document = can;
       index = subst (λ (r : List Ruling). IfSome c.check_boxes_after.new.index (λ index. index_rules index ≡ r)) ruled c.in-Ok.ensures.index;
       view = sound.view;
-      ready = c.outdated.ensures.kept tables c.args.self.now.view (styled_document rules old) (styled_document rules next) (subst (λ (boxes : Option KeptBoxes). IfSome boxes (AreKept tables c.args.self.now.view (styled_document rules old))) (sym c.take.ensures.value) sound.ready);
+      ready =
+          subst (λ (state : State). IfSome c.edited_boxes.result (AreKept tables c.args.self.now.view (styled_document rules state))) (sym after_is)
+          (c.edited_boxes.ensures.kept tables c.args.self.now.view rules old (λ alike. can_set_by (state_in tables c.args.self.now) (with_tree tables rules next) edit sound.document can after_is (c.sets_alike-alike.ensures alike))
+          (subst (λ (boxes : Option KeptBoxes). IfSome boxes (AreKept tables c.args.self.now.view (styled_document rules old))) (sym c.take.ensures.value) sound.ready));
       history =
           some_history c.logs_stand_for_states.ensures c.documents_stay_where_more_are_drawn.ensures c.steps_of_edits_lead_both_ways.ensures tables tables c.args.self.now
-          (record c.args.self.now { document = c.apply.new.self; index = c.check_boxes_after.new.index; boxes = c.outdated.result; log = c.record.new.self }) (of_tree edit) c.requires.fitting
+          (record c.args.self.now { document = c.apply.new.self; index = c.check_boxes_after.new.index; boxes = c.edited_boxes.result; log = c.record.new.self }) (of_tree edit) c.requires.fitting
           (taken tables rules old next edit elements done is) (state_after tables rules old next edit elements done is) logged sound can;
     }
 

@@ -31,15 +31,15 @@ returns-clause-sized g c =
 
 pub returns-clause-ready : goal.returns-clause-ready
 returns-clause-ready g c =
-    steady_ready (faces_of (λ vtable. (g.dyn-1.0.entry vtable).1) c.args.self.now.faces) c.args.self.now.view (styled_in c.args.self.now) c.args.made.now c.relayout.new.arena c.requires.ready c.relayout.ensures.steady c.relayout.ensures.founded
+    steady_ready (faces_of (λ vtable. (g.dyn-1.0.entry vtable).1) c.args.self.now.faces) c.args.self.now.view (styled_in c.args.self.now) c.args.made.now c.relayout.new.arena 0 c.requires.ready c.relayout.ensures.steady c.relayout.ensures.founded
 
 pub returns-in_err-root-clause-ready : goal.returns-in_err-root-clause-ready
 returns-in_err-root-clause-ready g c =
-    steady_ready (faces_of (λ vtable. (g.dyn-1.0.entry vtable).1) c.args.self.now.faces) c.args.self.now.view (styled_in c.args.self.now) c.args.made.now c.relayout.new.arena c.requires.ready c.relayout.ensures.steady c.relayout.ensures.founded
+    steady_ready (faces_of (λ vtable. (g.dyn-1.0.entry vtable).1) c.args.self.now.faces) c.args.self.now.view (styled_in c.args.self.now) c.args.made.now c.relayout.new.arena 0 c.requires.ready c.relayout.ensures.steady c.relayout.ensures.founded
 
 pub returns-in_err-placed-clause-ready : goal.returns-in_err-placed-clause-ready
 returns-in_err-placed-clause-ready g c =
-    steady_ready (faces_of (λ vtable. (g.dyn-1.0.entry vtable).1) c.args.self.now.faces) c.args.self.now.view (styled_in c.args.self.now) c.args.made.now c.relayout.new.arena c.requires.ready c.relayout.ensures.steady c.relayout.ensures.founded
+    steady_ready (faces_of (λ vtable. (g.dyn-1.0.entry vtable).1) c.args.self.now.faces) c.args.self.now.view (styled_in c.args.self.now) c.args.made.now c.relayout.new.arena 0 c.requires.ready c.relayout.ensures.steady c.relayout.ensures.founded
 
 pub returns-clause-prepares : goal.returns-clause-prepares
 returns-clause-prepares g c =
@@ -79,6 +79,6 @@ returns-clause-found g c =
     let faces = faces_of (λ vtable. (g.dyn-1.0.entry vtable).1) c.args.self.now.faces in
     let view = c.args.self.now.view in
     let nodes = styled_in c.args.self.now in
-    let ready = steady_ready faces view nodes c.args.made.now c.relayout.new.arena c.requires.ready c.relayout.ensures.steady c.relayout.ensures.founded in
+    let ready = steady_ready faces view nodes c.args.made.now c.relayout.new.arena 0 c.requires.ready c.relayout.ensures.steady c.relayout.ensures.founded in
     c.counts_are_by_name.ensures.kept faces view c.relayout.new.arena.slots c.args.made.now.root (page_boxes_in c.args.self.now) (page_under ready c.arenas_are_sound-2.ensures)
     (c.in_ok-root.ensures.kept c.requires.ready.founded)

@@ -1,4 +1,4 @@
-use Rattle.std.proofs.Common.{◌∙◌, ℕ, Option, refl, subst, sym}
+use Rattle.std.proofs.Common.{◌∙◌, ℕ, Option, IfSome, refl, subst, sym}
 use Rattle.std.proofs.lemmas.Option.{same_Some}
 use Rattle.dom_store.specs.State.{state_of}
 use Rattle.cascade.specs.declared.index.RuleIndex.{RuleIndex}
@@ -10,9 +10,10 @@ use Rattle.session.specs.declared.keeping.KeptBoxes.{KeptBoxes}
 use Rattle.session.specs.Document.{most_bytes}
 use Rattle.session.specs.Found.{LosesExactly}
 use Rattle.session.specs.History.{redone}
-use Rattle.session.specs.State.{HasHistory, rules_in, state_in}
-use Rattle.session.specs.Undoing.{BoxesStay, IndexStays, IsDoneBy}
+use Rattle.session.specs.State.{AreRooted, HasHistory, rules_in, state_in, styled_in}
+use Rattle.session.specs.Undoing.{BoxesGoOn, IndexStays, IsDoneBy}
 use Rattle.session.proofs.Moves.{MovesTo, can_bare, done_whole, leads_to, loses_there, moves_ahead, sound_there}
+use Rattle.session.proofs.SetTexts.{are_rooted}
 use Rattle.session.proofs.session.Session.redo.Goals as goal
 
 pub do_exactly-requires : goal.do_exactly-requires
@@ -23,6 +24,12 @@ do_exactly-requires g c =
     let history = c.requires.sound.history in
     let moves = moves_ahead c.logs_stand_for_states.ensures (state_in faces old) old.log step most_bytes history.0 history.1 (sym c.in-Some.ensures.step) in
     can_bare (state_in faces old) step.again moves.goes_there.can
+
+pub boxes_after-requires : goal.boxes_after-requires
+boxes_after-requires g c =
+    let faces = faces_of (λ vtable. (g.dyn-1.0.entry vtable).1) c.args.self.now.faces in
+    let rooted = are_rooted faces c.args.self.now.view (styled_in c.args.self.now) c.args.self.now.boxes c.requires.sound.ready in
+    record { rooted = subst (λ (boxes : Option KeptBoxes). IfSome boxes AreRooted) (sym c.take-in-Some.ensures.value) rooted }
 
 pub returns-in_ok-do_exactly-in-Some-clause-redoes : goal.returns-in_ok-do_exactly-in-Some-clause-redoes
 returns-in_ok-do_exactly-in-Some-clause-redoes g c =
@@ -51,10 +58,10 @@ returns-in_ok-do_exactly-in-Some-clause-loses g c =
       log = c.up.ensures;
     } in
     let index = subst (λ (o : Option RuleIndex). IndexStays o step.again new.index) c.take.ensures.value c.index_after.ensures in
-    let boxes = subst (λ (o : Option KeptBoxes). BoxesStay o step.again new.boxes) c.take-in-Some.ensures.value c.boxes_after.ensures in
+    let boxes = subst (λ (o : Option KeptBoxes). BoxesGoOn c.sets_exactly_alike-alike.result o step.again new.boxes) c.take-in-Some.ensures.value c.boxes_after.ensures in
     λ other is.
     subst (λ (s : StepOf). LosesExactly faces old new s.again) (same_Some step other (c.in-Some.ensures.step ∙ is))
-    (loses_there faces old new step.again (gone_up old.log) redone moves done c.requires.sound refl index boxes c.pages_are_boxes_of_html.ensures c.names_are_of_places.ensures
+    (loses_there faces old new step.again (gone_up old.log) redone moves done c.requires.sound refl index c.sets_exactly_alike-alike.result c.sets_exactly_alike-alike.ensures boxes c.pages_are_boxes_of_html.ensures c.names_are_of_places.ensures
     c.boxes_are_of_elements.ensures c.boxes_outside_the_scope_of_an_exact_edit_were_there.ensures c.boxes_untouched_by_an_exact_edit_were_there.ensures)
 
 pub returns-in_ok-do_exactly-in-Some-clause-sound : goal.returns-in_ok-do_exactly-in-Some-clause-sound
@@ -70,5 +77,5 @@ returns-in_ok-do_exactly-in-Some-clause-sound g c =
       log = c.up.ensures;
     } in
     let index = subst (λ (o : Option RuleIndex). IndexStays o step.again new.index) c.take.ensures.value c.index_after.ensures in
-    let boxes = subst (λ (o : Option KeptBoxes). BoxesStay o step.again new.boxes) c.take-in-Some.ensures.value c.boxes_after.ensures in
-    sound_there faces old new step.again (gone_up old.log) redone moves done c.requires.sound refl index boxes
+    let boxes = subst (λ (o : Option KeptBoxes). BoxesGoOn c.sets_exactly_alike-alike.result o step.again new.boxes) c.take-in-Some.ensures.value c.boxes_after.ensures in
+    sound_there faces old new step.again (gone_up old.log) redone moves done c.requires.sound refl index c.sets_exactly_alike-alike.result c.sets_exactly_alike-alike.ensures boxes
