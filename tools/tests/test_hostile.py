@@ -1,0 +1,59 @@
+"""Tests of tools/stack and tools/streams: what their jobs are, and that they find what wrong programs do."""
+import importlib.machinery
+import importlib.util
+import os
+import types
+
+import hostile
+import listing
+
+from tools.tests import support
+from tools.tests.support import TOOLS, tried
+
+
+def loaded(name: str) -> types.ModuleType:
+    """A tool as a module."""
+    loader = importlib.machinery.SourceFileLoader(name, os.path.join(TOOLS, name))
+    spec = importlib.util.spec_from_loader(name, loader)
+    assert spec
+    module = importlib.util.module_from_spec(spec)
+    loader.exec_module(module)
+    return module
+
+
+class Hostile(support.ToolCase):
+    """The jobs are at the limits, and what goes past one is found."""
+
+    def script(self, lines: str) -> str:
+        """A program of the shell."""
+        path = os.path.join(self.folder(), "program")
+        with open(path, "w", encoding="utf-8") as file:
+            file.write(f"#!/bin/sh\nP='{self.program}'\n{lines}\n")
+        os.chmod(path, 0o755)
+        return path
+
+    def test_jobs(self) -> None:
+        jobs = [*hostile.deep_jobs(), *hostile.long_jobs()]
+        self.same(len({job.name for job in jobs}), len(jobs), "the names of jobs")
+        longest = max(len(job.input) for job in jobs)
+        self.same(longest, listing.MOST_INPUT, "the longest input")
+        self.same({word for job in jobs for word in job.words[:1]}, {"layout", "edit", "modes", "probe", "gen"}, "the commands")
+
+    def test_depths(self) -> None:
+        """Deep jobs are laid out; one level more, or one turn more, is refused."""
+        self.needs(self.program, "how deep the jobs of tools/stack are")
+        for name, content in hostile.deep_contents():
+            page, deeper = hostile.document(content), hostile.document(f"<div>{content}</div>")
+            self.hold(self.ran("layout", page.encode()).startswith("page "), f"{name}: it is laid out")
+            self.hold(self.ran("layout", deeper.encode()).startswith("refused TooDeep "), f"{name}: it is as deep as it may be")
+
+    def test_stack(self) -> None:
+        """The least stack of a program that asks for so much is found, and one that asks for more than the most."""
+        stack, job = loaded("stack"), hostile.Job("a job", ("layout",), b"")
+        for least, due in ((300, 300), (302, 304), (1024, 1024), (1025, None)):
+            program = self.script(f'[ "$(ulimit -s)" -ge {least} ] || kill -SEGV $$')
+            self.same(stack.least_stack(program, job), due, f"the stack of a program that takes {least} KiB")
+        self.hold(not stack.ends_well(self.script("echo oh >&2"), job, 1024), "what stands on standard error is no good end")
+        self.hold(not stack.ends_well(self.script("exit 3"), job, 1024), "want of memory is no good end")
+        self.refuses("stack", ("--program", "none"), "")
+        self.hold(tried("stack", "--help").out.startswith("usage: "), "stack --help")
