@@ -8,7 +8,7 @@ import hostile
 import listing
 
 from tools.tests import support
-from tools.tests.support import TOOLS, tried
+from tools.tests.support import TOOLS, TOP, held, tried
 
 
 def loaded(name: str) -> types.ModuleType:
@@ -57,3 +57,26 @@ class Hostile(support.ToolCase):
         self.hold(not stack.ends_well(self.script("exit 3"), job, 1024), "want of memory is no good end")
         self.refuses("stack", ("--program", "none"), "")
         self.hold(tried("stack", "--help").out.startswith("usage: "), "stack --help")
+
+    def test_streams(self) -> None:
+        """What a program does otherwise on a stream, or under a limit, is found."""
+        streams = loaded("streams")
+        self.hold(tried("streams", "--help").out.startswith("usage: "), "streams --help")
+        self.refuses("streams", ("--program", "none"), "")
+        self.hold(streams.table() in held(os.path.join(TOP, "docs", "TRIED.md")), "the table of tools/streams is that of docs/TRIED.md")
+        self.needs(self.program, "what tools/streams finds")
+        # What reads and writes by others passes over their faults, and a shell that ignores a signal isn't ended by it.
+        self.check_case("the input is a folder", 'cat | "$P" "$@"')
+        self.check_case("the output is a full device, `/dev/full`", '"$P" "$@" | cat')
+        self.check_case("SIGTERM while it waits for its input", 'trap "" TERM; "$P" "$@"')
+        self.check_case("standard error is closed", 'echo oh; "$P" "$@"')
+
+    def check_case(self, name: str, lines: str) -> None:
+        """Holds that the program ends as a case says, and that one which runs these lines doesn't."""
+        streams, folder = loaded("streams"), self.folder()
+        job = streams.JOBS[0]
+        usual = streams.end_of(streams.spawned(self.program, job), job.input)
+        for case, due in streams.dues_of(job):
+            if case.name == name:
+                self.hold(due.holds(case.run(self.program, job, folder), usual), f"{name}: the program")
+                self.hold(not due.holds(case.run(self.script(lines), job, folder), usual), f"{name}: a program that runs {lines}")
