@@ -1,7 +1,8 @@
-/* A library to preload: it refuses one request for memory of a program, and counts all of them. A request is a call of malloc,
-   calloc or realloc; what a program asks for in other ways (aligned_alloc, mmap) is neither counted nor refused.
-   REFUSED_REQUEST is the number of the request that is refused, the first being 1; 0 refuses none. REQUESTS_COUNTED, where it is
-   set, is a file of eight bytes in which the requests so far are counted. */
+/* A library to preload: it refuses one request for memory of a program, or all from one on, and counts all of them. A request is a
+   call of malloc, calloc or realloc; what a program asks for in other ways (aligned_alloc, mmap) is neither counted nor refused.
+   REFUSED_REQUEST is the number of the request that is refused, the first being 1; 0 refuses none. REFUSED_ONWARDS, where it is set,
+   refuses all that follow it too. REQUESTS_COUNTED, where it is set, is a file of eight bytes in which the requests so far are
+   counted. */
 #include <errno.h>
 #include <fcntl.h>
 #include <stddef.h>
@@ -13,6 +14,7 @@
 void *__libc_malloc(size_t), *__libc_calloc(size_t, size_t), *__libc_realloc(void *, size_t);
 
 static uint64_t own, refused, *counted = &own;
+static int onwards;
 
 __attribute__((constructor)) static void begin(void) {
     const char *number = getenv("REFUSED_REQUEST"), *path = getenv("REQUESTS_COUNTED");
@@ -24,10 +26,12 @@ __attribute__((constructor)) static void begin(void) {
     }
     *counted = 0;
     refused = number ? strtoull(number, NULL, 10) : 0;
+    onwards = getenv("REFUSED_ONWARDS") != NULL;
 }
 
 static int is_refused(void) {
-    int is = ++*counted == refused;
+    uint64_t number = ++*counted;
+    int is = number == refused || (onwards && refused && number > refused);
     if (is) errno = ENOMEM;
     return is;
 }
