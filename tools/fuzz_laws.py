@@ -6,6 +6,7 @@ import re
 import resource
 import subprocess
 from collections.abc import Iterator
+from random import Random
 from subprocess import PIPE
 from typing import NamedTuple
 
@@ -21,6 +22,9 @@ OF_SCRIPTS, OF_MODES = {"ScriptSyntax", "TooManyEdits", "TooManyShows"}, {"NotTu
 USAGE = b"".join(re.findall(rb"^usage: .*\n", read_page("commands.md").encode(), re.MULTILINE))
 # The answer to a line of a probe, with the text node and two places of a hit.
 ANSWER = re.compile(rb"(?:hit ([0-9]+) ([0-9]+) ([0-9]+) [0-9]+|miss|caret(?: -?[0-9]+){4}|nocaret)\n")
+# How many runs, places of the page and places of a text a page is asked about; and how long a unit is, on an average of its run, at
+# least, so that each of its halves has a point, in 1/64 px.
+MOST_POINTED, LEAST_UNIT = 8, 8
 COUNTED = re.compile(rb"gen [0-9]+ bytes [0-9]+ lines [0-9]+\n")
 # A letter for each part of an output, and which parts each command writes where it refuses nothing.
 SIGNS = {listing.Page: "p", listing.Flow: "f", listing.Refusal: "r"}
@@ -99,7 +103,7 @@ class Trial:
         self.parts: list[listing.Part] = []
         self.share = self.due.seconds / program.limits.seconds_of(job.input)
         self.wrong = list(self.wrong_end())
-        for law in (self.streamed, self.shown, self.undone, self.taken_back, self.kept, self.followed, self.turned) if not self.wrong else ():
+        for law in (self.streamed, self.shown, self.undone, self.taken_back, self.kept, self.followed, self.turned, self.pointed, self.made, self.broken_off) if not self.wrong else ():
             self.wrong += law()
 
     def again(self, command: str, data: bytes) -> Ended:
@@ -358,3 +362,131 @@ class Trial:
                 yield f"the page in {mode} isn't the flow, turned"
         if self.job.tree:
             yield from self.wrong_in_tree(self.job.tree, flow.page())
+
+    # ---- points, the made input, and documents that break off
+
+    def pointed(self) -> Iterator[str]:
+        """What a point of a page hits is in the last run that holds it, and nothing where none does; a caret stands at a run that has
+        its place, and a point beside it leads back to it."""
+        if self.job.command != "layout" or not DOCUMENT_ENDS.search(self.job.input) or not (self.parts and isinstance(self.parts[0], listing.Page)):
+            return
+        random, page = Random(self.job.failing), self.parts[0]
+        runs = [each for each in page.fragments if isinstance(each, listing.Run)]
+        asked = random.sample(runs, min(MOST_POINTED, len(runs)))
+        points = [(random.randrange(page.width), random.randrange(page.height)) for _ in range(MOST_POINTED)]
+        for run in asked:
+            rect = run.rect
+            points += [(rect.x, rect.y), (rect.right - 1, rect.bottom - 1), (rect.right, rect.y), (rect.x, rect.bottom), (rect.x + rect.width // 2, rect.y)]
+        places = [(run.node, place) for run in asked for place in (run.begin, run.end, random.randint(run.begin, run.end))]
+        answers = self.answers([*(f"point {x} {y}" for x, y in points), *(f"caret {node} {place}" for node, place in places)])
+        for point, answer in zip(points, answers):
+            yield from wrong_hit(runs, point, answer)
+        carets = list(zip(places, answers[len(points) :]))
+        beside = [(place, wanted) for place, answer in carets if (wanted := points_beside(runs, place, answer))]
+        again = iter(self.answers([f"point {x} {y}" for _, wanted in beside for x, y in wanted]))
+        for (node, place), answer in carets:
+            yield from wrong_caret(runs, node, place, answer)
+        for (node, place), wanted in beside:
+            hits = [next(again, "") for _ in wanted]
+            if not any(re.fullmatch(rf"hit {node} [0-9]+ [0-9]+ {place}", hit) for hit in hits):
+                yield f"no point of {wanted} leads back to the caret of the text {node} at {place}: {hits}"
+
+    def answers(self, lines: list[str]) -> list[str]:
+        """The answers to lines of a probe of the document; none where there is no room for them."""
+        data = self.job.input.rstrip() + "".join(f"\n{line}" for line in lines).encode()
+        ended = self.again("probe", data) if lines and len(data) <= listing.MOST_INPUT else None
+        return ended.out.decode("ascii", "replace").splitlines() if ended else []
+
+    def made(self) -> Iterator[str]:
+        """The made input of docs/PROFILE/commands.md gives what `gen` counts."""
+        if self.job.command == "gen":
+            ended = self.again("edit", made_input(self.job.option("--count", 100)))
+            due = b"gen %d bytes %d lines %d\n" % (self.job.option("--count", 100), len(ended.out), ended.out.count(b"\n"))
+            if ended.status or due != self.due.out:
+                yield f"`gen` tells {self.due.out!r}, and of the same input `edit` writes {due!r}"
+
+    def broken_off(self) -> Iterator[str]:
+        """A document that breaks off is refused as one that breaks off there, or is laid out where all is there but what may follow."""
+        end = self.job.input.rfind(b"</html")
+        if self.job.kind == "document" and not self.due.status and end > 0:
+            front = self.job.input[: int(self.job.failing * (end + 6))]
+            front = front.decode("utf-8", "ignore").encode()
+            ended = self.again("layout", front)
+            if ended[:2] != (2, b"refused Syntax %d\n" % len(front)):
+                yield f"the front of {len(front)} bytes ends with {ended.told()}"
+
+
+def holds(rect: listing.Rect, point: tuple[int, int]) -> bool:
+    return rect.x <= point[0] < rect.right and rect.y <= point[1] < rect.bottom
+
+
+def run_at(runs: list[listing.Run], point: tuple[int, int]) -> listing.Run | None:
+    """The last run that holds a point."""
+    return next((run for run in reversed(runs) if holds(run.rect, point)), None)
+
+
+def wrong_hit(runs: list[listing.Run], point: tuple[int, int], answer: str) -> Iterator[str]:
+    """What is wrong with what a point hits."""
+    run, found = run_at(runs, point), re.fullmatch(r"hit ([0-9]+) ([0-9]+) ([0-9]+) ([0-9]+)", answer)
+    if not run or not found:
+        is_right = answer == ("hit" if run else "miss")
+    else:
+        node, first, end, place = map(int, found.groups())
+        is_right = node == run.node and run.begin <= first < end <= run.end and place in (first, end)
+    if not is_right:
+        yield f"the point {point} is answered by {answer!r}; the last run that holds it is {run}"
+
+
+def has_caret(run: listing.Run, caret: listing.Rect) -> bool:
+    """Whether a caret stands in a run, as far across its line as it."""
+    rect = run.rect
+    if run.is_horizontal:
+        return (caret.width, caret.y, caret.height) == (0, rect.y, rect.height) and rect.x <= caret.x <= rect.right
+    return (caret.height, caret.x, caret.width) == (0, rect.x, rect.width) and rect.y <= caret.y <= rect.bottom
+
+
+def caret_of(answer: str) -> listing.Rect | None:
+    found = re.fullmatch(r"caret (-?[0-9]+) (-?[0-9]+) ([0-9]+) ([0-9]+)", answer)
+    return listing.Rect(*map(int, found.groups())) if found else None
+
+
+def runs_with(runs: list[listing.Run], node: int, place: int) -> list[listing.Run]:
+    """The runs of a text that have a place."""
+    return [run for run in runs if run.node == node and run.begin <= place <= run.end]
+
+
+def wrong_caret(runs: list[listing.Run], node: int, place: int, answer: str) -> Iterator[str]:
+    """What is wrong with the caret of a place of a text, in whose runs it is."""
+    caret, near = caret_of(answer), runs_with(runs, node, place)
+    is_due = any(place in (run.begin, run.end) for run in near)
+    if caret is None and (answer != "nocaret" or is_due) or caret and not any(has_caret(run, caret) for run in near):
+        yield f"the caret of the text {node} at {place} is answered by {answer!r}; the runs with it are {near}"
+
+
+def points_beside(runs: list[listing.Run], of: tuple[int, int], answer: str) -> list[tuple[int, int]]:
+    """The two points at the line-over edge of a caret on both sides of it, where runs of its text alone hold them and their units are
+    long enough."""
+    caret, near = caret_of(answer), runs_with(runs, *of)
+    if caret is None:
+        return []
+    back = (1, 0) if caret.width == 0 else (0, 1)
+    points = [(caret.x, caret.y), (caret.x - back[0], caret.y - back[1])]
+    held = [run_at(runs, point) for point in points]
+    is_clear = any(held) and all(run is None or run in near for run in held)
+    is_long = all(max(run.rect.width, run.rect.height) and length_of(run) >= LEAST_UNIT * len(run.clusters) for run in near)
+    return points if is_clear and is_long else []
+
+
+def length_of(run: listing.Run) -> int:
+    return run.rect.width if run.is_horizontal else run.rect.height
+
+
+def made_input(count: int) -> bytes:
+    """The input that `gen` makes, with so many paragraphs (docs/PROFILE/commands.md)."""
+    paragraphs, lines, number = "", [], 2
+    for at in range(count):
+        is_turned = at % 4 == 3
+        paragraphs += '<div style="writing-mode:vertical-rl"><p>a b</p></div>' if is_turned else "<p>a</p>"
+        number += 3 if is_turned else 2
+        lines.append(f"text {number - 1} {' '.join('a' * (at % 7 + 1))}")
+    return "\n".join((f"<html><body>{paragraphs}</body></html>", "show", *lines, "show")).encode()

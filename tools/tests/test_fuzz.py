@@ -32,6 +32,11 @@ WRONG = (
     ("another count of lines", '"$P" "$@" >"$0.out"; status=$?; sed "/^run .* l /d" "$0.out"; exit $status'),
     ("`layout` lists or refuses it otherwise", 'case "$*" in *modes*) sed "s/1/2/g" | "$P" "$@";; *) exec "$P" "$@";; esac'),
     ("flows, pages and refusals are", 'case "$*" in *modes*) "$P" "$@" >"$0.out"; status=$?; sed "1,/^end/d" "$0.out"; exit $status;; *) exec "$P" "$@";; esac'),
+    ("the last run that holds it is", 'case "$*" in *probe*) "$P" "$@" >"$0.out"; status=$?; sed "s/^hit .*/miss/" "$0.out"; exit $status;; *) exec "$P" "$@";; esac'),
+    ("is answered by 'nocaret'", 'case "$*" in *probe*) "$P" "$@" >"$0.out"; status=$?; sed "s/^caret .*/nocaret/" "$0.out"; exit $status;; *) exec "$P" "$@";; esac'),
+    ("leads back to the caret", 'case "$*" in *probe*) "$P" "$@" >"$0.out"; status=$?; sed "s/^\\(hit [0-9]* \\([0-9]*\\) [0-9]*\\) .*/\\1 \\2/" "$0.out"; exit $status;; *) exec "$P" "$@";; esac'),
+    ("of the same input `edit` writes", 'case "$*" in *gen*) "$P" "$@" >"$0.out"; status=$?; sed "s/ bytes / bytes 1/" "$0.out"; exit $status;; *) exec "$P" "$@";; esac'),
+    ("the front of", 'case "$*" in *layout*) cat >"$0.in"; grep -qi "</html" "$0.in" || printf "</body></html>" >>"$0.in"; exec "$P" "$@" <"$0.in";; *) exec "$P" "$@";; esac'),
     ("is refused by None, due is", '"$P" "$@" >"$0.out"; status=$?; sed "/^refused No/d" "$0.out"; exit $status'),
 )
 
