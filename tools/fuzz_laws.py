@@ -25,6 +25,8 @@ ANSWER = re.compile(rb"(?:hit ([0-9]+) ([0-9]+) ([0-9]+) [0-9]+|miss|caret(?: -?
 # How many runs, places of the page and places of a text a page is asked about; and how long a unit is, on an average of its run, at
 # least, so that each of its halves has a point, in 1/64 px.
 MOST_POINTED, LEAST_UNIT = 8, 8
+# The first number that a line of a probe can't have.
+TOO_FAR = 10**10
 COUNTED = re.compile(rb"gen [0-9]+ bytes [0-9]+ lines [0-9]+\n")
 # A letter for each part of an output, and which parts each command writes where it refuses nothing.
 SIGNS = {listing.Page: "p", listing.Flow: "f", listing.Refusal: "r"}
@@ -377,6 +379,7 @@ class Trial:
         for run in asked:
             rect = run.rect
             points += [(rect.x, rect.y), (rect.right - 1, rect.bottom - 1), (rect.right, rect.y), (rect.x, rect.bottom), (rect.x + rect.width // 2, rect.y)]
+        points = [point for point in points if is_near(point)]
         places = [(run.node, place) for run in asked for place in (run.begin, run.end, random.randint(run.begin, run.end))]
         answers = self.answers([*(f"point {x} {y}" for x, y in points), *(f"caret {node} {place}" for node, place in places)])
         for point, answer in zip(points, answers):
@@ -414,6 +417,11 @@ class Trial:
             ended = self.again("layout", front)
             if ended[:2] != (2, b"refused Syntax %d\n" % len(front)):
                 yield f"the front of {len(front)} bytes ends with {ended.told()}"
+
+
+def is_near(point: tuple[int, int]) -> bool:
+    """Whether a probe can ask for a point."""
+    return all(abs(number) < TOO_FAR for number in point)
 
 
 def holds(rect: listing.Rect, point: tuple[int, int]) -> bool:
@@ -472,7 +480,7 @@ def points_beside(runs: list[listing.Run], of: tuple[int, int], answer: str) -> 
     back = (1, 0) if caret.width == 0 else (0, 1)
     points = [(caret.x, caret.y), (caret.x - back[0], caret.y - back[1])]
     held = [run_at(runs, point) for point in points]
-    is_clear = any(held) and all(run is None or run in near for run in held)
+    is_clear = any(held) and all(run is None or run in near for run in held) and all(map(is_near, points))
     is_long = all(max(run.rect.width, run.rect.height) and length_of(run) >= LEAST_UNIT * len(run.clusters) for run in near)
     return points if is_clear and is_long else []
 
