@@ -1,4 +1,4 @@
-"""Tests of tools/stack and tools/streams: what their jobs are, and that they find what wrong programs do."""
+"""Tests of tools/stack, tools/streams and tools/fronts: what their jobs are, and that they find what wrong programs do."""
 import importlib.machinery
 import importlib.util
 import os
@@ -57,6 +57,21 @@ class Hostile(support.ToolCase):
         self.hold(not stack.ends_well(self.script("exit 3"), job, 1024), "want of memory is no good end")
         self.refuses("stack", ("--program", "none"), "")
         self.hold(tried("stack", "--help").out.startswith("usage: "), "stack --help")
+
+    def test_fronts(self) -> None:
+        """How a document is refused that breaks off, and what a front of a script gives."""
+        fronts = loaded("fronts")
+        self.same(fronts.broken_off("<html>\u05d0".encode()[:-1]), b"refused Utf8 6\n", "a front that ends within a character")
+        self.same(fronts.broken_off(b"<html>"), b"refused Syntax 6\n", "a front of six bytes")
+        self.refuses("fronts", ("--program", "none"), "")
+        self.hold(tried("fronts", "--help").out.startswith("usage: "), "fronts --help")
+        self.needs(self.program, "what tools/fronts finds")
+        job = hostile.Job("a script", ("edit",), b"<html><body><p>a</p></body></html>\nshow\ntext 3 b\nshow\n")
+        due, lengths = fronts.run(self.program, job, len(job.input))[1], range(len(job.input) + 1)
+        self.same([said for said in (fronts.wrong(self.program, job, due, length) for length in lengths) if said], [], "fronts of a script")
+        program = self.script('"$P" "$@" >"$0.out"; status=$?; sed "s/Syntax 1/Syntax 2/; 1!s/end/ending/" "$0.out"; exit $status')
+        wrong = [length for length in lengths if fronts.wrong(program, job, due, length)]
+        self.hold({12, len(job.input)} <= set(wrong) and 5 not in wrong, f"a program that tells another place, or ends otherwise: {wrong}")
 
     def test_streams(self) -> None:
         """What a program does otherwise on a stream, or under a limit, is found."""
