@@ -481,7 +481,7 @@ def points_beside(runs: list[listing.Run], of: tuple[int, int], answer: str) -> 
     points = [(caret.x, caret.y), (caret.x - back[0], caret.y - back[1])]
     held = [run_at(runs, point) for point in points]
     is_clear = any(held) and all(run is None or run in near for run in held) and all(map(is_near, points))
-    is_long = all(max(run.rect.width, run.rect.height) and length_of(run) >= LEAST_UNIT * len(run.clusters) for run in near)
+    is_long = all(length_of(run) >= LEAST_UNIT * len(run.clusters) for run in near)
     return points if is_clear and is_long else []
 
 
@@ -491,7 +491,7 @@ def length_of(run: listing.Run) -> int:
 
 def made_input(count: int) -> bytes:
     """The input that `gen` makes, with so many paragraphs (docs/PROFILE/commands.md)."""
-    paragraphs, lines, number = "", [], 2
+    paragraphs, lines, number = "", list[str](), 2
     for at in range(count):
         is_turned = at % 4 == 3
         paragraphs += '<div style="writing-mode:vertical-rl"><p>a b</p></div>' if is_turned else "<p>a</p>"

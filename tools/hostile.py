@@ -60,18 +60,20 @@ def turning(most: int, between: Shape) -> list[Shape]:
 def deep_contents() -> Iterator[tuple[str, str]]:
     """Contents of a body, as deep as one may be, each with its name."""
     paragraph = "<p>or</p>"
-    for name, shape in ("blocks", BLOCK), ("inline boxes", INLINE), ("inline-blocks", ATOM), ("shifted blocks", SHIFTED), ("raised inline boxes", RAISED):
+    plain = (("blocks", BLOCK), ("inline boxes", INLINE), ("inline-blocks", ATOM))
+    for name, shape in *plain, ("shifted blocks", SHIFTED), ("raised inline boxes", RAISED):
         yield f"{name} inside one another", inside([shape] * DEEPEST)
     yield "inline boxes and blocks by turns", inside(by_turns(DEEPEST, INLINE, BLOCK))
     yield "inline boxes and inline-blocks by turns", inside(by_turns(DEEPEST, INLINE, ATOM))
     yield "blocks and inline-blocks by turns", inside(by_turns(DEEPEST, BLOCK, ATOM))
     yield "blocks in inline boxes beside text", inside([*[INLINE] * (DEEPEST - 1), BLOCK], before="a")
-    for name, shape in ("blocks", BLOCK), ("inline boxes", INLINE), ("inline-blocks", ATOM):
+    for name, shape in plain:
         # A paragraph has a text, which is a level.
         yield f"{name} beside paragraphs", inside([shape] * (DEEPEST - 1), before=paragraph)
         yield f"boxes that turn, with {name}", inside(turning(DEEPEST, shape))
         yield f"boxes that turn, with {name}, beside paragraphs", inside(turning(DEEPEST - 1, shape), before=paragraph)
-    yield "boxes that turn and shrink", inside(by_turns(MOST_TURNS, *(("span", f"display:inline-block;{turn}") for turn in TURNS)), inside([ATOM] * (DEEPEST - MOST_TURNS)))
+    shrinking = by_turns(MOST_TURNS, *(("span", f"display:inline-block;{turn}") for turn in TURNS))
+    yield "boxes that turn and shrink", inside([*shrinking, *[ATOM] * (DEEPEST - MOST_TURNS)])
     yield "inline boxes round a text of many lines", inside([INLINE] * DEEPEST, "to be " * 2000)
 
 
