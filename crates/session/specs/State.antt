@@ -47,7 +47,7 @@ pub record AreReady (faces : List (Option Table)) (view : View) (nodes : Nodes) 
   pub within : IsWithin nodes
   pub positions : ArePositions made.positions nodes
 
--- Boxes that stood on an earlier page stand in their arena, each told by its name. What is kept of them is right for them as they stand there,
+-- Boxes of an earlier document stand in their arena, each told by its name. What is kept of them is right for them as they stand there,
 -- and with each result that is kept is all on which it rests.
 pub record IsFormer (faces : List (Option Table)) (view : View) (made : Rooted) : Type 0 where
   pub tree : IsTree made.arena.slots made.root
@@ -55,7 +55,7 @@ pub record IsFormer (faces : List (Option Table)) (view : View) (made : Rooted) 
   pub right : AreRightUnder faces view made.arena.slots made.root
   pub founded : AreFoundedUnder faces view made.arena.slots made.root
 
--- the boxes of this styled tree, or those of an earlier page, with what is kept of them
+-- the boxes of this styled tree, or those of an earlier document, with what is kept of them
 abbrev pub AreKept : (faces : List (Option Table)) → View → Nodes → KeptBoxes → Type 0
 AreKept faces view nodes (Current made) = AreReady faces view nodes made
 AreKept faces view nodes (Former made) = IsFormer faces view made
@@ -93,7 +93,7 @@ module _ {I : Type 0} {D : I → Type 0} where
     pub state : state_in faces session ≡ opened.state
     pub history : HasHistory faces most session opened.history
 
-  -- what holds of a session with these faces: its document can be open, its boxes are ready, or stood on an earlier page, and its log stands
+  -- what holds of a session with these faces: its document can be open, its boxes are ready, or those of an earlier document, and its log stands
   -- for a history
   pub record IsSound (faces : List (Option Table)) (session : Session I D) : Type 0 where
     pub document : CanBeOpen most_bytes (state_in faces session)

@@ -57,12 +57,13 @@ impl Session {
     /// least number of the node of such a box. A refused edit changes nothing: the state of the document, the rules, the faces and all
     /// that is kept of boxes stay as they were. After an accepted edit of the tree the next page uses what is kept of boxes that stand
     /// as they did; after one of the rules or of a face nothing is kept. A text whose letters are white space alone exactly where its old
-    /// ones are is set in the boxes that stand, and the next page makes none. A face that is retired is dropped at once.
+    /// ones are is set in the boxes that stand, where one of them alone holds it with other letters, fewer than 64 were set so since the
+    /// last page, and memory suffices; the next page makes no boxes then. A face that is retired is dropped at once.
     /// An accepted edit of the tree or of the rules is logged, and can be taken back; one of a face ends the history.
     /// Where the edit can be applied the texts of the next state together hold at most 1,048,576 bytes. An edit of the tree costs what
     /// it costs the document (`Document::apply`), and the styles of the nodes on which the boxes depend that it makes or changes, of all
     /// below these and of those above; one of the rules that names `display` or `writing-mode` costs the styles of all nodes, and any
-    /// other one the places of the rules. Where a text is set in boxes, that goes through all of them. Else boxes, and the index of the
+    /// other one the places of the rules. Where a text may be set in boxes, all of them are gone through for it. Else boxes, and the index of the
     /// rules, are made when they are asked next.
     pub fn apply(&mut self, edit: &Edit) -> Result<(), ApplyError>
         requires sound { IsSound (faces_of ⟦<dyn Face as Face>⟧ self.old.faces) self.old }

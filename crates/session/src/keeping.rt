@@ -36,7 +36,7 @@ use wm_modes::WritingMode;
 /// How many texts are set in boxes before they are laid out again, at most: each of them goes through all boxes.
 const MOST_SETS: u32 = 64;
 
-/// The boxes of a document as it is, or those that stood on a page before some edits of its tree.
+/// The boxes of a document as it is, or those of an earlier one, before some edits of its tree.
 #[derive(Drop)]
 pub(crate) enum KeptBoxes {
     Current(Rooted),

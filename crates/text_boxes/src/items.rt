@@ -12,7 +12,7 @@ use fragment_types::{Item, Items};
 use letters::SharedText;
 use std::alloc::{AllocError, Global};
 
-/// The box in which the text of this node has these letters. `None` where it has them.
+/// The box in which the text of this node has these letters. `None` where no text of this node in it has other letters.
 pub(crate) fn node_with(
     alloc: Global,
     was: &BoxNode,

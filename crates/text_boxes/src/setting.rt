@@ -24,7 +24,7 @@ pub fn is_blank(text: &str) -> bool
 }
 
 /// Sets the text of this node in the one box under a root that holds it. `false`, with nothing changed, where no box holds it or more
-/// than one does, and where it has these letters. It goes through all boxes under the root, and copies the items of that one.
+/// than one does, where it has these letters, and where boxes are too many or too deep to look at all of them. It goes through all boxes under the root, and copies the items of that one.
 pub fn set_text<T: Drop>(
     alloc: Global,
     arena: &mut BoxArena<T>,
