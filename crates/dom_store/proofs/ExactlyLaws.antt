@@ -8,10 +8,11 @@ use Rattle.dom_store.specs.declared.edit.Change.{Change}
 use Rattle.dom_store.specs.declared.error.EditError.{EditError}
 use Rattle.dom_store.specs.State.{State}
 use Rattle.dom_store.specs.Edited.{Applies, accepted, refused, unless, Outcome}
-use Rattle.dom_store.specs.Edits.{EditOf, after, concerned}
+use Rattle.dom_store.specs.Edits.{EditOf, after, concerned, without}
 use Rattle.dom_store.specs.Refusals.{refusal}
 use Rattle.dom_store.specs.Exact.{ExactEditOf, concerned_exactly, exactly, without_each}
 use Rattle.dom_store.specs.Exactly.{AppliesExactly, IsUnrefused}
+use Rattle.dom_store.proofs.RemoveLaws.{any_more}
 
 abbrev state_in : Outcome → State → State
 state_in (accepted next elements) other = next
@@ -52,3 +53,22 @@ kept_more numbers children at b within is =
     alone : (child : ℕ) (b : Bool) → list_any (nat_eq child) numbers ≡ b → without_each numbers (child ∷ []) ≡ (if b then [] else child ∷ [])
     alone child true is = rw is refl
     alone child false is = rw is refl
+
+-- none is taken out
+pub none_dropped : (children : List ℕ) → children ≡ without_each [] children
+none_dropped [] = refl
+none_dropped (child ∷ children) = ap (λ (l : List ℕ). child ∷ l) (none_dropped children)
+
+-- one more is taken out of those that have this one first, where it is taken out of the others
+dropped_first : (numbers : List ℕ) (number child : ℕ) (children : List ℕ) (a b : Bool) → list_any (nat_eq child) numbers ≡ a → nat_eq child number ≡ b
+    → without number (without_each numbers children) ≡ without_each (numbers ++ number ∷ []) children
+    → without number (without_each numbers (child ∷ children)) ≡ without_each (numbers ++ number ∷ []) (child ∷ children)
+dropped_first numbers number child children true true among same later = rw (any_more (nat_eq child) numbers number, among, same) later
+dropped_first numbers number child children true false among same later = rw (any_more (nat_eq child) numbers number, among, same) later
+dropped_first numbers number child children false true among same later = rw (any_more (nat_eq child) numbers number, among, same) later
+dropped_first numbers number child children false false among same later = rw (any_more (nat_eq child) numbers number, among, same) (ap (λ (l : List ℕ). child ∷ l) later)
+
+-- one more is taken out
+pub dropped_more : (numbers : List ℕ) (number : ℕ) (children : List ℕ) → without number (without_each numbers children) ≡ without_each (numbers ++ number ∷ []) children
+dropped_more numbers number [] = refl
+dropped_more numbers number (child ∷ children) = dropped_first numbers number child children _ _ refl refl (dropped_more numbers number children)

@@ -10,7 +10,6 @@ use crate::edit::{Before, Change};
 use crate::editing::concerned_alone;
 use crate::error::EditError;
 use crate::exact::ExactEdit;
-use crate::siblings::without_each;
 use std::alloc::{AllocError, Global};
 
 impl Document {
@@ -59,8 +58,7 @@ impl Document {
         let elements = concerned_alone(alloc, parent)?;
         let mut gone = Vec::new(alloc);
         self.collect_all(0, GREATEST_DEPTH, numbers, &mut gone)?;
-        let children = without_each(alloc, self.children(parent), numbers)?;
-        self.put_children(parent, children);
+        self.drop_named(alloc, parent, numbers)?;
         self.take_all_out(&gone);
         Ok(Change {
             elements,

@@ -92,6 +92,15 @@ pub(crate) fn without_each(
     Ok(rest)
 }
 
+/// Takes each of these out of the children, one after the other. It takes no memory, and goes over the children for each.
+pub(crate) fn drop_each(children: &mut NodeNumbers, numbers: &[u32])
+    ensures { children.new.items ≡ without_each numbers.now children.old.items }
+{
+    for number in numbers {
+        drop_from(children, *number);
+    }
+}
+
 /// Takes this one out of the children.
 pub(crate) fn drop_from(children: &mut NodeNumbers, number: u32)
     ensures { children.new.items ≡ without number children.old.items }

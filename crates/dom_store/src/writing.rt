@@ -3,17 +3,21 @@
 ghost use Rattle.std.specs.Prelude.{◌≡◌, ◌≤◌, ◌∷◌, [], length, map, OnErr, OnOk};
 ghost use Rattle.std.specs.String.{string_bytes};
 ghost use Rattle.dom_store.specs.Edits.{changed, with_children, with_classes, with_own, with_put, with_what, without, without_nodes};
+ghost use Rattle.dom_store.specs.Exact.{without_each};
 ghost use Rattle.dom_store.specs.Standing.{children_at, parent_at};
 ghost use Rattle.dom_store.specs.State.{state_of, what_of};
 ghost use Rattle.dom_store.specs.Taking.{standing_in, turned, without_run};
 
 use crate::document::Document;
 use crate::node::{NodeKind, NodeNumbers};
-use crate::siblings::{drop_from, drop_run, put_at, put_one, turn};
+use crate::siblings::{drop_each, drop_from, drop_run, put_at, put_one, turn, without_each};
 use css_types::Declarations;
 use letters::LetterList;
-use std::alloc::AllocError;
+use std::alloc::{AllocError, Global};
 use std::mem::replace;
+
+/// How many children are taken out one by one at most.
+const FEW: usize = 16;
 
 impl Document {
     /// A node is this from now on.
@@ -92,6 +96,26 @@ impl Document {
         if let Some(key) = self.keys.get(&n) {
             drop_from(&mut self.nodes[*key].children, child);
         }
+    }
+
+    /// Each of these isn't among this one's children from now on. Few are taken out where they stand, of many the others are
+    /// listed anew. Where memory runs out, nothing changes.
+    pub(crate) fn drop_named(
+        &mut self,
+        alloc: Global,
+        n: u32,
+        numbers: &[u32],
+    ) -> Result<(), AllocError>
+        ensures dropped { OnOk result (state_of self.new ≡ changed (state_of self.old) n (with_children (without_each numbers.now))) }
+        ensures same { OnErr result (state_of self.new ≡ state_of self.old) }
+    {
+        if numbers.len() > FEW {
+            let children = without_each(alloc, self.children(n), numbers)?;
+            self.put_children(n, children);
+        } else if let Some(key) = self.keys.get(&n) {
+            drop_each(&mut self.nodes[*key].children, numbers);
+        }
+        Ok(())
     }
 
     /// The node stands in this parent from now on.
