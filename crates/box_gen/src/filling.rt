@@ -127,13 +127,13 @@ impl Filling {
     {
         let name = own_name(self.node);
         if self.boxes.is_empty() {
-            return Ok(paragraph(name, *self.style, self.run));
+            return Ok(paragraph(name, self.style, self.run));
         }
         self.end_run(alloc)?;
         Ok(BoxTree {
             node: BoxNode {
                 name,
-                style: *self.style,
+                style: self.style,
                 content: Content::Blocks,
             },
             children: self.boxes,
@@ -150,7 +150,7 @@ impl Filling {
                 node: self.node,
                 ordinal: self.anonymous + 1,
             };
-            let style = anonymous_style(&self.style);
+            let style = SharedStyle::new(alloc, anonymous_style(&self.style))?;
             self.boxes.push(paragraph(name, style, run))?;
             self.anonymous += 1;
         }

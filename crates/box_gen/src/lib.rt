@@ -20,5 +20,6 @@ pub use found::Found;
 pub use generate::boxes;
 pub use limit::BoxLimit;
 pub use role::{Role, role_of, role_of_break, role_of_element};
+pub use run::is_blank;
 pub use site::Site;
 pub use tree::{BoxNode, BoxTree, BoxTrees, Content};

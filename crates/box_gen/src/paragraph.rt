@@ -8,7 +8,7 @@ ghost use Rattle.box_gen.specs.Building.{run_of};
 use crate::run::Run;
 use crate::tree::{BoxNode, BoxTree, Content};
 use fragment_types::BoxName;
-use style_types::{Display, Style};
+use style_types::{Display, SharedStyle, Style};
 
 /// The name of a node's own box.
 pub fn own_name(number: u32) -> BoxName
@@ -21,7 +21,7 @@ pub fn own_name(number: u32) -> BoxName
 }
 
 /// A box whose content is all inline. Most paragraphs have one item, so no room is kept for more.
-pub fn paragraph(name: BoxName, style: Style, run: Run) -> BoxTree
+pub fn paragraph(name: BoxName, style: SharedStyle, run: Run) -> BoxTree
     ensures { boxes_of result ≡ box name style (inline (run_of run).items) (run_of run).atoms none }
 {
     let Run {

@@ -108,8 +108,8 @@ impl Run {
     }
 }
 
-// Whether a text is white space alone.
-fn is_blank(text: &str) -> bool
+/// Whether a text is white space alone: tabs, line feeds, form feeds, carriage returns and spaces (CSS 2, 16.6.1).
+pub fn is_blank(text: &str) -> bool
     ensures { result ≡ is_blank text.now }
 {
     text.as_bytes().iter().all(|byte| is_space(*byte))

@@ -1,7 +1,7 @@
 //! Box trees (docs/PROFILE/boxes.md).
 
 use fragment_types::{BoxName, Items};
-use style_types::Style;
+use style_types::SharedStyle;
 
 /// What a block container holds.
 #[derive(Debug, Drop)]
@@ -16,7 +16,7 @@ pub enum Content {
 #[derive(Debug, Drop)]
 pub struct BoxNode {
     pub name: BoxName,
-    pub style: Style,
+    pub style: SharedStyle,
     pub content: Content,
 }
 

@@ -8,7 +8,7 @@ use fragment_types::{BoxName, Fragment, FragmentKind};
 use std::alloc::{AllocError, Global};
 use std::rc::Rc;
 use std::test::*;
-use style_types::Style;
+use style_types::{SharedStyle, Style};
 use wm_modes::FlowRect;
 
 const ANY: Constraint = Constraint {
@@ -21,15 +21,15 @@ const DEFINITE: Constraint = Constraint {
     block: Some(320),
 };
 
-fn node(number: u32) -> BoxNode {
-    BoxNode {
+fn node(alloc: Global, number: u32) -> Result<BoxNode, AllocError> {
+    Ok(BoxNode {
         name: BoxName {
             node: number,
             ordinal: 0,
         },
-        style: Style::initial(),
+        style: SharedStyle::new(alloc, Style::initial())?,
         content: Content::Blocks,
-    }
+    })
 }
 
 fn measured(alloc: Global, min: i64) -> Result<Fragment, AllocError> {
@@ -63,7 +63,7 @@ fn kept(arena: &BoxArena<u32>, key: BoxKey, c: Constraint) -> Option<i64>
 fn what_is_kept(rt: HostRuntime) -> Result<(), Fail> {
     let mut arena: BoxArena<u32> = BoxArena::new(rt.alloc());
     arena.reserve(1)?;
-    let key = arena.insert_reserved(node(1));
+    let key = arena.insert_reserved(node(rt.alloc(), 1)?);
     arena.keep(key, ANY, measured(rt.alloc(), 64)?)?;
     arena.keep(key, DEFINITE, measured(rt.alloc(), 128)?)?;
     assert_eq!(rt; kept(&arena, key, ANY), Some(64));
@@ -75,7 +75,7 @@ fn what_is_kept(rt: HostRuntime) -> Result<(), Fail> {
     assert_eq!(rt; kept(&arena, key, DEFINITE), None);
     arena.keep_text(key, 7);
     assert_eq!(rt; arena.text(key).copied(), Some(7));
-    let old = arena.restyle(key, node(2));
+    let old = arena.restyle(key, node(rt.alloc(), 2)?);
     assert_eq!(rt; old.name.node, 1);
     assert_eq!(rt; arena.node(key).name.node, 2);
     assert_eq!(rt; arena.text(key).copied(), None);
@@ -88,8 +88,8 @@ fn what_is_kept(rt: HostRuntime) -> Result<(), Fail> {
 fn a_tree_is_edited(rt: HostRuntime) -> Result<(), Fail> {
     let mut arena: BoxArena<u32> = BoxArena::new(rt.alloc());
     arena.reserve(2)?;
-    let parent = arena.insert_reserved(node(0));
-    let child = arena.insert_reserved(node(1));
+    let parent = arena.insert_reserved(node(rt.alloc(), 0)?);
+    let child = arena.insert_reserved(node(rt.alloc(), 1)?);
     arena.attach(parent, None, child);
     assert_eq!(rt; arena.first(parent), Some(child));
     assert_eq!(rt; arena.parent(child), Some(parent));
@@ -106,7 +106,7 @@ fn a_tree_is_edited(rt: HostRuntime) -> Result<(), Fail> {
 fn a_tree_is_planted(rt: HostRuntime) -> Result<(), Fail> {
     let mut arena: BoxArena<u32> = BoxArena::new(rt.alloc());
     let tree = BoxTree {
-        node: node(1),
+        node: node(rt.alloc(), 1)?,
         children: Vec::new(rt.alloc()),
     };
     let boxes = count(&tree);

@@ -11,7 +11,7 @@ use letters::SharedText;
 use std::alloc::{AllocError, Global};
 use std::test::*;
 use style_types::{SharedStyle, Style};
-use text_boxes::{is_blank, set_text};
+use text_boxes::set_text;
 
 #[derive(Drop)]
 struct Page {
@@ -19,15 +19,15 @@ struct Page {
     root: BoxKey,
 }
 
-fn holding(number: u32, content: Content) -> BoxNode {
-    BoxNode {
+fn holding(alloc: Global, number: u32, content: Content) -> Result<BoxNode, AllocError> {
+    Ok(BoxNode {
         name: BoxName {
             node: number,
             ordinal: 0,
         },
-        style: Style::initial(),
+        style: SharedStyle::new(alloc, Style::initial())?,
         content,
-    }
+    })
 }
 
 // A paragraph: the text of a node in an inline box, a text of node 9, and a line break.
@@ -59,7 +59,7 @@ fn paragraph(alloc: Global, number: u32, node: u32) -> Result<BoxTree, AllocErro
         Item::Break { node: 10 },
     ]?;
     Ok(BoxTree {
-        node: holding(number, Content::Inline(items)),
+        node: holding(alloc, number, Content::Inline(items))?,
         children: Vec::new(alloc),
     })
 }
@@ -69,7 +69,7 @@ fn planted(alloc: Global) -> Result<Page, AllocError>
     ensures { IfOk result (λ page. IsTree page.arena.slots page.root) }
 {
     let tree = BoxTree {
-        node: holding(0, Content::Blocks),
+        node: holding(alloc, 0, Content::Blocks)?,
         children: vec![in alloc; paragraph(alloc, 1, 3)?, paragraph(alloc, 2, 5)?]?,
     };
     let mut arena = BoxArena::new(alloc);
@@ -136,16 +136,4 @@ fn a_text_is_set(rt: HostRuntime) -> Result<(), Fail> {
         "open 1 true 3:new close 1 false 9:old break 10\nopen 2 true 5:old close 2 false 9:old break 10\n"
     );
     Ok(())
-}
-
-#[test]
-fn white_space_is_blank(rt: HostRuntime) {
-    for (text, blank) in [
-        ("", true),
-        ("\t\n\x0c\r ", true),
-        ("\u{a0}", false),
-        (" a ", false),
-    ] {
-        assert_eq!(rt; is_blank(text), blank, "{text}");
-    }
 }

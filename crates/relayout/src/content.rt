@@ -246,7 +246,7 @@ impl FlowBox<'_> {
             (Content::Inline(items), Some(text)) => {
                 let container = Container {
                     name: node.name,
-                    style: node.style,
+                    style: *node.style,
                     size,
                 };
                 let own = PreparedParagraph { items, text };

@@ -1,12 +1,12 @@
 //! What boxes have come to.
 
 use fragment_types::Fragment;
-use style_types::Style;
+use style_types::SharedStyle;
 
 /// A box inside another, laid out: its style, and its fragment.
 #[derive(Debug, Drop)]
 pub(crate) struct LaidBox {
-    pub(crate) style: Style,
+    pub(crate) style: SharedStyle,
     pub(crate) fragment: Fragment,
 }
 

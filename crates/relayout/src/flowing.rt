@@ -153,7 +153,7 @@ impl<L: Ledger, M: Ledger> Flow<'_, '_, '_, '_, L, M> {
         match self.arena.kept(own.key, own.c) {
             Some(fragment) => {
                 let fragment = shared(fragment)?;
-                let style = node.style;
+                let style = node.style.clone()?;
                 Ok(Some(LaidBox { style, fragment }))
             }
             None => Ok(None),
@@ -256,7 +256,7 @@ impl<L: Ledger, M: Ledger> Flow<'_, '_, '_, '_, L, M> {
         ensures flowed { IfOk result (λ laid. IsFlowedAt (outside_of ⟦<dyn Face as Face>⟧ page.entry) self.new.arena.now.slots own.now laid) }
     {
         let flow_box = FlowBox::at(self.arena, own);
-        let style = flow_box.node.style;
+        let style = flow_box.node.style.clone()?;
         let children = LaidInside { boxes: inside };
         let fragment = flow_box.laid(alloc, page.faces, sized.size, children, self.arranged)?;
         let copy = shared(&fragment)?;

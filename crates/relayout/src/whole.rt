@@ -24,6 +24,7 @@ use crate::row::{Page, Row};
 use crate::sizes::Containing;
 use crate::styled::ChildStyle;
 use box_arena::{BoxArena, BoxKey, MOST_DEEP};
+use box_gen::BoxNode;
 use bumpalo::Bump;
 use face_api::{Face, Faces};
 use fragment_types::{Constraint, Fragment};
@@ -31,16 +32,16 @@ use para_prepare::Prepared;
 use std::alloc::{AllocError, Global};
 use std::sync::ledger::Ledger;
 use style_types::Style;
-use wm_modes::{FlowRect, FlowSide, WritingMode};
+use wm_modes::{FlowRect, FlowSide};
 use wm_units::{Steps, View};
 
-// The view of a page whose root has this mode.
-fn page_of(mode: WritingMode, view: View) -> PageView
+// The view of a page with this root.
+fn page_of(root: &BoxNode, view: View) -> PageView
     requires { IsView view }
-    ensures value { (faces : List (Option Table)) → from_outside faces result ≡ on_page (is_horizontal mode) faces view.inline view.block }
+    ensures value { (faces : List (Option Table)) → from_outside faces result ≡ on_page (is_horizontal root.now.style.mode) faces view.inline view.block }
     ensures near { IsPageView result }
 {
-    if mode.is_horizontal() {
+    if root.style.mode.is_horizontal() {
         PageView {
             across: view.inline,
             down: view.block,
@@ -59,15 +60,24 @@ fn in_view(root: &LaidBox, view: View) -> Result<Fragment, AllocError>
     requires near { IsNearLaid root.now }
     ensures { IfOk result (λ made. piece_of made ≡ rule.in_view root.now.style view (part_of root.now.fragment)) }
 {
-    let style = &root.style;
-    let rect = root.fragment.rect;
+    let made = set_in_view(&root.style, &root.fragment, view)?;
+    Ok(made)
+}
+
+// The fragment of a root of this style in the view.
+fn set_in_view(style: &Style, root: &Fragment, view: View) -> Result<Fragment, AllocError>
+    requires view { IsView view }
+    requires near { IsNearLaid (record { style = style.now; fragment = root.now }) }
+    ensures { IfOk result (λ made. piece_of made ≡ rule.in_view style.now view (part_of root.now)) }
+{
+    let rect = root.rect;
     let start = side_in(style.mode, FlowSide::BlockStart);
     let styled = ChildStyle {
         containing: Containing::of(style),
         style,
         inline: view.inline,
     };
-    let made = root.fragment.moved_to(FlowRect {
+    let made = root.moved_to(FlowRect {
         i: styled.inline_place(rect.inline),
         b: styled.based_style().margin_or_zero(start),
         ..rect
@@ -76,12 +86,12 @@ fn in_view(root: &LaidBox, view: View) -> Result<Fragment, AllocError>
 }
 
 // The row of the root, which stands alone in the view.
-fn root_row(root: BoxKey, style: &Style, view: View) -> Row
-    ensures { result ≡ rule.root_row root style.now view }
+fn root_row(root: BoxKey, node: &BoxNode, view: View) -> Row
+    ensures { result ≡ rule.root_row root node.now.style view }
 {
     Row {
         from: Some(root),
-        containing: Containing::of(style),
+        containing: Containing::of(&node.style),
         c: Constraint {
             inline: Some(view.inline),
             block: Some(view.block),
@@ -114,13 +124,13 @@ pub fn relayout<L: Ledger, M: Ledger>(
     ensures founded { AreFoundedUnder (faces_of ⟦<dyn Face as Face>⟧ faces.now) view arena.old.slots root → AreFoundedUnder (faces_of ⟦<dyn Face as Face>⟧ faces.now) view arena.new.slots root }
     ensures kept { OnOk result (AreFoundedUnder (faces_of ⟦<dyn Face as Face>⟧ faces.now) view arena.old.slots root → IsAllKept (faces_of ⟦<dyn Face as Face>⟧ faces.now) view arena.new.slots root) }
 {
-    let style = arena.node(root).style;
+    let node = arena.node(root);
     let mut scratch = Bump::new(alloc);
     let page = Page {
-        view: page_of(style.mode, view),
+        view: page_of(node, view),
         faces,
     };
-    let row = root_row(root, &style, view);
+    let row = root_row(root, node, view);
     let mut flow = Flow {
         arena,
         scratch: &mut scratch,

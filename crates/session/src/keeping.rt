@@ -24,13 +24,14 @@ use crate::laws::{boxes_within_limits_fit, documents_within_limits_fit};
 use crate::planting::Rooted;
 use box_arena::laws::arenas_are_sound;
 use box_arena::reuse;
+use box_gen::is_blank;
 use dom_store::{Document, ExactEdit as ExactTreeEdit, NodeKind};
 use edits::{ExactEdit, TreeEdit};
 use letters::SharedText;
 use relayout::laws::{what_is_reused_is_found, what_is_reused_is_right};
 use std::alloc::{AllocError, Global};
 use text_boxes::laws::{texts_are_set_in_arenas, texts_are_set_in_pages};
-use text_boxes::{is_blank, set_text};
+use text_boxes::set_text;
 use wm_modes::WritingMode;
 
 /// How many texts are set in boxes before they are laid out again, at most: each of them goes through all boxes.

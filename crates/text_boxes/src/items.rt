@@ -25,7 +25,7 @@ pub(crate) fn node_with(
     match &was.content {
         Content::Inline(items) if differs(items, node, text) => Ok(Some(BoxNode {
             name: was.name,
-            style: was.style,
+            style: was.style.clone()?,
             content: Content::Inline(items_with(alloc, items, node, text)?),
         })),
         Content::Inline(_) | Content::Blocks => Ok(None),

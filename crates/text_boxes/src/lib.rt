@@ -6,4 +6,4 @@ mod items;
 pub mod laws;
 mod setting;
 
-pub use setting::{is_blank, set_text};
+pub use setting::set_text;

@@ -3,7 +3,6 @@
 ghost use Rattle.std.specs.Prelude.{◌≡◌, IfOk, OnErr, IsTrue, false};
 ghost use Rattle.std.specs.String.{string_bytes};
 ghost use Rattle.slab.specs.Slab.{ContainsKey};
-ghost use Rattle.box_gen.specs.Boxes.{is_blank};
 ghost use Rattle.box_arena.specs.Reusing.{IsTree};
 ghost use Rattle.text_boxes.specs.Finding.{SetsTextAt};
 ghost use Rattle.text_boxes.specs.Setting.{SetsText};
@@ -13,15 +12,6 @@ use crate::items::node_with;
 use box_arena::{BoxArena, BoxKey, MOST_DEEP};
 use letters::SharedText;
 use std::alloc::{AllocError, Global};
-
-/// Whether a text is white space alone: tabs, line feeds, form feeds, carriage returns and spaces (CSS 2, 16.6.1).
-pub fn is_blank(text: &str) -> bool
-    ensures { result ≡ is_blank text.now }
-{
-    text.as_bytes()
-        .iter()
-        .all(|byte| byte.is_ascii_whitespace())
-}
 
 /// Sets the text of this node in the one box under a root that holds it. `false`, with nothing changed, where no box holds it or more
 /// than one does, where it has these letters, and where boxes are too many or too deep to look at all of them. It goes through all boxes under the root, and copies the items of that one.

@@ -15,7 +15,7 @@ returns-in_ok-push c =
     refl c.in_ok-push.ensures.items
     (c.paragraph.ensures
     ∙ ap (λ (style : Style). box (record { node = was.node; ordinal = was.anonymous + 1 }) style (inline (run_of c.replace-run.result).items) (run_of c.replace-run.result).atoms none)
-    (c.anonymous_style-style.ensures ∙ ap anonymous c.deref.ensures)
+    (c.in_ok-style.ensures ∙ (c.anonymous_style.ensures ∙ ap anonymous c.deref.ensures))
     ∙ ap (λ (run : Run). box (record { node = was.node; ordinal = was.anonymous + 1 }) (anonymous was.style) (inline (run_of run).items) (run_of run).atoms none) c.replace-run.ensures.value
     ∙ ap (λ (ordinal : ℕ). box (record { node = was.node; ordinal = ordinal }) (anonymous was.style) (inline (run_of was.run).items) (run_of was.run).atoms none) (add-one was.anonymous))
     (add-one was.anonymous)

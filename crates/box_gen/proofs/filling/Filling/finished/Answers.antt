@@ -1,5 +1,4 @@
 use Rattle.std.proofs.Common.{◌≡◌, ◌∙◌, refl, ap, rules, ◌<◌, length}
-use Rattle.style_types.specs.declared.style.Style.{Style}
 use Rattle.fragment_types.specs.declared.item.BoxName.{BoxName}
 use Rattle.box_gen.specs.declared.tree.Content.TheVariants.{Blocks}
 use Rattle.box_gen.specs.Tree.{box, none, blocks, inline, all_boxes_of}
@@ -15,8 +14,7 @@ returns-then-is_empty c =
     let f = c.args.self in
     let none_yet : length f.boxes.items ≡ 0 = search rules in
     c.paragraph.ensures
-    ∙ ap (λ (name : BoxName). box name c.deref.result.now (inline (run_of f.run).items) (run_of f.run).atoms none) c.own_name-name.ensures
-    ∙ ap (λ (style : Style). box (own_name f.node) style (inline (run_of f.run).items) (run_of f.run).atoms none) c.deref.ensures
+    ∙ ap (λ (name : BoxName). box name f.style (inline (run_of f.run).items) (run_of f.run).atoms none) c.own_name-name.ensures
     ∙ paragraph_is f.boxes.items (filling_of f) refl (empty_is _ none_yet)
 
 pub returns : goal.returns
@@ -24,7 +22,6 @@ returns c =
     let f = c.args.self in
     let some : 0 < length f.boxes.items = search rules in
     let all = c.end_run.new.self in
-    rolled (record { node = record { name = c.own_name-name.result; style = c.deref-2.result.now; content = Blocks }; children = all.boxes })
-    ∙ ap (λ (name : BoxName). box name c.deref-2.result.now blocks (all_boxes_of all.boxes.items) none) c.own_name-name.ensures
-    ∙ ap (λ (style : Style). box (own_name f.node) style blocks (all_boxes_of all.boxes.items) none) c.deref-2.ensures
+    rolled (record { node = record { name = c.own_name-name.result; style = all.style; content = Blocks }; children = all.boxes })
+    ∙ ap (λ (name : BoxName). box name all.style blocks (all_boxes_of all.boxes.items) none) c.own_name-name.ensures
     ∙ blocks_are f.boxes.items (filling_of f) (filling_of all) refl some c.in_ok-end_run.ensures

@@ -17,14 +17,14 @@ returns-clause-part c = λ filled is.
     let size : to_z w64 (of_z w64 c.args.size) ≡ c.args.size = to_z-of_z w64 c.args.size c.ranges.size in
     let extent : to_z w64 (of_z w64 c.block_size-extent.result) ≡ c.block_size-extent.result = to_z-of_z w64 c.block_size-extent.result (search rules) in
     boxed_is own.containing (node_of own.node.now) own.c c.args.size c.args.content filled _ _ _ _ _ _ _ _ _ c.block_size-extent.result c.block_box.result is
-    (c.in_ok-made.ensures
-    ∙ ap (λ (part : BoxPart). part_with own.node.now.name c.border_box-rect.result (block part.mode part.dir part.content part.definite part.start part.end part.through) (pieces_of c.args.content.parts.items)) c.in_ok-shared.ensures.ok)
+    (rw c.deref.ensures at (c.in_ok-made.ensures
+    ∙ ap (λ (part : BoxPart). part_with own.node.now.name c.border_box-rect.result (block part.mode part.dir part.content part.definite part.start part.end part.through) (pieces_of c.args.content.parts.items)) c.in_ok-shared.ensures.ok))
     is.parts
     ((rw (styled.containing, styled.style, styled.sizes) at c.block_size-extent.ensures.value) ∙ ap (block_size own.containing style own.c) content)
     (rw (styled.containing, styled.style, styled.sizes) at c.block_box.ensures)
     c.is_through-through.ensures
     ((rw (styled.containing, styled.style, styled.sizes) at c.border_box-rect.ensures) ∙ same_sizes (border_box own.containing style own.c) _ _ _ _ size extent)
     ((rw (styled.containing, styled.style, styled.sizes) at c.content_area.ensures) ∙ same_sizes (content_area own.containing style own.c) _ _ _ _ size extent)
-    c.used_direction.ensures c.handed_on.ensures.value
+    (rw c.deref-2.ensures at c.used_direction.ensures) c.handed_on.ensures.value
     (rw (styled.containing, styled.style, styled.sizes) at (c.start_margins.ensures filled.starts is.start))
     (rw (styled.containing, styled.style, styled.sizes) at (c.end_margins.ensures filled.ends is.end_))

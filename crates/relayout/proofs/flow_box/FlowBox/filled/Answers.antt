@@ -14,15 +14,15 @@ use Rattle.relayout.proofs.flow_box.FlowBox.filled.Goals as goal
 
 pub returns-in_ok-made-in-Inline-Some-clause-filled : goal.returns-in_ok-made-in-Inline-Some-clause-filled
 returns-in_ok-made-in-Inline-Some-clause-filled g c = λ list are ready.
-    let entries = entries_of c.deref.result.now in
-    let content : content_of c.args.self.now.node.now.content ≡ inline entries = ap content_of c.in-Inline-Some.is-0 ∙ sym (ap (λ (is : List Item). inline (entries_of is)) c.deref.ensures.value) in
+    let entries = entries_of c.deref-in-Inline-Some.result.now in
+    let content : content_of c.args.self.now.node.now.content ≡ inline entries = ap content_of c.in-Inline-Some.is-0 ∙ sym (ap (λ (is : List Item). inline (entries_of is)) c.deref-in-Inline-Some.ensures.value) in
     filled_paragraph _ c.args.self.now.node.now.name c.args.self.now.node.now.style (edges (block_box c.args.self.now.containing c.args.self.now.node.now.style c.args.self.now.c false)) c.args.size _ (content_of c.args.self.now.node.now.content) entries (option_copied c.args.self.now.text) c.in-Inline-Some.text.now list
-    c.in_ok-made-in-Inline-Some.made content (to_z-of_z w64 c.args.size c.ranges.size) (ap option_copied c.in-Inline-Some.is-1) ready (c.in_ok-made-in-Inline-Some.ensures.filled list are)
+    c.in_ok-made-in-Inline-Some.made content (to_z-of_z w64 c.args.size c.ranges.size) (ap option_copied c.in-Inline-Some.is-1) ready (rw c.deref.ensures at (c.in_ok-made-in-Inline-Some.ensures.filled list are))
 
 pub returns-in_ok-made-in-Inline-Some-clause-reach : goal.returns-in_ok-made-in-Inline-Some-clause-reach
 returns-in_ok-made-in-Inline-Some-clause-reach g c = λ list reach are deep.
-    let entries = entries_of c.deref.result.now in
-    let content : content_of c.args.self.now.node.now.content ≡ inline entries = ap content_of c.in-Inline-Some.is-0 ∙ sym (ap (λ (is : List Item). inline (entries_of is)) c.deref.ensures.value) in
+    let entries = entries_of c.deref-in-Inline-Some.result.now in
+    let content : content_of c.args.self.now.node.now.content ≡ inline entries = ap content_of c.in-Inline-Some.is-0 ∙ sym (ap (λ (is : List Item). inline (entries_of is)) c.deref-in-Inline-Some.ensures.value) in
     let P : Content → Type 0 = λ x. spread (pieces_of c.in_ok-made-in-Inline-Some.made.parts.items) ≤ reach + room_in x + (length c.args.laid.boxes.now + 1) * 2 ^ 38 in
     let near = c.in_ok-made-in-Inline-Some.ensures.reach list reach are deep in
     subst P (sym content) (omega arith)

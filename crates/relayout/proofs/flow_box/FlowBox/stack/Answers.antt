@@ -19,7 +19,7 @@ returns-clause-filled g c = λ list are.
     let P : ParentEdges → Type 0 = λ joins. Stacks joins c.deref.result.now c.in_ok-stacked.stacked in
     stack_is inside (edges (block_box own.containing own.node.now.style own.c false)) c.args.size c.args.laid.boxes.now list c.deref.result.now c.in_ok-stacked.stacked c.places.result.now c.in_ok-parts.parts _ _ _ _
     are (c.deref.ensures.value ∙ c.in_ok-children.ensures) (subst P (c.edges-joins.ensures ∙ ap edges (rw (styled.containing, styled.style, styled.sizes) at c.block_box.ensures)) c.in_ok-stacked.ensures.stack) c.places.ensures
-    (c.in_ok-parts.ensures ∙ same_down c.of-inside.result inside _ c.args.size (map as_laid c.args.laid.boxes.now) c.places.result.now c.of-inside.ensures (to_z-of_z w64 c.args.size c.ranges.size))
+    (c.in_ok-parts.ensures ∙ same_down c.of-inside.result inside _ c.args.size (map as_laid c.args.laid.boxes.now) c.places.result.now (c.of-inside.ensures ∙ ap containing_of c.deref-2.ensures) (to_z-of_z w64 c.args.size c.ranges.size))
     (to_z-of_z w64 c.extent.result (search rules) ∙ c.extent.ensures) c.start.ensures c.end.ensures c.through.ensures
 
 pub returns-clause-reach : goal.returns-clause-reach

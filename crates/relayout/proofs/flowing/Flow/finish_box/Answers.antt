@@ -47,9 +47,9 @@ returns-clause-steady g c =
     let sized = c.args.sized.now in
     let below = c.args.inside.now in
     let code = c.at-flow_box.result in
-    let laid : LaidBox = record { style = code.node.now.style; fragment = c.in_ok-fragment.fragment } in
+    let laid : LaidBox = record { style = c.in_ok-style.style; fragment = c.in_ok-fragment.fragment } in
     let finishes = from_code _ own is.seen.box code c.at-flow_box.ensures (Finishes outside sized.size below laid)
-    (refl, (λ ms text inside. c.in_ok-fragment.ensures.part outside ms refl text inside), c.in_ok-fragment.ensures.reach) in
+    (c.in_ok-style.ensures.cases, (λ ms text inside. c.in_ok-fragment.ensures.part outside ms refl text inside), c.in_ok-fragment.ensures.reach) in
     (finished outside c.args.self.now.arena.now c.keep.new.self own sized below laid _ is c.requires.flowed finishes c.in_ok-copy.ensures c.in_ok-keep.ensures.ok).0
 
 pub returns-clause-flowed : goal.returns-clause-flowed
@@ -60,7 +60,7 @@ returns-clause-flowed g c =
     let sized = c.args.sized.now in
     let below = c.args.inside.now in
     let code = c.at-flow_box.result in
-    let laid : LaidBox = record { style = code.node.now.style; fragment = c.in_ok-fragment.fragment } in
+    let laid : LaidBox = record { style = c.in_ok-style.style; fragment = c.in_ok-fragment.fragment } in
     let finishes = from_code _ own is.seen.box code c.at-flow_box.ensures (Finishes outside sized.size below laid)
-    (refl, (λ ms text inside. c.in_ok-fragment.ensures.part outside ms refl text inside), c.in_ok-fragment.ensures.reach) in
+    (c.in_ok-style.ensures.cases, (λ ms text inside. c.in_ok-fragment.ensures.part outside ms refl text inside), c.in_ok-fragment.ensures.reach) in
     (finished outside c.args.self.now.arena.now c.keep.new.self own sized below laid _ is c.requires.flowed finishes c.in_ok-copy.ensures c.in_ok-keep.ensures.ok).1

@@ -10,6 +10,6 @@ node-node-requires g c = lives_there c.args.self.now.arena.now c.args.own.now.ke
 pub kept-requires : goal.kept-requires
 kept-requires g c = lives_there c.args.self.now.arena.now c.args.own.now.key c.requires.node c.requires.is
 
-pub returns-in_ok-fragment-in-Some-clause-flowed : goal.returns-in_ok-fragment-in-Some-clause-flowed
-returns-in_ok-fragment-in-Some-clause-flowed g c = λ outside can.
-    kept_flowed outside _ c.args.own.now _ (node_of c.node-node.result.now) can c.node-node.ensures.node refl (search rules)
+pub returns-in_ok-style-in-Some-clause-flowed : goal.returns-in_ok-style-in-Some-clause-flowed
+returns-in_ok-style-in-Some-clause-flowed g c = λ outside can.
+    kept_flowed outside _ c.args.own.now _ (node_of c.node-node.result.now) can c.node-node.ensures.node c.in_ok-style-in-Some.ensures.cases (search rules)
