@@ -24,7 +24,7 @@ use crate::laws::{boxes_within_limits_fit, documents_within_limits_fit};
 use crate::planting::Rooted;
 use box_arena::laws::arenas_are_sound;
 use box_arena::reuse;
-use box_gen::is_blank;
+use box_gen::{BoxNode, is_blank};
 use dom_store::{Document, ExactEdit as ExactTreeEdit, NodeKind};
 use edits::{ExactEdit, TreeEdit};
 use letters::SharedText;
@@ -32,7 +32,6 @@ use relayout::laws::{what_is_reused_is_found, what_is_reused_is_right};
 use std::alloc::{AllocError, Global};
 use text_boxes::laws::{texts_are_set_in_arenas, texts_are_set_in_pages};
 use text_boxes::set_text;
-use wm_modes::WritingMode;
 
 /// How many texts are set in boxes before they are laid out again, at most: each of them goes through all boxes.
 const MOST_SETS: u32 = 64;
@@ -209,16 +208,15 @@ pub(crate) fn reuse_former(
     arenas_are_sound(&former.arena);
     arenas_are_sound(&made.arena);
     let mut former = former;
-    let mode = former.arena.node(former.root).style.mode;
-    if !is_same(mode, made.arena.node(made.root).style.mode) {
+    if !have_one_mode(former.arena.node(former.root), made.arena.node(made.root)) {
         return Ok(());
     }
     reuse(alloc, &mut former.arena, &mut made.arena, made.root)?;
     Ok(())
 }
 
-fn is_same(one: WritingMode, other: WritingMode) -> bool
-    ensures { IsTrue result ↔ one ≡ other }
+fn have_one_mode(one: &BoxNode, other: &BoxNode) -> bool
+    ensures { IsTrue result ↔ one.now.style.mode ≡ other.now.style.mode }
 {
-    one == other
+    one.style.mode == other.style.mode
 }
