@@ -1,6 +1,7 @@
 -- Parts that ask for no level but 0 (UAX 9), and what is made of their items at that level.
 use Rattle.std.specs.Prelude.{◌≡◌, ℕ, ◌==◌, ◌+◌, ◌-◌, ◌≤◌, ◌≤ℤ◌, pos, ⊤, Bool, true, false, not, length, ◌&&◌, ◌||◌, nat_le, nat_lt, if◌then◌else◌, List, [], ◌∷◌, ◌++◌, map, Option, Some, None}
 use Rattle.std.specs.List.{list_all}
+use Rattle.std.specs.Vec.{vec_capacity, vec_len}
 use Rattle.std.specs.Coded.{×_prop, Unit-prop, le_prop}
 use Rattle.wm_chars.specs.declared.classes.BidiClass.{BidiClass}
 use Rattle.wm_chars.specs.declared.classes.BreakClass.{BreakClass}
@@ -89,6 +90,12 @@ pub record Flat : Type 0 where
 
 abbrev pub flat_of : FlatLists → Flat
 flat_of made = record { items = made.items.items; classes = made.classes.items; breaks = made.breaks.items; flat = made.flat; bare = made.bare }
+
+-- there is room for so many items more
+pub record HasRoom (count : ℕ) (made : FlatLists) : Type 0 where
+  pub items : vec_len made.items + count ≤ vec_capacity made.items
+  pub classes : vec_len made.classes + count ≤ vec_capacity made.classes
+  pub breaks : vec_len made.breaks + count ≤ vec_capacity made.breaks
 
 abbrev pub nothing : Flat
 nothing = record { items = []; classes = []; breaks = []; flat = true; bare = true }

@@ -1,7 +1,7 @@
 //! A paragraph in which nothing asks for a level but 0 (UAX 9), as most are: its items as they come, without the bidi
 //! algorithm.
 
-ghost use Rattle.std.specs.Prelude.{◌≡◌, ◌<◌, ◌≤◌, ◌^◌, ◌+◌, ◌-◌, ◌&&◌, [], ◌∷◌, true, Bool, length, map, All, encode_utf8_all, IfOk, OnOk};
+ghost use Rattle.std.specs.Prelude.{◌≡◌, ◌<◌, ◌≤◌, ◌^◌, ◌+◌, ◌-◌, ◌&&◌, ℕ, [], ◌∷◌, true, Bool, length, map, All, encode_utf8_all, IfOk, OnOk};
 ghost use Rattle.std.specs.List.{list_all};
 ghost use Rattle.bidi_resolve.specs.Paragraph as paragraph;
 ghost use Rattle.face_api.specs.Faces.{faces_of};
@@ -10,7 +10,7 @@ ghost use Rattle.cluster_units.specs.Laws.{AreInOrder};
 ghost use Rattle.para_prepare.specs.Content as content;
 ghost use Rattle.para_prepare.specs.Content.{raw_of, text_parts};
 ghost use Rattle.para_prepare.specs.Flat as spec;
-ghost use Rattle.para_prepare.specs.Flat.{HasRunBounds, flat_of, grown, nothing};
+ghost use Rattle.para_prepare.specs.Flat.{HasRoom, HasRunBounds, flat_of, grown, nothing};
 ghost use Rattle.para_prepare.specs.Glyph.{last_class};
 ghost use Rattle.para_prepare.specs.Kept.{chars_of};
 ghost use Rattle.para_prepare.specs.Limits.{HasFontSize};
@@ -258,43 +258,41 @@ impl FlatLists<'_> {
         ensures count { OnOk result (length self.new.items.items ≤ length self.old.items.items + length (letters_at text.entry.place.letters.now text.entry.place.span)) }
     {
         let own = &text.place.letters[text.place.span.from..text.place.span.to];
+        self.reserve(own.len())?;
         for i in 0..own.len() {
-            self.add_letter(text, own[i], i, face)?;
+            self.add_letter(text, own[i], i, face);
         }
         Ok(())
     }
 
     // Adds the unit of one character, which stands at this place of its text, or passes over a bidi control.
     #[inline(always)]
-    fn add_letter(
-        &mut self,
-        text: Text,
-        letter: Letter,
-        place: usize,
-        face: &dyn Face,
-    ) -> Result<(), AllocError>
+    fn add_letter(&mut self, text: Text, letter: Letter, place: usize, face: &dyn Face)
         requires place { place < 2 ^ 32 }
         requires placed { IsPlaced letter }
-        ensures { OnOk result (flat_of self.new ≡ grown (flat_of self.old) (letter_parts (table face.now) text.entry.place.source text.entry.node text.entry.style.now place (letter ∷ []))) }
+        requires room { HasRoom 1 self.old }
+        ensures room { (count : ℕ) → HasRoom (count + 1) self.old → HasRoom count self.new }
+        ensures grown { flat_of self.new ≡ grown (flat_of self.old) (letter_parts (table face.now) text.entry.place.source text.entry.node text.entry.style.now place (letter ∷ [])) }
     {
         match character_unit(letter.char, place, text.style, face) {
-            Some(unit) => self.add_single(text, letter, unit)?,
+            Some(unit) => self.add_single(text, letter, unit),
             None => self.pass(slice::from_ref(&letter)),
         }
-        Ok(())
     }
 
     // Adds a unit of this one character.
     #[inline(always)]
     #[tactic(auto, using(crate::proofs::FlatLaws::bare_stays, crate::proofs::FlatLaws::bare_ends))]
-    fn add_single(&mut self, text: Text, letter: Letter, unit: Unit) -> Result<(), AllocError>
+    fn add_single(&mut self, text: Text, letter: Letter, unit: Unit)
         requires placed { IsPlaced letter }
         requires unit { IsSize unit }
-        ensures { OnOk result (flat_of self.new ≡ grown (flat_of self.old) (item (of_unit text.entry.place.source text.entry.node (parts.sets_upright text.entry.style.now) unit (letter ∷ [])) ∷ [])) }
+        requires room { HasRoom 1 self.old }
+        ensures room { (count : ℕ) → HasRoom (count + 1) self.old → HasRoom count self.new }
+        ensures grown { flat_of self.new ≡ grown (flat_of self.old) (item (of_unit text.entry.place.source text.entry.node (parts.sets_upright text.entry.style.now) unit (letter ∷ [])) ∷ []) }
     {
         let class = class_in(text.upright, letter.char);
         self.flat &= is_left_to_right(class);
-        self.add(
+        self.put(
             text.place.source,
             class,
             Some(unit.break_class),
@@ -307,8 +305,7 @@ impl FlatLists<'_> {
                 advance: unit.advance,
                 glyphs: Glyphs::one(letter.char),
             },
-        )?;
-        Ok(())
+        );
     }
 
     // Adds the units and combined runs of a text that may have units of several characters.
@@ -359,6 +356,7 @@ impl FlatLists<'_> {
     fn pass(&mut self, controls: &[Letter])
         ensures grown { (upright : Bool) → flat_of self.new ≡ grown (flat_of self.old) (map (control_of upright) controls.now) }
         ensures items { self.new.items.items ≡ self.old.items.items }
+        ensures room { (count : ℕ) → HasRoom count self.old → HasRoom count self.new }
     {
         let none = are_none(controls);
         self.flat &= none;

@@ -2,6 +2,7 @@
 //! Writing Modes 4), bidi levels (UAX 9), places where lines may end.
 #![tactic(auto)]
 
+mod adding;
 mod bidi_paragraphs;
 mod bidi_text;
 mod boxes;

@@ -1,5 +1,5 @@
-use Rattle.std.specs.Prelude.{◌≡◌, ◌≤◌, ◌+◌, drop, length}
-use Rattle.para_prepare.specs.Flat.{flat_of, grown}
+use Rattle.std.specs.Prelude.{◌≡◌, ◌≤◌, ◌+◌, ◌-◌, drop, length}
+use Rattle.para_prepare.specs.Flat.{HasRoom, flat_of, grown}
 use Rattle.para_prepare.specs.Text.{letter_parts}
 use Rattle.para_prepare.specs.Views.{letters_at}
 use Rattle.para_prepare.proofs.lists.FlatLists.add_letters.Given as goal
@@ -10,3 +10,4 @@ invariant-loop-i g l =
     (grown (flat_of l.self) (letter_parts table l.text.place.source l.text.node l.text.style.now l.i (drop l.i (letters_at l.text.place.letters.now l.text.place.span)))
     ≡ grown (flat_of l.fn.self) (letter_parts table l.text.place.source l.text.node l.text.style.now 0 (letters_at l.text.place.letters.now l.text.place.span)))
     × (length l.self.items.items ≤ length l.fn.self.items.items + l.i)
+    × HasRoom (length (letters_at l.text.place.letters.now l.text.place.span) - l.i) l.self
