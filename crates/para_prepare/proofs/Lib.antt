@@ -11,6 +11,7 @@ pub mod FlatRuns
 pub mod InsideLaws
 pub mod KeptLaws
 pub mod LastLetter
+pub mod LatinLaws
 pub mod MoreItems
 pub mod NoEnds
 pub mod OneSize

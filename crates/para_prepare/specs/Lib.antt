@@ -10,6 +10,7 @@ pub mod Glyph
 pub mod Inside
 pub mod Items
 pub mod Kept
+pub mod Latin
 pub mod Limits
 pub mod Marks
 pub mod Parts

@@ -25,6 +25,7 @@ use crate::inside::inside;
 use crate::item::PreparedContent;
 use crate::items::{combined_content, unit_content};
 use crate::kept::{Kept, text_of};
+use crate::latin::are_latin;
 use crate::letter::Letter;
 use crate::lists::FlatLists;
 use crate::parts::{Span, class_in};
@@ -148,7 +149,14 @@ fn puts_none(item: &Item) -> bool
     }
 }
 
+// Whether all characters look so. Latin text is asked for first.
 fn read_left_to_right(letters: &[Letter]) -> bool
+    ensures { result ≡ list_all (λ l. spec.reads_left_to_right l.char) letters.now }
+{
+    are_latin(letters) || each_reads_left_to_right(letters)
+}
+
+fn each_reads_left_to_right(letters: &[Letter]) -> bool
     ensures { result ≡ list_all (λ l. spec.reads_left_to_right l.char) letters.now }
 {
     letters.iter().all(

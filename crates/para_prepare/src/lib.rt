@@ -14,6 +14,7 @@ mod inside;
 mod item;
 mod items;
 mod kept;
+mod latin;
 mod letter;
 mod lists;
 mod parts;

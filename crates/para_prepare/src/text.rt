@@ -17,6 +17,7 @@ ghost use Rattle.para_prepare.specs.Views.{IsSound, IsUnitOf, letters_at, parts_
 
 use crate::inside::inside;
 use crate::kept::text_of;
+use crate::latin::are_latin;
 use crate::letter::Letter;
 use crate::parts::{Part, Parts, Span, class_in};
 use crate::place::Place;
@@ -242,7 +243,14 @@ fn are_apart(style: &Style, letters: &[Letter]) -> bool
     )
 }
 
+// Whether each is a unit by itself among its like. Latin text is asked for first.
 fn are_plain(letters: &[Letter]) -> bool
+    ensures { result ≡ texts.are_plain letters.now }
+{
+    are_latin(letters) || each_is_plain(letters)
+}
+
+fn each_is_plain(letters: &[Letter]) -> bool
     ensures { result ≡ texts.are_plain letters.now }
 {
     letters.iter().all(
