@@ -1,2 +1,4 @@
+mod Examples
 mod Meeting
 mod Trees
+mod WindowLaws

@@ -1,2 +1,3 @@
+pub mod Laws
 pub mod Rects
 pub mod Windowing
